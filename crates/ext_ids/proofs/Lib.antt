@@ -1,0 +1,13 @@
+pub mod Characters
+pub mod Parts
+pub mod Encoding
+pub mod Escapes
+pub mod Pieces
+pub mod IdsRead
+pub mod IdsFound
+pub mod PartFaults
+pub mod Refusals
+pub mod Firsts
+pub mod Steps
+pub mod Pairs
+pub mod GrammarLaws

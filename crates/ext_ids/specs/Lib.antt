@@ -1,0 +1,6 @@
+pub mod Grammar
+pub mod Faults
+pub mod Ids
+pub mod Laws
+pub mod Reading
+pub mod Traits

@@ -1,0 +1,18 @@
+//! Unique ids of test contexts: `[type:value]/[type:value]..`, from text to segments and back.
+//!
+//! `UniqueId` is seen as the list of its segments, each a type and a value as they are after decoding.
+//! A text is refused for its first fault from the left, with its place (`IdFault`).
+#![tactic(auto)]
+
+mod escape;
+mod fault;
+mod id;
+mod laws;
+mod scan;
+mod segment;
+#[cfg(test)]
+mod tests;
+
+pub use fault::IdFault;
+pub use id::UniqueId;
+pub use laws::{characters_are_spelled_one_by_one, id_or_fault, one_reading, one_spelling};

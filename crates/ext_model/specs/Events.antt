@@ -1,0 +1,146 @@
+-- What one thread answers to each act of a lane, and the state that an event leaves.
+-- JUnit 5 User Guide, "Keeping State in Extensions"; Javadoc `ExtensionContext.Store`, `put`, `remove` and `getOrComputeIfAbsent`, and `NamespacedHierarchicalStore`:
+-- put and remove act on the given context alone and answer what stood there, and a value that is computed is stored in the given context.
+-- Own rules: numbers drawn beforehand, claims held while a factory runs, seals, and the refusals below.
+use Rattle.std.specs.Prelude.{ℕ, ◌+◌, ◌-◌, ◌^◌, ◌==◌, nat_lt, Bool, true, false, if◌then◌else◌, Option, None, Some}
+use Rattle.ext_model.specs.declared.event.Act.{Act}
+use Rattle.ext_model.specs.declared.event.Act.TheVariants.{Keep, Put, Remove, Claim, Fill, Abandon, Seal}
+use Rattle.ext_model.specs.declared.event.Event.{Event}
+use Rattle.ext_model.specs.declared.slot.Slot.{Slot}
+use Rattle.ext_model.specs.declared.slot.Slot.TheVariants as slot
+use Rattle.ext_model.specs.State.{State, standing}
+
+-- ---- what an act answers
+
+-- why an act is refused
+pub data Refusal : Type 0 where
+  -- all numbers were drawn
+  NumbersFull : Refusal
+  -- a claim stands at the place
+  Busy : Refusal
+  -- the place is sealed
+  Closed : Refusal
+  -- this number stands where a claim was to be
+  Standing : ℕ → Refusal
+  -- the place has had too many events
+  Exhausted : Refusal
+  -- it is not the lane's claim that stands at the place
+  Barred : Refusal
+
+-- `Happens`: the act is an event. `Answers`: it is answered without one. Either may answer a number. `Refuses`: there is no event either
+pub data Reply : Type 0 where
+  Happens : Option ℕ → Reply
+  Answers : Option ℕ → Reply
+  Refuses : Refusal → Reply
+
+-- the act happens, unless the place has had too many events
+abbrev pub happens_unless : Bool → Option ℕ → Reply
+happens_unless true answer = Refuses Exhausted
+happens_unless false answer = Happens answer
+
+-- a keep answers the number that it draws, which is the new count
+abbrev pub keep_reply : ℕ → ℕ → Reply
+keep_reply numbers drawn = if nat_lt drawn numbers then Happens (Some (drawn + 1)) else Refuses NumbersFull
+
+-- a put answers the number that stood
+abbrev pub put_reply : Bool → Option Slot → Reply
+put_reply worn None = happens_unless worn None
+put_reply worn (Some (slot.Entry number)) = happens_unless worn (Some number)
+put_reply worn (Some (slot.Claim lane)) = Refuses Busy
+put_reply worn (Some (slot.Sealed kept)) = Refuses Closed
+
+-- so does a remove, which is no event where nothing stands
+abbrev pub remove_reply : Bool → Option Slot → Reply
+remove_reply worn None = Answers None
+remove_reply worn (Some (slot.Entry number)) = happens_unless worn (Some number)
+remove_reply worn (Some (slot.Claim lane)) = Refuses Busy
+remove_reply worn (Some (slot.Sealed kept)) = Refuses Closed
+
+-- a claim needs an empty place, and answers the number that stands where it is not
+abbrev pub claim_reply : Bool → Option Slot → Reply
+claim_reply worn None = happens_unless worn None
+claim_reply worn (Some (slot.Entry number)) = Refuses (Standing number)
+claim_reply worn (Some (slot.Claim lane)) = Refuses Busy
+claim_reply worn (Some (slot.Sealed kept)) = Refuses Closed
+
+-- only the lane of the claim ends it, by a fill or an abandon
+abbrev pub end_reply : ℕ → Option Slot → Reply
+end_reply lane None = Refuses Barred
+end_reply lane (Some (slot.Entry number)) = Refuses Barred
+end_reply lane (Some (slot.Claim by)) = if by == lane then Happens None else Refuses Barred
+end_reply lane (Some (slot.Sealed kept)) = Refuses Barred
+
+-- a seal answers the number that it keeps, and is no event where the place is sealed already
+abbrev pub seal_reply : Option Slot → Reply
+seal_reply None = Happens None
+seal_reply (Some (slot.Entry number)) = Happens (Some number)
+seal_reply (Some (slot.Claim lane)) = Refuses Busy
+seal_reply (Some (slot.Sealed kept)) = Answers kept
+
+-- Versions count the events of a place and are below 2 ^ 40. A put or a remove leaves one for a seal;
+abbrev pub is_worn : ℕ → Bool
+is_worn version = nat_lt (2 ^ 40 - 3) version
+
+-- a claim leaves one more, for the fill or the abandon that ends it
+abbrev pub is_worn_for_claim : ℕ → Bool
+is_worn_for_claim version = nat_lt (2 ^ 40 - 4) version
+
+-- What one thread answers to an act by a lane. `numbers` is the limit of numbers, `version` says how many events of each place there were.
+-- A keep is asked without regard to its own number: its reply says which is drawn
+module _ {P : Type 0} (numbers : ℕ) (version : P → ℕ) (s : State P) (lane : ℕ) where
+  abbrev pub reply : Act P → Reply
+  reply (Keep number) = keep_reply numbers s.drawn
+  reply (Put at number) = put_reply (is_worn (version at)) (s.slots at)
+  reply (Remove at) = remove_reply (is_worn (version at)) (s.slots at)
+  reply (Claim at) = claim_reply (is_worn_for_claim (version at)) (s.slots at)
+  reply (Fill at number) = end_reply lane (s.slots at)
+  reply (Abandon at) = end_reply lane (s.slots at)
+  reply (Seal at) = seal_reply (s.slots at)
+
+-- ---- what an event leaves
+
+-- the place that an act is on; a keep is on none
+abbrev pub place_of : {P : Type 0} → Act P → Option P
+place_of (Keep number) = None
+place_of (Put at number) = Some at
+place_of (Remove at) = Some at
+place_of (Claim at) = Some at
+place_of (Fill at number) = Some at
+place_of (Abandon at) = Some at
+place_of (Seal at) = Some at
+
+-- what stands at the place of the act after it, by the lane and by what stood there
+abbrev pub slot_after : {P : Type 0} → ℕ → Act P → Option Slot → Option Slot
+slot_after lane (Keep number) old = old
+slot_after lane (Put at number) old = Some (slot.Entry number)
+slot_after lane (Remove at) old = None
+slot_after lane (Claim at) old = Some (slot.Claim lane)
+slot_after lane (Fill at number) old = Some (slot.Entry number)
+slot_after lane (Abandon at) old = None
+slot_after lane (Seal at) old = Some (slot.Sealed (standing old))
+
+-- the count of numbers drawn
+abbrev pub drawn_after : {P : Type 0} → Act P → ℕ → ℕ
+drawn_after (Keep number) drawn = drawn + 1
+drawn_after (Put at number) drawn = drawn
+drawn_after (Remove at) drawn = drawn
+drawn_after (Claim at) drawn = drawn
+drawn_after (Fill at number) drawn = drawn
+drawn_after (Abandon at) drawn = drawn
+drawn_after (Seal at) drawn = drawn
+
+-- `same` tells whether two places are one
+module _ {P : Type 0} (same : P → P → Bool) where
+  abbrev pub is_at : P → Option P → Bool
+  is_at place None = false
+  is_at place (Some at) = same at place
+
+  abbrev pub is_on : P → Act P → Bool
+  is_on place act = is_at place (place_of act)
+
+  -- the state after an event: its place and the count are changed, and nothing else
+  abbrev pub apply : State P → Event P → State P
+  apply s e = record {
+    slots = λ place. if is_on place e.act then slot_after e.lane e.act (s.slots place) else s.slots place;
+    drawn = drawn_after e.act s.drawn;
+  }

@@ -1,0 +1,4 @@
+pub mod State
+pub mod Events
+pub mod Plain
+pub mod Laws

@@ -1,0 +1,31 @@
+//! What a look-up answers, and why a factory or an action failed.
+use crate::ContextNo;
+use thiserror::Error;
+
+/// What a look-up from a context through its ancestors finds: the nearest of them where anything stands
+/// under the key decides.
+///
+/// JUnit 5 User Guide, section "Keeping State in Extensions", and `ExtensionContext.Store`, `get`.
+/// `Busy` and `Closed` are own rules.
+#[derive(Clone, Copy, Debug, PartialEq, Eq)]
+pub enum Look {
+    /// The context that decides is `at`, and has the value of this number, from 1.
+    Found { at: ContextNo, number: u32 },
+    /// Nothing stands under the key in any of the contexts.
+    Absent,
+    /// A lane computes a value for the context that decides.
+    Busy(ContextNo),
+    /// The context that decides is closed.
+    Closed(ContextNo),
+}
+
+/// Why a factory, an action or a step failed (own rule). Prints its text.
+#[derive(Debug, Drop, PartialEq, Eq, Error)]
+pub enum Fault {
+    /// The caller's own text.
+    #[error("{0}")]
+    Text(String),
+    /// Memory ran out.
+    #[error("no memory")]
+    Memory,
+}

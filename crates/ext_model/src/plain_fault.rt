@@ -1,0 +1,25 @@
+//! Why a call of the plain store was refused.
+use thiserror::Error;
+
+/// Why a call of the plain store was refused. Where several apply, the first in the order `Busy`, `Closed`,
+/// `Taken`, `Memory` is answered. After any of them the store is as it was.
+///
+/// Own rule: `NamespacedHierarchicalStore` waits for a value that is being computed, and throws after closing.
+#[derive(Clone, Copy, Debug, PartialEq, Eq, Error)]
+pub enum PlainFault {
+    /// A lane's claim stands at the place.
+    #[error("busy")]
+    Busy,
+    /// The place is sealed.
+    #[error("closed")]
+    Closed,
+    /// This number stands at the place that was to be claimed. `claim` alone answers it.
+    #[error("number {0} stands there")]
+    Taken(u32),
+    /// All numbers of the store were drawn. `keep` alone answers it.
+    #[error("numbers full")]
+    NumbersFull,
+    /// Memory ran out. It can come only where the place was empty.
+    #[error("no memory")]
+    Memory,
+}

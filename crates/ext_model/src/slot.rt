@@ -1,0 +1,15 @@
+//! What stands at a place.
+use crate::LaneNo;
+
+/// What stands at a place, a context with a key, that is not empty.
+///
+/// `NamespacedHierarchicalStore` keeps values and values being computed; seals are an own rule.
+#[derive(Clone, Copy, Debug, PartialEq, Eq)]
+pub enum Slot {
+    /// The number of a value, from 1.
+    Entry(u32),
+    /// The claim of a lane, which computes a value.
+    Claim(LaneNo),
+    /// The place is closed, and keeps the number that stood there, if one did.
+    Sealed(Option<u32>),
+}

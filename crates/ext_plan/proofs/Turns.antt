@@ -1,0 +1,80 @@
+-- One key, one node or one step after another: a turn that goes on, one that stops, and the end.
+use Rattle.std.proofs.Common.{◌≡◌, ℕ, List, [], ◌∷◌, ◌++◌, length, Result, Ok, Err, Some, None, refl}
+use Rattle.toml.specs.Data.{Members}
+use Rattle.ext_plan.specs.declared.fault.PlanFault.{PlanFault}
+use Rattle.ext_plan.specs.declared.fault.PlanFault.TheVariants as faults
+use Rattle.ext_plan.specs.Plans.{KeyText, StepText, NodeText}
+use Rattle.ext_plan.specs.Faults.{Fails}
+use Rattle.ext_plan.specs.Keys.{key_at, keys_after, labels_of}
+use Rattle.ext_plan.specs.Nodes.{Sketch, sketch_at, sketches_after, has_child, node_at, nodes_after}
+use Rattle.ext_plan.specs.Steps.{step_of, steps_after}
+
+-- what fails a part fails the whole
+pub Fails-whole : {A B : Type 0} (e : PlanFault) (part : Result A PlanFault) (whole : Result B PlanFault) → (part ≡ Err e → whole ≡ Err e) → Fails e part → Fails e whole
+Fails-whole faults.Memory part whole f h = tt
+Fails-whole faults.NotUtf8 part whole f h = f h
+Fails-whole faults.NotToml part whole f h = f h
+Fails-whole (faults.UnknownField place) part whole f h = f h
+Fails-whole (faults.BadField place) part whole f h = f h
+Fails-whole (faults.BadLabel key) part whole f h = f h
+Fails-whole (faults.BadId node) part whole f h = f h
+Fails-whole faults.BadTree part whole f h = f h
+Fails-whole (faults.BadStep node) part whole f h = f h
+Fails-whole (faults.BadTest node) part whole f h = f h
+Fails-whole faults.TooMany part whole f h = f h
+
+-- ---- keys
+
+pub keys_go : (before : List KeyText) (x : Members) (more : List Members) (key : KeyText) → key_at (length before) (labels_of before) x ≡ Ok key → keys_after before (x ∷ more) ≡ keys_after (before ++ key ∷ []) more
+unfolding keys_after
+keys_go before x more key e = rw e refl
+
+pub keys_stop : (before : List KeyText) (x : Members) (more : List Members) (fault : PlanFault) → key_at (length before) (labels_of before) x ≡ Err fault → keys_after before (x ∷ more) ≡ Err fault
+unfolding keys_after
+keys_stop before x more fault e = rw e refl
+
+pub keys_end : (before : List KeyText) → keys_after before [] ≡ Ok before
+unfolding keys_after
+keys_end before = refl
+
+-- ---- nodes before their steps are read
+
+pub sketches_go : (before : List Sketch) (x : Members) (more : List Members) (sketch : Sketch) → sketch_at (length before) x ≡ Ok sketch → sketches_after before (x ∷ more) ≡ sketches_after (before ++ sketch ∷ []) more
+unfolding sketches_after
+sketches_go before x more sketch e = rw e refl
+
+pub sketches_stop : (before : List Sketch) (x : Members) (more : List Members) (fault : PlanFault) → sketch_at (length before) x ≡ Err fault → sketches_after before (x ∷ more) ≡ Err fault
+unfolding sketches_after
+sketches_stop before x more fault e = rw e refl
+
+pub sketches_end : (before : List Sketch) → sketches_after before [] ≡ Ok before
+unfolding sketches_after
+sketches_end before = refl
+
+-- ---- steps
+
+pub steps_go : (labels : List (List ℕ)) (node : ℕ) (before : List StepText) (x : List ℕ) (more : List (List ℕ)) (step : StepText) → step_of labels x ≡ Some step → steps_after labels node before (x ∷ more) ≡ steps_after labels node (before ++ step ∷ []) more
+unfolding steps_after
+steps_go labels node before x more step e = rw e refl
+
+pub steps_stop : (labels : List (List ℕ)) (node : ℕ) (before : List StepText) (x : List ℕ) (more : List (List ℕ)) → step_of labels x ≡ None → steps_after labels node before (x ∷ more) ≡ Err (faults.BadStep node)
+unfolding steps_after
+steps_stop labels node before x more e = rw e refl
+
+pub steps_end : (labels : List (List ℕ)) (node : ℕ) (before : List StepText) → steps_after labels node before [] ≡ Ok before
+unfolding steps_after
+steps_end labels node before = refl
+
+-- ---- nodes with their steps
+
+pub nodes_go : (labels : List (List ℕ)) (before : List NodeText) (x : Sketch) (more : List Sketch) (node : NodeText) → node_at labels (length before) (has_child x.id more) x ≡ Ok node → nodes_after labels before (x ∷ more) ≡ nodes_after labels (before ++ node ∷ []) more
+unfolding nodes_after
+nodes_go labels before x more node e = rw e refl
+
+pub nodes_stop : (labels : List (List ℕ)) (before : List NodeText) (x : Sketch) (more : List Sketch) (fault : PlanFault) → node_at labels (length before) (has_child x.id more) x ≡ Err fault → nodes_after labels before (x ∷ more) ≡ Err fault
+unfolding nodes_after
+nodes_stop labels before x more fault e = rw e refl
+
+pub nodes_end : (labels : List (List ℕ)) (before : List NodeText) → nodes_after labels before [] ≡ Ok before
+unfolding nodes_after
+nodes_end labels before = refl

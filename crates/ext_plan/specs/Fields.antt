@@ -1,0 +1,46 @@
+-- The fields of a TOML table, as the kit's `toml` reads it: which there are, and which types they have. Own rule.
+use Rattle.std.specs.Prelude.{ℕ, Bool, true, ◌&&◌, List, [], ◌∷◌, ◌++◌, Option, Some, None, option_and_then, Result, Ok}
+use Rattle.std.specs.List.{list_any}
+use Rattle.std.specs.Str.{bytes_eq}
+use Rattle.toml.specs.Data.{Data, array, Items, no_items, item, Members, no_members, member, get_member, as_str, as_table}
+use Rattle.ext_plan.specs.declared.fault.PlanFault.{PlanFault}
+use Rattle.ext_plan.specs.Faults.{some_or, ◌>>=◌}
+
+-- each field of the table has one of the names
+abbrev pub has_only : List (List ℕ) → Members → Bool
+has_only names no_members = true
+has_only names (member name value more) = list_any (λ n. bytes_eq n name) names && has_only names more
+
+-- the text at a name, if a text is there
+abbrev pub text_at : List ℕ → Members → Option (List ℕ)
+text_at name fields = option_and_then as_str (get_member name fields)
+
+-- these texts and then the items, if each of them is a text
+abbrev pub texts_after : List (List ℕ) → Items → Option (List (List ℕ))
+texts_after before no_items = Some before
+texts_after before (item value more) = option_and_then (λ text. texts_after (before ++ text ∷ []) more) (as_str value)
+
+-- these tables and then the items, if each of them is a table
+abbrev pub tables_after : List Members → Items → Option (List Members)
+tables_after before no_items = Some before
+tables_after before (item value more) = option_and_then (λ fields. tables_after (before ++ fields ∷ []) more) (as_table value)
+
+-- the texts of an array of texts
+abbrev pub texts_in : Data → Option (List (List ℕ))
+texts_in (array items) = texts_after [] items
+texts_in _ = None
+
+-- the tables of an array of tables
+abbrev pub tables_in : Data → Option (List Members)
+tables_in (array items) = tables_after [] items
+tables_in _ = None
+
+-- the tables of a field that may be left out, or this fault where it has another type
+abbrev pub tables_or_none : PlanFault → Option Data → Result (List Members) PlanFault
+tables_or_none e None = Ok []
+tables_or_none e (Some value) = some_or e (tables_in value)
+
+-- the texts of a field that may be left out, or this fault where it has another type
+abbrev pub texts_or_none : PlanFault → Option Data → Result (Option (List (List ℕ))) PlanFault
+texts_or_none e None = Ok None
+texts_or_none e (Some value) = some_or e (texts_in value) >>= (λ texts. Ok (Some texts))

@@ -1,0 +1,9 @@
+pub mod Plans
+pub mod Faults
+pub mod Fields
+pub mod Keys
+pub mod Steps
+pub mod Nodes
+pub mod Reading
+pub mod Laws
+pub mod Helpers

@@ -1,0 +1,38 @@
+-- Which texts are plans, and of which keys and nodes: the text's TOML document, read in order with the first fault that is met. Own rule.
+use Rattle.std.specs.Prelude.{ℕ, ◌*◌, nat_le, Bool, ◌&&◌, codes, List, [], ◌∷◌, length, Result, Ok}
+use Rattle.toml.specs.Data.{Members, get_member}
+use Rattle.toml.specs.Parse.{parse_document}
+use Rattle.ext_plan.specs.declared.fault.PlanFault.{PlanFault}
+use Rattle.ext_plan.specs.declared.fault.PlanFault.TheVariants as faults
+use Rattle.ext_plan.specs.declared.fault.Place.TheVariants as places
+use Rattle.ext_plan.specs.Plans.{PlanText}
+use Rattle.ext_plan.specs.Faults.{some_or, check, ◌>>=◌}
+use Rattle.ext_plan.specs.Fields.{has_only, tables_or_none}
+use Rattle.ext_plan.specs.Keys.{keys_after, labels_of}
+use Rattle.ext_plan.specs.Nodes.{sketches_after, is_chain, nodes_after}
+
+abbrev pub top_fields : List (List ℕ)
+top_fields = codes "key" ∷ codes "node" ∷ []
+
+-- at most 64 keys and 31 cells, of which each node has one for each key
+abbrev pub are_few : ℕ → ℕ → Bool
+are_few keys nodes = nat_le keys 64 && nat_le (keys * nodes) 31
+
+-- the plan of a document
+unfoldable pub plan_of : Members → Result PlanText PlanFault
+plan_of top = do
+  _ ← check (faults.UnknownField places.Whole) (has_only top_fields top)
+  key_tables ← tables_or_none (faults.BadField places.Whole) (get_member (codes "key") top)
+  node_tables ← tables_or_none (faults.BadField places.Whole) (get_member (codes "node") top)
+  keys ← keys_after [] key_tables
+  sketches ← sketches_after [] node_tables
+  _ ← check faults.BadTree (is_chain sketches)
+  nodes ← nodes_after (labels_of keys) [] sketches
+  _ ← check faults.TooMany (are_few (length keys) (length nodes))
+  Ok (record { keys = keys; nodes = nodes })
+
+-- the plan of a text
+unfoldable pub plan_of_text : List ℕ → Result PlanText PlanFault
+plan_of_text text = do
+  top ← some_or faults.NotToml (parse_document text)
+  plan_of top

@@ -1,0 +1,96 @@
+//! Why a text is no plan.
+ghost use Rattle.std.specs.Prelude.{◌≡◌};
+ghost use Rattle.ext_plan.specs.declared.fault.PlanFault.TheVariants.{Memory};
+
+use std::alloc::{AllocError, AllocFailed};
+use std::fmt;
+use thiserror::Error;
+
+/// Where in a plan a fault is. Keys and nodes are numbered from 0 in the order of the plan. Own rule.
+///
+/// Its text stands behind a code: nothing for the plan as a whole, else as ` key 1` or ` node 2`.
+#[derive(Clone, Copy, Debug, PartialEq, Eq)]
+pub enum Place {
+    /// The plan as a whole.
+    Whole,
+    /// The key of this number.
+    Key(usize),
+    /// The node of this number.
+    Node(usize),
+}
+
+impl fmt::Display for Place {
+    fn fmt<W: fmt::Write>(&self, f: &mut fmt::Formatter<W>) -> fmt::Result {
+        match self {
+            Place::Whole => Ok(()),
+            Place::Key(key) => write!(f, " key {key}"),
+            Place::Node(node) => write!(f, " node {node}"),
+        }
+    }
+}
+
+/// Why a plan was refused: the first fault of its text, in this order. Own rule.
+///
+/// 1. `NotUtf8`, `NotToml`.
+/// 2. `UnknownField`, then `BadField`, of the top fields.
+/// 3. For each key in order `UnknownField`, `BadField`, `BadLabel`.
+/// 4. For each node in order `UnknownField`, `BadField`, `BadId`.
+/// 5. `BadTree`.
+/// 6. For each node in order `BadTest`, `BadStep`.
+/// 7. `TooMany`.
+///
+/// `Memory` stands in place of any of them where a growth was refused. A number in a variant is that of the key or
+/// the node, from 0. The text of a fault is its line on standard error, as `plan: P5 key 1`.
+#[derive(Clone, Copy, Debug, PartialEq, Eq, Error)]
+pub enum PlanFault {
+    /// P1: the bytes are no text in UTF-8. It is for callers that hold bytes: `read_plan` takes text and never answers it.
+    #[error("plan: P1")]
+    NotUtf8,
+    /// P2: the text is no TOML document.
+    #[error("plan: P2")]
+    NotToml,
+    /// P3: a field other than `key` and `node` at the top, `label` in a key, `id` and `test` in a node.
+    #[error("plan: P3{0}")]
+    UnknownField(Place),
+    /// P4: `key` or `node` is no array of tables; `label` or `id` is missing or no text; `test` is no array of texts.
+    #[error("plan: P4{0}")]
+    BadField(Place),
+    /// P5: a key's label is empty, has a space or is that of a key before.
+    #[error("plan: P5 key {0}")]
+    BadLabel(usize),
+    /// P6: the id of a node is no unique id, or has more than 16 segments.
+    #[error("plan: P6 node {0}")]
+    BadId(usize),
+    /// P7: there is no node, the id of the first has more than one segment, or a further node is no child of the one
+    /// before it.
+    #[error("plan: P7")]
+    BadTree,
+    /// P8: a text in the `test` of a node is no step, or names no label of the plan.
+    #[error("plan: P8 node {0}")]
+    BadStep(usize),
+    /// P10: a node is a test and has children.
+    #[error("plan: P10 node {0}")]
+    BadTest(usize),
+    /// P11: there are more than 64 keys, or more than 31 cells, of which each node has one for each key.
+    #[error("plan: P11")]
+    TooMany,
+    /// P12: memory was wanted and refused.
+    #[error("plan: P12")]
+    Memory,
+}
+
+impl From<AllocError> for PlanFault {
+    ghost from_gives = { λ _ e. e ≡ Memory };
+
+    fn from(_e: AllocError) -> PlanFault {
+        PlanFault::Memory
+    }
+}
+
+impl<T: Drop> From<AllocFailed<T>> for PlanFault {
+    ghost from_gives = { λ _ e. e ≡ Memory };
+
+    fn from(_e: AllocFailed<T>) -> PlanFault {
+        PlanFault::Memory
+    }
+}

@@ -1,0 +1,132 @@
+//! The fields of a TOML table.
+ghost use Rattle.std.specs.Prelude.{◌≡◌, [], map, option_map};
+ghost use Rattle.std.specs.Str.{bytes_eq};
+ghost use Rattle.std.specs.List.{list_any};
+ghost use Rattle.toml.specs.View.{view, table_view, items_view};
+ghost use Rattle.toml.specs.Data.{get_member};
+ghost use Rattle.ext_plan.specs.Faults.{Gives, GivesAll};
+ghost use Rattle.ext_plan.specs.Fields.{has_only, text_at, texts_in, tables_in, texts_after, tables_after, texts_or_none, tables_or_none};
+
+use crate::fault::PlanFault;
+use std::alloc::Global;
+use toml::{Table, Value};
+
+/// Tests whether each field of a table has one of the names.
+pub fn has_only(names: &[&str], table: &Table) -> bool
+    ensures { result ≡ has_only (map (λ n. n.now) names.now) (table_view table.now) }
+{
+    for name in table.keys() {
+        if !is_among(names, name.as_str()) {
+            return false;
+        }
+    }
+    true
+}
+
+/// Tests whether a text is one of the names.
+fn is_among(names: &[&str], text: &str) -> bool
+    ensures { result ≡ list_any (λ n. bytes_eq n.now text.now) names.now }
+{
+    names.iter().any(|name| *name == text)
+}
+
+/// The text at a name, if a text is there.
+pub fn text_at<'a>(table: &'a Table, name: &str) -> Option<&'a str>
+    ensures { option_map (λ s. s.now) result ≡ text_at name.now (table_view table.now) }
+{
+    match field(table, name) {
+        Some(value) => value.as_str(),
+        None => None,
+    }
+}
+
+/// The texts at a name, which may be left out, or the fault where something else is there.
+pub fn texts_at<'a>(
+    alloc: Global,
+    table: &'a Table,
+    name: &str,
+    fault: PlanFault,
+) -> Result<Option<Vec<&'a str>>, PlanFault>
+    ensures { Gives (option_map (λ v. map (λ t. t.now) v.items)) result (texts_or_none fault (get_member name.now (table_view table.now))) }
+{
+    match field(table, name) {
+        None => Ok(None),
+        Some(value) => match texts_in(alloc, value)? {
+            None => Err(fault),
+            Some(texts) => Ok(Some(texts)),
+        },
+    }
+}
+
+/// The tables at a name, which may be left out, or the fault where something else is there.
+pub fn tables_at<'a>(
+    alloc: Global,
+    table: &'a Table,
+    name: &str,
+    fault: PlanFault,
+) -> Result<Vec<&'a Table>, PlanFault>
+    ensures { Gives (λ v. map (λ t. table_view t.now) v.items) result (tables_or_none fault (get_member name.now (table_view table.now))) }
+{
+    match field(table, name) {
+        None => Ok(Vec::new(alloc)),
+        Some(value) => match tables_in(alloc, value)? {
+            None => Err(fault),
+            Some(tables) => Ok(tables),
+        },
+    }
+}
+
+/// The texts of a value, if it is an array of texts.
+fn texts_in<'a>(alloc: Global, value: &'a Value) -> Result<Option<Vec<&'a str>>, PlanFault>
+    ensures { GivesAll (option_map (λ v. map (λ t. t.now) v.items)) result (texts_in (view value.now)) }
+{
+    match value {
+        Value::Array(items) => texts_of(alloc, items.as_slice()),
+        _ => Ok(None),
+    }
+}
+
+/// The tables of a value, if it is an array of tables.
+fn tables_in<'a>(alloc: Global, value: &'a Value) -> Result<Option<Vec<&'a Table>>, PlanFault>
+    ensures { GivesAll (option_map (λ v. map (λ t. table_view t.now) v.items)) result (tables_in (view value.now)) }
+{
+    match value {
+        Value::Array(items) => tables_of(alloc, items.as_slice()),
+        _ => Ok(None),
+    }
+}
+
+/// The texts that the items are, if each is one.
+fn texts_of<'a>(alloc: Global, items: &'a [Value]) -> Result<Option<Vec<&'a str>>, PlanFault>
+    ensures { GivesAll (option_map (λ v. map (λ t. t.now) v.items)) result (texts_after [] (items_view items.now)) }
+{
+    let mut texts = Vec::new(alloc);
+    for item in items {
+        let Some(text) = item.as_str() else {
+            return Ok(None);
+        };
+        texts.push(text)?;
+    }
+    Ok(Some(texts))
+}
+
+/// The tables that the items are, if each is one.
+fn tables_of<'a>(alloc: Global, items: &'a [Value]) -> Result<Option<Vec<&'a Table>>, PlanFault>
+    ensures { GivesAll (option_map (λ v. map (λ t. table_view t.now) v.items)) result (tables_after [] (items_view items.now)) }
+{
+    let mut tables = Vec::new(alloc);
+    for item in items {
+        let Some(table) = item.as_table() else {
+            return Ok(None);
+        };
+        tables.push(table)?;
+    }
+    Ok(Some(tables))
+}
+
+/// The value at a name.
+fn field<'a>(table: &'a Table, name: &str) -> Option<&'a Value>
+    ensures { option_map (λ v. view v.now) result ≡ get_member name.now (table_view table.now) }
+{
+    table.get(name)
+}

@@ -1,0 +1,48 @@
+//! The labels of a plan's keys, each found without going over the others.
+ghost use Rattle.std.specs.Prelude.{◌≡◌, ◌++◌, ◌∷◌, [], not, length, if◌then◌else◌, is_ok, IfOk, IfSome, ◌<◌};
+ghost use Rattle.ext_plan.specs.Keys.{label_number, is_label};
+
+use indexmap::IndexSet;
+use std::alloc::{AllocFailed, Global};
+use std::marker::Model;
+
+/// Labels, all different, numbered from 0 in the order in which they were added.
+#[derive(Drop)]
+pub struct Labels<'a> {
+    numbers: IndexSet<&'a str>,
+}
+
+impl<'a> Model for Labels<'a> {
+    ghost use Rattle.std.specs.Prelude.{ℕ, List, map};
+
+    ghost Value = { List (List ℕ) };
+
+    ghost view = { λ l. map (λ label. label.now) l.numbers.keys };
+}
+
+impl<'a> Labels<'a> {
+    /// No labels.
+    pub fn new(alloc: Global) -> Labels<'a>
+        ensures { result ≡ [] }
+    {
+        Labels {
+            numbers: IndexSet::new(alloc),
+        }
+    }
+
+    /// The number of a label, if it was added.
+    pub fn number_of(&self, label: &str) -> Option<usize>
+        ensures { result ≡ label_number self.now label.now }
+    {
+        self.numbers.get_index_of(&label)
+    }
+
+    /// Adds a label behind the others, and tells whether it is new. One that was added before stays where it is. After a
+    /// refused growth the labels are as before.
+    pub fn add(&mut self, label: &'a str) -> Result<bool, AllocFailed<&'a str>>
+        ensures new { IfOk result (λ added. added ≡ not (is_label self.old label.now)) }
+        ensures labels { self.new ≡ (if is_ok result then (if is_label self.old label.now then self.old else self.old ++ label.now ∷ []) else self.old) }
+    {
+        self.numbers.insert(label)
+    }
+}

@@ -1,0 +1,19 @@
+//! Plans of test runs: the keys, nodes and steps that a TOML document writes, or the first fault that it has.
+//!
+//! `read_plan` reads, `Plan` is what was read, and `PlanFault` is why a text was refused. Own rule.
+#![tactic(auto)]
+
+mod fault;
+mod fields;
+mod keys;
+mod labels;
+mod nodes;
+mod plan;
+mod read;
+mod steps;
+#[cfg(test)]
+mod tests;
+
+pub use fault::{Place, PlanFault};
+pub use plan::{LabelNo, Plan, PlanKey, PlanNode, Step};
+pub use read::read_plan;

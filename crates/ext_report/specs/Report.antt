@@ -1,0 +1,154 @@
+-- The report of a run, as a function of the tree's ids and of the list of results.
+--
+-- There is one line for each result, in the order of the list:
+--
+--     ID STATUS closed N
+--
+-- ID is the node's id as it is written, STATUS one of `successful`, `aborted`, `failed` and `skipped`,
+-- and N how many values were closed with the node's context. The line of a node that aborted or failed
+-- goes on with its fault, as `: FAULT`, and where M further faults and aborts came and M is not 0, with
+-- ` (+M)`. Want of memory is the fault `no memory`; a fault's text stands as it is. Nothing follows the
+-- count where an aborted or failed node has no fault, nor for a successful or skipped node, whatever
+-- its fault and its M are.
+--
+-- Two lines of totals follow, the first of tests alone, the second of all nodes:
+--
+--     tests N successful N aborted N failed N skipped N
+--     computed N found N closed N close faults N
+--
+-- Each line ends with one line feed. Numbers are decimal. The format is an own rule.
+use Rattle.std.specs.Prelude.{ℕ, Bool, true, false, ◌&&◌, ◌==◌, codes, List, [], ◌++◌, map, Option, Some, None, option_map, string_bytes, if◌then◌else◌}
+use Rattle.std.specs.List.{flat_map, slice_index_or, sum_by, count_by, list_any}
+use Rattle.std.specs.Fmt.{decimal}
+use Rattle.ext_ids.specs.Grammar.{Pair, id_text}
+use Rattle.ext_model.specs.declared.look.Fault.{Fault}
+use Rattle.ext_model.specs.declared.look.Fault.TheVariants as faults
+use Rattle.ext_report.specs.declared.result.NodeResult.{NodeResult}
+use Rattle.ext_report.specs.declared.totals.TestCounts.{TestCounts}
+use Rattle.ext_report.specs.declared.totals.NodeSums.{NodeSums}
+use Rattle.ext_report.specs.declared.status.Status.{Status}
+use Rattle.ext_report.specs.declared.status.Status.TheVariants as statuses
+
+-- a node's result, with its fault as it is written
+pub record NodeOutcome : Type 0 where
+  pub node : ℕ
+  pub is_test : Bool
+  pub status : Status
+  pub fault : Option (List ℕ)
+  pub more : ℕ
+  pub computed : ℕ
+  pub found : ℕ
+  pub closed : ℕ
+  pub close_faults : ℕ
+
+-- a fault as it is written
+abbrev pub fault_text : Fault → List ℕ
+fault_text (faults.Text text) = string_bytes text
+fault_text faults.Memory = codes "no memory"
+
+-- what a report reads of a result
+abbrev pub result_view : NodeResult → NodeOutcome
+result_view r = record {
+  node = r.node;
+  is_test = r.is_test;
+  status = r.status;
+  fault = option_map fault_text r.fault;
+  more = r.more;
+  computed = r.computed;
+  found = r.found;
+  closed = r.closed;
+  close_faults = r.close_faults;
+}
+
+-- the same of each result
+abbrev pub results_view : List NodeResult → List NodeOutcome
+results_view results = map result_view results
+
+-- a status as it is written
+abbrev pub status_text : Status → List ℕ
+status_text statuses.Successful = codes "successful"
+status_text statuses.Aborted = codes "aborted"
+status_text statuses.Failed = codes "failed"
+status_text statuses.Skipped = codes "skipped"
+
+-- how many further faults and aborts there are, where there is one
+abbrev pub further_faults : ℕ → List ℕ
+further_faults more = if more == 0 then [] else codes " (+" ++ decimal more ++ codes ")"
+
+-- a fault and the further ones, where there is a fault
+abbrev pub fault_and_further : Option (List ℕ) → ℕ → List ℕ
+fault_and_further None more = []
+fault_and_further (Some fault) more = codes ": " ++ fault ++ further_faults more
+
+-- whether a node with this status tells its fault
+abbrev pub tells_fault : Status → Bool
+tells_fault statuses.Successful = false
+tells_fault statuses.Aborted = true
+tells_fault statuses.Failed = true
+tells_fault statuses.Skipped = false
+
+-- what follows the count of closed values
+abbrev pub fault_part : NodeOutcome → List ℕ
+fault_part r = if tells_fault r.status then fault_and_further r.fault r.more else []
+
+-- the line of a node with this id
+abbrev pub line_of : List Pair → NodeOutcome → List ℕ
+line_of id r =
+    id_text id ++ codes " " ++ status_text r.status ++ codes " closed " ++ decimal r.closed
+    ++ fault_part r ++ codes "\n"
+
+-- the lines of the nodes, in the order of the list
+abbrev pub lines_of : List (List Pair) → List NodeOutcome → List ℕ
+lines_of ids rs = flat_map (λ r. line_of (slice_index_or ids r.node []) r) rs
+
+-- the two statuses are one
+abbrev pub is_status : Status → Status → Bool
+is_status statuses.Successful statuses.Successful = true
+is_status statuses.Aborted statuses.Aborted = true
+is_status statuses.Failed statuses.Failed = true
+is_status statuses.Skipped statuses.Skipped = true
+is_status _ _ = false
+
+-- how many tests ended with this status
+abbrev pub tests_with : Status → List NodeOutcome → ℕ
+tests_with status rs = count_by (λ r. r.is_test && is_status r.status status) rs
+
+-- how many tests there are, and how many ended in each way
+abbrev pub counts_of : List NodeOutcome → TestCounts
+counts_of rs = record {
+  tests = count_by (λ r. r.is_test) rs;
+  successful = tests_with statuses.Successful rs;
+  aborted = tests_with statuses.Aborted rs;
+  failed = tests_with statuses.Failed rs;
+  skipped = tests_with statuses.Skipped rs;
+}
+
+-- the sums over all nodes
+abbrev pub sums_of : List NodeOutcome → NodeSums
+sums_of rs = record {
+  computed = sum_by (λ r. r.computed) rs;
+  found = sum_by (λ r. r.found) rs;
+  closed = sum_by (λ r. r.closed) rs;
+  close_faults = sum_by (λ r. r.close_faults) rs;
+}
+
+-- the line of counts
+unfoldable pub counts_line : TestCounts → List ℕ
+counts_line n =
+    codes "tests " ++ decimal n.tests ++ codes " successful " ++ decimal n.successful
+    ++ codes " aborted " ++ decimal n.aborted ++ codes " failed " ++ decimal n.failed
+    ++ codes " skipped " ++ decimal n.skipped ++ codes "\n"
+
+-- the line of sums
+unfoldable pub sums_line : NodeSums → List ℕ
+sums_line n =
+    codes "computed " ++ decimal n.computed ++ codes " found " ++ decimal n.found
+    ++ codes " closed " ++ decimal n.closed ++ codes " close faults " ++ decimal n.close_faults ++ codes "\n"
+
+-- the report
+abbrev pub report_of : List (List Pair) → List NodeOutcome → List ℕ
+report_of ids rs = lines_of ids rs ++ counts_line (counts_of rs) ++ sums_line (sums_of rs)
+
+-- a node failed, be it a test or a container
+abbrev pub any_failed : List NodeOutcome → Bool
+any_failed rs = list_any (λ r. is_status r.status statuses.Failed) rs

@@ -1,0 +1,16 @@
+//! The report of a test run, as a text, and the results of the nodes that it is made of.
+#![tactic(auto)]
+
+mod line;
+mod report;
+mod result;
+mod status;
+#[cfg(test)]
+mod tests;
+mod totals;
+mod tree;
+
+pub use report::{any_failed, report_text};
+pub use result::NodeResult;
+pub use status::Status;
+pub use tree::Tree;

@@ -1,0 +1,75 @@
+//! The line of a node in a report.
+ghost use Rattle.std.specs.Prelude.{◌≡◌, ◌++◌, string_bytes, OnOk, Some};
+ghost use Rattle.ext_report.specs.Report.{result_view, status_text, fault_text, fault_part, fault_and_further, line_of};
+
+use crate::{NodeResult, Status};
+use ext_ids::UniqueId;
+use ext_model::Fault;
+use std::alloc::AllocError;
+
+/// Writes the line of a node at the end of a text.
+pub(crate) fn write_line(
+    text: &mut String,
+    id: &UniqueId,
+    node: &NodeResult,
+) -> Result<(), AllocError>
+    ensures { OnOk result
+        (string_bytes text.new ≡ string_bytes text.old ++ line_of id.now (result_view node.now)) }
+{
+    id.write_to(text)?;
+    let status = status_text(node.status);
+    let closed = node.closed;
+    write!(text, " {status} closed {closed}")?;
+    write_fault(text, node)?;
+    text.push('\n')
+}
+
+/// Writes what a node tells of its faults at the end of a text: nothing, unless it aborted or failed.
+fn write_fault(text: &mut String, node: &NodeResult) -> Result<(), AllocError>
+    ensures { OnOk result
+        (string_bytes text.new ≡ string_bytes text.old ++ fault_part (result_view node.now)) }
+{
+    match node.status {
+        Status::Successful | Status::Skipped => Ok(()),
+        Status::Aborted | Status::Failed => match &node.fault {
+            None => Ok(()),
+            Some(fault) => write_fault_and_further(text, fault, node.more),
+        },
+    }
+}
+
+/// Writes a fault, and how many more there are, at the end of a text.
+fn write_fault_and_further(text: &mut String, fault: &Fault, more: u32) -> Result<(), AllocError>
+    ensures { OnOk result
+        (string_bytes text.new ≡ string_bytes text.old
+        ++ fault_and_further (Some (fault_text fault.now)) more) }
+{
+    let words = fault_text(fault);
+    write!(text, ": {words}")?;
+    if more != 0 {
+        write!(text, " (+{more})")?;
+    }
+    Ok(())
+}
+
+/// The word for a status.
+fn status_text(status: Status) -> &'static str
+    ensures { result.now ≡ status_text status }
+{
+    match status {
+        Status::Successful => "successful",
+        Status::Aborted => "aborted",
+        Status::Failed => "failed",
+        Status::Skipped => "skipped",
+    }
+}
+
+/// The text of a fault.
+fn fault_text(fault: &Fault) -> &str
+    ensures { result.now ≡ fault_text fault.now }
+{
+    match fault {
+        Fault::Text(text) => text.as_str(),
+        Fault::Memory => "no memory",
+    }
+}

@@ -1,0 +1,40 @@
+//! The report of a run.
+ghost use Rattle.std.specs.Prelude.{◌≡◌, ◌≤◌, ◌<◌, length, string_bytes, IfOk, All};
+ghost use Rattle.ext_report.specs.Report.{results_view, report_of, any_failed};
+
+use crate::line::write_line;
+use crate::totals::{NodeSums, TestCounts};
+use crate::{NodeResult, Status, Tree};
+use std::alloc::{AllocError, Global};
+
+/// The report of at most 256 results, each of a context of the tree: one line for each, in the order of the
+/// list, and two lines of totals. A context may have no result, or several.
+///
+/// Takes memory for the text. `AllocError` comes only where that is refused. Own rule.
+pub fn report_text(alloc: Global, tree: &Tree, results: &[NodeResult]) -> Result<String, AllocError>
+    requires in_tree { All (λ r. r.node < length tree.now) results.now }
+    requires few { length results.now ≤ 256 }
+    ensures { IfOk result
+        (λ text. string_bytes text ≡ report_of tree.now (results_view results.now)) }
+{
+    let mut text = String::new(alloc);
+    for node in results {
+        write_line(&mut text, tree.id(node.node), node)?;
+    }
+    TestCounts::of(results).write_to(&mut text)?;
+    NodeSums::of(results).write_to(&mut text)?;
+    Ok(text)
+}
+
+/// Tests whether a node failed, be it a test or a container; aborted and skipped nodes did not. Takes no
+/// memory. Own rule.
+pub fn any_failed(results: &[NodeResult]) -> bool
+    ensures { result ≡ any_failed (results_view results.now) }
+{
+    for r in results {
+        if r.status.is(Status::Failed) {
+            return true;
+        }
+    }
+    false
+}

@@ -1,0 +1,27 @@
+//! What became of a node.
+use crate::Status;
+use ext_model::{ContextNo, Fault};
+
+/// What became of one node of a run. Whoever makes it sees that the fields fit together: nothing here checks
+/// that a successful node has no fault. Own rule.
+#[derive(Debug, Drop, PartialEq, Eq)]
+pub struct NodeResult {
+    /// The node's context, a number from 0.
+    pub node: ContextNo,
+    /// Whether the node is a test; else it is a container.
+    pub is_test: bool,
+    /// How the node ended.
+    pub status: Status,
+    /// The first fault of a failed node, the first abort of an aborted one.
+    pub fault: Option<Fault>,
+    /// How many faults and aborts came besides `fault`.
+    pub more: u32,
+    /// How many values the node's calls computed.
+    pub computed: u32,
+    /// How many values the node's calls found where they would have computed one.
+    pub found: u32,
+    /// How many values were closed with the node's context, those whose close failed among them.
+    pub closed: u32,
+    /// How many of these closes failed.
+    pub close_faults: u32,
+}

@@ -1,0 +1,109 @@
+//! The two lines of totals at the end of a report.
+ghost use Rattle.std.specs.Prelude.{◌≡◌, ◌++◌, ◌≤◌, length, string_bytes, OnOk};
+ghost use Rattle.std.specs.List.{count_by};
+ghost use Rattle.ext_report.specs.Report.{results_view, tests_with, counts_of, sums_of, counts_line, sums_line};
+
+use crate::{NodeResult, Status};
+use std::alloc::AllocError;
+
+/// How many tests there are, and how many ended in each way.
+#[derive(Debug, Drop)]
+pub(crate) struct TestCounts {
+    tests: usize,
+    successful: usize,
+    aborted: usize,
+    failed: usize,
+    skipped: usize,
+}
+
+impl TestCounts {
+    /// The counts of the tests among the results.
+    pub(crate) fn of(results: &[NodeResult]) -> TestCounts
+        ensures { result ≡ counts_of (results_view results.now) }
+    {
+        TestCounts {
+            tests: tests(results),
+            successful: tests_with(Status::Successful, results),
+            aborted: tests_with(Status::Aborted, results),
+            failed: tests_with(Status::Failed, results),
+            skipped: tests_with(Status::Skipped, results),
+        }
+    }
+
+    /// Writes the line of counts at the end of a text.
+    pub(crate) fn write_to(&self, text: &mut String) -> Result<(), AllocError>
+        ensures { OnOk result
+            (string_bytes text.new ≡ string_bytes text.old ++ counts_line self.now) }
+    {
+        let TestCounts {
+            tests,
+            successful,
+            aborted,
+            failed,
+            skipped,
+        } = self;
+        write!(
+            text,
+            "tests {tests} successful {successful} aborted {aborted} failed {failed} skipped {skipped}\n"
+        )
+    }
+}
+
+/// The sums over all nodes.
+#[derive(Debug, Drop)]
+pub(crate) struct NodeSums {
+    computed: u64,
+    found: u64,
+    closed: u64,
+    close_faults: u64,
+}
+
+impl NodeSums {
+    /// The sums over at most 256 nodes, so that none is too great.
+    pub(crate) fn of(results: &[NodeResult]) -> NodeSums
+        requires { length results.now ≤ 256 }
+        ensures { result ≡ sums_of (results_view results.now) }
+    {
+        NodeSums {
+            computed: results.iter().map(|r| u64::from(r.computed)).sum(),
+            found: results.iter().map(|r| u64::from(r.found)).sum(),
+            closed: results.iter().map(|r| u64::from(r.closed)).sum(),
+            close_faults: results.iter().map(|r| u64::from(r.close_faults)).sum(),
+        }
+    }
+
+    /// Writes the line of sums at the end of a text.
+    #[tactic(auto, unfolding(crate::specs::Report::sums_line))]
+    pub(crate) fn write_to(&self, text: &mut String) -> Result<(), AllocError>
+        ensures { OnOk result
+            (string_bytes text.new ≡ string_bytes text.old ++ sums_line self.now) }
+    {
+        let NodeSums {
+            computed,
+            found,
+            closed,
+            close_faults,
+        } = self;
+        write!(
+            text,
+            "computed {computed} found {found} closed {closed} close faults {close_faults}\n"
+        )
+    }
+}
+
+/// How many of the results are of tests.
+fn tests(results: &[NodeResult]) -> usize
+    ensures { result ≡ count_by (λ r. r.is_test) (results_view results.now) }
+{
+    results.iter().filter(|r| r.is_test).count()
+}
+
+/// How many tests ended with this status.
+fn tests_with(status: Status, results: &[NodeResult]) -> usize
+    ensures { result ≡ tests_with status (results_view results.now) }
+{
+    results
+        .iter()
+        .filter(|r| r.is_test && r.status.is(status))
+        .count()
+}

@@ -1,0 +1,9 @@
+//! Tests that cross crates: worked rows from the bytes of a plan to those of its report, and hostile devices.
+#![tactic(auto)]
+
+#[cfg(test)]
+mod devices;
+#[cfg(test)]
+mod hostile;
+#[cfg(test)]
+mod rows;

@@ -1,0 +1,16 @@
+use Rattle.std.proofs.Common.{refl}
+use Rattle.ext_run.proofs.Sound.{result_of_each_node, tests_of_plan}
+use Rattle.ext_run.proofs.Seals.{node-free, node-sealed}
+use Rattle.ext_run.proofs.Values.{node-values, put_is_found}
+use Rattle.ext_run.proofs.laws.plain_run_laws.Goals as goal
+
+pub returns : goal.returns
+returns c = record {
+  results = result_of_each_node;
+  tests = tests_of_plan;
+  opening = λ plan. (λ place claimed. claimed, refl);
+  unclaimed = node-free;
+  sealed = node-sealed;
+  values = node-values;
+  found = put_is_found;
+}

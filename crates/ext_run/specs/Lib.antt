@@ -1,0 +1,6 @@
+pub mod StepTexts
+pub mod Steps
+pub mod PlainRun
+pub mod Answers
+pub mod Laws
+pub mod Helpers

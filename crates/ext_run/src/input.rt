@@ -1,0 +1,46 @@
+//! Reading a plan's bytes.
+ghost use Rattle.std.specs.Prelude.{◌≡◌, ℕ, ◌+◌, ◌<◌, ◌≤◌, List, length, IfOk, IfErr, IfSome, Err};
+ghost use Rattle.std.specs.Io.KnownBytes.{Consumes};
+ghost use Rattle.ext_run.specs.Answers.{input_limit};
+ghost use Rattle.ext_run.specs.Helpers.{IsReadFault};
+
+use crate::fault::RunFault;
+use std::alloc::Global;
+use std::io::Read;
+
+/// How many bytes a plan has at most.
+const INPUT_LIMIT: usize = 1_048_576;
+
+/// How many bytes are read at once.
+const CHUNK: usize = 4096;
+
+/// Reads to the end, but at most one byte past the limit. The first read that fails ends it.
+pub(crate) fn read_input<R: Read>(alloc: Global, reader: &mut R) -> Result<Vec<u8>, RunFault>
+    ensures whole { IfOk result (λ bytes. IfSome (R.remaining reader.old) (λ input. bytes.items ≡ input)) }
+    ensures short { IfOk result (λ bytes. length bytes.items ≤ input_limit) }
+    ensures long { result ≡ Err RunFault.TooLong
+        → IfSome (R.remaining reader.old) (λ input. input_limit < length input) }
+    ensures taken { (bytes : List ℕ) × (length bytes ≤ input_limit + 1)
+        × Consumes (R.remaining reader.old) (R.remaining reader.new) bytes }
+    ensures faults { IfErr result IsReadFault }
+{
+    let mut input = Vec::new(alloc);
+    let mut chunk = [0u8; CHUNK];
+    // Each turn reads a byte at least, so that so many turns always suffice.
+    for _ in 0..=INPUT_LIMIT {
+        // One byte past the limit tells an input that is too long from one that just fits.
+        let room = (INPUT_LIMIT + 1 - input.len()).min(CHUNK);
+        let count = match reader.read(&mut chunk[..room]) {
+            Ok(count) => count,
+            Err(_) => return Err(RunFault::Read),
+        };
+        if count == 0 {
+            return Ok(input);
+        }
+        input.extend_from_slice(&chunk[..count])?;
+        if input.len() > INPUT_LIMIT {
+            return Err(RunFault::TooLong);
+        }
+    }
+    Err(RunFault::TooLong)
+}

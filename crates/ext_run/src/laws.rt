@@ -1,0 +1,16 @@
+//! What is true of the plain run of every plan, as the contract of a function that does nothing.
+ghost use Rattle.ext_run.specs.Laws.{HasResultOfEachNode, HasTestsOfPlan, OpensClear, MakesNoClaims, SealsContexts, KeepsValues, FindsWhatWasPut};
+
+/// Proves laws of the plain run. It does nothing when it runs.
+///
+/// JUnit 5 User Guide, section "Keeping State in Extensions", for closed contexts; the order of results is
+/// an own rule.
+pub fn plain_run_laws()
+    ensures results { HasResultOfEachNode }
+    ensures tests { HasTestsOfPlan }
+    ensures opening { OpensClear }
+    ensures unclaimed { MakesNoClaims }
+    ensures sealed { SealsContexts }
+    ensures values { KeepsValues }
+    ensures found { FindsWhatWasPut }
+{}
