@@ -2,3 +2,16 @@ pub mod State
 pub mod Events
 pub mod Plain
 pub mod Laws
+pub mod History
+pub mod Words
+pub mod Allowed
+pub mod Views
+pub mod Calls
+pub mod SecondLook
+pub mod Closing
+pub mod HistoryLaws
+pub mod WordLaws
+pub mod CallLaws
+pub mod ClosingLaws
+pub mod Worked
+pub mod WorkedCalls

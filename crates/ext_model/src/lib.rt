@@ -4,8 +4,12 @@
 //! Follows the JUnit 5 User Guide, section "Keeping State in Extensions", and the Javadoc of
 //! `ExtensionContext.Store` and `NamespacedHierarchicalStore`. Values are seen by their numbers, and
 //! claims, seals and refusals are own rules. The definitions are in `specs/`: `State` has the state
-//! and the look-up, `Events` what each act answers and leaves, `Plain` the words of `PlainStore`,
-//! and `Laws` what is true of them on every state, which `store_laws` proves.
+//! and the look-up, `Events` what each act answers and leaves, and `Plain` the words of `PlainStore`.
+//! For several lanes, `History` and `Allowed` have lists of events and which of them are legal, `Words`
+//! a cell in one word, `Views` and `Calls` what a lane has seen and what the contract of a call says,
+//! `SecondLook` and `Closing` the parts that computing and closing need. What is true of them is in
+//! `Laws`, `HistoryLaws`, `WordLaws`, `CallLaws` and `ClosingLaws`, and examples are in `Worked` and
+//! `WorkedCalls`: functions that do nothing prove them.
 #![tactic(auto)]
 
 mod event;
@@ -14,13 +18,15 @@ mod look;
 mod plain;
 mod plain_fault;
 mod slot;
+mod worked;
 
 pub use event::{Act, CellNo, ContextNo, Event, KeyNo, LaneNo};
-pub use laws::store_laws;
+pub use laws::{call_laws, closing_laws, history_laws, store_laws, word_laws};
 pub use look::{Fault, Look};
 pub use plain::PlainStore;
 pub use plain_fault::PlainFault;
 pub use slot::Slot;
+pub use worked::worked_histories;
 
 #[cfg(test)]
 mod tests;

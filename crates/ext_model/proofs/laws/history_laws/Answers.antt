@@ -1,0 +1,27 @@
+use Rattle.std.proofs.Common.{◌≡◌, ap, true}
+use Rattle.ext_model.proofs.Legal.{legal_prefix, legal_push, legal_empty, legal_induct}
+use Rattle.ext_model.proofs.Allowed.{allowed_by_cases}
+use Rattle.ext_model.proofs.Versions.{none_on, quiet_from_none}
+use Rattle.ext_model.proofs.Standing.{is_sealed, remove_between_fills, none_after_seal}
+use Rattle.ext_model.proofs.Claims.{claim_stands, used_within}
+use Rattle.ext_model.proofs.Stored.{stored_once, drew_own}
+use Rattle.ext_model.proofs.Owned.{drawn_once, own_may_store}
+use Rattle.ext_model.proofs.laws.history_laws.Goals as goal
+
+pub returns : goal.returns
+returns c = record {
+  prefixes = λ limits h rest legal. legal_prefix h rest legal;
+  one_more = λ limits h e legal allowed. legal_push h e legal allowed;
+  empty = legal_empty;
+  induction = λ limits test first next h legal. legal_induct limits (λ g. test g ≡ true) first next h legal;
+  by_cases = allowed_by_cases;
+  quiet = λ cell events. (none_on events cell, quiet_from_none events cell);
+  fills = λ limits before between later lane cell number lane' number' legal. remove_between_fills before between later lane cell number lane' number' legal;
+  seals = λ limits h rest cell kept legal sealed. none_after_seal h rest cell legal (ap is_sealed sealed);
+  claims = λ limits h rest lane cell legal is quiet. claim_stands h rest lane cell legal is quiet;
+  within = λ limits h cell slot legal is. used_within h cell slot legal is;
+  drawn_once = λ limits h lane other number legal x y. drawn_once h legal lane other number x y;
+  stored_once = λ limits h legal. stored_once h legal;
+  own_numbers = λ limits h e legal there. drew_own h legal e there;
+  own_past = λ limits h lane number legal may. own_may_store h lane number legal may;
+}

@@ -1,0 +1,44 @@
+-- What has to stand in the store for each act to be an event: the same as `IsAllowed` of `History`, act by act, as a table.
+-- Own rule. `history_laws` proves that the two agree; steps of a lane are shown by this one.
+use Rattle.std.specs.Prelude.{ℕ, ◌≡◌, ◌+◌, ◌-◌, ◌^◌, ◌<◌, ◌≤◌, Contains, Option, None, Some}
+use Rattle.ext_model.specs.declared.event.Act.{Act}
+use Rattle.ext_model.specs.declared.event.Act.TheVariants.{Keep, Put, Remove, Claim, Fill, Abandon, Seal}
+use Rattle.ext_model.specs.declared.slot.Slot.{Slot}
+use Rattle.ext_model.specs.declared.slot.Slot.TheVariants as slot
+use Rattle.ext_model.specs.History.{History, Limits, by, stored, state_after, version_of}
+
+-- neither a claim nor a seal stands there
+abbrev pub IsOpen : Option Slot → Type 0
+IsOpen None = Unit {0}
+IsOpen (Some (slot.Entry number)) = Unit {0}
+IsOpen (Some (slot.Claim lane)) = ⊥
+IsOpen (Some (slot.Sealed kept)) = ⊥
+
+-- a number stands there
+abbrev pub IsPresent : Option Slot → Type 0
+IsPresent None = ⊥
+IsPresent (Some (slot.Entry number)) = Unit {0}
+IsPresent (Some (slot.Claim lane)) = ⊥
+IsPresent (Some (slot.Sealed kept)) = ⊥
+
+-- by these events the lane drew the number, and nobody has stored it
+pub record MayStore (lane number : ℕ) (past : History) : Type 0 where
+  pub drew : Contains past (by lane (Keep number))
+  pub fresh : ¬ (Contains (stored past) number)
+
+-- the greatest versions at which a cell takes a put or a remove, and a claim
+abbrev pub last_change : ℕ
+last_change = 2 ^ 40 - 3
+
+abbrev pub last_claim : ℕ
+last_claim = 2 ^ 40 - 4
+
+-- the lane may do this act directly after these events
+abbrev pub MayHappen : Limits → History → ℕ → Act ℕ → Type 0
+MayHappen limits h lane (Keep number) = (number ≡ (state_after h).drawn + 1) × (number ≤ limits.numbers)
+MayHappen limits h lane (Put at number) = (at < limits.cells) × IsOpen ((state_after h).slots at) × (version_of h at ≤ last_change) × MayStore lane number h
+MayHappen limits h lane (Remove at) = (at < limits.cells) × IsPresent ((state_after h).slots at) × (version_of h at ≤ last_change)
+MayHappen limits h lane (Claim at) = (at < limits.cells) × ((state_after h).slots at ≡ None) × (version_of h at ≤ last_claim)
+MayHappen limits h lane (Fill at number) = (at < limits.cells) × ((state_after h).slots at ≡ Some (slot.Claim lane)) × MayStore lane number h
+MayHappen limits h lane (Abandon at) = (at < limits.cells) × ((state_after h).slots at ≡ Some (slot.Claim lane))
+MayHappen limits h lane (Seal at) = (at < limits.cells) × IsOpen ((state_after h).slots at)

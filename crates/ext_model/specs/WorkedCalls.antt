@@ -1,0 +1,99 @@
+-- Worked histories: which of them are legal, and at which points a call may be answered. Each sentence follows from the definitions, as
+-- `worked_histories` says. Own rules. The store is that of `Worked`: 9 cells and 4 numbers.
+use Rattle.std.specs.Prelude.{◌≡◌, ◌*◌, [], ◌∷◌, ◌++◌, None}
+use Rattle.ext_model.specs.declared.event.Act.TheVariants.{Keep, Put, Remove, Claim, Fill, Abandon}
+use Rattle.ext_model.specs.declared.look.Look.TheVariants as look
+use Rattle.ext_model.specs.Events.{Happens, Answers}
+use Rattle.ext_model.specs.History.{History, by, reply_after, IsLegal}
+use Rattle.ext_model.specs.Views.{LaneView, seen_by, call_fronts, IsAnswerPoint}
+use Rattle.ext_model.specs.Calls.{HoldsAtPoint, IsOvertaken}
+use Rattle.ext_model.specs.SecondLook.{LooksAgain}
+use Rattle.ext_model.specs.Worked.{small, at_root}
+
+-- ---- lanes
+
+-- lane 1 had seen the number drawn, and its call then saw the put
+abbrev pub before_call : LaneView
+before_call = record { number = 1; fronts = (by 0 (Keep 1) ∷ []) ∷ [] }
+
+abbrev pub after_call : LaneView
+after_call = record { number = 1; fronts = (by 0 (Keep 1) ∷ []) ∷ at_root ∷ [] }
+
+abbrev pub CallHasOneFront : Type 0
+CallHasOneFront = call_fronts before_call after_call ≡ at_root ∷ []
+
+abbrev pub AnsweredNow : Type 0
+AnsweredNow = IsAnswerPoint before_call after_call [] at_root
+
+-- what was seen before the call is no answer of it
+abbrev pub NotFromMemory : Type 0
+NotFromMemory = ¬ (IsAnswerPoint before_call after_call [] (seen_by before_call))
+
+-- another call of the lane had a step before the put too, and may be answered before or after the put
+abbrev pub after_two_steps : LaneView
+after_two_steps = record { number = 1; fronts = (by 0 (Keep 1) ∷ []) ∷ (by 0 (Keep 1) ∷ []) ∷ at_root ∷ [] }
+
+abbrev pub TwoFronts : Type 0
+TwoFronts = call_fronts before_call after_two_steps ≡ (by 0 (Keep 1) ∷ []) ∷ at_root ∷ []
+
+abbrev pub EitherPoint : Type 0
+EitherPoint = IsAnswerPoint before_call after_two_steps [] (by 0 (Keep 1) ∷ []) × IsAnswerPoint before_call after_two_steps [] at_root
+
+-- one event of another lane was past its first front, and not two
+abbrev pub OvertakenByOne : Type 0
+OvertakenByOne = IsOvertaken small 1 before_call after_two_steps
+
+abbrev pub NotOvertakenByTwo : Type 0
+NotOvertakenByTwo = ¬ (IsOvertaken small 2 before_call after_two_steps)
+
+-- what happened before the call's first step doesn't count
+abbrev pub NotOvertakenByLagging : Type 0
+NotOvertakenByLagging = ¬ (IsOvertaken small 1 before_call after_call)
+
+-- the call may answer that a remove in context 1 finds nothing, which makes no event
+abbrev pub RemoveAnswered : Type 0
+RemoveAnswered = HoldsAtPoint small before_call after_call [] (λ p. reply_after small p 1 (Remove 3) ≡ Answers None)
+
+-- the put was a call of lane 0, answered directly before its event
+abbrev pub PutAnswered : Type 0
+PutAnswered =
+    HoldsAtPoint small (record { number = 0; fronts = (by 0 (Keep 1) ∷ []) ∷ [] }) (record { number = 0; fronts = (by 0 (Keep 1) ∷ []) ∷ at_root ∷ [] }) (Put 0 1 ∷ [])
+    (λ p. reply_after small p 0 (Put 0 1) ≡ Happens None)
+
+-- without a step of its own a call has no answer at a point
+abbrev pub NoAnswerWithoutStep : Type 0
+NoAnswerWithoutStep = ¬ (HoldsAtPoint small before_call before_call [] (λ p. Unit {0}))
+
+-- ---- a second look: lane 0 claims, lane 1 puts a value at the root meanwhile, lane 0 looks again, finds it and abandons
+
+abbrev pub meanwhile : History
+meanwhile = by 0 (Claim 3) ∷ by 1 (Keep 1) ∷ by 1 (Put 0 1) ∷ []
+
+abbrev pub SecondLookFinds : Type 0
+SecondLookFinds =
+    LooksAgain (λ context. context * 3) (0 ∷ []) (record { number = 0; fronts = [] }) (record { number = 0; fronts = (by 0 (Claim 3) ∷ []) ∷ meanwhile ∷ (meanwhile ++ by 0 (Abandon 3) ∷ []) ∷ [] })
+    (Claim 3 ∷ []) (look.Found 0 1)
+
+-- ---- legal or not
+
+-- six events of two lanes on two cells
+abbrev pub six_events : History
+six_events = at_root ++ by 1 (Keep 2) ∷ by 1 (Put 0 2) ∷ by 0 (Claim 3) ∷ by 0 (Remove 0) ∷ []
+
+abbrev pub SixAreLegal : Type 0
+SixAreLegal = IsLegal small six_events
+
+abbrev pub RootIsLegal : Type 0
+RootIsLegal = IsLegal small at_root
+
+-- a number stored by a lane that didn't draw it
+abbrev pub NotWithAnothersNumber : Type 0
+NotWithAnothersNumber = ¬ (IsLegal small (by 0 (Keep 1) ∷ by 1 (Put 0 1) ∷ []))
+
+-- a number stored twice
+abbrev pub NotTwice : Type 0
+NotTwice = ¬ (IsLegal small (at_root ++ by 0 (Put 1 1) ∷ []))
+
+-- a fill without a claim
+abbrev pub NotWithoutClaim : Type 0
+NotWithoutClaim = ¬ (IsLegal small (by 0 (Keep 1) ∷ by 0 (Fill 3 1) ∷ []))

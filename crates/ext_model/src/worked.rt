@@ -1,0 +1,47 @@
+//! Worked histories, as the contract of a function that does nothing.
+ghost use Rattle.ext_model.specs.Worked.{FoundFromBelow, RemovedNothing, Replaced, ReplacedWord, RemovedWord, HeldHides, HeldIsBusy, HeldIsNotFilledByOthers, HeldIsNotSealed, FilledStands, AbandonedIsEmpty, OwnEvents, RemainingFalls, SealedIsClosed, SealedAgain, ClosedHides, NumbersRunOut, PresentWord, EmptyWord, LastPut, NoClaimAtLastPut, NoPutAfterLast};
+ghost use Rattle.ext_model.specs.WorkedCalls.{CallHasOneFront, AnsweredNow, NotFromMemory, RootIsLegal, NotWithAnothersNumber, NotTwice, NotWithoutClaim, RemoveAnswered, PutAnswered, NoAnswerWithoutStep, SecondLookFinds, TwoFronts, EitherPoint, OvertakenByOne, NotOvertakenByTwo, NotOvertakenByLagging, SixAreLegal};
+
+/// Computes the definitions on small histories: values, claims, seals, words, versions at their limits, and fronts.
+/// It does nothing when it runs (own rule).
+pub fn worked_histories()
+    ensures found_from_below { FoundFromBelow }
+    ensures removed_nothing { RemovedNothing }
+    ensures replaced { Replaced }
+    ensures replaced_word { ReplacedWord }
+    ensures removed_word { RemovedWord }
+    ensures held_hides { HeldHides }
+    ensures held_is_busy { HeldIsBusy }
+    ensures held_is_not_filled_by_others { HeldIsNotFilledByOthers }
+    ensures held_is_not_sealed { HeldIsNotSealed }
+    ensures filled_stands { FilledStands }
+    ensures abandoned_is_empty { AbandonedIsEmpty }
+    ensures own_events { OwnEvents }
+    ensures remaining_falls { RemainingFalls }
+    ensures sealed_is_closed { SealedIsClosed }
+    ensures sealed_again { SealedAgain }
+    ensures closed_hides { ClosedHides }
+    ensures numbers_run_out { NumbersRunOut }
+    ensures present_word { PresentWord }
+    ensures empty_word { EmptyWord }
+    ensures last_put { LastPut }
+    ensures no_claim_at_last_put { NoClaimAtLastPut }
+    ensures no_put_after_last { NoPutAfterLast }
+    ensures call_has_one_front { CallHasOneFront }
+    ensures answered_now { AnsweredNow }
+    ensures not_from_memory { NotFromMemory }
+    ensures remove_answered { RemoveAnswered }
+    ensures put_answered { PutAnswered }
+    ensures no_answer_without_step { NoAnswerWithoutStep }
+    ensures second_look_finds { SecondLookFinds }
+    ensures two_fronts { TwoFronts }
+    ensures either_point { EitherPoint }
+    ensures overtaken_by_one { OvertakenByOne }
+    ensures not_overtaken_by_two { NotOvertakenByTwo }
+    ensures not_overtaken_by_lagging { NotOvertakenByLagging }
+    ensures six_are_legal { SixAreLegal }
+    ensures root_is_legal { RootIsLegal }
+    ensures not_with_anothers_number { NotWithAnothersNumber }
+    ensures not_twice { NotTwice }
+    ensures not_without_claim { NotWithoutClaim }
+{}

@@ -1,0 +1,9 @@
+pub mod Children
+pub mod Deciding
+pub mod Equalities
+pub mod KeyLaws
+pub mod Lookups
+pub mod Numbers
+pub mod TreeFacts
+pub mod TreeLaws
+pub mod Walks

@@ -1,0 +1,6 @@
+pub mod Building
+pub mod Keys
+pub mod Laws
+pub mod Paths
+pub mod Traits
+pub mod Trees

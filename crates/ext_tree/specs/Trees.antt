@@ -1,0 +1,60 @@
+-- Which lists of ids are trees of contexts, and what is wrong with the others.
+-- Contexts form a tree as those of JUnit do (User Guide, section "Keeping State in Extensions"); the limit of 256, the order of the list and the
+-- order of the faults are own rules. A context is its place in the list, from 0.
+use Rattle.std.specs.Prelude.{ℕ, ◌≡◌, ◌≢◌, ◌<◌, ◌≤◌, List, [], ◌∷◌, ◌++◌, length, slice_index_or}
+use Rattle.ext_ids.specs.Grammar.{Pair}
+use Rattle.ext_tree.specs.declared.fault.TreeFault.{TreeFault}
+use Rattle.ext_tree.specs.declared.fault.TreeFault.TheVariants as faults
+
+abbrev pub Id : Type 0
+Id = List Pair
+
+-- the id at a place
+abbrev pub id_at : List Id → ℕ → Id
+id_at ids k = slice_index_or ids k []
+
+-- the child is its parent with one segment more
+abbrev pub IsParent : Id → Id → Type 0
+IsParent parent child = (p : Pair) × (child ≡ parent ++ p ∷ [])
+
+-- the id at k stands at an earlier place too
+abbrev pub StandsBefore : List Id → ℕ → Type 0
+StandsBefore ids k = (j : ℕ) × (j < k) × (id_at ids j ≡ id_at ids k)
+
+-- the parent of the id at k stands at an earlier place
+abbrev pub HasParentBefore : List Id → ℕ → Type 0
+HasParentBefore ids k = (j : ℕ) × (j < k) × IsParent (id_at ids j) (id_at ids k)
+
+-- the id at k may stand where it does: it is new, no second root, and below an earlier one
+pub record MayFollow (ids : List Id) (k : ℕ) : Type 0 where
+  pub fresh : ¬ StandsBefore ids k
+  pub below : length (id_at ids k) ≢ 1
+  pub parent : HasParentBefore ids k
+
+-- what is wrong with the id at k, the first that applies from above
+pub data IsWrong (ids : List Id) (k : ℕ) : TreeFault → Type 0 where
+  twice : StandsBefore ids k → IsWrong ids k (faults.Twice k)
+  second_root : ¬ StandsBefore ids k → length (id_at ids k) ≡ 1 → IsWrong ids k (faults.TwoRoots k)
+  without_parent : ¬ StandsBefore ids k → length (id_at ids k) ≢ 1 → ¬ HasParentBefore ids k → IsWrong ids k (faults.NoParent k)
+
+-- there are 1 to 256 ids, and the first is a root
+pub record HasRoot (ids : List Id) : Type 0 where
+  pub some : 0 < length ids
+  pub few : length ids ≤ 256
+  pub root : length (id_at ids 0) ≡ 1
+
+-- the ids before n, but for the first, may stand where they do
+pub record FollowBelow (ids : List Id) (n : ℕ) : Type 0 where
+  pub each : (k : ℕ) → 0 < k → k < n → MayFollow ids k
+
+-- the ids are those of a tree
+pub record IsTree (ids : List Id) : Type 0 where
+  pub first : HasRoot ids
+  pub later : FollowBelow ids (length ids)
+
+-- what is wrong with a list of ids: the first fault, from the left
+pub data HasFault (ids : List Id) : TreeFault → Type 0 where
+  none_at_all : length ids ≡ 0 → HasFault ids faults.NoRoot
+  too_many : 256 < length ids → HasFault ids faults.TooMany
+  no_root : 0 < length ids → length ids ≤ 256 → length (id_at ids 0) ≢ 1 → HasFault ids faults.NoRoot
+  later : HasRoot ids → (k : ℕ) (what : TreeFault) → 0 < k → k < length ids → FollowBelow ids k → IsWrong ids k what → HasFault ids what

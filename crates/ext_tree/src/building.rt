@@ -1,0 +1,181 @@
+//! From a list of ids to the places of their parents, or to what is wrong with the list.
+ghost use Rattle.std.specs.Prelude.{ℕ, ◌≡◌, ◌≢◌, ◌+◌, ◌<◌, ◌≤◌, ◌↔◌, IsTrue, IfOk, IfErr, OnOk, MatchResult, length, take, Contains};
+ghost use Rattle.ext_tree.specs.Trees.{StandsBefore, HasRoot, IsTree, HasFault, IsWrong};
+ghost use Rattle.ext_tree.specs.Building.{IsParentBefore, IsJudged, AreParents, AreChildren, Follows};
+ghost use Rattle.ext_tree.specs.declared.fault.TreeFault.TheVariants.{Memory};
+
+use crate::TreeFault;
+use crate::trail::Trail;
+use ext_ids::UniqueId;
+use ext_model::ContextNo;
+use indexmap::IndexSet;
+use std::alloc::{AllocError, Global};
+
+/// How many contexts a tree can have.
+const MAX_CONTEXTS: usize = 256;
+
+/// Whether the list begins as a tree's does. Takes no memory.
+pub fn check_root(ids: &[UniqueId]) -> Result<(), TreeFault>
+    ensures ok { OnOk result (HasRoot ids.now) }
+    ensures err { IfErr result (HasFault ids.now) }
+{
+    if ids.is_empty() {
+        return Err(TreeFault::NoRoot);
+    }
+    if ids.len() > MAX_CONTEXTS {
+        return Err(TreeFault::TooMany);
+    }
+    if ids[0].len() != 1 {
+        return Err(TreeFault::NoRoot);
+    }
+    Ok(())
+}
+
+/// The places of the parents. Each id and its parent are looked up in a table, and not among all other ids.
+pub fn parents_of(alloc: Global, ids: &[UniqueId]) -> Result<Vec<ContextNo>, TreeFault>
+    requires { HasRoot ids.now }
+    ensures ok { IfOk result (λ v. AreParents ids.now (length ids.now) v.items) }
+    ensures err { IfErr result (λ e. e ≢ Memory → HasFault ids.now e) }
+{
+    let mut table = IndexSet::new(alloc);
+    let mut parents = Vec::new(alloc);
+    table.insert(Trail::of(alloc, &ids[0], ids[0].len())?)?;
+    parents.push(0)?;
+    for i in 1..ids.len() {
+        let parent = enter(alloc, &mut table, ids, i)?;
+        parents.push(parent)?;
+    }
+    Ok(parents)
+}
+
+/// Puts the id into the table of those before it, and answers the place of its parent.
+fn enter(
+    alloc: Global,
+    table: &mut IndexSet<Trail>,
+    ids: &[UniqueId],
+    at: usize,
+) -> Result<ContextNo, TreeFault>
+    requires within { (0 < at) × (at < length ids.now) }
+    requires table { table.old.keys ≡ take at ids.now }
+    ensures ok { IfOk result (Follows ids.now at) }
+    ensures table { OnOk result (table.new.keys ≡ take (at + 1) ids.now) }
+    ensures err { IfErr result (λ e. e ≢ Memory → IsWrong ids.now at e) }
+{
+    let id = &ids[at];
+    let above = id.len() - 1;
+    let mut trail = Trail::of(alloc, id, above)?;
+    let parent = table.get_index_of(&trail);
+    trail.push(alloc, id, above)?;
+    let stands = table.contains(&trail);
+    let parent = judge(ids, at, stands, parent)?;
+    table.insert(trail)?;
+    Ok(parent)
+}
+
+/// The place of the parent of an id that may stand where it does, or what is wrong with it.
+fn judge(
+    ids: &[UniqueId],
+    at: usize,
+    stands: bool,
+    parent: Option<ContextNo>,
+) -> Result<ContextNo, TreeFault>
+    requires within { (0 < at) × (at < length ids.now) }
+    requires stands { IsTrue stands ↔ StandsBefore ids.now at }
+    requires parent { IsParentBefore ids.now at parent }
+    ensures { IsJudged ids.now at result }
+{
+    if stands {
+        return Err(TreeFault::Twice(at));
+    }
+    if ids[at].len() == 1 {
+        return Err(TreeFault::TwoRoots(at));
+    }
+    match parent {
+        None => Err(TreeFault::NoParent(at)),
+        Some(parent) => Ok(parent),
+    }
+}
+
+/// What `parents_of` decides, for when there is no memory for a table. Takes none.
+fn check(ids: &[UniqueId]) -> Result<(), TreeFault>
+    requires { HasRoot ids.now }
+    ensures ok { OnOk result (IsTree ids.now) }
+    ensures err { IfErr result (HasFault ids.now) }
+{
+    for i in 1..ids.len() {
+        let _parent = judge(ids, i, stands_before(ids, i), parent_before(ids, i))?;
+    }
+    Ok(())
+}
+
+/// What is wrong with the ids that `parents_of` refused: nothing but memory only where they are a tree. Takes none.
+pub fn refusal(ids: &[UniqueId], fault: TreeFault) -> TreeFault
+    requires root { HasRoot ids.now }
+    requires fault { fault ≢ Memory → HasFault ids.now fault }
+    ensures fault { result ≢ Memory → HasFault ids.now result }
+    ensures memory { result ≡ Memory → IsTree ids.now }
+{
+    match fault {
+        TreeFault::Memory => match check(ids) {
+            Ok(()) => TreeFault::Memory,
+            Err(fault) => fault,
+        },
+        fault => fault,
+    }
+}
+
+/// Whether the id stands at an earlier place too.
+fn stands_before(ids: &[UniqueId], at: usize) -> bool
+    requires { at < length ids.now }
+    ensures { IsTrue result ↔ StandsBefore ids.now at }
+{
+    for id in &ids[..at] {
+        if *id == ids[at] {
+            return true;
+        }
+    }
+    false
+}
+
+/// The earlier place of the id's parent.
+fn parent_before(ids: &[UniqueId], at: usize) -> Option<ContextNo>
+    requires { at < length ids.now }
+    ensures { IsParentBefore ids.now at result }
+{
+    for i in 0..at {
+        if ids[i].is_parent_of(&ids[at]) {
+            return Some(i);
+        }
+    }
+    None
+}
+
+/// For each context the list of its children, in order.
+pub fn children_lists(
+    alloc: Global,
+    ids: &[UniqueId],
+    parents: &[ContextNo],
+) -> Result<Vec<Vec<ContextNo>>, AllocError>
+    requires tree { IsTree ids.now }
+    requires parents { AreParents ids.now (length ids.now) parents.now }
+    ensures { IfOk result (λ v. AreChildren ids.now (length ids.now) v.items) }
+{
+    let mut lists = empty_lists(alloc, ids)?;
+    for i in 1..ids.len() {
+        let parent = parents[i];
+        lists[parent].push(i)?;
+    }
+    Ok(lists)
+}
+
+/// An empty list for each context.
+fn empty_lists(alloc: Global, ids: &[UniqueId]) -> Result<Vec<Vec<ContextNo>>, AllocError>
+    requires { IsTree ids.now }
+    ensures { IfOk result (λ v. AreChildren ids.now 1 v.items) }
+{
+    let mut lists = Vec::new(alloc);
+    for _ in 0..ids.len() {
+        lists.push(Vec::new(alloc))?;
+    }
+    Ok(lists)
+}

@@ -1,0 +1,104 @@
+//! The directory, which numbers declared keys.
+ghost use Rattle.std.specs.Prelude.{ℕ, true, ◌⊎◌, ◌≡◌, ◌+◌, ◌*◌, ◌<◌, ◌≤◌, ◌++◌, ◌∷◌, [], ◌↔◌, Some, None, Ok, Err, IfOk, IfErr, IfSome, OnOk, OnErr, Contains, length};
+ghost use Rattle.ext_tree.specs.Keys.{HasNumber, AreDifferent};
+ghost use Rattle.ext_tree.specs.declared.fault.TreeFault.TheVariants as fault;
+
+use crate::{Key, TreeFault};
+use ext_model::{CellNo, ContextNo, KeyNo};
+use indexmap::IndexSet;
+use std::alloc::Global;
+use std::marker::Model;
+
+/// How many keys can be declared.
+const MAX_KEYS: usize = 64;
+
+/// The declared keys, in the order of their numbers, which begin at 0. There are at most 64. Own rule.
+#[derive(Drop)]
+pub struct Directory {
+    keys: IndexSet<Key>,
+}
+
+impl Model for Directory {
+    ghost use Rattle.std.specs.Prelude.{List, ◌≤◌, length};
+    ghost use Rattle.ext_tree.specs.Keys.{KeyValue, AreDifferent};
+
+    ghost Value = { List KeyValue };
+
+    ghost view = { λ d. d.keys.keys };
+
+    ghost invariant = { λ d. (length d.keys.keys ≤ 64) × AreDifferent d.keys.keys };
+}
+
+impl Directory {
+    /// A directory without keys. Takes no memory: the allocator is for later calls. Own rule.
+    pub fn new(alloc: Global) -> Directory
+        ensures { result ≡ [] }
+    {
+        Directory {
+            keys: IndexSet::new(alloc),
+        }
+    }
+
+    /// The number of the key, 0 to 63, from now on: its own if it was declared before, else the next one.
+    /// May take memory, for a new key only.
+    ///
+    /// Refused, in this order, as `TooMany` where 64 other keys are declared, and as `Memory`. A refused call
+    /// drops the key, and changes nothing. Own rule.
+    pub fn declare(&mut self, key: Key) -> Result<KeyNo, TreeFault>
+        ensures number { IfOk result (HasNumber self.new key) }
+        ensures again { (number : ℕ) → HasNumber self.old key number → (result ≡ Ok number) × (self.new ≡ self.old) }
+        ensures added { IfOk result (λ number. ¬ (Contains self.old key) →
+            (number ≡ length self.old) × (self.new ≡ self.old ++ key ∷ [])) }
+        ensures full { (result ≡ Err fault.TooMany) ↔ (¬ (Contains self.old key) × (length self.old ≡ 64)) }
+        ensures memory { result ≡ Err fault.Memory → ¬ (Contains self.old key) × (length self.old < 64) }
+        ensures refusal { IfErr result (λ e. (e ≡ fault.TooMany) ⊎ (e ≡ fault.Memory)) }
+        ensures unchanged { OnErr result (self.new ≡ self.old) }
+    {
+        if let Some(number) = self.number_of(&key) {
+            return Ok(number);
+        }
+        let number = self.keys.len();
+        if number == MAX_KEYS {
+            return Err(TreeFault::TooMany);
+        }
+        self.keys.insert(key)?;
+        Ok(number)
+    }
+
+    /// The number of the key, 0 to 63, or `None` where it was not declared. Takes no memory. Own rule.
+    pub fn number_of(&self, key: &Key) -> Option<KeyNo>
+        ensures number { IfSome result (HasNumber self.now key.now) }
+        ensures found { (number : ℕ) → HasNumber self.now key.now number → result ≡ Some number }
+        ensures absent { (result ≡ None) ↔ ¬ (Contains self.now key.now) }
+    {
+        self.keys.get_index_of(key)
+    }
+
+    /// How many keys were declared: 0 to 64.
+    pub fn len(&self) -> usize
+        ensures count { result ≡ length self.now }
+        ensures small { result ≤ 64 }
+        ensures different { AreDifferent self.now }
+    {
+        self.keys.len()
+    }
+
+    /// Whether no key was declared.
+    pub fn is_empty(&self) -> bool
+        ensures { result ≡ true ↔ (self.now ≡ []) }
+    {
+        self.keys.is_empty()
+    }
+
+    /// The cell of a context, 0 to 255, and a declared key: the context times the number of keys, plus the key.
+    /// Different pairs have different cells; once a further key is declared, the cells are others. Takes no memory.
+    /// Own rule.
+    pub fn cell(&self, context: ContextNo, key: KeyNo) -> CellNo
+        requires context { context < 256 }
+        requires key { key < length self.now }
+        ensures cell { result ≡ context * length self.now + key }
+        ensures within { result < 256 * length self.now }
+    {
+        context * self.len() + key
+    }
+}

@@ -1,0 +1,71 @@
+//! A key of the store.
+ghost use Rattle.std.specs.Prelude.{◌≡◌, ◌↔◌, IsTrue, IfOk, IfErr};
+ghost use Rattle.std.specs.Cmp.{partial_equiv_from_equiv};
+ghost use Rattle.ext_tree.specs.Keys.{key_of};
+ghost use Rattle.ext_tree.specs.Traits.{key_eq, key_eq_equiv, key_input, keys_Alike};
+ghost use Rattle.ext_tree.specs.declared.fault.TreeFault.TheVariants.{Memory};
+
+use crate::text::Text;
+use crate::{Namespace, TreeFault};
+use std::alloc::Global;
+use std::hash::{Hash, Hasher};
+use std::marker::Model;
+
+/// A key of the store: a namespace and a name.
+///
+/// JUnit 5 User Guide, section "Keeping State in Extensions". Names are texts (own rule).
+#[derive(Debug, Drop)]
+pub struct Key {
+    namespace: Namespace,
+    name: Text,
+}
+
+impl Model for Key {
+    ghost use Rattle.ext_tree.specs.Keys.{KeyValue};
+
+    ghost Value = { KeyValue };
+
+    ghost view = { λ k. record { namespace = k.namespace; name = k.name } };
+}
+
+impl Key {
+    /// The key of a namespace and a name, which may be empty; takes memory.
+    ///
+    /// `Memory` is its only fault; the namespace is then dropped. Own rule.
+    pub fn new(alloc: Global, namespace: Namespace, name: &str) -> Result<Key, TreeFault>
+        ensures value { IfOk result (λ k. k ≡ key_of namespace name.now) }
+        ensures memory { IfErr result (λ e. e ≡ Memory) }
+    {
+        let name = Text::copied(alloc, name)?;
+        Ok(Key { namespace, name })
+    }
+}
+
+impl PartialEq for Key {
+    ghost eq = { key_eq };
+
+    ghost laws = { partial_equiv_from_equiv key_eq_equiv };
+
+    /// Tests whether the namespaces are equal and the names are. Own rule.
+    fn eq(&self, other: &Key) -> bool
+        ensures exact { result ≡ key_eq self.now other.now }
+        ensures same { IsTrue result ↔ (self.now ≡ other.now) }
+    {
+        self.namespace == other.namespace && self.name == other.name
+    }
+}
+
+impl Eq for Key {
+    ghost laws = { key_eq_equiv };
+}
+
+impl Hash for Key {
+    ghost hash_input = { key_input };
+
+    ghost respects_eq = { keys_Alike.fed };
+
+    fn hash<H: Hasher>(&self, state: &mut H) {
+        self.namespace.hash(state);
+        self.name.hash(state);
+    }
+}

@@ -1,0 +1,16 @@
+//! Laws of trees and keys, each proved once and for all as the contract of an empty function.
+ghost use Rattle.ext_tree.specs.Laws.{FaultsTell, PathsAreUnique, ParentsListChildren, NumbersTell, CellsTell, NamespacesTell};
+
+/// Proves the laws of trees: faults, paths and children. It does nothing when it runs.
+pub fn tree_laws()
+    ensures faults { FaultsTell }
+    ensures paths { PathsAreUnique }
+    ensures children { ParentsListChildren }
+{}
+
+/// Proves the laws of namespaces, numbers of keys and cells. It does nothing when it runs.
+pub fn key_laws()
+    ensures namespaces { NamespacesTell }
+    ensures numbers { NumbersTell }
+    ensures cells { CellsTell }
+{}

@@ -1,0 +1,131 @@
+//! Contexts in a tree, by their unique ids.
+ghost use Rattle.std.specs.Prelude.{ℕ, ◌≡◌, ◌≢◌, ◌<◌, ◌≤◌, Ok, Err, IfOk, IfErr, OnOk, IsErrOf, MatchResult, All, AllPairs, length};
+ghost use Rattle.ext_ids.specs.Grammar.{IsId};
+ghost use Rattle.ext_tree.specs.Trees.{Id, id_at, IsTree, HasFault};
+ghost use Rattle.ext_tree.specs.Paths.{IsPathOf, children_of};
+ghost use Rattle.ext_tree.specs.Building.{AreParents};
+ghost use Rattle.ext_tree.specs.declared.fault.TreeFault.{TreeFault};
+ghost use Rattle.ext_tree.specs.declared.fault.TreeFault.TheVariants.{Memory};
+
+use crate::building::{check_root, children_lists, parents_of, refusal};
+use crate::path::MAX_DEPTH;
+use crate::{Path, TreeFault};
+use ext_ids::UniqueId;
+use ext_model::ContextNo;
+use std::alloc::{AllocError, Global};
+use std::marker::Model;
+
+/// Contexts in a tree: 1 to 256 of them, numbered from 0, the root, in the order of their ids.
+///
+/// JUnit 5 User Guide, section "Keeping State in Extensions". The order and the limit are own rules.
+#[derive(Drop)]
+pub struct Tree {
+    ids: Vec<UniqueId>,
+    // Of the root any.
+    parents: Vec<ContextNo>,
+    lists: Vec<Vec<ContextNo>>,
+}
+
+impl Model for Tree {
+    ghost use Rattle.std.specs.Prelude.{ℕ, List, length};
+
+    ghost Value = { List (List (List ℕ × List ℕ)) };
+
+    ghost use Rattle.ext_tree.specs.Building.{IsShaped};
+
+    ghost view = { λ t. t.ids.items };
+
+    ghost invariant = { λ t. IsShaped t.ids.items t.parents.items t.lists.items };
+}
+
+impl Tree {
+    /// The tree of contexts with these ids, numbered as listed; takes memory.
+    ///
+    /// Refused for the first fault: `NoRoot` for no id at all, `TooMany` for more than 256, `NoRoot` for a first id
+    /// that has not one segment; then for each later id in order `Twice`, `TwoRoots` where it has one segment, and
+    /// `NoParent` where its parent does not stand before it. `Memory` comes only where nothing is wrong with the
+    /// ids. The ids handed in stay as they are: the tree holds copies. Own rule.
+    pub fn build(alloc: Global, ids: &[UniqueId]) -> Result<Tree, TreeFault>
+        // What is accepted is a tree of these ids, and such ids are accepted while there is memory.
+        ensures found { OnOk result (IsTree ids.now) }
+        ensures ids { IfOk result (λ t. t ≡ ids.now) }
+        ensures only { IsTree ids.now → MatchResult result (λ t. t ≡ ids.now) (λ e. e ≡ Memory) }
+
+        // What they are refused for is their first fault, and ids with a fault are refused for it.
+        ensures fault { IfErr result (λ e. e ≢ Memory → HasFault ids.now e) }
+        ensures first { (e : TreeFault) → HasFault ids.now e → IsErrOf result e }
+        ensures memory { result ≡ Err Memory → IsTree ids.now }
+    {
+        check_root(ids)?;
+        match parents_of(alloc, ids) {
+            Ok(parents) => Ok(Tree::of(alloc, ids, parents)?),
+            Err(fault) => Err(refusal(ids, fault)),
+        }
+    }
+
+    /// The context, its parent, and so on to the root. Takes no memory.
+    ///
+    /// JUnit 5 User Guide, section "Keeping State in Extensions".
+    pub fn path(&self, context: ContextNo) -> Path
+        requires { context < length self.now }
+        ensures path { IsPathOf self.now context result }
+        ensures depth { length result ≡ length (id_at self.now context) }
+        ensures some { 0 < length result }
+        ensures few { length result ≤ 16 }
+        ensures within { All (λ c. c < length self.now) result }
+        ensures different { AllPairs (λ a b. a ≢ b) result }
+    {
+        let depth = self.ids[context].len();
+        let mut contexts = [context; MAX_DEPTH];
+        let mut at = context;
+        for i in 1..depth {
+            at = self.parents[at];
+            contexts[i] = at;
+        }
+        Path::of(contexts, depth)
+    }
+
+    /// The context's children, in order. Takes no memory.
+    pub fn children(&self, context: ContextNo) -> &[ContextNo]
+        requires { context < length self.now }
+        ensures { result.now ≡ children_of self.now context }
+    {
+        self.lists[context].as_slice()
+    }
+
+    /// The context's id. Takes no memory.
+    pub fn id(&self, context: ContextNo) -> &UniqueId
+        requires { context < length self.now }
+        ensures { result.now ≡ id_at self.now context }
+    {
+        &self.ids[context]
+    }
+
+    /// How many contexts there are: 1 to 256. A tree has its root, so there is no `is_empty`.
+    pub fn len(&self) -> usize
+        ensures count { result ≡ length self.now }
+        ensures some { 0 < result }
+        ensures few { result ≤ 256 }
+        ensures tree { IsTree self.now }
+    {
+        self.ids.len()
+    }
+
+    // The tree with copies of the ids, whose parents stand at these places.
+    fn of(alloc: Global, ids: &[UniqueId], parents: Vec<ContextNo>) -> Result<Tree, AllocError>
+        requires tree { IsTree ids.now }
+        requires parents { AreParents ids.now (length ids.now) parents.items }
+        ensures { IfOk result (λ t. t ≡ ids.now) }
+    {
+        let lists = children_lists(alloc, ids, parents.as_slice())?;
+        let mut own = Vec::new(alloc);
+        for id in ids {
+            own.push(id.clone()?)?;
+        }
+        Ok(Tree {
+            ids: own,
+            parents,
+            lists,
+        })
+    }
+}
