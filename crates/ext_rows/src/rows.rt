@@ -1,5 +1,5 @@
 //! Worked rows: a plan's bytes, and those of the report that follow from them.
-use ext_run::{Options, RunFault, Summary, run};
+use ext_run::{Options, RunFault, Summary, id_text, run};
 use std::alloc::Global;
 use std::test::Fail;
 
@@ -130,5 +130,19 @@ fn long_plans(rt: HostRuntime) -> Result<(), Fail> {
         refusal(rt.alloc(), plan.as_slice())?.as_str(),
         "plan too long"
     );
+    Ok(())
+}
+
+#[test]
+fn ids_in_lines(rt: HostRuntime) -> Result<(), Fail> {
+    let lines = id_text(rt.alloc(), "[engine:x]/[class:a%2Fb]")?;
+    assert_eq!(rt;
+        lines.as_str(),
+        "engine x\nclass a/b\n[engine:x]/[class:a%2Fb]\n"
+    );
+    let fault = id_text(rt.alloc(), "[engine:a+b]").err().ok_or("accepted")?;
+    assert_eq!(rt; fault.to_string(rt.alloc())?.as_str(), "id: I6 at 9");
+    let fault = id_text(rt.alloc(), "").err().ok_or("accepted")?;
+    assert_eq!(rt; fault.to_string(rt.alloc())?.as_str(), "id: I1");
     Ok(())
 }

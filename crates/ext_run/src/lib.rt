@@ -8,6 +8,7 @@
 #![tactic(auto)]
 
 mod fault;
+mod id_lines;
 mod input;
 mod laws;
 mod plain;
@@ -16,8 +17,10 @@ mod runs;
 mod step_fault;
 mod step_text;
 
+pub use ext_ids::IdFault;
 pub use ext_plan::{LabelNo, Place, Plan, PlanFault, PlanKey, PlanNode, Step, read_plan};
 pub use ext_report::{NodeResult, Status, Tree};
 pub use fault::RunFault;
+pub use id_lines::id_text;
 pub use laws::plain_run_laws;
 pub use runs::{Options, Summary, report_text, run};

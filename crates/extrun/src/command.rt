@@ -13,10 +13,12 @@ const LANES: u8 = 4;
 const REFUSED: u8 = 2;
 
 /// What a command line asks for.
-#[derive(Clone, Copy, Debug)]
+#[derive(Debug, Drop)]
 pub(crate) enum Request {
     /// To run the plan from standard input.
     Run(Options),
+    /// To read this id.
+    Id(String),
     /// Nothing more, with this exit status: 0 after the help, 2 where the command line is refused.
     Exit(u8),
     /// Nothing more: memory was wanted and refused.
@@ -43,19 +45,25 @@ fn parsed<R: Env + AllocGlobal + Print + Eprint>(rt: &R) -> Result<Request, Allo
     };
     let words: Vec<String> = words.collect(alloc)?;
     match program(alloc)?.try_get_matches_from(words.as_slice()) {
-        Ok(matches) => {
-            let lanes = match matches.subcommand() {
-                Some((_, run)) => run.get_one::<u8>("lanes").unwrap_or(LANES),
-                None => LANES,
-            };
-            Ok(Request::Run(Options {
-                lanes: usize::from(lanes),
-                plain: true,
-            }))
-        }
+        Ok(matches) => match matches.subcommand() {
+            Some(("id", id)) => {
+                let text = id.get_str("TEXT").unwrap_or("");
+                Ok(Request::Id(String::from_str(alloc, text)?))
+            }
+            Some((_, run)) => Ok(run_on(run.get_one::<u8>("lanes").unwrap_or(LANES))),
+            None => Ok(run_on(LANES)),
+        },
         Err(fault) if fault.kind() == ErrorKind::OutOfMemory => Err(AllocError),
         Err(fault) => Ok(refused(rt, &fault)),
     }
+}
+
+/// To run the plan on so many lanes.
+fn run_on(lanes: u8) -> Request {
+    Request::Run(Options {
+        lanes: usize::from(lanes),
+        plain: true,
+    })
 }
 
 /// Tells that a word of the command line is not UTF-8: clap takes texts alone.
@@ -92,9 +100,17 @@ fn program<'a>(alloc: Global) -> Result<Command<'a>, AllocError> {
         .about("Reads a plan from standard input, runs it and prints its report")
         .arg(lanes)?
         .arg(store)?;
+    let text = Arg::new(alloc, "TEXT")
+        .help("The id")
+        .required(true)
+        .action(ArgAction::Set);
+    let id = Command::new(alloc, "id")
+        .about("Prints the segments of a unique id, decoded, and the id written again")
+        .arg(text)?;
     Command::new(alloc, "extrun")
         .about(
             "Runs plans of contexts, keys and test steps over the extension store; without a word it does `run`",
         )
-        .subcommand(run)
+        .subcommand(run)?
+        .subcommand(id)
 }

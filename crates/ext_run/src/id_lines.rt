@@ -1,0 +1,47 @@
+//! An id, printed.
+ghost use Rattle.std.specs.Prelude.{◌≡◌, ◌≢◌, ◌++◌, List, IfOk, IfErr, IsErrOf, OnOk, MatchResult, string_bytes};
+ghost use Rattle.ext_ids.specs.declared.fault.IdFault.{IdFault};
+ghost use Rattle.ext_ids.specs.declared.fault.IdFault.TheVariants.{Memory};
+ghost use Rattle.ext_ids.specs.Grammar.{Pair, IsIdText};
+ghost use Rattle.ext_ids.specs.Faults.{HasFault};
+ghost use Rattle.ext_run.specs.IdText.{pair_line, id_lines};
+
+use ext_ids::{IdFault, UniqueId};
+use std::alloc::{AllocError, Global};
+
+/// The id that a text spells, in lines: `TYPE VALUE` for each segment, decoded, and then the id as it is written.
+///
+/// Refused for the text's first fault, I1 to I8; `Memory` (I9) comes only where the text is an id. Takes memory for
+/// the id and the lines. Own rule.
+pub fn id_text(alloc: Global, text: &str) -> Result<String, IdFault>
+    ensures found { IfOk result (λ lines. (pairs : List Pair) × IsIdText text.now pairs × (string_bytes lines ≡ id_lines pairs)) }
+    ensures only { (pairs : List Pair) → IsIdText text.now pairs → MatchResult result (λ lines. string_bytes lines ≡ id_lines pairs) (λ e. e ≡ Memory) }
+    ensures fault { IfErr result (λ e. e ≢ Memory → HasFault text.now e) }
+    ensures first { (e : IdFault) → HasFault text.now e → IsErrOf result e }
+{
+    let id = UniqueId::parse(alloc, text)?;
+    Ok(lines_of(alloc, &id)?)
+}
+
+/// The lines of an id.
+fn lines_of(alloc: Global, id: &UniqueId) -> Result<String, AllocError>
+    ensures { IfOk result (λ lines. string_bytes lines ≡ id_lines id.now) }
+{
+    let mut lines = String::new(alloc);
+    for i in 0..id.len() {
+        write_pair(&mut lines, id.segment(i))?;
+    }
+    id.write_to(&mut lines)?;
+    lines.push('\n')?;
+    Ok(lines)
+}
+
+/// Writes the line of a segment at the end of a text.
+fn write_pair(text: &mut String, pair: (&str, &str)) -> Result<(), AllocError>
+    ensures { OnOk result (string_bytes text.new ≡ string_bytes text.old ++ pair_line (pair.entry.0.now, pair.entry.1.now)) }
+{
+    text.push_str(pair.0)?;
+    text.push(' ')?;
+    text.push_str(pair.1)?;
+    text.push('\n')
+}
