@@ -1,0 +1,22 @@
+//! Why places or notes were not made.
+ghost use Rattle.std.specs.Prelude.{◌≡◌};
+ghost use Rattle.ext_values.specs.declared.fault.ValuesFault.TheVariants.{Memory};
+
+use std::alloc::AllocError;
+use thiserror::Error;
+
+/// Want of memory, the one fault of the makers. Own rule. Prints as a sentence without its first capital and point.
+#[derive(Clone, Copy, Debug, PartialEq, Eq, Error)]
+pub enum ValuesFault {
+    /// An allocation failed.
+    #[error("no memory")]
+    Memory,
+}
+
+impl From<AllocError> for ValuesFault {
+    ghost from_gives = { λ _ e. e ≡ Memory };
+
+    fn from(_e: AllocError) -> ValuesFault {
+        ValuesFault::Memory
+    }
+}

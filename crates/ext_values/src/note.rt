@@ -1,0 +1,33 @@
+//! What tells the value of one number.
+ghost use Rattle.std.specs.Prelude.{◌≡◌};
+
+use once_cell::race;
+use std::marker::Model;
+
+/// What tells that a number has a value, and which one. It is made by the calls of `Values` that place a value or
+/// show one, and holds no copy of the value. Own rule.
+#[derive(Drop)]
+pub struct Note<V> {
+    pub(crate) number: u32,
+    pub(crate) seen: race::Note<V>,
+}
+
+impl<V> Model for Note<V> {
+    ghost use Rattle.std.specs.Prelude.{IsSome};
+    ghost use Rattle.ext_values.specs.Places.{Told};
+
+    ghost Value = { Told V };
+
+    ghost view = { λ n. record { number = n.number; place = n.seen.cell; value = n.seen.known } };
+
+    ghost invariant = { λ n. IsSome n.seen.known };
+}
+
+impl<V> Note<V> {
+    /// The number that the note is of, from 1. Takes no memory. Own rule.
+    pub fn number(&self) -> u32
+        ensures { result ≡ self.now.number }
+    {
+        self.number
+    }
+}

@@ -1,0 +1,140 @@
+//! Places for values, found by their numbers.
+ghost use Rattle.std.specs.Prelude.{◌≡◌, ◌↔◌, IfErr, IfOk, IfSome, IsTrue, OnSome, Some, length};
+ghost use Rattle.once_cell.specs.Once.{cell_name};
+ghost use Rattle.ext_values.specs.Places.{IsCapacity, IsNoteOf, IsNumber, place_of};
+
+use crate::{Note, ValuesFault};
+use once_cell::race::OnceBox;
+use std::alloc::Global;
+use std::marker::Model;
+use std::mem::size_of;
+
+/// A fixed number of places for values, numbered from 1. Each is set at most once and keeps its value until all are
+/// dropped; any thread may set one, and find it. Takes one pointer a number. Own rule.
+#[derive(Drop)]
+pub struct Values<V> {
+    places: Vec<OnceBox<V>>,
+}
+
+// One pointer a number, however large the values are.
+const _: () = prove!(size_of::<OnceBox<[u64; 4]>>() == size_of::<usize>());
+
+impl<V> Model for Values<V> {
+    ghost use Rattle.std.specs.Prelude.{ℕ, List, length, map};
+    ghost use Rattle.once_cell.specs.Once.{cell_name};
+    ghost use Rattle.ext_values.specs.Places.{IsCapacity};
+
+    ghost Value = { List ℕ };
+
+    ghost view = { λ v. map cell_name v.places.items };
+
+    ghost invariant = { λ v. IsCapacity (length v.places.items) };
+}
+
+impl<V> Values<V> {
+    /// So many free places; takes memory. It is a condition that the capacity is 1 to 65,535: a call with 0 or with
+    /// 65,536 is not proved.
+    ///
+    /// Refused as `Memory`, and only where its one allocation fails. Own rule.
+    pub fn new(alloc: Global, capacity: u32) -> Result<Values<V>, ValuesFault>
+        requires { IsCapacity capacity }
+        ensures { IfOk result (λ v. length v ≡ capacity) }
+    {
+        let mut places = Vec::with_capacity(alloc, capacity as usize)?;
+        for _ in 0..capacity {
+            places.push_reserved(OnceBox::new(alloc));
+        }
+        Ok(Values { places })
+    }
+
+    /// How many places there are, which is the last number: 1 to 65,535. Takes no memory. Own rule.
+    pub fn capacity(&self) -> u32
+        ensures count { result ≡ length self.now }
+        ensures within { IsCapacity result }
+    {
+        self.places.len() as u32
+    }
+
+    /// Whether there is a place with this number: whether it is 1 to the capacity. Takes no memory. Own rule.
+    pub fn has_number(&self, number: u32) -> bool
+        ensures { IsTrue result ↔ IsNumber self.now number }
+    {
+        number > 0 && number as usize <= self.places.len()
+    }
+}
+
+impl<V: Drop> Values<V> {
+    /// Puts the value at this number, and gives a note of it. Takes no memory and never waits. It is a condition that
+    /// the number is 1 to the capacity.
+    ///
+    /// Refused where the place is taken: the box that was handed in comes back with its value, and the place keeps the
+    /// value that it has. Own rule.
+    pub fn place(&self, number: u32, value: Box<V>) -> Result<Note<V>, Box<V>>
+        requires { IsNumber self.now number }
+        ensures note { IfOk result (λ n. IsNoteOf self.now n) }
+        ensures number { IfOk result (λ n. n.number ≡ number) }
+        ensures value { IfOk result (λ n. n.value ≡ Some value.value) }
+        ensures handed_back { IfErr result (λ b. b.value ≡ value.value) }
+    {
+        let place = self.place_at(number);
+        let mut seen = place.note();
+        match place.set_as(value, &mut seen) {
+            Ok(()) => Ok(Note { number, seen }),
+            Err(back) => Err(back),
+        }
+    }
+}
+
+impl<V> Values<V> {
+    /// The value of a number and a note of it, where this thread finds one. Takes no memory and never waits.
+    ///
+    /// `None` for a number outside 1 to the capacity, and where the thread finds the place free. That a value which
+    /// another thread placed is found once that thread was joined is shown by a test, not by a clause. Own rule.
+    pub fn show(&self, number: u32) -> Option<(&V, Note<V>)>
+        ensures within { OnSome result (IsNumber self.now number) }
+        ensures note { IfSome result (λ r. IsNoteOf self.now r.1) }
+        ensures number { IfSome result (λ r. r.1.number ≡ number) }
+        ensures value { IfSome result (λ r. r.1.value ≡ Some r.0.now) }
+    {
+        if !self.has_number(number) {
+            return None;
+        }
+        let place = self.place_at(number);
+        let mut seen = place.note();
+        let value = place.get_as(&mut seen)?;
+        Some((value, Note { number, seen }))
+    }
+
+    /// The value that the note tells. Takes no memory and never waits; the note stays as it was. It is a condition
+    /// that the note is of these places. Own rule.
+    pub fn show_known<'a>(&'a self, note: &mut Note<V>) -> &'a V
+        requires { IsNoteOf self.now note.old }
+        ensures value { note.old.value ≡ Some result.now }
+        ensures unchanged { note.new ≡ note.old }
+    {
+        match self.place_at(note.number).get_as(&mut note.seen) {
+            Some(value) => value,
+            None => unreachable!(),
+        }
+    }
+
+    /// Shows that two notes of one number tell one value; it does nothing else. Takes no memory and never waits; the
+    /// notes stay as they were. It is a condition that both are of these places, and of one number. Own rule.
+    pub fn agree(&self, note: &mut Note<V>, second: &mut Note<V>)
+        requires note { IsNoteOf self.now note.old }
+        requires second { IsNoteOf self.now second.old }
+        requires number { note.old.number ≡ second.old.number }
+        ensures value { note.old.value ≡ second.old.value }
+        ensures unchanged { (note.new ≡ note.old) × (second.new ≡ second.old) }
+    {
+        note.seen.compare(second.seen.again());
+    }
+
+    // The place with this number.
+    pub(crate) fn place_at(&self, number: u32) -> &OnceBox<V>
+        requires { IsNumber self.now number }
+        ensures { cell_name result.now ≡ place_of self.now number }
+    {
+        &self.places[number as usize - 1]
+    }
+}
