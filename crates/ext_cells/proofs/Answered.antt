@@ -1,0 +1,116 @@
+-- The public answers of a put, a remove and a seal, from what their common loop says.
+use Rattle.std.proofs.Common.{◌≡◌, inl, inr, ℕ, Bool, true, false, List, [], sym, refl, ap, ◌∙◌, Option, None, Some}
+use Rattle.std.specs.Prelude.{Result, Ok, Err}
+use Rattle.ext_model.specs.declared.event.Act.{Act}
+use Rattle.ext_model.specs.declared.event.Act.TheVariants.{Put, Remove, Seal}
+use Rattle.ext_model.specs.declared.slot.Slot.{Slot}
+use Rattle.ext_model.specs.declared.slot.Slot.TheVariants as slot
+use Rattle.ext_model.specs.Events as events
+use Rattle.ext_model.specs.History.{History, Limits, reply_after}
+use Rattle.ext_model.specs.Plain.{what_stood}
+use Rattle.ext_model.specs.Views.{LaneView}
+use Rattle.ext_model.specs.Calls.{HoldsAtPoint}
+use Rattle.ext_cells.specs.declared.refusal.CellRefusal.{CellRefusal}
+use Rattle.ext_cells.specs.declared.refusal.CellRefusal.TheVariants as refusal
+use Rattle.ext_cells.specs.Lanes.{Lane}
+use Rattle.ext_cells.specs.Calls.{result_of, change_reply, put_acts, remove_acts, Answers, SealAnswers}
+use Rattle.ext_cells.specs.Steps.{Changes}
+
+-- what follows from a fact that holds at a point holds there
+holds_too : (limits : Limits) (before after : LaneView) (acts : List (Act ℕ)) (F G : History → Type 0) → ((p : History) → F p → G p) → HoldsAtPoint limits before after acts F → HoldsAtPoint limits before after acts G
+holds_too limits before after acts F G follows h = record { calls = h.calls; stepped = h.stepped; point = (h.point.0, h.point.1, follows h.point.0 h.point.2) }
+
+-- two results of a call, one of them a refusal
+differ : {A : Type 0} (x : A) (why : CellRefusal) → (let r : Result A CellRefusal = Ok x in let s : Result A CellRefusal = Err why in r ≡ s) → ⊥
+differ x why e = cc e
+
+same_why : (a b : CellRefusal) → (let r : Result (Option ℕ) CellRefusal = Err a in let s : Result (Option ℕ) CellRefusal = Err b in r ≡ s) → a ≡ b
+same_why a b e = cc e
+
+-- a put is never answered without an event
+put_happens : (worn : Bool) (s : Option Slot) (answer : Option ℕ) → events.put_reply worn s ≡ events.Answers answer → ⊥
+put_happens true None answer e = cc e
+put_happens false None answer e = cc e
+put_happens true (Some (slot.Entry n)) answer e = cc e
+put_happens false (Some (slot.Entry n)) answer e = cc e
+put_happens worn (Some (slot.Claim lane)) answer e = cc e
+put_happens worn (Some (slot.Sealed kept)) answer e = cc e
+
+-- a remove that happens answers a number,
+removed_some : (worn : Bool) (s : Option Slot) → events.remove_reply worn s ≡ events.Happens None → ⊥
+removed_some worn None e = cc e
+removed_some true (Some (slot.Entry n)) e = cc e
+removed_some false (Some (slot.Entry n)) e = cc e
+removed_some worn (Some (slot.Claim lane)) e = cc e
+removed_some worn (Some (slot.Sealed kept)) e = cc e
+
+-- and one without an event none
+removed_none : (worn : Bool) (s : Option Slot) (n : ℕ) → events.remove_reply worn s ≡ events.Answers (Some n) → ⊥
+removed_none worn None n e = cc e
+removed_none true (Some (slot.Entry m)) n e = cc e
+removed_none false (Some (slot.Entry m)) n e = cc e
+removed_none worn (Some (slot.Claim lane)) n e = cc e
+removed_none worn (Some (slot.Sealed kept)) n e = cc e
+
+module _ (tries : ℕ) (before after : Lane) (act : Act ℕ) where
+  -- a refusal at a point is the reply there
+  refused : (acts_of : Result (Option ℕ) CellRefusal → List (Act ℕ)) (why : CellRefusal) → (why ≡ refusal.Contended → ⊥) → acts_of (Err why) ≡ []
+      → HoldsAtPoint before.cells.limits before.view after.view [] (λ p. change_reply before act p ≡ Err why) → Answers tries before after acts_of (change_reply before act) (Err why)
+  refused acts_of why ne none h = record {
+    overtaken = λ e. absurd (ne (same_why why refusal.Contended e));
+    replied = λ other.
+        let r : Result (Option ℕ) CellRefusal = Err why in
+        rw none (holds_too before.cells.limits before.view after.view [] (λ p. change_reply before act p ≡ r) (λ p. r ≡ change_reply before act p) (λ p e. sym e) h);
+  }
+
+  -- an answer at a point, with these events
+  answered : (acts_of : Result (Option ℕ) CellRefusal → List (Act ℕ)) (answer : Option ℕ) (reply : events.Reply) → result_of what_stood reply ≡ Ok answer
+      → HoldsAtPoint before.cells.limits before.view after.view (acts_of (Ok answer)) (λ p. reply_after before.cells.limits p before.view.number act ≡ reply) → Answers tries before after acts_of (change_reply before act) (Ok answer)
+  answered acts_of answer reply is h = record {
+    overtaken = λ e. absurd (differ answer refusal.Contended e);
+    replied = λ other.
+        let r : Result (Option ℕ) CellRefusal = Ok answer in
+        holds_too before.cells.limits before.view after.view (acts_of r) (λ p. reply_after before.cells.limits p before.view.number act ≡ reply) (λ p. r ≡ change_reply before act p) (λ p e. sym (ap (result_of what_stood) e ∙ is)) h;
+  }
+
+module _ (tries : ℕ) (before after : Lane) (cell number : ℕ) where
+  pub put_answers : (r : Result (Option ℕ) CellRefusal) → Changes tries before after (Put cell number) r → Answers tries before after (put_acts cell number) (change_reply before (Put cell number)) r
+  put_answers (Ok answer) ch = elim ch [
+    | inl h ↦ answered tries before after (Put cell number) (put_acts cell number) answer (events.Happens answer) refl h
+    | inr h ↦ absurd (put_happens _ _ answer h.point.2)
+  ]
+  put_answers (Err refusal.Contended) ch = record { overtaken = λ e. ch; replied = λ ne. absurd (ne refl) }
+  put_answers (Err refusal.Busy) ch = refused tries before after (Put cell number) (put_acts cell number) refusal.Busy (λ e. cc e) refl ch
+  put_answers (Err refusal.Closed) ch = refused tries before after (Put cell number) (put_acts cell number) refusal.Closed (λ e. cc e) refl ch
+  put_answers (Err refusal.Exhausted) ch = refused tries before after (Put cell number) (put_acts cell number) refusal.Exhausted (λ e. cc e) refl ch
+  put_answers (Err refusal.NumbersFull) ch = refused tries before after (Put cell number) (put_acts cell number) refusal.NumbersFull (λ e. cc e) refl ch
+  put_answers (Err refusal.Memory) ch = refused tries before after (Put cell number) (put_acts cell number) refusal.Memory (λ e. cc e) refl ch
+  put_answers (Err refusal.BadLimit) ch = refused tries before after (Put cell number) (put_acts cell number) refusal.BadLimit (λ e. cc e) refl ch
+
+module _ (tries : ℕ) (before after : Lane) (cell : ℕ) where
+  pub remove_answers : (r : Result (Option ℕ) CellRefusal) → Changes tries before after (Remove cell) r → Answers tries before after (remove_acts cell) (change_reply before (Remove cell)) r
+  remove_answers (Ok None) ch = elim ch [
+    | inl h ↦ absurd (removed_some _ _ h.point.2)
+    | inr h ↦ answered tries before after (Remove cell) (remove_acts cell) None (events.Answers None) refl h
+  ]
+  remove_answers (Ok (Some n)) ch = elim ch [
+    | inl h ↦ answered tries before after (Remove cell) (remove_acts cell) (Some n) (events.Happens (Some n)) refl h
+    | inr h ↦ absurd (removed_none _ _ n h.point.2)
+  ]
+  remove_answers (Err refusal.Contended) ch = record { overtaken = λ e. ch; replied = λ ne. absurd (ne refl) }
+  remove_answers (Err refusal.Busy) ch = refused tries before after (Remove cell) (remove_acts cell) refusal.Busy (λ e. cc e) refl ch
+  remove_answers (Err refusal.Closed) ch = refused tries before after (Remove cell) (remove_acts cell) refusal.Closed (λ e. cc e) refl ch
+  remove_answers (Err refusal.Exhausted) ch = refused tries before after (Remove cell) (remove_acts cell) refusal.Exhausted (λ e. cc e) refl ch
+  remove_answers (Err refusal.NumbersFull) ch = refused tries before after (Remove cell) (remove_acts cell) refusal.NumbersFull (λ e. cc e) refl ch
+  remove_answers (Err refusal.Memory) ch = refused tries before after (Remove cell) (remove_acts cell) refusal.Memory (λ e. cc e) refl ch
+  remove_answers (Err refusal.BadLimit) ch = refused tries before after (Remove cell) (remove_acts cell) refusal.BadLimit (λ e. cc e) refl ch
+
+  pub seal_answers : (r : Result (Option ℕ) CellRefusal) → Changes tries before after (Seal cell) r → SealAnswers tries before after cell r
+  seal_answers (Ok kept) ch = ch
+  seal_answers (Err refusal.Contended) ch = ch
+  seal_answers (Err refusal.Busy) ch = ch
+  seal_answers (Err refusal.Closed) ch = ch
+  seal_answers (Err refusal.Exhausted) ch = ch
+  seal_answers (Err refusal.NumbersFull) ch = ch
+  seal_answers (Err refusal.Memory) ch = ch
+  seal_answers (Err refusal.BadLimit) ch = ch

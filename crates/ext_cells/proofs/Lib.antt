@@ -1,0 +1,15 @@
+pub mod Packing
+pub mod CellWords
+pub mod Acts
+pub mod Decisions
+pub mod Steps
+pub mod Passes
+pub mod Lanes
+pub mod Tries
+pub mod Changing
+pub mod Drawing
+pub mod Answered
+pub mod Given
+pub mod Collecting
+pub mod Meeting
+pub mod Storable

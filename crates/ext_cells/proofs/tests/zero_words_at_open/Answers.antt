@@ -1,0 +1,15 @@
+use Rattle.std.proofs.Common.{refl}
+use Rattle.std.specs.List.{IsDistinct}
+use Rattle.ext_cells.proofs.tests.zero_words_at_open.Goals as goal
+
+pub collect-requires-clause-different : goal.collect-requires-clause-different
+unfolding IsDistinct
+collect-requires-clause-different g c = (tt, tt)
+
+pub collect-requires-2-clause-different : goal.collect-requires-2-clause-different
+unfolding IsDistinct
+collect-requires-2-clause-different g c = ((refl, (refl, tt)), ((refl, tt), (tt, tt)))
+
+pub collect-requires-3-clause-different : goal.collect-requires-3-clause-different
+unfolding IsDistinct
+collect-requires-3-clause-different g c = tt

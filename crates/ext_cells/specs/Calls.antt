@@ -1,0 +1,80 @@
+-- What the contract of each call says of its result.
+-- Own rule. `Calls` of ext_model has the words: the events that a call made, its fronts, and the points at which its answer may be that of one thread.
+-- Here stand, for each call, what one thread is answered at a point, and which events an answer means.
+use Rattle.std.specs.Prelude.{ℕ, ◌≡◌, ◌≤◌, List, [], ◌∷◌, length, map, Option, None, Some, Result, Ok, Err}
+use Rattle.ext_model.specs.declared.event.Act.{Act}
+use Rattle.ext_model.specs.declared.event.Act.TheVariants.{Keep, Put, Remove, Seal}
+use Rattle.ext_model.specs.Events as events
+use Rattle.ext_model.specs.History.{History, reply_after}
+use Rattle.ext_model.specs.Plain.{number_drawn, what_stood}
+use Rattle.ext_model.specs.Words.{word_of}
+use Rattle.ext_model.specs.Views.{IsStepped, IsAnswerPoint}
+use Rattle.ext_model.specs.Calls as model
+use Rattle.ext_cells.specs.declared.refusal.CellRefusal.{CellRefusal}
+use Rattle.ext_cells.specs.declared.refusal.CellRefusal.TheVariants.{Contended, Busy, Closed, Exhausted, NumbersFull}
+use Rattle.ext_cells.specs.Lanes.{Lane}
+
+-- ---- what one thread is answered
+
+-- The result of a call whose reply is this; `value` makes the result's value of what the reply answers.
+-- The last two are replies to claims and their ends alone. `Contended` stands for them, as it is the one result that is never the reply of one thread
+abbrev pub result_of : {A : Type 0} → (Option ℕ → A) → events.Reply → Result A CellRefusal
+result_of value (events.Happens answer) = Ok (value answer)
+result_of value (events.Answers answer) = Ok (value answer)
+result_of value (events.Refuses events.NumbersFull) = Err NumbersFull
+result_of value (events.Refuses events.Busy) = Err Busy
+result_of value (events.Refuses events.Closed) = Err Closed
+result_of value (events.Refuses events.Exhausted) = Err Exhausted
+result_of value (events.Refuses (events.Standing number)) = Err Contended
+result_of value (events.Refuses events.Barred) = Err Contended
+
+-- what one thread is answered by a change of a cell, directly after a history
+abbrev pub change_reply : Lane → Act ℕ → History → Result (Option ℕ) CellRefusal
+change_reply lane act h = result_of what_stood (reply_after lane.cells.limits h lane.view.number act)
+
+-- and by the drawing of a number: a reply to a keep doesn't depend on the number that it is asked with
+abbrev pub number_reply : Lane → History → Result ℕ CellRefusal
+number_reply lane h = result_of number_drawn (reply_after lane.cells.limits h lane.view.number (Keep 0))
+
+-- ---- which events a result means
+
+-- the number that was drawn
+abbrev pub number_acts : Result ℕ CellRefusal → List (Act ℕ)
+number_acts (Ok number) = Keep number ∷ []
+number_acts (Err why) = []
+
+-- a put that is not refused stores its number
+abbrev pub put_acts : ℕ → ℕ → Result (Option ℕ) CellRefusal → List (Act ℕ)
+put_acts cell number (Ok stood) = Put cell number ∷ []
+put_acts cell number (Err why) = []
+
+-- a remove takes what stood, and is no event where nothing stood
+abbrev pub remove_acts : ℕ → Result (Option ℕ) CellRefusal → List (Act ℕ)
+remove_acts cell (Ok None) = []
+remove_acts cell (Ok (Some number)) = Remove cell ∷ []
+remove_acts cell (Err why) = []
+
+-- ---- the results of calls
+
+-- The result is the reply at a point of the call, and the lane's events are those that it means. Or it is `Contended`, and at least `tries` events of
+-- other lanes came past the call's first front
+abbrev pub Answers : {A : Type 0} → ℕ → Lane → Lane → (Result A CellRefusal → List (Act ℕ)) → (History → Result A CellRefusal) → Result A CellRefusal → Type 0
+Answers tries before after acts_of reply_at result = model.Answers before.cells.limits tries (Err Contended) before.view after.view acts_of reply_at result
+
+-- The result of a seal: the cell is sealed and has kept this, by an event of this call or by one before; or it is refused at a point of the call; or other
+-- lanes were in the way
+abbrev pub SealAnswers : ℕ → Lane → Lane → ℕ → Result (Option ℕ) CellRefusal → Type 0
+SealAnswers tries before after cell (Ok kept) = model.Seals before.cells.limits cell before.view after.view kept
+SealAnswers tries before after cell (Err Contended) = model.IsOvertaken before.cells.limits tries before.view after.view
+SealAnswers tries before after cell (Err why) = model.HoldsAtPoint before.cells.limits before.view after.view [] (λ p. change_reply before (Seal cell) p ≡ Err why)
+
+-- The words of the cells as they stood together at ONE point of the call, which made no event. Where there are cells to read, the call made a step of its own
+pub record StoodTogether (before after : Lane) (cells words : List ℕ) : Type 0 where
+  pub calls : model.Calls before.cells.limits before.view after.view []
+  pub stepped : 1 ≤ length cells → IsStepped before.view after.view
+  pub point : (p : History) × IsAnswerPoint before.view after.view [] p × (words ≡ map (word_of p) cells)
+
+-- the result of a collect: such words, or other lanes were in the way
+abbrev pub Collects : ℕ → Lane → Lane → List ℕ → Result (List ℕ) CellRefusal → Type 0
+Collects tries before after cells (Ok words) = StoodTogether before after cells words
+Collects tries before after cells (Err why) = (why ≡ Contended) × model.IsOvertaken before.cells.limits tries before.view after.view

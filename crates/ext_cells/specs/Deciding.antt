@@ -1,0 +1,70 @@
+-- What a call does next, by the word that it found: what stands there and the version tell the reply of one thread.
+-- Own rule, below the public contracts.
+use Rattle.std.specs.Prelude.{◌≡◌, ◌≢◌, ℕ, ◌+◌, ◌==◌, ◌≤◌, ◌^◌, ◌<◌, Bool, true, false, if◌then◌else◌, Option, Some, None, Ok, Err}
+use Rattle.ext_model.specs.declared.event.Act.{Act}
+use Rattle.ext_model.specs.declared.event.Act.TheVariants.{Keep, Put, Remove, Claim, Fill, Abandon, Seal}
+use Rattle.ext_model.specs.declared.slot.Slot.{Slot}
+use Rattle.ext_model.specs.declared.slot.Slot.TheVariants as slot
+use Rattle.ext_model.specs.Events as events
+use Rattle.ext_model.specs.Plain.{what_stood}
+use Rattle.ext_model.specs.Words.{number_code, slot_word}
+use Rattle.ext_cells.specs.declared.cell_state.CellState.{CellState}
+use Rattle.ext_cells.specs.declared.cell_state.CellState.TheVariants.{Empty, Computing, Present, Sealed}
+use Rattle.ext_cells.specs.declared.decision.Decision.{Decision}
+use Rattle.ext_cells.specs.declared.decision.Decision.TheVariants.{Change, Done}
+use Rattle.ext_cells.specs.Words.{word_with}
+use Rattle.ext_cells.specs.Calls.{result_of}
+
+abbrev pub state_of : Option Slot → CellState
+state_of None = Empty
+state_of (Some (slot.Entry number)) = Present
+state_of (Some (slot.Claim lane)) = Computing
+state_of (Some (slot.Sealed kept)) = Sealed
+
+-- a number that stands is not 0, which in a word means that there is none
+abbrev pub IsNumbered : Option Slot → Type 0
+IsNumbered None = Unit {0}
+IsNumbered (Some (slot.Entry number)) = 1 ≤ number
+IsNumbered (Some (slot.Claim lane)) = Unit {0}
+IsNumbered (Some (slot.Sealed None)) = Unit {0}
+IsNumbered (Some (slot.Sealed (Some number))) = 1 ≤ number
+
+-- the word is that of what stands, at a version that has room for a seal
+pub record IsCellWord (stands : Option Slot) (version word : ℕ) : Type 0 where
+  pub is : word ≡ word_with (state_of stands) (number_code stands) version
+  pub fits : number_code stands < 2 ^ 20
+  pub numbered : IsNumbered stands
+  pub room : state_of stands ≢ Sealed → version + 1 < 2 ^ 40
+
+-- the number in a word, of which 0 is none
+abbrev pub number_in : ℕ → Option ℕ
+number_in number = if number == 0 then None else Some number
+
+-- there is nothing to do for the act in this state: nothing to remove, or a seal that stands
+abbrev pub is_settled : Act ℕ → CellState → Bool
+is_settled (Remove at) Empty = true
+is_settled (Seal at) Sealed = true
+is_settled act state = false
+
+-- a put of a number that fits its bits, a remove or a seal
+abbrev pub IsChange : Act ℕ → Type 0
+IsChange (Keep number) = ⊥
+IsChange (Put at number) = number < 2 ^ 20
+IsChange (Remove at) = Unit {0}
+IsChange (Claim at) = ⊥
+IsChange (Fill at number) = ⊥
+IsChange (Abandon at) = ⊥
+IsChange (Seal at) = Unit {0}
+
+-- what one thread replies to these, by what stands and by the version
+abbrev pub reply_on : Act ℕ → Option Slot → ℕ → events.Reply
+reply_on (Put at number) stands version = events.put_reply (events.is_worn version) stands
+reply_on (Remove at) stands version = events.remove_reply (events.is_worn version) stands
+reply_on (Seal at) stands version = events.seal_reply stands
+reply_on act stands version = events.Refuses events.Barred
+
+-- the decision is to make the event, which leaves this word; or it is the answer, without an event
+abbrev pub Decides : Act ℕ → Option Slot → ℕ → Decision → Type 0
+Decides act stands version (Change next answer) = (reply_on act stands version ≡ events.Happens answer) × ((lane : ℕ) → next ≡ slot_word (events.slot_after lane act stands) (version + 1))
+Decides act stands version (Done (Ok answer)) = reply_on act stands version ≡ events.Answers answer
+Decides act stands version (Done (Err why)) = (result_of what_stood (reply_on act stands version) ≡ Err why)

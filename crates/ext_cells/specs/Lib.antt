@@ -1,0 +1,6 @@
+pub mod Words
+pub mod Lanes
+pub mod Calls
+pub mod Rule
+pub mod Steps
+pub mod Deciding

@@ -1,0 +1,46 @@
+-- What a lane is told by its two kinds of steps on the shared words, a load and an exchange, and what a change of one cell is.
+-- Own rule, below the public contracts.
+use Rattle.std.specs.Prelude.{◌≡◌, ◌⊎◌, ℕ, List, [], ◌∷◌, ◌++◌, Option, Result, Ok, Err}
+use Rattle.ext_model.specs.declared.event.Act.{Act}
+use Rattle.ext_model.specs.declared.event.Act.TheVariants.{Keep, Put, Remove, Claim, Fill, Abandon, Seal}
+use Rattle.ext_model.specs.Events as events
+use Rattle.ext_model.specs.History.{History, Limits, by, reply_after, IsAllowed}
+use Rattle.ext_model.specs.Views.{LaneView, moved}
+use Rattle.ext_model.specs.Calls as model
+use Rattle.ext_cells.specs.declared.refusal.CellRefusal.{CellRefusal}
+use Rattle.ext_cells.specs.declared.refusal.CellRefusal.TheVariants.{Contended}
+use Rattle.ext_cells.specs.Lanes.{Lane}
+use Rattle.ext_cells.specs.Calls.{change_reply}
+use Rattle.ext_cells.specs.Rule.{AreWordsOf}
+
+-- the lane after a step that left this history
+abbrev pub stepped : Lane → History → Lane
+stepped lane h = record { cells = lane.cells; view = moved lane.view (h ∷ []) }
+
+-- a step of the lane found this history, of which these are the words
+pub record Finds (limits : Limits) (lane : LaneView) (words : List ℕ) (h : History) : Type 0 where
+  pub on : model.GoesOn limits lane h
+  pub words_are : AreWordsOf h words
+
+-- the history may go on by this act of the lane, and these are the words then
+pub record MayGoOn (limits : Limits) (lane : LaneView) (h : History) (words : List ℕ) (act : Act ℕ) : Type 0 where
+  pub allowed : IsAllowed limits h (by lane.number act)
+  pub words_are : AreWordsOf (h ++ by lane.number act ∷ []) words
+
+-- a put, a remove or a seal of the cell
+abbrev pub IsChangeOf : ℕ → Act ℕ → Type 0
+IsChangeOf cell (Keep number) = ⊥
+IsChangeOf cell (Put at number) = at ≡ cell
+IsChangeOf cell (Remove at) = at ≡ cell
+IsChangeOf cell (Claim at) = ⊥
+IsChangeOf cell (Fill at number) = ⊥
+IsChangeOf cell (Abandon at) = ⊥
+IsChangeOf cell (Seal at) = at ≡ cell
+
+-- The result of a change: it happened at a point of the call, or it was answered there without an event; or it was refused there; or other lanes were in the way
+abbrev pub Changes : ℕ → Lane → Lane → Act ℕ → Result (Option ℕ) CellRefusal → Type 0
+Changes tries before after act (Ok answer) =
+    model.HoldsAtPoint before.cells.limits before.view after.view (act ∷ []) (λ p. reply_after before.cells.limits p before.view.number act ≡ events.Happens answer)
+    ⊎ model.HoldsAtPoint before.cells.limits before.view after.view [] (λ p. reply_after before.cells.limits p before.view.number act ≡ events.Answers answer)
+Changes tries before after act (Err Contended) = model.IsOvertaken before.cells.limits tries before.view after.view
+Changes tries before after act (Err why) = model.HoldsAtPoint before.cells.limits before.view after.view [] (λ p. change_reply before act p ≡ Err why)

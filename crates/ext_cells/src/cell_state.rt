@@ -1,0 +1,14 @@
+//! What stands at a cell, as its word tells it.
+
+/// What stands at a cell, in bits 0 to 3 of its word. Own rule.
+#[derive(Clone, Copy, Debug, PartialEq, Eq)]
+pub enum CellState {
+    /// 0: nothing. The number is 0.
+    Empty,
+    /// 1: the claim of a lane, which computes a value. The number is 0.
+    Computing,
+    /// 2: the number of a value.
+    Present,
+    /// 3: a seal, which keeps the number that stood, or 0.
+    Sealed,
+}

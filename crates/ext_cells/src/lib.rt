@@ -1,0 +1,29 @@
+//! The cells of a store that several threads share, and the lanes that act on them.
+//!
+//! A cell is a context and a key in one number. It stands in one word: what is there, and how many events
+//! it has had. `Cells` is shared by reference, and each thread owns a `CellLane`: all calls of all lanes
+//! together are one history, as the definitions of `ext_model` say it, and each answer is that of one
+//! thread at a point of the call. `specs/Calls` has the words of the contracts.
+//!
+//! Here all words stand in one snapshot cell, so there are at most 31 cells, and each call that steps on it
+//! takes the runtime and may wait.
+#![tactic(auto)]
+
+mod cell_state;
+mod cell_word;
+mod cells;
+mod decision;
+mod lane;
+mod opening;
+mod refusal;
+mod rule;
+#[cfg(test)]
+mod tests;
+mod words;
+
+pub use cell_state::CellState;
+pub use cell_word::{after, parts, word};
+pub use cells::Cells;
+pub use lane::CellLane;
+pub use refusal::CellRefusal;
+pub use words::Words;

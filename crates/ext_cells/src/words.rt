@@ -1,0 +1,66 @@
+//! The words that one collect gives.
+ghost use Rattle.std.specs.Prelude.{◌≡◌, ◌+◌, ◌<◌, ◌≤◌, [], ◌∷◌, ◌++◌, length, map, All, slice_index};
+
+use crate::rule::WORDS;
+use ext_model::CellNo;
+use std::marker::Model;
+
+/// The words of some cells, at most 16, as they stood together at one point: one for each cell, in the order
+/// in which the cells were named. In contracts it is the list of the words. Own rule.
+#[derive(Drop)]
+pub struct Words {
+    words: [u64; 16],
+    len: usize,
+}
+
+impl Model for Words {
+    ghost use Rattle.std.specs.Prelude.{ℕ, List, take, ◌≤◌};
+
+    ghost Value = { List ℕ };
+
+    ghost view = { λ s. take s.len s.words };
+
+    ghost invariant = { λ s. s.len ≤ 16 };
+}
+
+impl Words {
+    /// The word of the cell that was named in place `i`, from 0; there are more than `i`. `parts` reads it.
+    /// Takes no memory (own rule).
+    pub fn get(&self, i: usize) -> u64
+        requires { i < length self.now }
+        ensures { result ≡ slice_index self.now i }
+    {
+        let words = &self.words[..self.len];
+        words[i]
+    }
+
+    // The words of these cells.
+    pub(crate) fn of(all: &[u64; WORDS], cells: &[CellNo]) -> Words
+        requires few { length cells.now ≤ 16 }
+        requires known { All (λ cell. cell < 32) cells.now }
+        ensures { result ≡ map (λ cell. slice_index all.now cell) cells.now }
+    {
+        let mut words = Words::new();
+        for cell in cells {
+            words.push(all[*cell]);
+        }
+        words
+    }
+
+    fn new() -> Words
+        ensures { result ≡ [] }
+    {
+        Words {
+            words: [0; 16],
+            len: 0,
+        }
+    }
+
+    fn push(&mut self, word: u64)
+        requires { length self.old < 16 }
+        ensures { self.new ≡ self.old ++ word ∷ [] }
+    {
+        self.words[self.len] = word;
+        self.len += 1;
+    }
+}
