@@ -1,0 +1,14 @@
+pub mod Histories
+pub mod Words
+pub mod Moves
+pub mod Holding
+pub mod Lists
+pub mod Fronts
+pub mod Points
+pub mod Trying
+pub mod Whole
+pub mod Seats
+pub mod Meeting
+pub mod Calling
+pub mod Merged
+pub mod Texts

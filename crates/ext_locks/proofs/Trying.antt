@@ -1,0 +1,209 @@
+-- What is known while a lane tries to take a lock.
+use Rattle.std.proofs.Common.{◌≡◌, ◌≢◌, ◌⊎◌, ◌==◌, ℕ, zero, suc, ◌+◌, ◌-◌, ◌^◌, ◌<◌, ◌≤◌, Bool, true, false, if◌then◌else◌, [], ◌∷◌, ◌++◌, length, refl, sym, ap, ◌∙◌, subst, ⊎_elim, inl, inr, arith, length-append}
+use Rattle.std.specs.Int.{bit_at}
+use Rattle.std.specs.Int.RustNames.{bit_and}
+use Rattle.std.proofs.lemmas.Nat.{and_le_r}
+use Rattle.std.proofs.lemmas.Nat.Bits.{bit_at_and, bit_at_ones, bit_at_ones_above, bit_at-zero, bit_at-lt, same_from_bits_below}
+use Rattle.std.proofs.lemmas.Bool.{both_ways, cases_lt, cases_eq, eqb-false}
+use Rattle.atomic_table.specs.declared.shared.Seat.{Seat}
+use Rattle.ext_locks.specs.declared.event.LockMode.{LockMode}
+use Rattle.ext_locks.specs.declared.event.LockMode.TheVariants.{Read, ReadWrite}
+use Rattle.ext_locks.specs.declared.event.LockEvent.{LockEvent}
+use Rattle.ext_locks.specs.declared.seat.SeatView.{SeatView}
+use Rattle.ext_locks.specs.declared.refusal.LockRefusal.TheVariants.{Taken, Contended}
+use Rattle.ext_locks.specs.History.{LockHistory, event, is_about, holds, own, others, IsBefore}
+use Rattle.ext_locks.specs.Views.{seen, GoesOn}
+use Rattle.ext_locks.specs.Words.{as_bit, IsWord, IsFreeWord}
+use Rattle.ext_locks.specs.Rule.{Looked, TakesIf}
+use Rattle.ext_locks.specs.Refusals.{IsTakenBy}
+use Rattle.ext_locks.specs.Steps.{Makes, SameHeld, HeldBut, Missed}
+use Rattle.ext_locks.proofs.Words.{free_word}
+use Rattle.ext_locks.proofs.Holding.{looked_held, stepped_held}
+use Rattle.ext_locks.proofs.Fronts.{makes_self, makes_then, makes_quiet, looked_makes, stepped_makes, seen_before}
+
+-- a number of 32 bits, whose upper 16 are clear
+low_bits : (n : ℕ) → n < 2 ^ 32 → ((i : ℕ) → i < 16 → bit_at n (16 + i) ≡ 0) → n < 2 ^ 16
+low_bits n small clear =
+    let same = same_from_bits_below 32 n (bit_and n (2 ^ 16 - 1)) small (let a = and_le_r n (2 ^ 16 - 1) in omega arith) each in
+    let a = and_le_r n (2 ^ 16 - 1) in
+    omega arith
+  where
+    each : (i : ℕ) → i < 32 → bit_at n i ≡ bit_at (bit_and n (2 ^ 16 - 1)) i
+    each i below =
+        ⊎_elim
+        (λ few. let e = bit_at_and n (2 ^ 16 - 1) i in let o = bit_at_ones 16 i few in let t = bit_at-lt n i in omega arith)
+        (λ many.
+        let e = bit_at_and n (2 ^ 16 - 1) i in
+        let o = bit_at_ones_above 16 i many in
+        let z : bit_at n i ≡ 0 = subst (λ j. bit_at n j ≡ 0) (let m = many in omega arith) (clear (i - 16) (omega arith)) in
+        omega arith)
+        (cases_lt i 16)
+
+-- a word without a writer, and one without any holder
+no_writer_word : (h : LockHistory) (k n : ℕ) → IsWord h k n → ((i : ℕ) → i < 16 → holds h k ReadWrite i ≡ false) → n < 2 ^ 16
+no_writer_word h k n w none = low_bits n w.small (λ i few. w.bits ReadWrite i few ∙ ap as_bit (none i few))
+
+no_holder_word : (h : LockHistory) (k n : ℕ) → IsWord h k n → ((i : ℕ) → i < 16 → holds h k Read i ≡ false) → ((i : ℕ) → i < 16 → holds h k ReadWrite i ≡ false) → n ≡ 0
+no_holder_word h k n w reads writes = same_from_bits_below 32 n 0 w.small (omega arith) each
+  where
+    each : (i : ℕ) → i < 32 → bit_at n i ≡ bit_at 0 i
+    each i below =
+        ⊎_elim
+        (λ few. w.bits Read i few ∙ (ap as_bit (reads i few) ∙ sym (bit_at-zero i)))
+        (λ many. subst (λ j. bit_at n j ≡ bit_at 0 j) (let m = many in omega arith) (w.bits ReadWrite (i - 16) (omega arith) ∙ (ap as_bit (writes (i - 16) (omega arith)) ∙ sym (bit_at-zero (16 + (i - 16))))))
+        (cases_lt i 16)
+
+-- the first of so many lanes that holds, where one does
+record Holder (f : ℕ → Bool) : Type 0 where
+  pub at : ℕ
+  pub is : f at ≡ true
+
+holder : (f : ℕ → Bool) (n : ℕ) → Holder f ⊎ ((i : ℕ) → i < n → f i ≡ false)
+holder f zero = inr (λ i below. absurd (omega arith))
+holder f (suc n) = ⊎_elim inl (λ none. last none (f n) refl) (holder f n)
+  where
+    last : ((i : ℕ) → i < n → f i ≡ false) → (b : Bool) → f n ≡ b → Holder f ⊎ ((i : ℕ) → i < suc n → f i ≡ false)
+    last none true is = inl (record { at = n; is = is })
+    last none false isnt = inr (λ i below. ⊎_elim (λ (e : i ≡ n). subst (λ j. f j ≡ false) (sym e) isnt) (λ ne. none i (omega arith)) (cases_eq i n))
+
+taken_by : (h : LockHistory) (k l : ℕ) (m held : LockMode) → ((x : LockMode) → holds h k x l ≡ false) → Rattle.ext_locks.specs.Refusals.excludes_mode held m ≡ true → Holder (λ i. holds h k held i) → IsTakenBy h l k m
+taken_by h k l m held none excludes it = record {
+  other = it.at;
+  held = held;
+  apart = λ e. both_ways _ (none held) (subst (λ i. holds h k held i ≡ true) e it.is);
+  holds_it = it.is;
+  excludes = excludes;
+}
+
+-- a lock whose word is not free is held by another lane
+pub taken_word : (m : LockMode) (h : LockHistory) (k n l : ℕ) → IsWord h k n → (IsFreeWord m n → ⊥) → ((x : LockMode) → holds h k x l ≡ false) → IsTakenBy h l k m
+taken_word Read h k n l w isnt none = ⊎_elim (taken_by h k l Read ReadWrite none refl) (λ writes. absurd (isnt (no_writer_word h k n w writes))) (holder (λ i. holds h k ReadWrite i) 16)
+taken_word ReadWrite h k n l w isnt none =
+    ⊎_elim (taken_by h k l ReadWrite ReadWrite none refl)
+    (λ writes. ⊎_elim (taken_by h k l ReadWrite Read none refl) (λ reads. absurd (isnt (no_holder_word h k n w reads writes))) (holder (λ i. holds h k Read i) 16))
+    (holder (λ i. holds h k ReadWrite i) 16)
+
+-- the same history has one word
+one_word : (h : LockHistory) (k n m : ℕ) → IsWord h k n → IsWord h k m → n ≡ m
+one_word h k n m a b = same_from_bits_below 32 n m a.small b.small each
+  where
+    each : (i : ℕ) → i < 32 → bit_at n i ≡ bit_at m i
+    each i below =
+        ⊎_elim
+        (λ few. a.bits Read i few ∙ sym (b.bits Read i few))
+        (λ many. subst (λ j. bit_at n j ≡ bit_at m j) (let l = many in omega arith) (a.bits ReadWrite (i - 16) (omega arith) ∙ sym (b.bits ReadWrite (i - 16) (omega arith))))
+        (cases_lt i 16)
+
+-- ---- events of others between two looks
+
+count_more : (l : ℕ) (e : LockEvent) (h : LockHistory) → length (own l h) + others l h ≡ length h → (b : Bool)
+    → length (if b then e ∷ own l h else own l h) + (if b then others l h else 1 + others l h) ≡ suc (length h)
+count_more l e h c true = omega arith
+count_more l e h c false = omega arith
+
+-- a history is a lane's events, and those of others
+counted : (l : ℕ) (h : LockHistory) → length (own l h) + others l h ≡ length h
+counted l [] = refl
+counted l (e ∷ h) = count_more l e h (counted l h) (e.lane == l)
+
+longer : (f h since : LockHistory) → h ≡ since ++ f → h ≢ f → length f < length h
+longer f h [] is ne = absurd (ne is)
+longer f h (e ∷ since) is ne = let c = ap length is in let a = length-append since f in omega arith
+
+-- where a lane made no event, and the history is another, other lanes made one
+others_more : (l : ℕ) (f h : LockHistory) → IsBefore f h → own l h ≡ own l f → h ≢ f → others l f + 1 ≤ others l h
+others_more l f h b same ne =
+    let a = counted l f in
+    let c = counted l h in
+    let o = ap length same in
+    let d = longer f h b.0 b.1 ne in
+    omega arith
+
+-- ---- the loop
+
+-- since the seat was at `start`, so many exchanges failed, and the last look found this word
+pub record Tried (start now : Seat (Unit {0}) SeatView) (l k found n : ℕ) : Type 0 where
+  pub makes : Makes start now l []
+  pub held : SameHeld start.me.0.fronts now.me.0.fronts l
+  pub word : IsWord (seen now.me.0.fronts) k found
+  pub few : (other : ℕ) → 16 ≤ other → own other (seen now.me.0.fronts) ≡ []
+  pub count : n + others l (seen start.me.0.fronts) ≤ others l (seen now.me.0.fronts)
+
+looked_word : (v w : SeatView) (l k n : ℕ) → Looked v l k n w → IsWord (seen w.fronts) k n
+looked_word v w l k n it = subst (λ x. IsWord (seen x.fronts) k n) (sym it.view) it.word
+
+looked_few : (v w : SeatView) (l k n : ℕ) → Looked v l k n w → (other : ℕ) → 16 ≤ other → own other (seen w.fronts) ≡ []
+looked_few v w l k n it other many = ap (λ x. own other (seen x.fronts)) it.view ∙ it.meets.few other many
+
+pub tried_first : (s t : Seat (Unit {0}) SeatView) (l k n : ℕ) → Looked s.me.0 l k n t.me.0 → Tried t t l k n 0
+tried_first s t l k n it = record {
+  makes = makes_self t l;
+  held = record { each = λ key mode. refl };
+  word = looked_word s.me.0 t.me.0 l k n it;
+  few = looked_few s.me.0 t.me.0 l k n it;
+  count = omega arith;
+}
+
+pub tried_again : (start s t : Seat (Unit {0}) SeatView) (l k found next n : ℕ) (m : LockMode) → Tried start s l k found n → t.table_id ≡ s.table_id → (b : Bool) → (next == found) ≡ b → b ≡ false → TakesIf b s.me.0 l k m next t.me.0
+    → Tried start t l k next (n + 1)
+tried_again start s t l k found next n m tried same true is isnt it = absurd (cc)
+tried_again start s t l k found next n m tried same false is isnt it = record {
+  makes = makes_quiet start s t l [] tried.makes (looked_makes s t l k next same it);
+  held = record { each = λ key mode. (looked_held s.me.0 t.me.0 l k next it).each key mode ∙ tried.held.each key mode };
+  word = looked_word s.me.0 t.me.0 l k next it;
+  few = looked_few s.me.0 t.me.0 l k next it;
+  count = (
+      let more = others_more l (seen s.me.0.fronts) it.history (seen_before s.me.0.fronts it.history it.meets.fronts) it.meets.own other in
+      let c = tried.count in
+      let e = ap (λ x. others l (seen x.fronts)) it.view in
+      omega arith);
+}
+  where
+    other : it.history ≢ seen s.me.0.fronts
+    other at_once = eqb-false _ _ is (one_word it.history k next found it.word (subst (λ h. IsWord h k found) (sym at_once) tried.word))
+
+taken_then : (start s t : Seat (Unit {0}) SeatView) (l k found next n : ℕ) (m : LockMode) → Tried start s l k found n → t.table_id ≡ s.table_id → (b : Bool) → b ≡ true → TakesIf b s.me.0 l k m next t.me.0
+    → Makes start t l (event l k m true ∷ []) × HeldBut start.me.0.fronts t.me.0.fronts l k m true
+taken_then start s t l k found next n m tried same true is it = (
+  makes_then start s t l [] (event l k m true ∷ []) tried.makes (stepped_makes s t l k m true same it),
+  record { each = λ key mode. (stepped_held s.me.0 t.me.0 l k m true it).each key mode ∙ ap (λ x. if is_about (event l k m true) key mode l then true else x) (tried.held.each key mode) },
+)
+taken_then start s t l k found next n m tried same false isnt it = absurd (cc)
+
+-- the whole of a call that began with a look
+module _ (before start now : Seat (Unit {0}) SeatView) (l k first found n : ℕ) (b : start.table_id ≡ before.table_id) (it : Looked before.me.0 l k first start.me.0) (tried : Tried start now l k found n) where
+  pub all_makes : Makes before now l []
+  all_makes = makes_then before start now l [] [] (looked_makes before start l k first b it) tried.makes
+
+  pub all_held : SameHeld before.me.0.fronts now.me.0.fronts l
+  all_held = record { each = λ key mode. tried.held.each key mode ∙ (looked_held before.me.0 start.me.0 l k first it).each key mode }
+
+  goes : GoesOn (it.history ∷ before.me.0.fronts) now.me.0.fronts
+  goes = subst (λ f. GoesOn f now.me.0.fronts) (ap (λ x. x.fronts) it.view) tried.makes.fronts
+
+  pub all_contended : (m : LockMode) (tries : ℕ) → tries ≤ n → IsFreeWord m found → Missed (Contended k) before.me.0.fronts now.me.0.fronts l m tries
+  all_contended m tries most free = record {
+    first = it.history;
+    begins = seen_before before.me.0.fronts it.history it.meets.fronts;
+    goes_on = goes;
+    stands = (
+      free_word m (seen now.me.0.fronts) k found free tried.word tried.few,
+      (let c = tried.count in let e = ap (λ x. others l (seen x.fronts)) it.view in omega arith),
+    );
+  }
+
+  pub all_taken : (m : LockMode) (tries : ℕ) → (IsFreeWord m found → ⊥) → ((x : LockMode) → holds (seen before.me.0.fronts) k x l ≡ false) → Missed (Taken k) before.me.0.fronts now.me.0.fronts l m tries
+  all_taken m tries isnt none = record {
+    first = it.history;
+    begins = seen_before before.me.0.fronts it.history it.meets.fronts;
+    goes_on = goes;
+    stands = taken_word m (seen now.me.0.fronts) k found l tried.word isnt (λ x. all_held.each k x ∙ none x);
+  }
+
+  pub then_taken : (after : Seat (Unit {0}) SeatView) (next : ℕ) (m : LockMode) → after.table_id ≡ now.table_id → (x : Bool) → x ≡ true → TakesIf x now.me.0 l k m next after.me.0
+      → Makes before after l (event l k m true ∷ []) × HeldBut before.me.0.fronts after.me.0.fronts l k m true
+  then_taken after next m same x is step =
+      let t = taken_then start now after l k found next n m tried same x is step in (
+        makes_then before start after l [] (event l k m true ∷ []) (looked_makes before start l k first b it) t.0,
+        record { each = λ key mode. t.1.each key mode ∙ ap (λ y. if is_about (event l k m true) key mode l then true else y) ((looked_held before.me.0 start.me.0 l k first it).each key mode) },
+      )

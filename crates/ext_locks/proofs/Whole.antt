@@ -1,0 +1,132 @@
+-- What is known while a lane takes a whole set, or gives it back.
+use Rattle.std.proofs.Common.{◌≡◌, ℕ, ◌+◌, ◌-◌, ◌<◌, true, false, List, [], ◌∷◌, ◌++◌, length, take, map, Option, Some, None, slice_index_or, refl, sym, ap, ◌∙◌, subst}
+use Rattle.std.proofs.Math.Seq.{take-length}
+use Rattle.std.proofs.lemmas.Bool.{and_left}
+use Rattle.atomic_table.specs.declared.shared.Seat.{Seat}
+use Rattle.ext_locks.specs.declared.event.LockMode.{LockMode}
+use Rattle.ext_locks.specs.declared.event.LockEvent.{LockEvent}
+use Rattle.ext_locks.specs.declared.seat.SeatView.{SeatView}
+use Rattle.ext_locks.specs.declared.refusal.LockRefusal.{LockRefusal}
+use Rattle.ext_locks.specs.declared.refusal.LockRefusal.TheVariants.{Taken, Contended}
+use Rattle.ext_locks.specs.History.{LockHistory, event, holds, own, IsBefore}
+use Rattle.ext_locks.specs.Views.{seen, first_front, GoesOn, earliest_or}
+use Rattle.ext_locks.specs.Sets.{locks_of, locks_below, wants, takes_of, gives_of, HoldsNothing, HoldsExactly, AllBelow}
+use Rattle.ext_locks.specs.Refusals.{key_of, undone, StoodAt, IsRefused}
+use Rattle.ext_locks.specs.Steps.{lane_at, Makes, HoldsBetween, HeldBut, IsWithin, Stands, Missed}
+use Rattle.ext_locks.proofs.Histories.{before_then}
+use Rattle.ext_locks.proofs.Holding.{passed, took, passed_back, gave, none_between, all_between, has_own}
+use Rattle.ext_locks.proofs.Lists.{wants_modes, locks_more, locks_same, below_take}
+use Rattle.ext_locks.proofs.Fronts.{goes_then, goes_seen, makes_self, makes_then, makes_quiet}
+use Rattle.ext_locks.proofs.Points.{crowd, earliest_from, stepped_call, first_is}
+
+map_one : (f : ℕ × LockMode → LockEvent) (xs : List (ℕ × LockMode)) (x : ℕ × LockMode) → map f (xs ++ x ∷ []) ≡ map f xs ++ f x ∷ []
+map_one f [] x = refl
+map_one f (y ∷ xs) x = ap (λ t. f y ∷ t) (map_one f xs x)
+
+-- the locks of the set below `key` were taken
+pub record TookBelow (start now : Seat (Unit {0}) SeatView) (l : ℕ) (modes : List (Option LockMode)) (key : ℕ) : Type 0 where
+  pub makes : Makes start now l (takes_of l (locks_of (take key modes)))
+  pub held : HoldsBetween now.me.0.fronts l modes 0 key
+
+-- the locks of the set below `key` were given back, and those up to `end` are held
+pub record GaveBelow (start now : Seat (Unit {0}) SeatView) (l : ℕ) (modes : List (Option LockMode)) (key end : ℕ) : Type 0 where
+  pub makes : Makes start now l (gives_of l (locks_of (take key modes)))
+  pub held : HoldsBetween now.me.0.fronts l modes key end
+
+module _ (start now : Seat (Unit {0}) SeatView) (l : ℕ) (modes : List (Option LockMode)) where
+  pub took_none : HoldsNothing (lane_at start l) → TookBelow start start l modes 0
+  took_none none = record {
+    makes = makes_self start l;
+    held = record { each = λ key mode. none.each key mode ∙ sym (and_left _ _ (none_between 0 key)) };
+  }
+
+  pub gave_none : (end : ℕ) → HoldsBetween start.me.0.fronts l modes 0 end → GaveBelow start start l modes 0 end
+  gave_none end held = record { makes = makes_self start l; held = held }
+
+  module _ (k : ℕ) (below : k < length modes) where
+    pub took_same : TookBelow start now l modes k → slice_index_or modes k None ≡ None → TookBelow start now l modes (k + 1)
+    took_same t none = record {
+      makes = subst (λ x. Makes start now l (takes_of l x)) (sym (locks_same modes k below none)) t.makes;
+      held = passed now.me.0.fronts now.me.0.fronts l modes k t.held none;
+    }
+
+    pub gave_same : (end : ℕ) → GaveBelow start now l modes k end → slice_index_or modes k None ≡ None → GaveBelow start now l modes (k + 1) end
+    gave_same end t none = record {
+      makes = subst (λ x. Makes start now l (gives_of l x)) (sym (locks_same modes k below none)) t.makes;
+      held = passed_back now.me.0.fronts now.me.0.fronts l modes k end t.held none;
+    }
+
+    module _ (after : Seat (Unit {0}) SeatView) (m : LockMode) (is : slice_index_or modes k None ≡ Some m) where
+      pub took_more : TookBelow start now l modes k → Makes now after l (event l k m true ∷ []) → HeldBut now.me.0.fronts after.me.0.fronts l k m true → TookBelow start after l modes (k + 1)
+      took_more t makes but = record {
+        makes = subst (λ x. Makes start after l x)
+            (sym (ap (takes_of l) (locks_more modes k m below is) ∙ map_one (λ lock. event l lock.0 lock.1 true) (locks_of (take k modes)) (k, m)))
+            (makes_then start now after l (takes_of l (locks_of (take k modes))) (event l k m true ∷ []) t.makes makes);
+        held = took now.me.0.fronts after.me.0.fronts l modes k m t.held is but;
+      }
+
+      pub gave_more : (end : ℕ) → GaveBelow start now l modes k end → Makes now after l (event l k m false ∷ []) → HeldBut now.me.0.fronts after.me.0.fronts l k m false → GaveBelow start after l modes (k + 1) end
+      gave_more end t makes but = record {
+        makes = subst (λ x. Makes start after l x)
+            (sym (ap (gives_of l) (locks_more modes k m below is) ∙ map_one (λ lock. event l lock.0 lock.1 false) (locks_of (take k modes)) (k, m)))
+            (makes_then start now after l (gives_of l (locks_of (take k modes))) (event l k m false ∷ []) t.makes makes);
+        held = gave now.me.0.fronts after.me.0.fronts l modes k end m t.held is but;
+      }
+
+  -- the ends of both loops
+  pub took_all : TookBelow start now l modes (length modes) → Makes start now l (takes_of l (locks_of modes)) × HoldsExactly (lane_at now l) (locks_of modes)
+  took_all t = (
+    subst (λ x. Makes start now l (takes_of l (locks_of x))) (take-length modes) t.makes,
+    record { each = λ key mode. t.held.each key mode ∙ (all_between modes key mode ∙ sym (wants_modes modes key mode)) },
+  )
+
+  pub gave_all : (end : ℕ) → GaveBelow start now l modes end end → HoldsNothing (lane_at now l)
+  gave_all end t = record { each = λ key mode. t.held.each key mode ∙ and_left _ _ (none_between end key) }
+
+-- a whole set that is held
+pub held_all : (fs : List LockHistory) (l : ℕ) (modes : List (Option LockMode)) → ((key : ℕ) (mode : LockMode) → holds (seen fs) key mode l ≡ wants (locks_of modes) key mode) → HoldsBetween fs l modes 0 (length modes)
+held_all fs l modes h = record { each = λ key mode. h key mode ∙ (wants_modes modes key mode ∙ sym (all_between modes key mode)) }
+
+pub within_of : (modes : List (Option LockMode)) (count keys : ℕ) → AllBelow count (locks_of modes) → count ≡ keys → IsWithin modes keys
+within_of modes count keys all same = record { each = λ key mode is. subst (λ n. key < n) same (all.each key mode (wants_modes modes key mode ∙ has_own modes key mode is)) }
+
+-- ---- a lock of the set was refused
+
+module _ (start mid last after : Seat (Unit {0}) SeatView) (l : ℕ) (modes : List (Option LockMode)) (k : ℕ) (m : LockMode) (is : slice_index_or modes k None ≡ Some m)
+    (took : TookBelow start mid l modes k) (missed : Makes mid last l []) (gave : Makes last after l (gives_of l (locks_of (take k modes)))) where
+  pub refused_makes : (refusal : LockRefusal) → key_of refusal ≡ k → Makes start after l (undone l (locks_of modes) refusal)
+  refused_makes refusal key =
+      subst (λ x. Makes start after l (takes_of l x ++ gives_of l x)) (sym (ap (λ n. locks_below n (locks_of modes)) key ∙ below_take modes k))
+      (makes_then start last after l (takes_of l (locks_of (take k modes))) (gives_of l (locks_of (take k modes)))
+      (makes_quiet start mid last l (takes_of l (locks_of (take k modes))) took.makes missed) gave)
+
+  module _ (refusal : LockRefusal) (key : key_of refusal ≡ k) (tries : ℕ) (why : Missed refusal mid.me.0.fronts last.me.0.fronts l m tries) where
+    rest : GoesOn (why.first ∷ mid.me.0.fronts) after.me.0.fronts
+    rest = goes_then (why.first ∷ mid.me.0.fronts) last.me.0.fronts after.me.0.fronts why.goes_on gave.fronts
+
+    front_is : first_front (lane_at start l) (lane_at after l) ≡ earliest_or why.first took.makes.fronts.added
+    front_is = first_is start.me.0.fronts mid.me.0.fronts after.me.0.fronts why.first took.makes.fronts rest (seen start.me.0.fronts)
+
+    early : IsBefore (first_front (lane_at start l) (lane_at after l)) why.first
+    early = subst (λ h. IsBefore h why.first) (sym front_is)
+        (earliest_from start.me.0.fronts took.makes.fronts.added why.first took.makes.fronts.follow (subst (λ fs. IsBefore (seen fs) why.first) took.makes.fronts.all why.begins))
+
+    stood_at : (refusal : LockRefusal) → Stands refusal why.first (seen last.me.0.fronts) l m tries → StoodAt refusal m tries (lane_at start l) (lane_at after l) (seen last.me.0.fronts)
+    stood_at (Taken key') stands = stands
+    stood_at (Contended key') stands = (stands.0, crowd l tries (first_front (lane_at start l) (lane_at after l)) why.first (seen last.me.0.fronts) early (goes_seen (why.first ∷ mid.me.0.fronts) last.me.0.fronts why.goes_on) stands.1)
+
+    pub refused_why : IsRefused tries (locks_of modes) (lane_at start l) (lane_at after l) refusal
+    refused_why = record {
+      mode = m;
+      wanted = ap (λ n. wants (locks_of modes) n m) key ∙ (wants_modes modes k m ∙ has_own modes k m is);
+      stepped = stepped_call start.me.0.fronts mid.me.0.fronts after.me.0.fronts why.first took.makes.fronts rest;
+      point = seen last.me.0.fronts;
+      is_point = record {
+        since = before_then (first_front (lane_at start l) (lane_at after l)) why.first (seen last.me.0.fronts) early (goes_seen (why.first ∷ mid.me.0.fronts) last.me.0.fronts why.goes_on);
+        until = goes_seen last.me.0.fronts after.me.0.fronts gave.fronts;
+        own_events = subst (λ x. own l (seen last.me.0.fronts) ≡ Rattle.ext_locks.specs.History.then_events (takes_of l x) (own l (seen start.me.0.fronts)))
+            (sym (ap (λ n. locks_below n (locks_of modes)) key ∙ below_take modes k))
+            (missed.own_events ∙ took.makes.own_events);
+      };
+      stood = stood_at refusal why.stands;
+    }

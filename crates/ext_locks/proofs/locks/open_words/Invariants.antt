@@ -1,0 +1,7 @@
+use Rattle.std.proofs.Common.{◌≡◌, Some, vec_len, vec_capacity}
+use Rattle.ext_locks.specs.Opening.{fresh_lanes}
+use Rattle.ext_locks.proofs.locks.open_words.Given as goal
+
+abbrev pub invariant-loop-number : goal.invariant-loop-number
+invariant-loop-number l =
+    (l.dealer.table_id ≡ l.table.shared.table_id) × (l.dealer.me.0.next ≡ Some l.number) × (vec_len l.made ≡ l.number) × (vec_capacity l.made ≡ l.fn.lanes) × (l.made.items ≡ fresh_lanes l.table.shared.table_id l.number)

@@ -1,0 +1,10 @@
+pub mod History
+pub mod Views
+pub mod Sets
+pub mod Refusals
+pub mod Names
+pub mod Opening
+pub mod Words
+pub mod Rule
+pub mod Steps
+pub mod Laws

@@ -1,0 +1,50 @@
+-- When a set of locks is refused: another lane held one of them, or other lanes were in the way.
+-- JUnit waits instead; that a set is refused whole, and why, is an own rule.
+use Rattle.std.specs.Prelude.{ℕ, ◌≡◌, ◌≢◌, Bool, true, false, List, ◌++◌}
+use Rattle.ext_locks.specs.declared.event.LockMode.{LockMode}
+use Rattle.ext_locks.specs.declared.event.LockMode.TheVariants.{Read, ReadWrite}
+use Rattle.ext_locks.specs.declared.event.LockEvent.{LockEvent}
+use Rattle.ext_locks.specs.declared.refusal.LockRefusal.{LockRefusal}
+use Rattle.ext_locks.specs.declared.refusal.LockRefusal.TheVariants.{Taken, Contended}
+use Rattle.ext_locks.specs.History.{LockHistory, holds, IsFree}
+use Rattle.ext_locks.specs.Views.{LaneView, IsStepped, IsPointAfter, IsCrowdedAt}
+use Rattle.ext_locks.specs.Sets.{locks_below, wants, takes_of, gives_of}
+
+-- whether a lane that holds a lock in the first mode keeps others from it in the second
+abbrev pub excludes_mode : LockMode → LockMode → Bool
+excludes_mode Read Read = false
+excludes_mode Read ReadWrite = true
+excludes_mode ReadWrite Read = true
+excludes_mode ReadWrite ReadWrite = true
+
+-- another lane holds the lock, in a mode that keeps this one from it
+pub record IsTakenBy (h : LockHistory) (lane key : ℕ) (mode : LockMode) : Type 0 where
+  pub other : ℕ
+  pub held : LockMode
+  pub apart : other ≢ lane
+  pub holds_it : holds h key held other ≡ true
+  pub excludes : excludes_mode held mode ≡ true
+
+-- the key that a refusal names
+abbrev pub key_of : LockRefusal → ℕ
+key_of (Taken key) = key
+key_of (Contended key) = key
+
+-- the lane took the locks of the set below the one that refused it, and gave them back
+abbrev pub undone : ℕ → List (ℕ × LockMode) → LockRefusal → List LockEvent
+undone lane set refusal = takes_of lane (locks_below (key_of refusal) set) ++ gives_of lane (locks_below (key_of refusal) set)
+
+-- Taken: at a point of the call, once it had taken the locks before this one, another lane held this one.
+-- Contended: at such a point the lock was free for the mode, and other lanes had made so many events since the call's first step
+abbrev pub StoodAt : LockRefusal → LockMode → ℕ → LaneView → LaneView → LockHistory → Type 0
+StoodAt (Taken key) mode tries before after p = IsTakenBy p before.number key mode
+StoodAt (Contended key) mode tries before after p = IsFree p key mode × IsCrowdedAt tries before after p
+
+-- Why the set was refused: by which lock of it, and at which point of the call
+pub record IsRefused (tries : ℕ) (set : List (ℕ × LockMode)) (before after : LaneView) (refusal : LockRefusal) : Type 0 where
+  pub mode : LockMode
+  pub wanted : wants set (key_of refusal) mode ≡ true
+  pub stepped : IsStepped before after
+  pub point : LockHistory
+  pub is_point : IsPointAfter before after (takes_of before.number (locks_below (key_of refusal) set)) point
+  pub stood : StoodAt refusal mode tries before after point

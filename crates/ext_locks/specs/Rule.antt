@@ -1,0 +1,107 @@
+-- The rule of the table of lock words: the words are those of one legal history, of which every lane has seen beginnings and all its own events.
+-- Own rule. It holds between any two steps, and each kind of step below keeps it and tells its lane what it met.
+use Rattle.std.specs.Prelude.{ℕ, ◌≡◌, ◌==◌, ◌+◌, ◌<◌, ◌≤◌, Bool, true, false, List, [], ◌∷◌, length, Option, Some, None, slice_index}
+use mathlib.Core.Option.{some}
+use lib.ListN.{get_elem?}
+use Rattle.atomic_table.specs.Table.{Step, Me}
+use Rattle.ext_locks.specs.declared.event.LockMode.{LockMode}
+use Rattle.ext_locks.specs.declared.seat.SeatView.{SeatView}
+use Rattle.ext_locks.specs.History.{LockHistory, event, own, IsLegal, IsAllowed, AllBefore}
+use Rattle.ext_locks.specs.Views.{seen}
+use Rattle.ext_locks.specs.Words.{IsWord}
+
+-- ---- the rule
+
+-- the lane has seen all its own events
+abbrev pub KnowsOwn : LockHistory → List LockHistory → Option ℕ → Type 0
+KnowsOwn h fronts None = Unit {0}
+KnowsOwn h fronts (Some lane) = own lane h ≡ own lane (seen fronts)
+
+-- what a seat saw or was told of are beginnings of the history
+pub record Fits (h : LockHistory) (v : SeatView) : Type 0 where
+  pub fronts : AllBefore v.fronts h
+  pub told : AllBefore v.told h
+  pub knows : KnowsOwn h v.fronts v.number
+
+-- no lane has a number that is yet to be given, and there are at most 16
+pub record Gives (h : LockHistory) (views : List SeatView) (next : ℕ) : Type 0 where
+  pub most : next ≤ 16
+  pub below : (seat lane : ℕ) (v : SeatView) → get_elem? views seat ≡ some v → v.number ≡ Some lane → lane < next
+  pub unused : (lane : ℕ) → next ≤ lane → own lane h ≡ []
+
+-- The rule over all words and views of a table of so many locks
+pub record Kept (keys : ℕ) (words : List ℕ) (views : List SeatView) : Type 0 where
+  pub size : length words ≡ keys
+  pub history : LockHistory
+  pub legal : IsLegal history
+  pub bits : (key : ℕ) → key < keys → IsWord history key (slice_index words key)
+  pub lanes : (lane : ℕ) → 16 ≤ lane → own lane history ≡ []
+  pub fits : (seat : ℕ) (v : SeatView) → get_elem? views seat ≡ some v → Fits history v
+  pub apart : (one other lane : ℕ) (v w : SeatView) → get_elem? views one ≡ some v → get_elem? views other ≡ some w → v.number ≡ Some lane → w.number ≡ Some lane → one ≡ other
+  pub one_gives : (one other m n : ℕ) (v w : SeatView) → get_elem? views one ≡ some v → get_elem? views other ≡ some w → v.next ≡ Some m → w.next ≡ Some n → one ≡ other
+  pub gives : (seat next : ℕ) (v : SeatView) → get_elem? views seat ≡ some v → v.next ≡ Some next → Gives history views next
+
+-- ---- what the steps of a lane tell
+
+-- the view after this history was seen
+abbrev pub seeing : SeatView → LockHistory → SeatView
+seeing v h = record { number = v.number; next = v.next; fronts = h ∷ v.fronts; told = [] }
+
+-- a lane meets a legal history: it goes on from all that the lane had seen or was told of, and of the lane's events has just those that it had seen
+pub record Meets (v : SeatView) (lane : ℕ) (h : LockHistory) : Type 0 where
+  pub legal : IsLegal h
+  pub few : (other : ℕ) → 16 ≤ other → own other h ≡ []
+  pub fronts : AllBefore v.fronts h
+  pub told : AllBefore v.told h
+  pub own : own lane h ≡ own lane (seen v.fronts)
+
+-- the lane met a history in which this was the lock's word, and saw it
+pub record Looked (v : SeatView) (lane key found : ℕ) (w : SeatView) : Type 0 where
+  pub history : LockHistory
+  pub meets : Meets v lane history
+  pub word : IsWord history key found
+  pub view : w ≡ seeing v history
+
+-- the event was allowed after a history that the lane met, and was added to it
+pub record Stepped (v : SeatView) (lane key : ℕ) (mode : LockMode) (takes : Bool) (w : SeatView) : Type 0 where
+  pub history : LockHistory
+  pub meets : Meets v lane history
+  pub allowed : IsAllowed history (event lane key mode takes)
+  pub view : w ≡ seeing v (event lane key mode takes ∷ history)
+
+-- an exchange that found the word it expected took the lock, and any other was a look
+abbrev pub TakesIf : Bool → SeatView → ℕ → ℕ → LockMode → ℕ → SeatView → Type 0
+TakesIf true v lane key mode found w = Stepped v lane key mode true w
+TakesIf false v lane key mode found w = Looked v lane key found w
+
+abbrev pub Takes : LockMode → Step Unit → Me Unit SeatView → ℕ → Me Unit SeatView → Type 0
+Takes mode s v found w = (w.1 ≡ v.1) × ((lane : ℕ) → v.0.number ≡ Some lane → TakesIf (found == s.first) v.0 lane s.word mode found w.0)
+
+abbrev pub GivesBack : LockMode → Step Unit → Me Unit SeatView → ℕ → Me Unit SeatView → Type 0
+GivesBack mode s v found w = (w.1 ≡ v.1) × ((lane : ℕ) → v.0.number ≡ Some lane → Stepped v.0 lane s.word mode false w.0)
+
+abbrev pub Looks : Step Unit → Me Unit SeatView → ℕ → Me Unit SeatView → Type 0
+Looks s v found w = (w.1 ≡ v.1) × ((lane : ℕ) → v.0.number ≡ Some lane → Looked v.0 lane s.word found w.0)
+
+-- ---- seats that are split off and joined in
+
+abbrev pub next_after : Option ℕ → Option ℕ
+next_after None = None
+next_after (Some n) = Some (n + 1)
+
+-- a lane is split off the seat that gives the numbers
+abbrev pub dealer : SeatView → SeatView
+dealer v = record { number = v.number; next = next_after v.next; fronts = v.fronts; told = v.told }
+
+abbrev pub dealt : SeatView → SeatView
+dealt v = record { number = v.next; next = None; fronts = []; told = [] }
+
+-- a note of what a lane has seen, and a lane that was told of it
+abbrev pub noted : SeatView → SeatView
+noted v = record { number = None; next = None; fronts = v.fronts; told = [] }
+
+abbrev pub told_of : SeatView → SeatView → SeatView
+told_of v w = record { number = v.number; next = v.next; fronts = v.fronts; told = w.fronts }
+
+abbrev pub nobody : SeatView
+nobody = record { number = None; next = None; fronts = []; told = [] }

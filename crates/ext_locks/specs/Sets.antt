@@ -1,0 +1,72 @@
+-- Sets of locks, which a lane holds whole or not at all.
+-- JUnit 5 User Guide, section "Synchronization". A set is the list of its locks, each with its mode, in the order of their numbers.
+use Rattle.std.specs.Prelude.{ℕ, suc, ◌≡◌, ◌<◌, ◌==◌, ◌&&◌, Bool, true, false, nat_lt, List, [], ◌∷◌, map, filter, Option, Some, None}
+use Rattle.std.specs.List.{list_any}
+use Rattle.atomic_table.specs.Seated.{TableId}
+use Rattle.ext_locks.specs.declared.event.LockMode.{LockMode}
+use Rattle.ext_locks.specs.declared.event.LockMode.TheVariants.{ReadWrite}
+use Rattle.ext_locks.specs.declared.event.LockEvent.{LockEvent}
+use Rattle.ext_locks.specs.History.{LockHistory, event, same_mode, holds}
+use Rattle.ext_locks.specs.Views.{LaneView, seen_by, own_of}
+
+-- the locks of a set, where each lock from a number on has the mode in which the set wants it, or none
+abbrev pub locks_from : ℕ → List (Option LockMode) → List (ℕ × LockMode)
+locks_from key [] = []
+locks_from key (None ∷ modes) = locks_from (suc key) modes
+locks_from key (Some mode ∷ modes) = (key, mode) ∷ locks_from (suc key) modes
+
+abbrev pub locks_of : List (Option LockMode) → List (ℕ × LockMode)
+locks_of modes = locks_from 0 modes
+
+-- the locks of a set below a number
+abbrev pub locks_below : ℕ → List (ℕ × LockMode) → List (ℕ × LockMode)
+locks_below key set = filter (λ lock. nat_lt lock.0 key) set
+
+abbrev pub is_lock : ℕ → LockMode → ℕ × LockMode → Bool
+is_lock key mode lock = (lock.0 == key) && same_mode lock.1 mode
+
+-- whether the set has this lock in this mode
+abbrev pub wants : List (ℕ × LockMode) → ℕ → LockMode → Bool
+wants set key mode = list_any (is_lock key mode) set
+
+-- each lock of the set has a number below this one
+pub record AllBelow (count : ℕ) (set : List (ℕ × LockMode)) : Type 0 where
+  pub each : (key : ℕ) (mode : LockMode) → wants set key mode ≡ true → key < count
+
+-- ---- the events of a whole set
+
+-- the lane takes the locks, in order
+abbrev pub takes_of : ℕ → List (ℕ × LockMode) → List LockEvent
+takes_of lane set = map (λ lock. event lane lock.0 lock.1 true) set
+
+-- the lane gives them back, in order
+abbrev pub gives_of : ℕ → List (ℕ × LockMode) → List LockEvent
+gives_of lane set = map (λ lock. event lane lock.0 lock.1 false) set
+
+-- ---- what a lane holds
+
+-- the lane holds no lock
+pub record HoldsNothing (lane : LaneView) : Type 0 where
+  pub each : (key : ℕ) (mode : LockMode) → holds (seen_by lane) key mode lane.number ≡ false
+
+-- the lane holds each lock of the set in its mode, and nothing else
+pub record HoldsExactly (lane : LaneView) (set : List (ℕ × LockMode)) : Type 0 where
+  pub each : (key : ℕ) (mode : LockMode) → holds (seen_by lane) key mode lane.number ≡ wants set key mode
+
+-- where the one lane writes by a lock, the other holds nothing on it
+pub record Excludes (one other : LaneView) : Type 0 where
+  pub each : (key : ℕ) (mode : LockMode) → holds (seen_by one) key ReadWrite one.number ≡ true → holds (seen_by other) key mode other.number ≡ false
+
+-- A held set as contracts see it: the lane that took it, the set, and the lane's own events as they were once it was taken.
+-- How many these are tells one taking of a lane from every other
+pub record HeldView : Type 0 where
+  pub table : TableId
+  pub lane : ℕ
+  pub set : List (ℕ × LockMode)
+  pub own_events : LockHistory
+
+-- the lane took the set, and has made no event since
+pub record IsHeldBy (held : HeldView) (lane : LaneView) : Type 0 where
+  pub same_table : lane.table ≡ held.table
+  pub same_lane : lane.number ≡ held.lane
+  pub no_event : own_of lane ≡ held.own_events

@@ -1,0 +1,37 @@
+//! Resource locks of parallel tests: a test takes all its locks or none, readers together, a writer alone.
+//!
+//! Follows the JUnit 5 User Guide, section "Synchronization", and the Javadoc of `ResourceLock`. Each lock is one word, and
+//! each lock event one atomic step on it. Contracts speak of the history of these events and of what each lane has seen of
+//! it: `specs/History` has who holds what, `Views` what a call adds to a lane, `Sets` sets of locks, `Refusals` when a set
+//! is refused, `Names` names and requests, and `Opening` fresh locks. `Words` and `Rule` are the words and what holds of
+//! them between any two steps.
+#![tactic(auto)]
+
+mod event;
+mod fault;
+mod held;
+mod lane;
+mod laws;
+mod locks;
+mod merging;
+mod names;
+mod refusal;
+mod request;
+mod rule;
+mod seat;
+mod set;
+mod steps;
+mod taking;
+mod telling;
+#[cfg(test)]
+mod tests;
+
+pub use event::{LockEvent, LockMode, LockNo};
+pub use fault::LockFault;
+pub use held::Held;
+pub use lane::LockLane;
+pub use laws::lock_laws;
+pub use locks::Locks;
+pub use refusal::LockRefusal;
+pub use request::{LockKey, LockRequest};
+pub use set::LockSet;

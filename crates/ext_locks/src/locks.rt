@@ -1,0 +1,232 @@
+//! Locks with names, and the lanes that take them.
+ghost use Rattle.std.specs.Prelude.{◌≡◌, ◌≤◌, IfOk, IsPermutation, length, replicate};
+ghost use Rattle.std.specs.List.Sorted.{IsSorted};
+ghost use Rattle.std.specs.Ordering.{nat_cmp};
+ghost use Rattle.std.specs.Cmp.Lexicographic.{slice_cmp};
+ghost use Rattle.ext_locks.specs.Names.{texts_of};
+ghost use Rattle.ext_locks.specs.Opening.{fresh_lanes};
+
+use crate::merging::merge_requests;
+use crate::names::{first_twice, sorted_copies};
+use crate::rule::{Deals, LockRule};
+use crate::seat::SeatView;
+use crate::set::MAX_LOCKS;
+use crate::steps::MAX_LANES;
+use crate::taking::{give_keys, take_keys};
+use crate::telling::exclude;
+use crate::{Held, LockFault, LockLane, LockMode, LockNo, LockRefusal, LockRequest, LockSet};
+use atomic_table::Table;
+use std::alloc::{AllocError, Global};
+use std::marker::Model;
+use std::snapshot::Snapshot;
+
+/// How many exchanges a call may be told to make for one lock.
+const MAX_TRIES: u32 = 64;
+
+/// The global lock and named ones, one word for each. They are shared by reference: only lanes change them.
+///
+/// Contracts see the table of words, the names, and the tries (own rule).
+#[derive(Drop)]
+pub struct Locks {
+    table: Table<(), SeatView, u64, LockRule, Global>,
+    names: Vec<String>,
+    tries: u32,
+}
+
+impl Model for Locks {
+    ghost use Rattle.std.specs.Prelude.{◌≡◌, ◌+◌, ◌≤◌, map, length, string_bytes};
+    ghost use Rattle.std.specs.String.{string_cmp};
+    ghost use Rattle.std.specs.List.Sorted.{IsSorted};
+    ghost use Rattle.ext_locks.specs.Opening.{LocksView};
+
+    ghost Value = { LocksView };
+
+    ghost view = { λ l. record { table = l.table.shared.table_id; names = map string_bytes l.names.items; tries = l.tries } };
+
+    ghost invariant = { λ l.
+        (l.table.shared.key ≡ l.table.shared.table_id.words)
+        × (l.table.shared.key ≡ length l.names.items + 1)
+        × (length l.names.items ≤ 63)
+        × IsSorted string_cmp l.names.items };
+}
+
+impl Locks {
+    ghost use Rattle.std.specs.Prelude.{◌≡◌, ◌≢◌, ◌+◌, ◌≤◌, ◌↔◌, [], length, None, IfOk, IfErr, IfSome, OnOk, OnErr};
+    ghost use Rattle.ext_locks.specs.History.{IsBefore};
+    ghost use Rattle.ext_locks.specs.Views.{seen_by, Calls};
+    ghost use Rattle.ext_locks.specs.Sets.{AllBelow, takes_of, gives_of, HoldsNothing, HoldsExactly, Excludes, IsHeldBy};
+    ghost use Rattle.ext_locks.specs.Refusals.{undone, IsRefused};
+    ghost use Rattle.ext_locks.specs.Names.{IsNamed, IsMerged, IsNotMerged};
+    ghost use Rattle.ext_locks.specs.Opening.{IsOpened, IsNotOpened};
+
+    /// Locks that nobody holds: the global one, and one for each name. The names, of which there are at most 63, get the
+    /// numbers from 1 on in the order of their bytes. Also gives the lanes, 1 to 16 of them, numbered from 0. A call
+    /// makes at most `tries` exchanges, 1 to 64, for each lock. Takes memory; no other call does.
+    ///
+    /// Refused, in this order, as `BadLimit`, `TooMany`, `Twice(at)` and `Memory`. JUnit 5 User Guide, section
+    /// "Synchronization"; limits and refusals are own rules.
+    pub fn open(
+        alloc: Global,
+        names: &[&str],
+        lanes: usize,
+        tries: u32,
+    ) -> Result<(Locks, Vec<LockLane>), LockFault>
+        ensures opened { IfOk result (λ made. IsOpened (texts_of names.now) lanes tries made.0 made.1.items) }
+        ensures fault { IfErr result (IsNotOpened (texts_of names.now) lanes tries) }
+    {
+        if lanes == 0 || lanes > MAX_LANES || tries == 0 || tries > MAX_TRIES {
+            return Err(LockFault::BadLimit);
+        }
+        if names.len() >= MAX_LOCKS {
+            return Err(LockFault::TooMany);
+        }
+        if let Some(at) = first_twice(names) {
+            return Err(LockFault::Twice(at));
+        }
+        match open_words(alloc, names, lanes, tries) {
+            Ok(made) => Ok(made),
+            Err(_) => Err(LockFault::Memory),
+        }
+    }
+
+    /// The set of locks that requests ask for: each lock once, in the strongest mode in which it is asked for, the global
+    /// one first, then the named ones by the bytes of their names. A name is found by halves. Takes no memory.
+    ///
+    /// Refused as `UnknownKey(at)`, at the first request of a name that these locks don't have. JUnit 5 User Guide,
+    /// section "Synchronization"; the order is an own rule.
+    pub fn merge(&self, requests: &[LockRequest]) -> Result<LockSet, LockFault>
+        ensures merged { IfOk result (IsMerged self.now.names requests.now) }
+        ensures within { IfOk result (AllBelow (length self.now.names + 1)) }
+        ensures fault { IfErr result (IsNotMerged self.now.names requests.now) }
+    {
+        merge_requests(self.names.as_slice(), requests)
+    }
+
+    /// The name of a lock, or `None` for the global one, 0. Takes no memory. Own rule.
+    pub fn name(&self, lock: LockNo) -> Option<&str>
+        requires { lock ≤ length self.now.names }
+        ensures global { (result ≡ None) ↔ (lock ≡ 0) }
+        ensures named { IfSome result (λ name. IsNamed self.now.names lock name.now) }
+    {
+        if lock == 0 {
+            return None;
+        }
+        Some(self.names[lock - 1].as_str())
+    }
+
+    /// Takes all locks of a set, in the order of their numbers, or none. Takes no memory, and waits for nobody.
+    ///
+    /// Refused as `Taken(lock)` where another lane held that lock, in a mode that excludes the one wanted, at a moment of
+    /// the call, and as `Contended(lock)` where other lanes made at least as many lock events during the call as there are
+    /// tries, though the lock was free when it was last looked at. After either the lane holds nothing: what it had taken
+    /// it gave back. JUnit 5 User Guide, section "Synchronization"; refusals in place of waiting are an own rule.
+    pub fn try_take(&self, lane: &mut LockLane, set: &LockSet) -> Result<Held, LockRefusal>
+        requires lane { lane.old.table ≡ self.now.table }
+        requires free_hands { HoldsNothing lane.old }
+        requires set { AllBelow (length self.now.names + 1) set.now }
+        ensures taken { OnOk result (HoldsExactly lane.new set.now) }
+        ensures taken_events { OnOk result (Calls lane.old lane.new (takes_of lane.old.number set.now)) }
+        ensures held { IfOk result (λ held. (held.set ≡ set.now) × IsHeldBy held lane.new) }
+        ensures nothing { OnErr result (HoldsNothing lane.new) }
+        ensures refused_events { IfErr result (λ refusal. Calls lane.old lane.new (undone lane.old.number set.now refusal)) }
+        ensures refusal { IfErr result (λ refusal. IsRefused self.now.tries set.now lane.old lane.new refusal) }
+    {
+        match take_keys(
+            &self.table.shared,
+            &mut lane.seat,
+            lane.number,
+            &set.modes,
+            self.tries,
+        ) {
+            Ok(()) => Ok(Held {
+                set: LockSet { modes: set.modes },
+                taken: Snapshot::of(lane),
+            }),
+            Err(refusal) => Err(refusal),
+        }
+    }
+
+    /// Gives back what a lane holds, in the order of the locks' numbers. Cannot fail, takes no memory, and waits for nobody.
+    ///
+    /// JUnit 5 User Guide, section "Synchronization".
+    pub fn give(&self, lane: &mut LockLane, held: Held)
+        requires lane { lane.old.table ≡ self.now.table }
+        requires held { IsHeldBy held lane.old }
+        ensures nothing { HoldsNothing lane.new }
+        ensures events { Calls lane.old lane.new (gives_of lane.old.number held.set) }
+    {
+        let Held { set, taken: _ } = held;
+        let modes: &[Option<LockMode>] = &set.modes;
+        give_keys(
+            &self.table.shared,
+            &mut lane.seat,
+            lane.number,
+            modes,
+            modes.len(),
+        );
+    }
+
+    /// Shows that of two different lanes, where one writes by a lock, the other holds nothing on it. Each looks
+    /// at the locks and makes no event. Cannot fail, takes no memory, and waits for nobody.
+    ///
+    /// JUnit 5 User Guide, section "Synchronization".
+    pub fn exclusive(&self, one: &mut LockLane, other: &mut LockLane)
+        requires one { one.old.table ≡ self.now.table }
+        requires other { other.old.table ≡ self.now.table }
+        requires apart { one.old.number ≢ other.old.number }
+        ensures one { Calls one.old one.new [] }
+        ensures other { Calls other.old other.new [] }
+        ensures one_history { IsBefore (seen_by other.new) (seen_by one.new) }
+        ensures one_excludes { Excludes one.new other.new }
+        ensures other_excludes { Excludes other.new one.new }
+    {
+        exclude(
+            &self.table.shared,
+            &mut one.seat,
+            one.number,
+            &mut other.seat,
+            other.number,
+        );
+    }
+}
+
+/// So many words, all zero; takes memory.
+fn zero_words(alloc: Global, count: usize) -> Result<Vec<u64>, AllocError>
+    ensures { IfOk result (λ v. v.items ≡ replicate count 0) }
+{
+    Vec::from_elem(alloc, 0, count)
+}
+
+/// The words of so many locks, all zero, and a seat for each lane; takes memory.
+fn open_words(
+    alloc: Global,
+    names: &[&str],
+    lanes: usize,
+    tries: u32,
+) -> Result<(Locks, Vec<LockLane>), AllocError>
+    requires names { length names.now ≤ 63 }
+    requires lanes { lanes ≤ 16 }
+    ensures names { IfOk result (λ made. IsPermutation (texts_of names.now) made.0.names) }
+    ensures sorted { IfOk result (λ made. IsSorted (slice_cmp nat_cmp) made.0.names) }
+    ensures tries { IfOk result (λ made. made.0.tries ≡ tries) }
+    ensures lanes { IfOk result (λ made. made.1.items ≡ fresh_lanes made.0.table lanes) }
+{
+    let names = sorted_copies(alloc, names)?;
+    let locks = names.len() + 1;
+    let zeros = zero_words(alloc, locks)?;
+    let count = locks as u64;
+    let (table, mut dealer) = Table::of_words(alloc, zeros.as_slice(), &count)?;
+    let mut made = Vec::with_capacity(alloc, lanes)?;
+    for number in 0..lanes {
+        let seat = table.shared.split_seat::<Deals>(&mut dealer);
+        made.push_reserved(LockLane { seat, number });
+    }
+    Ok((
+        Locks {
+            table,
+            names,
+            tries,
+        },
+        made,
+    ))
+}

@@ -1,0 +1,100 @@
+//! The rule of the table of lock words, what its steps tell, and how seats are split off and joined in.
+use crate::seat::SeatView;
+use atomic_table::{Join, Play, Seat, Shared, Split, TableRule};
+
+/// The words of the locks, which all lanes step on.
+pub(crate) type LockWords = Shared<(), SeatView, u64, LockRule>;
+
+/// A lane's seat at these words.
+pub(crate) type LaneSeat = Seat<(), SeatView>;
+
+/// Each word has the bits of its lock's holders in one legal history, of which every lane has seen beginnings.
+pub(crate) struct LockRule;
+
+impl TableRule<(), SeatView, u64> for LockRule {
+    ghost use Rattle.std.specs.Prelude.{[], Some, None};
+    ghost use Rattle.ext_locks.specs.Rule.{Kept};
+
+    ghost holds = { λ keys s. Kept keys s.words s.views };
+
+    ghost first = { λ _. record { number = None; next = Some 0; fronts = []; told = [] } };
+}
+
+/// An exchange that may take a lock for reading.
+pub(crate) struct TakesRead;
+
+impl Play<(), SeatView> for TakesRead {
+    ghost use Rattle.ext_locks.specs.declared.event.LockMode.TheVariants.{Read};
+    ghost use Rattle.ext_locks.specs.Rule.{Takes};
+
+    ghost then = { Takes Read };
+}
+
+/// An exchange that may take a lock for reading and writing.
+pub(crate) struct TakesWrite;
+
+impl Play<(), SeatView> for TakesWrite {
+    ghost use Rattle.ext_locks.specs.declared.event.LockMode.TheVariants.{ReadWrite};
+    ghost use Rattle.ext_locks.specs.Rule.{Takes};
+
+    ghost then = { Takes ReadWrite };
+}
+
+/// A lock that was held for reading is given back.
+pub(crate) struct GivesRead;
+
+impl Play<(), SeatView> for GivesRead {
+    ghost use Rattle.ext_locks.specs.declared.event.LockMode.TheVariants.{Read};
+    ghost use Rattle.ext_locks.specs.Rule.{GivesBack};
+
+    ghost then = { GivesBack Read };
+}
+
+/// A lock that was held for reading and writing is given back.
+pub(crate) struct GivesWrite;
+
+impl Play<(), SeatView> for GivesWrite {
+    ghost use Rattle.ext_locks.specs.declared.event.LockMode.TheVariants.{ReadWrite};
+    ghost use Rattle.ext_locks.specs.Rule.{GivesBack};
+
+    ghost then = { GivesBack ReadWrite };
+}
+
+/// A look at a lock's word.
+pub(crate) struct Sees;
+
+impl Play<(), SeatView> for Sees {
+    ghost use Rattle.ext_locks.specs.Rule.{Looks};
+
+    ghost then = { Looks };
+}
+
+/// A note of what a lane has seen, for another lane.
+pub(crate) struct Notes;
+
+impl Split<SeatView> for Notes {
+    ghost use Rattle.ext_locks.specs.Rule.{noted};
+
+    ghost left = { λ v. v };
+
+    ghost right = { noted };
+}
+
+impl Join<SeatView> for Notes {
+    ghost use Rattle.ext_locks.specs.Rule.{told_of, nobody};
+
+    ghost both = { told_of };
+
+    ghost spent = { nobody };
+}
+
+/// A lane's seat, split off the seat that gives the numbers.
+pub(crate) struct Deals;
+
+impl Split<SeatView> for Deals {
+    ghost use Rattle.ext_locks.specs.Rule.{dealer, dealt};
+
+    ghost left = { dealer };
+
+    ghost right = { dealt };
+}

@@ -1,0 +1,15 @@
+//! What a lane's seat at the table of lock words knows.
+use crate::LockEvent;
+use std::collections::LinkedList;
+
+/// The view of a seat, for proofs alone: no value of it is made.
+pub(crate) struct SeatView {
+    /// The lane's number.
+    pub number: Option<u64>,
+    /// The next number to be given to a lane, where this seat gives them.
+    pub next: Option<u64>,
+    /// The histories that the lane saw, the latest first.
+    pub fronts: LinkedList<LinkedList<LockEvent>>,
+    /// The histories that it was told of and has not seen yet.
+    pub told: LinkedList<LinkedList<LockEvent>>,
+}

@@ -1,0 +1,46 @@
+//! A set of locks, as a test takes it.
+use crate::{LockMode, LockNo};
+use std::marker::Model;
+
+/// How many locks there can be: the global one and 63 named ones.
+pub(crate) const MAX_LOCKS: usize = 64;
+
+/// A set of locks, each once and in one mode, of a fixed size.
+///
+/// Contracts see it as the list of its locks with their modes, in the order of their numbers (own rule).
+#[derive(Drop)]
+pub struct LockSet {
+    pub(crate) modes: [Option<LockMode>; MAX_LOCKS],
+}
+
+impl Model for LockSet {
+    ghost use Rattle.std.specs.Prelude.{ℕ, List};
+    ghost use Rattle.ext_locks.specs.declared.event.LockMode.{LockMode};
+    ghost use Rattle.ext_locks.specs.Sets.{locks_of};
+
+    ghost Value = { List (ℕ × LockMode) };
+
+    ghost view = { λ s. locks_of s.modes };
+}
+
+impl LockSet {
+    ghost use Rattle.std.specs.Prelude.{◌≡◌, slice_get};
+
+    /// The lock at place `i`, from 0, in the order of the locks' numbers, and its mode; `None` past the last one.
+    /// Takes no memory. Own rule.
+    pub fn get(&self, i: usize) -> Option<(LockNo, LockMode)>
+        ensures { result ≡ slice_get self.now i }
+    {
+        let modes: &[Option<LockMode>] = &self.modes;
+        let mut left = i;
+        for key in 0..modes.len() {
+            if let Some(mode) = modes[key] {
+                if left == 0 {
+                    return Some((key, mode));
+                }
+                left -= 1;
+            }
+        }
+        None
+    }
+}

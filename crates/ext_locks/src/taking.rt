@@ -1,0 +1,59 @@
+//! The steps of a whole set of locks.
+ghost use Rattle.std.specs.Prelude.{◌≡◌, ◌≤◌, length, take, IfErr, OnOk, OnErr};
+ghost use Rattle.ext_locks.specs.Sets.{locks_of, takes_of, gives_of, HoldsNothing, HoldsExactly};
+ghost use Rattle.ext_locks.specs.Refusals.{undone, IsRefused};
+ghost use Rattle.ext_locks.specs.Steps.{lane_at, IsLane, Makes, HoldsBetween, IsWithin};
+
+use crate::rule::{LaneSeat, LockWords};
+use crate::steps::{give_back, take_key};
+use crate::{LockMode, LockRefusal};
+
+/// Gives back the locks of a set below a number.
+pub(crate) fn give_keys(
+    words: &LockWords,
+    seat: &mut LaneSeat,
+    lane: usize,
+    modes: &[Option<LockMode>],
+    end: usize,
+)
+    requires lane { IsLane words.now.table_id words.now.key seat.old lane }
+    requires keys { IsWithin modes.now words.now.key }
+    requires end { end ≤ length modes.now }
+    requires held { HoldsBetween seat.old.me.0.fronts lane modes.now 0 end }
+    ensures events { Makes seat.old seat.new lane (gives_of lane (locks_of (take end modes.now))) }
+    ensures nothing { HoldsNothing (lane_at seat.new lane) }
+{
+    for key in 0..end {
+        if let Some(mode) = modes[key] {
+            give_back(words, seat, lane, key, mode);
+        }
+    }
+}
+
+/// Takes all locks of a set, or none: what was taken before the lock that is refused is given back.
+pub(crate) fn take_keys(
+    words: &LockWords,
+    seat: &mut LaneSeat,
+    lane: usize,
+    modes: &[Option<LockMode>],
+    tries: u32,
+) -> Result<(), LockRefusal>
+    requires lane { IsLane words.now.table_id words.now.key seat.old lane }
+    requires keys { IsWithin modes.now words.now.key }
+    requires nothing { HoldsNothing (lane_at seat.old lane) }
+    ensures taken { OnOk result (Makes seat.old seat.new lane (takes_of lane (locks_of modes.now))) }
+    ensures held { OnOk result (HoldsExactly (lane_at seat.new lane) (locks_of modes.now)) }
+    ensures undone { IfErr result (λ refusal. Makes seat.old seat.new lane (undone lane (locks_of modes.now) refusal)) }
+    ensures nothing { OnErr result (HoldsNothing (lane_at seat.new lane)) }
+    ensures why { IfErr result (λ refusal. IsRefused tries (locks_of modes.now) (lane_at seat.old lane) (lane_at seat.new lane) refusal) }
+{
+    for key in 0..modes.len() {
+        if let Some(mode) = modes[key] {
+            if let Err(refusal) = take_key(words, seat, lane, key, mode, tries) {
+                give_keys(words, seat, lane, modes, key);
+                return Err(refusal);
+            }
+        }
+    }
+    Ok(())
+}

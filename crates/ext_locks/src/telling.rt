@@ -1,0 +1,49 @@
+//! A lane is told of what another has seen.
+ghost use Rattle.std.specs.Prelude.{◌≡◌, ◌≢◌, ◌<◌, []};
+ghost use Rattle.ext_locks.specs.Views.{seen};
+ghost use Rattle.ext_locks.specs.History.{IsBefore};
+ghost use Rattle.ext_locks.specs.Rule.{Looked, told_of};
+ghost use Rattle.ext_locks.specs.Sets.{Excludes};
+ghost use Rattle.ext_locks.specs.Steps.{lane_at, IsLane, Makes};
+
+use crate::rule::{LaneSeat, LockWords, Notes};
+use crate::steps::look;
+
+/// Tells a lane of all that another has seen, and lets it look.
+fn tell(words: &LockWords, from: &mut LaneSeat, to: &mut LaneSeat, lane: usize) -> u64
+    requires from { from.old.table_id ≡ words.now.table_id }
+    requires to { IsLane words.now.table_id words.now.key to.old lane }
+    requires key { 0 < words.now.key }
+    ensures from { (from.new.table_id ≡ from.old.table_id) × (from.new.me ≡ from.old.me) }
+    ensures table { to.new.table_id ≡ to.old.table_id }
+    ensures step { Looked (told_of to.old.me.0 from.old.me.0) lane 0 result to.new.me.0 }
+{
+    let note = words.split_seat::<Notes>(from);
+    words.join_seat::<Notes>(to, note);
+    look(words, to, lane, 0)
+}
+
+/// Two lanes are told of each other: where one writes by a lock, the other holds nothing on it.
+///
+/// The other lane looks at a history that goes on from all that the one has seen. Only the telling back shows
+/// that in this history the one lane holds what it held when it was asked.
+pub(crate) fn exclude(
+    words: &LockWords,
+    one: &mut LaneSeat,
+    one_lane: usize,
+    other: &mut LaneSeat,
+    other_lane: usize,
+)
+    requires one { IsLane words.now.table_id words.now.key one.old one_lane }
+    requires other { IsLane words.now.table_id words.now.key other.old other_lane }
+    requires apart { one_lane ≢ other_lane }
+    requires key { 0 < words.now.key }
+    ensures one { Makes one.old one.new one_lane [] }
+    ensures other { Makes other.old other.new other_lane [] }
+    ensures seen { IsBefore (seen other.new.me.0.fronts) (seen one.new.me.0.fronts) }
+    ensures shuts_out { Excludes (lane_at one.new one_lane) (lane_at other.new other_lane) }
+    ensures is_shut_out { Excludes (lane_at other.new other_lane) (lane_at one.new one_lane) }
+{
+    let _first = tell(words, one, other, other_lane);
+    let _second = tell(words, other, one, one_lane);
+}
