@@ -1,0 +1,7 @@
+-- Lemmas of this crate. `Runs` and `RunLaws` are for the crates that call it.
+pub mod Deals
+pub mod Places
+pub mod RunLaws
+pub mod Runs
+pub mod Shares
+pub mod Turns

@@ -1,0 +1,70 @@
+-- Words for the contracts within the crate: the jobs that a worker holds, its share, and the places of outcomes. No public call names them. Own rules.
+use Rattle.std.specs.Prelude.{◌≡◌, ℕ, ◌+◌, ◌-◌, ◌*◌, ◌≤◌, min, length, Option, Some, List, [], ◌∷◌, ⊤, map, All, slice_get, slice_set, vec_capacity}
+use Rattle.std.specs.VecDeque.{deque_len}
+use denote.Ref.{MutBor}
+use denote.Param.Members.{Shared}
+use Rattle.ext_crew.specs.Dealing.{Share, front, back}
+use Rattle.ext_crew.specs.declared.done.Done.{Done}
+use Rattle.ext_crew.specs.declared.job.Job.{Job}
+use Rattle.ext_crew.specs.declared.hand.Hand.{Hand}
+
+-- each job has the item of its place
+abbrev pub Fits : {T : Type 0} → List T → List (Job T) → Type 0
+Fits items jobs = All (λ j. slice_get items j.index ≡ Some j.item) jobs
+
+module _ {T O M : Type 0} where
+  -- nothing was run yet, and there is room for what the jobs give
+  abbrev pub IsReady : Hand T O M → Type 0
+  IsReady hand = (hand.done.items ≡ []) × (deque_len hand.jobs ≤ vec_capacity hand.done)
+
+  abbrev pub jobs_held : Hand T O M → List ℕ
+  jobs_held hand = map (λ j. j.index) hand.jobs.items
+
+  abbrev pub jobs_done : Hand T O M → List ℕ
+  jobs_done hand = map (λ d. d.job) hand.done.items
+
+-- both lists make so many shares of `size` elements, of which the first `longer` ones have one more
+abbrev pub IsCut : {A B : Type 0} → ℕ → ℕ → ℕ → Share A B → Type 0
+IsCut size longer count s = (length s.first ≡ count * size + longer) × (length s.second ≡ length s.first) × (longer ≤ count)
+
+-- P holds of each hand and its share. Shares are cut off one after another, as in `WorkedFrom`
+abbrev pub EachShare : {H A B : Type 0} → (H → Share A B → Type 0) → ℕ → ℕ → List H → Share A B → Type 0
+EachShare P size longer [] s = ⊤
+EachShare P size longer (hand ∷ hands) s = P hand (front (size + min 1 longer) s) × EachShare P size (longer - 1) hands (back (size + min 1 longer) s)
+
+-- R holds of each hand and its share, before and after
+abbrev pub EachShareChanges : {H A B : Type 0} → (H → Share A B → H → Share A B → Type 0) → ℕ → ℕ → List H → Share A B → List H → Share A B → Type 0
+EachShareChanges R size longer [] s [] t = s ≡ t
+EachShareChanges R size longer [] s (k ∷ ks) t = ⊥
+EachShareChanges R size longer (h ∷ hs) s [] t = ⊥
+EachShareChanges R size longer (h ∷ hs) s (k ∷ ks) t =
+    R h (front (size + min 1 longer) s) k (front (size + min 1 longer) t) × EachShareChanges R size (longer - 1) hs (back (size + min 1 longer) s) ks (back (size + min 1 longer) t)
+
+-- The same as records, from whose types a proof reads P and R
+pub record AllShares {H A B : Type 0} (P : H → Share A B → Type 0) (size longer : ℕ) (hands : List H) (s : Share A B) : Type 0 where
+  pub each : EachShare P size longer hands s
+
+pub record AllSharesChange {H A B : Type 0} (R : H → Share A B → H → Share A B → Type 0) (size longer : ℕ) (hs : List H) (s : Share A B) (ks : List H) (t : Share A B) : Type 0 where
+  pub each : EachShareChanges R size longer hs s ks t
+
+module _ {F H A B : Type 0} (g : Shared F (MutBor H × (MutBor (List A) × (MutBor (List B) × Unit {0}))) (Unit {0} × (MutBor H × (MutBor (List A) × (MutBor (List B) × Unit {0}))))) (f : F) where
+  -- f may be called with the hand and the share
+  abbrev pub TakesShare : H → Share A B → Type 0
+  TakesShare h s = (hand : MutBor H) (first : MutBor (List A)) (second : MutBor (List B)) → hand.now ≡ h → first.now ≡ s.first → second.now ≡ s.second → g.pre f (hand, (first, (second, tt)))
+
+  -- such a call may leave this hand and this share
+  pub record ChangesShare (h : H) (s : Share A B) (k : H) (t : Share A B) : Type 0 where
+    pub hand : MutBor H
+    pub first : MutBor (List A)
+    pub second : MutBor (List B)
+    pub lent : (hand.now ≡ h) × (first.now ≡ s.first) × (second.now ≡ s.second)
+    pub hand_left : MutBor H
+    pub first_left : MutBor (List A)
+    pub second_left : MutBor (List B)
+    pub call : g.post f (hand, (first, (second, tt))) (tt, (hand_left, (first_left, (second_left, tt))))
+    pub left : (hand_left.now ≡ k) × (first_left.now ≡ t.first) × (second_left.now ≡ t.second)
+
+-- the places, with each outcome at that of its job
+abbrev pub placed : {O : Type 0} → List (Option O) → List (Done O) → List (Option O)
+placed places [] = places
+placed places (d ∷ done) = placed (slice_set places d.job (Some d.outcome)) done

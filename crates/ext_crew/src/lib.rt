@@ -1,0 +1,23 @@
+//! Runs one job for each item of a list on several workers, each of which is lent its own share of two slices.
+//!
+//! The contract of `run_children` says that the outcomes and what is left of the slices come from a run by some
+//! dealing of the jobs, and not by which. `specs/Dealing.antt` has the definitions; `proofs/Runs.antt` and
+//! `proofs/RunLaws.antt` have the laws with which a caller reads such a run.
+#![tactic(auto)]
+
+mod crew;
+mod deal;
+mod done;
+mod fault;
+mod gate;
+mod hand;
+mod job;
+mod outcomes;
+#[cfg(test)]
+mod tests;
+mod workers;
+
+pub use crew::run_children;
+pub use done::Done;
+pub use fault::CrewFault;
+pub use gate::{Gate, OpenGate};
