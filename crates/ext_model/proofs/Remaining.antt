@@ -24,19 +24,19 @@ order m n = elim (bools (nat_lt m n)) [
   ]
 ]
 
-put_before : (number first : ℕ) (rest : List ℕ) → first < number → put_in number (first ∷ rest) ≡ number ∷ first ∷ rest
+pub put_before : (number first : ℕ) (rest : List ℕ) → first < number → put_in number (first ∷ rest) ≡ number ∷ first ∷ rest
 put_before number first rest p =
     let b : nat_lt first number ≡ true = grind (arith, nat_tests) in
     ap (λ c. if c then number ∷ first ∷ rest else if first == number then first ∷ rest else first ∷ put_in number rest) b
 
-put_same : (number first : ℕ) (rest : List ℕ) → first ≡ number → put_in number (first ∷ rest) ≡ first ∷ rest
+pub put_same : (number first : ℕ) (rest : List ℕ) → first ≡ number → put_in number (first ∷ rest) ≡ first ∷ rest
 put_same number first rest p =
     let b : nat_lt first number ≡ false = grind (arith, nat_tests) in
     let e : (first == number) ≡ true = grind (arith, nat_tests) in
     ap (λ c. if c then number ∷ first ∷ rest else if first == number then first ∷ rest else first ∷ put_in number rest) b
     ∙ ap (λ c. if c then first ∷ rest else first ∷ put_in number rest) e
 
-put_after : (number first : ℕ) (rest : List ℕ) → number < first → put_in number (first ∷ rest) ≡ first ∷ put_in number rest
+pub put_after : (number first : ℕ) (rest : List ℕ) → number < first → put_in number (first ∷ rest) ≡ first ∷ put_in number rest
 put_after number first rest p =
     let b : nat_lt first number ≡ false = grind (arith, nat_tests) in
     let e : (first == number) ≡ false = grind (arith, nat_tests) in

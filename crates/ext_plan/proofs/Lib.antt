@@ -2,6 +2,15 @@ pub mod FieldNames
 pub mod Lists
 pub mod LabelLists
 pub mod Turns
-pub mod Chains
+pub mod KeyLists
+pub mod StepWords
+pub mod Declared
+pub mod Numberings
+pub mod Parents
+pub mod TreeTests
+pub mod Gave
+pub mod KeyReading
+pub mod StepReading
+pub mod NodeReading
 pub mod Laws
 pub mod NeverNotUtf8

@@ -1,13 +1,14 @@
 -- One key, one node or one step after another: a turn that goes on, one that stops, and the end.
-use Rattle.std.proofs.Common.{◌≡◌, ℕ, List, [], ◌∷◌, ◌++◌, length, Result, Ok, Err, Some, None, refl}
+use Rattle.std.proofs.Common.{◌≡◌, ℕ, List, [], ◌∷◌, ◌++◌, length, Result, Ok, Err, refl}
 use Rattle.toml.specs.Data.{Members}
+use Rattle.ext_tree.specs.Trees.{Id}
 use Rattle.ext_plan.specs.declared.fault.PlanFault.{PlanFault}
 use Rattle.ext_plan.specs.declared.fault.PlanFault.TheVariants as faults
 use Rattle.ext_plan.specs.Plans.{KeyText, StepText, NodeText}
 use Rattle.ext_plan.specs.Faults.{Fails}
 use Rattle.ext_plan.specs.Keys.{key_at, keys_after, labels_of}
-use Rattle.ext_plan.specs.Nodes.{Sketch, sketch_at, sketches_after, has_child, node_at, nodes_after}
-use Rattle.ext_plan.specs.Steps.{step_of, steps_after}
+use Rattle.ext_plan.specs.Nodes.{Sketch, sketch_at, sketches_after, has_children, node_at, nodes_after}
+use Rattle.ext_plan.specs.Steps.{step_at, steps_after}
 
 -- what fails a part fails the whole
 pub Fails-whole : {A B : Type 0} (e : PlanFault) (part : Result A PlanFault) (whole : Result B PlanFault) → (part ≡ Err e → whole ≡ Err e) → Fails e part → Fails e whole
@@ -53,28 +54,28 @@ sketches_end before = refl
 
 -- ---- steps
 
-pub steps_go : (labels : List (List ℕ)) (node : ℕ) (before : List StepText) (x : List ℕ) (more : List (List ℕ)) (step : StepText) → step_of labels x ≡ Some step → steps_after labels node before (x ∷ more) ≡ steps_after labels node (before ++ step ∷ []) more
+pub steps_go : (labels : List (List ℕ)) (depth node : ℕ) (before : List StepText) (x : List ℕ) (more : List (List ℕ)) (step : StepText) → step_at labels depth node x ≡ Ok step → steps_after labels depth node before (x ∷ more) ≡ steps_after labels depth node (before ++ step ∷ []) more
 unfolding steps_after
-steps_go labels node before x more step e = rw e refl
+steps_go labels depth node before x more step e = rw e refl
 
-pub steps_stop : (labels : List (List ℕ)) (node : ℕ) (before : List StepText) (x : List ℕ) (more : List (List ℕ)) → step_of labels x ≡ None → steps_after labels node before (x ∷ more) ≡ Err (faults.BadStep node)
+pub steps_stop : (labels : List (List ℕ)) (depth node : ℕ) (before : List StepText) (x : List ℕ) (more : List (List ℕ)) (fault : PlanFault) → step_at labels depth node x ≡ Err fault → steps_after labels depth node before (x ∷ more) ≡ Err fault
 unfolding steps_after
-steps_stop labels node before x more e = rw e refl
+steps_stop labels depth node before x more fault e = rw e refl
 
-pub steps_end : (labels : List (List ℕ)) (node : ℕ) (before : List StepText) → steps_after labels node before [] ≡ Ok before
+pub steps_end : (labels : List (List ℕ)) (depth node : ℕ) (before : List StepText) → steps_after labels depth node before [] ≡ Ok before
 unfolding steps_after
-steps_end labels node before = refl
+steps_end labels depth node before = refl
 
 -- ---- nodes with their steps
 
-pub nodes_go : (labels : List (List ℕ)) (before : List NodeText) (x : Sketch) (more : List Sketch) (node : NodeText) → node_at labels (length before) (has_child x.id more) x ≡ Ok node → nodes_after labels before (x ∷ more) ≡ nodes_after labels (before ++ node ∷ []) more
+pub nodes_go : (labels : List (List ℕ)) (ids : List Id) (before : List NodeText) (x : Sketch) (more : List Sketch) (node : NodeText) → node_at labels (length before) (has_children ids (length before)) x ≡ Ok node → nodes_after labels ids before (x ∷ more) ≡ nodes_after labels ids (before ++ node ∷ []) more
 unfolding nodes_after
-nodes_go labels before x more node e = rw e refl
+nodes_go labels ids before x more node e = rw e refl
 
-pub nodes_stop : (labels : List (List ℕ)) (before : List NodeText) (x : Sketch) (more : List Sketch) (fault : PlanFault) → node_at labels (length before) (has_child x.id more) x ≡ Err fault → nodes_after labels before (x ∷ more) ≡ Err fault
+pub nodes_stop : (labels : List (List ℕ)) (ids : List Id) (before : List NodeText) (x : Sketch) (more : List Sketch) (fault : PlanFault) → node_at labels (length before) (has_children ids (length before)) x ≡ Err fault → nodes_after labels ids before (x ∷ more) ≡ Err fault
 unfolding nodes_after
-nodes_stop labels before x more fault e = rw e refl
+nodes_stop labels ids before x more fault e = rw e refl
 
-pub nodes_end : (labels : List (List ℕ)) (before : List NodeText) → nodes_after labels before [] ≡ Ok before
+pub nodes_end : (labels : List (List ℕ)) (ids : List Id) (before : List NodeText) → nodes_after labels ids before [] ≡ Ok before
 unfolding nodes_after
-nodes_end labels before = refl
+nodes_end labels ids before = refl

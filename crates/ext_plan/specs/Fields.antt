@@ -40,6 +40,11 @@ abbrev pub tables_or_none : PlanFault → Option Data → Result (List Members) 
 tables_or_none e None = Ok []
 tables_or_none e (Some value) = some_or e (tables_in value)
 
+-- the text of a field that may be left out, or this fault where it has another type
+abbrev pub text_or_none : PlanFault → Option Data → Result (Option (List ℕ)) PlanFault
+text_or_none e None = Ok None
+text_or_none e (Some value) = some_or e (as_str value) >>= (λ text. Ok (Some text))
+
 -- the texts of a field that may be left out, or this fault where it has another type
 abbrev pub texts_or_none : PlanFault → Option Data → Result (Option (List (List ℕ))) PlanFault
 texts_or_none e None = Ok None

@@ -2,6 +2,7 @@ pub mod Plans
 pub mod Faults
 pub mod Fields
 pub mod Keys
+pub mod KeyNumbers
 pub mod Steps
 pub mod Nodes
 pub mod Reading

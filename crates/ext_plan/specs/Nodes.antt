@@ -1,11 +1,11 @@
--- The nodes of a plan: first their fields and ids, then the tree that they are, then the steps of their tests. Own rule.
-use Rattle.std.specs.Prelude.{ℕ, Bool, true, false, not, ◌&&◌, ◌==◌, codes, List, [], ◌∷◌, ◌++◌, length, Option, Some, None, is_some, Result, Ok, Err}
-use Rattle.std.specs.List.{list_any}
+-- The nodes of a plan: first their fields and ids, then, where the ids are those of a tree, the steps of their tests. Own rule.
+use Rattle.std.specs.Prelude.{ℕ, Bool, not, ◌&&◌, ◌==◌, codes, List, [], ◌∷◌, ◌++◌, length, map, Option, Some, None, is_some, Result, Ok, Err}
 use Rattle.toml.specs.Data.{Members, get_member}
 use Rattle.ext_ids.specs.declared.fault.IdFault.{IdFault}
 use Rattle.ext_ids.specs.Grammar.{Pair}
-use Rattle.ext_ids.specs.Ids.{is_parent}
 use Rattle.ext_ids.specs.Reading.{read_id}
+use Rattle.ext_tree.specs.Paths.{children_of}
+use Rattle.ext_tree.specs.Trees.{Id}
 use Rattle.ext_plan.specs.declared.fault.PlanFault.{PlanFault}
 use Rattle.ext_plan.specs.declared.fault.PlanFault.TheVariants as faults
 use Rattle.ext_plan.specs.declared.fault.Place.TheVariants as places
@@ -43,42 +43,32 @@ sketches_after before (fields ∷ more) = do
   sketch ← sketch_at (length before) fields
   sketches_after (before ++ sketch ∷ []) more
 
--- ---- the tree
-
--- each node but the first is a child of the one before it
-abbrev pub each_follows : List Sketch → Bool
-each_follows [] = true
-each_follows (node ∷ []) = true
-each_follows (node ∷ next ∷ more) = is_parent node.id next.id && each_follows (next ∷ more)
-
--- there is a node, the first has one segment, and the others follow it
-abbrev pub is_chain : List Sketch → Bool
-is_chain [] = false
-is_chain (node ∷ more) = (length node.id == 1) && each_follows (node ∷ more)
-
 -- ---- the tests
 
--- one of the later nodes is a child of this one
-abbrev pub has_child : List Pair → List Sketch → Bool
-has_child id later = list_any (λ s. is_parent id s.id) later
+abbrev pub ids_of : List Sketch → List Id
+ids_of sketches = map (λ s. s.id) sketches
 
--- the test of a node with the steps that its texts are, if it is one
-unfoldable pub test_at : List (List ℕ) → ℕ → Option (List (List ℕ)) → Result (Option (List StepText)) PlanFault
-test_at labels node None = Ok None
-test_at labels node (Some texts) = do
-  steps ← steps_after labels node [] texts
+-- a node of the tree has children
+abbrev pub has_children : List Id → ℕ → Bool
+has_children ids node = not (length (children_of ids node) == 0)
+
+-- the test of a node with the steps that its texts are, if it is one; `depth` is the number of segments of its id
+unfoldable pub test_at : List (List ℕ) → ℕ → ℕ → Option (List (List ℕ)) → Result (Option (List StepText)) PlanFault
+test_at labels depth node None = Ok None
+test_at labels depth node (Some texts) = do
+  steps ← steps_after labels depth node [] texts
   Ok (Some steps)
 
--- the node of a sketch; `parent` says whether it has a child, as no test does
+-- the node of a sketch; `parent` says whether it has children, as no test does
 unfoldable pub node_at : List (List ℕ) → ℕ → Bool → Sketch → Result NodeText PlanFault
 node_at labels node parent sketch = do
   _ ← check (faults.BadTest node) (not (is_some sketch.test && parent))
-  test ← test_at labels node sketch.test
+  test ← test_at labels (length sketch.id) node sketch.test
   Ok (record { id = sketch.id; test = test })
 
--- these nodes and then those of the sketches, in order
-unfoldable pub nodes_after : List (List ℕ) → List NodeText → List Sketch → Result (List NodeText) PlanFault
-nodes_after labels before [] = Ok before
-nodes_after labels before (sketch ∷ more) = do
-  node ← node_at labels (length before) (has_child sketch.id more) sketch
-  nodes_after labels (before ++ node ∷ []) more
+-- these nodes and then those of the sketches, in order, where these are the ids of all nodes
+unfoldable pub nodes_after : List (List ℕ) → List Id → List NodeText → List Sketch → Result (List NodeText) PlanFault
+nodes_after labels ids before [] = Ok before
+nodes_after labels ids before (sketch ∷ more) = do
+  node ← node_at labels (length before) (has_children ids (length before)) sketch
+  nodes_after labels ids (before ++ node ∷ []) more

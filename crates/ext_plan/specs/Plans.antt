@@ -1,5 +1,5 @@
 -- A plan without where it lies in memory: its keys by their labels, its nodes by their ids and the steps of their tests. Texts are bytes. Own rule.
-use Rattle.std.specs.Prelude.{ℕ, List, map, Option, option_map, Vec, string_bytes}
+use Rattle.std.specs.Prelude.{ℕ, List, map, Option, option_map, Vec, String, string_bytes}
 use Rattle.std.specs.declared.alloc.Global.{Global}
 use Rattle.ext_ids.specs.Grammar.{Pair}
 use Rattle.ext_plan.specs.declared.plan.Plan.{Plan}
@@ -8,13 +8,24 @@ use Rattle.ext_plan.specs.declared.plan.PlanNode.{PlanNode}
 use Rattle.ext_plan.specs.declared.plan.Step.{Step}
 use Rattle.ext_plan.specs.declared.plan.Step.TheVariants as steps
 
+-- the label by which steps name the key, the key's name, and the parts of its namespace where that was created
 pub record KeyText : Type 0 where
   pub label : List ℕ
+  pub name : List ℕ
+  pub namespace : Option (List (List ℕ))
 
--- the key of a step is its place among the plan's keys
+-- A step: the place of its label among the plan's keys, its text, and to which ancestor of its context it goes up
 pub data StepText : Type 0 where
-  put : ℕ → List ℕ → StepText
-  want : ℕ → List ℕ → StepText
+  put : ℕ → List ℕ → ℕ → StepText
+  put_closeable : ℕ → List ℕ → ℕ → StepText
+  want : ℕ → List ℕ → ℕ → StepText
+  nothing : ℕ → ℕ → StepText
+  remove : ℕ → ℕ → StepText
+  compute : ℕ → List ℕ → ℕ → StepText
+  compute_closeable : ℕ → List ℕ → ℕ → StepText
+  compute_fail : ℕ → List ℕ → ℕ → StepText
+  fail : List ℕ → StepText
+  abort : List ℕ → StepText
 
 -- the segments of the id, each by its type and its value; the steps, where the node is a test
 pub record NodeText : Type 0 where
@@ -27,12 +38,23 @@ pub record PlanText : Type 0 where
 
 -- ---- what a plan in memory stands for
 
+abbrev pub texts_view : Vec (String Global) Global → List (List ℕ)
+texts_view v = map string_bytes v.items
+
 abbrev pub key_view : PlanKey → KeyText
-key_view k = record { label = string_bytes k.label }
+key_view k = record { label = string_bytes k.label; name = string_bytes k.name; namespace = option_map texts_view k.namespace }
 
 abbrev pub step_view : Step → StepText
-step_view (steps.Put key text) = put key (string_bytes text)
-step_view (steps.Want key text) = want key (string_bytes text)
+step_view (steps.Put key text up) = put key (string_bytes text) up
+step_view (steps.PutCloseable key text up) = put_closeable key (string_bytes text) up
+step_view (steps.Want key text up) = want key (string_bytes text) up
+step_view (steps.None key up) = nothing key up
+step_view (steps.Remove key up) = remove key up
+step_view (steps.Compute key text up) = compute key (string_bytes text) up
+step_view (steps.ComputeCloseable key text up) = compute_closeable key (string_bytes text) up
+step_view (steps.ComputeFail key text up) = compute_fail key (string_bytes text) up
+step_view (steps.Fail text) = fail (string_bytes text)
+step_view (steps.Abort text) = abort (string_bytes text)
 
 abbrev pub steps_view : Vec Step Global → List StepText
 steps_view v = map step_view v.items

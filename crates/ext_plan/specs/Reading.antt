@@ -2,6 +2,7 @@
 use Rattle.std.specs.Prelude.{ℕ, ◌*◌, nat_le, Bool, ◌&&◌, codes, List, [], ◌∷◌, length, Result, Ok}
 use Rattle.toml.specs.Data.{Members, get_member}
 use Rattle.toml.specs.Parse.{parse_document}
+use Rattle.ext_tree.specs.Decided.{is_tree}
 use Rattle.ext_plan.specs.declared.fault.PlanFault.{PlanFault}
 use Rattle.ext_plan.specs.declared.fault.PlanFault.TheVariants as faults
 use Rattle.ext_plan.specs.declared.fault.Place.TheVariants as places
@@ -9,14 +10,15 @@ use Rattle.ext_plan.specs.Plans.{PlanText}
 use Rattle.ext_plan.specs.Faults.{some_or, check, ◌>>=◌}
 use Rattle.ext_plan.specs.Fields.{has_only, tables_or_none}
 use Rattle.ext_plan.specs.Keys.{keys_after, labels_of}
-use Rattle.ext_plan.specs.Nodes.{sketches_after, is_chain, nodes_after}
+use Rattle.ext_plan.specs.KeyNumbers.{different_keys}
+use Rattle.ext_plan.specs.Nodes.{ids_of, sketches_after, nodes_after}
 
 abbrev pub top_fields : List (List ℕ)
 top_fields = codes "key" ∷ codes "node" ∷ []
 
--- at most 64 keys and 31 cells, of which each node has one for each key
+-- at most 64 different keys and 4,096 cells, of which each node has one for each different key
 abbrev pub are_few : ℕ → ℕ → Bool
-are_few keys nodes = nat_le keys 64 && nat_le (keys * nodes) 31
+are_few keys nodes = nat_le keys 64 && nat_le (nodes * keys) 4096
 
 -- the plan of a document
 unfoldable pub plan_of : Members → Result PlanText PlanFault
@@ -26,9 +28,9 @@ plan_of top = do
   node_tables ← tables_or_none (faults.BadField places.Whole) (get_member (codes "node") top)
   keys ← keys_after [] key_tables
   sketches ← sketches_after [] node_tables
-  _ ← check faults.BadTree (is_chain sketches)
-  nodes ← nodes_after (labels_of keys) [] sketches
-  _ ← check faults.TooMany (are_few (length keys) (length nodes))
+  _ ← check faults.BadTree (is_tree (ids_of sketches))
+  nodes ← nodes_after (labels_of keys) (ids_of sketches) [] sketches
+  _ ← check faults.TooMany (are_few (length (different_keys keys)) (length nodes))
   Ok (record { keys = keys; nodes = nodes })
 
 -- the plan of a text

@@ -49,29 +49,32 @@ pub enum PlanFault {
     /// P2: the text is no TOML document.
     #[error("plan: P2")]
     NotToml,
-    /// P3: a field other than `key` and `node` at the top, `label` in a key, `id` and `test` in a node.
+    /// P3: a field other than `key` and `node` at the top, `label`, `name` and `namespace` in a key, `id` and `test` in
+    /// a node.
     #[error("plan: P3{0}")]
     UnknownField(Place),
-    /// P4: `key` or `node` is no array of tables; `label` or `id` is missing or no text; `test` is no array of texts.
+    /// P4: `key` or `node` is no array of tables; `label` or `id` is missing or no text; `name` is no text; `namespace`
+    /// or `test` is no array of texts.
     #[error("plan: P4{0}")]
     BadField(Place),
-    /// P5: a key's label is empty, has a space or is that of a key before.
+    /// P5: a key's label is empty, has a space or is that of a key before, or its namespace is an empty array.
     #[error("plan: P5 key {0}")]
     BadLabel(usize),
     /// P6: the id of a node is no unique id, or has more than 16 segments.
     #[error("plan: P6 node {0}")]
     BadId(usize),
-    /// P7: there is no node, the id of the first has more than one segment, or a further node is no child of the one
-    /// before it.
+    /// P7: the ids are those of no tree: there is none or more than 256, the first has more than one segment, or a
+    /// further one stands twice, has one segment or has no parent before it.
     #[error("plan: P7")]
     BadTree,
-    /// P8: a text in the `test` of a node is no step, or names no label of the plan.
+    /// P8: a text in the `test` of a node is no step, names no label of the plan, or goes up past the root.
     #[error("plan: P8 node {0}")]
     BadStep(usize),
     /// P10: a node is a test and has children.
     #[error("plan: P10 node {0}")]
     BadTest(usize),
-    /// P11: there are more than 64 keys, or more than 31 cells, of which each node has one for each key.
+    /// P11: there are more than 64 different keys, or more than 4,096 cells, of which each node has one for each
+    /// different key.
     #[error("plan: P11")]
     TooMany,
     /// P12: memory was wanted and refused.

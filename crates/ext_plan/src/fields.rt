@@ -5,7 +5,7 @@ ghost use Rattle.std.specs.List.{list_any};
 ghost use Rattle.toml.specs.View.{view, table_view, items_view};
 ghost use Rattle.toml.specs.Data.{get_member};
 ghost use Rattle.ext_plan.specs.Faults.{Gives, GivesAll};
-ghost use Rattle.ext_plan.specs.Fields.{has_only, text_at, texts_in, tables_in, texts_after, tables_after, texts_or_none, tables_or_none};
+ghost use Rattle.ext_plan.specs.Fields.{has_only, text_at, texts_in, tables_in, texts_after, tables_after, text_or_none, texts_or_none, tables_or_none};
 
 use crate::fault::PlanFault;
 use std::alloc::Global;
@@ -37,6 +37,23 @@ pub fn text_at<'a>(table: &'a Table, name: &str) -> Option<&'a str>
     match field(table, name) {
         Some(value) => value.as_str(),
         None => None,
+    }
+}
+
+/// The text at a name, which may be left out, or the fault where something else is there.
+pub fn text_if_given<'a>(
+    table: &'a Table,
+    name: &str,
+    fault: PlanFault,
+) -> Result<Option<&'a str>, PlanFault>
+    ensures { Gives (option_map (λ s. s.now)) result (text_or_none fault (get_member name.now (table_view table.now))) }
+{
+    match field(table, name) {
+        None => Ok(None),
+        Some(value) => match value.as_str() {
+            None => Err(fault),
+            Some(text) => Ok(Some(text)),
+        },
     }
 }
 

@@ -1,15 +1,16 @@
 //! The keys of a plan.
-ghost use Rattle.std.specs.Prelude.{◌≡◌, [], ◌++◌, ◌∷◌, map, IfOk, string_bytes};
+ghost use Rattle.std.specs.Prelude.{◌≡◌, [], ◌++◌, ◌∷◌, All, map, option_map, IfOk, string_bytes};
 ghost use Rattle.toml.specs.View.{table_view};
-ghost use Rattle.ext_plan.specs.Plans.{key_view, keys_view};
+ghost use Rattle.ext_plan.specs.Plans.{texts_view, key_view, keys_view};
 ghost use Rattle.ext_plan.specs.Faults.{Gives};
-ghost use Rattle.ext_plan.specs.Keys.{is_word, labels_of, key_at, keys_after};
+ghost use Rattle.ext_plan.specs.KeyNumbers.{HasParts};
+ghost use Rattle.ext_plan.specs.Keys.{is_word, has_parts, labels_of, key_at, keys_after};
 
 use crate::fault::{Place, PlanFault};
-use crate::fields::{has_only, text_at};
+use crate::fields::{has_only, text_at, text_if_given, texts_at};
 use crate::labels::Labels;
 use crate::plan::PlanKey;
-use std::alloc::Global;
+use std::alloc::{AllocError, Global};
 use toml::Table;
 
 /// The keys of a plan, and the set of their labels, which lie in the text's document.
@@ -23,6 +24,7 @@ pub struct Keys<'a> {
 pub fn keys_of<'a>(alloc: Global, tables: &[&'a Table]) -> Result<Keys<'a>, PlanFault>
     ensures exact { Gives (λ r. keys_view r.keys.items) result (keys_after [] (map (λ t. table_view t.now) tables.now)) }
     ensures labels { IfOk result (λ r. r.labels ≡ labels_of (keys_view r.keys.items)) }
+    ensures parts { IfOk result (λ r. All HasParts (keys_view r.keys.items)) }
 {
     let mut labels = Labels::new(alloc);
     let mut keys = Vec::new(alloc);
@@ -43,14 +45,22 @@ fn key_of<'a>(
 ) -> Result<PlanKey, PlanFault>
     ensures exact { Gives key_view result (key_at number labels.old (table_view table.now)) }
     ensures labels { IfOk result (λ key. labels.new ≡ labels.old ++ string_bytes key.label ∷ []) }
+    ensures parts { IfOk result (λ key. HasParts (key_view key)) }
 {
-    if !has_only(&["label"], table) {
+    if !has_only(&["label", "name", "namespace"], table) {
         return Err(PlanFault::UnknownField(Place::Key(number)));
     }
     let Some(label) = text_at(table, "label") else {
         return Err(PlanFault::BadField(Place::Key(number)));
     };
-    if !is_word(label) {
+    let name = text_if_given(table, "name", PlanFault::BadField(Place::Key(number)))?;
+    let namespace = texts_at(
+        alloc,
+        table,
+        "namespace",
+        PlanFault::BadField(Place::Key(number)),
+    )?;
+    if !is_word(label) || !has_parts(&namespace) {
         return Err(PlanFault::BadLabel(number));
     }
     let is_new = labels.add(label)?;
@@ -59,6 +69,8 @@ fn key_of<'a>(
     }
     Ok(PlanKey {
         label: String::from_str(alloc, label)?,
+        name: String::from_str(alloc, name.unwrap_or(label))?,
+        namespace: namespace_of(alloc, &namespace)?,
     })
 }
 
@@ -67,4 +79,38 @@ fn is_word(text: &str) -> bool
     ensures { result ≡ is_word text.now }
 {
     !text.is_empty() && !text.as_bytes().contains(&b' ')
+}
+
+/// Tests whether a namespace has a part, if one is given.
+fn has_parts(namespace: &Option<Vec<&str>>) -> bool
+    ensures { result ≡ has_parts (option_map (λ v. map (λ t. t.now) v.items) namespace.now) }
+{
+    match namespace {
+        None => true,
+        Some(parts) => !parts.is_empty(),
+    }
+}
+
+/// A copy of the parts of a namespace, if one is given.
+fn namespace_of(
+    alloc: Global,
+    namespace: &Option<Vec<&str>>,
+) -> Result<Option<Vec<String>>, AllocError>
+    ensures { IfOk result (λ n. option_map texts_view n ≡ option_map (λ v. map (λ t. t.now) v.items) namespace.now) }
+{
+    match namespace {
+        None => Ok(None),
+        Some(parts) => Ok(Some(copies_of(alloc, parts.as_slice())?)),
+    }
+}
+
+/// A copy of each text, in order.
+fn copies_of(alloc: Global, texts: &[&str]) -> Result<Vec<String>, AllocError>
+    ensures { IfOk result (λ v. texts_view v ≡ map (λ t. t.now) texts.now) }
+{
+    let mut copies = Vec::new(alloc);
+    for text in texts {
+        copies.push(String::from_str(alloc, text)?)?;
+    }
+    Ok(copies)
 }

@@ -1,6 +1,7 @@
 //! Plans of test runs: the keys, nodes and steps that a TOML document writes, or the first fault that it has.
 //!
-//! `read_plan` reads, `Plan` is what was read, and `PlanFault` is why a text was refused. Own rule.
+//! `read_plan` reads, `Plan` is what was read, and `PlanFault` is why a text was refused. `KeyNumbers` numbers the keys
+//! of the store that a plan's labels name. Own rule.
 #![tactic(auto)]
 
 mod fault;
@@ -8,6 +9,7 @@ mod fields;
 mod keys;
 mod labels;
 mod nodes;
+mod numbers;
 mod plan;
 mod read;
 mod steps;
@@ -15,5 +17,6 @@ mod steps;
 mod tests;
 
 pub use fault::{Place, PlanFault};
+pub use numbers::KeyNumbers;
 pub use plan::{LabelNo, Plan, PlanKey, PlanNode, Step};
 pub use read::read_plan;

@@ -1,12 +1,12 @@
 //! The nodes of a plan.
-ghost use Rattle.std.specs.Prelude.{◌≡◌, ◌≤◌, [], true, length, map, option_map, IfOk};
-ghost use Rattle.std.specs.List.{AllByRecursion};
+ghost use Rattle.std.specs.Prelude.{◌≡◌, [], length, map, option_map, IfOk};
 ghost use Rattle.toml.specs.View.{table_view};
 ghost use Rattle.ext_ids.specs.Reading.{read_id};
+ghost use Rattle.ext_tree.specs.Decided.{is_tree};
 ghost use Rattle.ext_plan.specs.Plans.{node_view, nodes_view, steps_view};
 ghost use Rattle.ext_plan.specs.Helpers.{sketch_view};
-ghost use Rattle.ext_plan.specs.Faults.{Gives};
-ghost use Rattle.ext_plan.specs.Nodes.{id_or, sketch_at, sketches_after, each_follows, is_chain, test_at, node_at, nodes_after};
+ghost use Rattle.ext_plan.specs.Faults.{check, Gives};
+ghost use Rattle.ext_plan.specs.Nodes.{id_or, sketch_at, sketches_after, ids_of, test_at, node_at, nodes_after};
 
 use crate::fault::{Place, PlanFault};
 use crate::fields::{has_only, text_at, texts_at};
@@ -14,7 +14,8 @@ use crate::labels::Labels;
 use crate::plan::{PlanNode, Step};
 use crate::steps::steps_of;
 use ext_ids::{IdFault, UniqueId};
-use std::alloc::Global;
+use ext_tree::{Tree, TreeFault};
+use std::alloc::{AllocError, Global};
 use toml::Table;
 
 /// A node after the first pass: its fields have their types and its id is one, and its steps are still texts.
@@ -29,8 +30,7 @@ pub fn sketches_of<'a>(
     alloc: Global,
     tables: &[&'a Table],
 ) -> Result<Vec<NodeSketch<'a>>, PlanFault>
-    ensures exact { Gives (λ v. map sketch_view v.items) result (sketches_after [] (map (λ t. table_view t.now) tables.now)) }
-    ensures deep { IfOk result (λ v. AllByRecursion (λ s. length s.id ≤ 16) (map sketch_view v.items)) }
+    ensures { Gives (λ v. map sketch_view v.items) result (sketches_after [] (map (λ t. table_view t.now) tables.now)) }
 {
     let mut sketches = Vec::new(alloc);
     for table in tables {
@@ -43,8 +43,7 @@ pub fn sketches_of<'a>(
 /// The node that a table writes. `node` is its place in the plan.
 #[tactic(auto, unfolding(crate::specs::Nodes::sketch_at))]
 fn sketch_of<'a>(alloc: Global, node: usize, table: &'a Table) -> Result<NodeSketch<'a>, PlanFault>
-    ensures exact { Gives sketch_view result (sketch_at node (table_view table.now)) }
-    ensures deep { IfOk result (λ s. length s.id ≤ 16) }
+    ensures { Gives sketch_view result (sketch_at node (table_view table.now)) }
 {
     if !has_only(&["id", "test"], table) {
         return Err(PlanFault::UnknownField(Place::Node(node)));
@@ -59,8 +58,7 @@ fn sketch_of<'a>(alloc: Global, node: usize, table: &'a Table) -> Result<NodeSke
 
 /// The id that a node's text spells.
 fn id_of(alloc: Global, node: usize, text: &str) -> Result<UniqueId, PlanFault>
-    ensures exact { Gives (λ id. id) result (id_or (PlanFault.BadId node) (read_id text.now)) }
-    ensures deep { IfOk result (λ id. length id ≤ 16) }
+    ensures { Gives (λ id. id) result (id_or (PlanFault.BadId node) (read_id text.now)) }
 {
     match UniqueId::parse(alloc, text) {
         Ok(id) => Ok(id),
@@ -69,36 +67,48 @@ fn id_of(alloc: Global, node: usize, text: &str) -> Result<UniqueId, PlanFault>
     }
 }
 
-/// Tests whether the first node is a root, and each other a child of the one before.
-pub fn is_chain(sketches: &[NodeSketch<'_>]) -> bool
-    ensures { result ≡ is_chain (map sketch_view sketches.now) }
+/// The tree of the nodes.
+pub fn tree_of(alloc: Global, sketches: &[NodeSketch<'_>]) -> Result<Tree, PlanFault>
+    ensures exact { Gives (λ _. tt) result (check PlanFault.BadTree (is_tree (ids_of (map sketch_view sketches.now)))) }
+    ensures ids { IfOk result (λ tree. tree ≡ ids_of (map sketch_view sketches.now)) }
 {
-    if sketches.is_empty() || sketches[0].id.len() != 1 {
-        return false;
+    let ids = ids_of(alloc, sketches)?;
+    match Tree::build(alloc, ids.as_slice()) {
+        Ok(tree) => Ok(tree),
+        Err(fault) => match fault {
+            TreeFault::Memory => Err(PlanFault::Memory),
+            _ => Err(PlanFault::BadTree),
+        },
     }
-    for i in 1..sketches.len() {
-        if !sketches[i - 1].id.is_parent_of(&sketches[i].id) {
-            return false;
-        }
-    }
-    true
 }
 
-/// The second pass: the nodes of the sketches, in order. In a chain each node but the last is a parent.
+/// A copy of each node's id, in order.
+fn ids_of(alloc: Global, sketches: &[NodeSketch<'_>]) -> Result<Vec<UniqueId>, AllocError>
+    ensures { IfOk result (λ v. v.items ≡ ids_of (map sketch_view sketches.now)) }
+{
+    let mut ids = Vec::new(alloc);
+    for sketch in sketches {
+        ids.push(sketch.id.clone()?)?;
+    }
+    Ok(ids)
+}
+
+/// The second pass: the nodes of the sketches, in order, where this is their tree.
 pub fn nodes_of(
     alloc: Global,
     labels: &Labels<'_>,
+    tree: &Tree,
     sketches: Vec<NodeSketch<'_>>,
 ) -> Result<Vec<PlanNode>, PlanFault>
-    requires { each_follows (map sketch_view sketches.items) ≡ true }
-    ensures exact { Gives (λ v. nodes_view v.items) result (nodes_after labels.now [] (map sketch_view sketches.entry.items)) }
+    requires { tree.now ≡ ids_of (map sketch_view sketches.items) }
+    ensures exact { Gives (λ v. nodes_view v.items) result (nodes_after labels.now tree.now [] (map sketch_view sketches.entry.items)) }
     ensures count { IfOk result (λ v. length v.items ≡ length sketches.entry.items) }
 {
-    let count = sketches.len();
     let mut nodes = Vec::new(alloc);
     for sketch in sketches {
         let number = nodes.len();
-        let node = node_of(alloc, labels, number, number + 1 < count, sketch)?;
+        let is_parent = !tree.children(number).is_empty();
+        let node = node_of(alloc, labels, number, is_parent, sketch)?;
         nodes.push(node)?;
     }
     Ok(nodes)
@@ -118,25 +128,26 @@ fn node_of(
     if sketch.test.is_some() && is_parent {
         return Err(PlanFault::BadTest(node));
     }
-    let test = test_of(alloc, labels, node, &sketch.test)?;
+    let test = test_of(alloc, labels, sketch.id.len(), node, &sketch.test)?;
     Ok(PlanNode {
         id: sketch.id,
         test,
     })
 }
 
-/// The steps of a node, if it is a test.
+/// The steps of a node, if it is a test. `depth` is how many segments its id has.
 #[tactic(auto, unfolding(crate::specs::Nodes::test_at))]
 fn test_of(
     alloc: Global,
     labels: &Labels<'_>,
+    depth: usize,
     node: usize,
     texts: &Option<Vec<&str>>,
 ) -> Result<Option<Vec<Step>>, PlanFault>
-    ensures { Gives (option_map steps_view) result (test_at labels.now node (option_map (λ v. map (λ t. t.now) v.items) texts.now)) }
+    ensures { Gives (option_map steps_view) result (test_at labels.now depth node (option_map (λ v. map (λ t. t.now) v.items) texts.now)) }
 {
     match texts {
         None => Ok(None),
-        Some(texts) => Ok(Some(steps_of(alloc, labels, node, texts.as_slice())?)),
+        Some(texts) => Ok(Some(steps_of(alloc, labels, depth, node, texts.as_slice())?)),
     }
 }

@@ -1,17 +1,17 @@
 //! What a plan holds.
 use ext_ids::UniqueId;
 
-/// The number of a key: its place in `Plan::keys`, from 0. Own rule.
+/// The number of a label: the place of its key in `Plan::keys`, from 0. Two labels may name one key of the store. Own rule.
 pub type LabelNo = usize;
 
-/// What a run does: the keys that steps name, and the nodes of the tree with their tests. There are at most 31 cells,
-/// of which each node has one for each key. Own rule.
+/// What a run does: the keys that steps name, and the nodes of the tree with their tests. There are at most 4,096 cells,
+/// of which each node has one for each different key. Own rule.
 #[derive(Debug, Drop)]
 pub struct Plan {
-    /// The keys, in the order of the plan: 0 to 31.
+    /// The keys by their labels, in the order of the plan. At most 64 of them are different.
     pub keys: Vec<PlanKey>,
-    /// The nodes, in the order of the plan: 1 to 16, of which the first is the root, and each further one a child of
-    /// the one before it.
+    /// The nodes, in the order of the plan: 1 to 256, of which the first is the root, and each further one a child of
+    /// one before it.
     pub nodes: Vec<PlanNode>,
 }
 
@@ -20,6 +20,10 @@ pub struct Plan {
 pub struct PlanKey {
     /// The word that names the key in steps: not empty, without a space, and no other key's.
     pub label: String,
+    /// The key's name; it is the label where the plan has none.
+    pub name: String,
+    /// The parts of the created namespace (`ExtensionContext.Namespace`, `create`), at least one; `None` is the global one.
+    pub namespace: Option<Vec<String>>,
 }
 
 /// A node of the tree, a container or a test, each with a context of its own (`ExtensionContext`). Own rule.
@@ -31,12 +35,66 @@ pub struct PlanNode {
     pub test: Option<Vec<Step>>,
 }
 
-/// A step of a test. It acts on the context of the test. In a plan that was read, `key` is below the number of the
-/// plan's keys, and `text` is one word: not empty, and without a space. Own rule.
+/// A step of a test. In a plan that was read, `key` is below the number of the plan's keys, `text` is one word: not
+/// empty, and without a space, and the `up`-th ancestor of the test's context is there.
+///
+/// A step acts on the context of the test, or on its `up`-th ancestor, which is the context itself where `up` is 0.
+/// Own rule; what the steps do is of `ExtensionContext.Store`.
 #[derive(Debug, Drop)]
 pub enum Step {
-    /// `put KEY TEXT`: stores a value that has this text and isn't closeable (`ExtensionContext.Store`, `put`).
-    Put { key: LabelNo, text: String },
-    /// `want KEY TEXT`: looks up (`ExtensionContext.Store`, `get`); passes where the found value has this text.
-    Want { key: LabelNo, text: String },
+    /// `put KEY TEXT`: stores a value that has this text and isn't closeable (`put`).
+    Put {
+        key: LabelNo,
+        text: String,
+        up: usize,
+    },
+    /// `put! KEY TEXT`: stores a closeable value that has this text (`put`).
+    PutCloseable {
+        key: LabelNo,
+        text: String,
+        up: usize,
+    },
+    /// `want KEY TEXT`: looks up (`get`); passes where the found value has this text.
+    Want {
+        key: LabelNo,
+        text: String,
+        up: usize,
+    },
+    /// `none KEY`: looks up (`get`); passes where nothing is found.
+    None {
+        key: LabelNo,
+        up: usize,
+    },
+    /// `remove KEY`: removes (`remove`); passes whether or not a value stood there.
+    Remove {
+        key: LabelNo,
+        up: usize,
+    },
+    /// `compute KEY TEXT`: computes (`getOrComputeIfAbsent`) with a factory that gives a value that has this text and
+    /// isn't closeable; passes where it was computed or another was found.
+    Compute {
+        key: LabelNo,
+        text: String,
+        up: usize,
+    },
+    /// `compute! KEY TEXT`: the same with a closeable value.
+    ComputeCloseable {
+        key: LabelNo,
+        text: String,
+        up: usize,
+    },
+    /// `computefail KEY TEXT`: computes with a factory that fails with this text; passes where that fault came back.
+    ComputeFail {
+        key: LabelNo,
+        text: String,
+        up: usize,
+    },
+    /// `fail TEXT`: the test fails with this text.
+    Fail {
+        text: String,
+    },
+    /// `abort TEXT`: the test aborts with this text.
+    Abort {
+        text: String,
+    },
 }

@@ -1,10 +1,34 @@
 //! Plans of the format's own examples, and their faults.
-use crate::{Place, PlanFault, Step, read_plan};
+use crate::{KeyNumbers, Place, Plan, PlanFault, Step, read_plan};
+use std::alloc::{AllocError, Global};
 use std::test::Fail;
 
 /// A chain of three contexts, whose method puts a value and wants it.
 const CHAIN: &str =
     "[[key]]\nlabel = \"a\"\n\n[[node]]\nid = \"[engine:x]\"\n\n[[node]]\nid = \"[engine:x]/[class:A]\"\n\n[[node]]\nid = \"[engine:x]/[class:A]/[method:m()]\"\ntest = [\"put a x\", \"want a x\"]\n";
+
+/// A plan with the labels `a` and `up`, whose third node, three contexts deep, is a test with these steps.
+fn plan_with(alloc: Global, steps: &str) -> Result<String, AllocError> {
+    format!(in alloc;
+        "[[key]]\nlabel = \"a\"\n[[key]]\nlabel = \"up\"\n[[node]]\nid = \"[a:b]\"\n[[node]]\nid = \"[a:b]/[c:d]\"\n[[node]]\nid = \"[a:b]/[c:d]/[e:f]\"\ntest = [{steps}]"
+    )
+}
+
+/// The steps of a node; none where it is no test.
+fn steps_at(plan: &Plan, node: usize) -> &[Step] {
+    match plan.nodes.get(node) {
+        None => &[],
+        Some(node) => match &node.test {
+            None => &[],
+            Some(steps) => steps.as_slice(),
+        },
+    }
+}
+
+/// What a plan is refused for.
+fn fault_of(alloc: Global, text: &str) -> Option<PlanFault> {
+    read_plan(alloc, text).err()
+}
 
 #[test]
 fn reads_the_chain(rt: HostRuntime) -> Result<(), Fail> {
@@ -15,13 +39,214 @@ fn reads_the_chain(rt: HostRuntime) -> Result<(), Fail> {
     assert_eq!(rt; plan.nodes[1].id.len(), 2);
     assert_eq!(rt; plan.nodes[1].id.segment(1), ("class", "A"));
     assert!(rt; plan.nodes[0].test.is_none());
-    let Some(steps) = &plan.nodes[2].test else {
-        assert!(rt; false, "the method is a test");
+    let steps = steps_at(&plan, 2);
+    assert_eq!(rt; steps.len(), 2);
+    assert!(rt; matches!(&steps[0], Step::Put { key: 0, text, up: 0 } if text.as_str() == "x"));
+    assert!(rt; matches!(&steps[1], Step::Want { key: 0, text, up: 0 } if text.as_str() == "x"));
+    Ok(())
+}
+
+#[test]
+fn reads_each_step(rt: HostRuntime) -> Result<(), Fail> {
+    let text = plan_with(
+        rt.alloc(),
+        "\"put up x\", \"put! a x\", \"want a x\", \"none up\", \"remove a\", \"compute a x\", \"compute! a x\", \"computefail a x\", \"fail x\", \"abort x\"",
+    )?;
+    let plan = read_plan(rt.alloc(), text.as_str())?;
+    let steps = steps_at(&plan, 2);
+    assert_eq!(rt; steps.len(), 10);
+    assert!(rt; matches!(&steps[0], Step::Put { key: 1, text, up: 0 } if text.as_str() == "x"));
+    assert!(rt;
+        matches!(&steps[1], Step::PutCloseable { key: 0, text, up: 0 } if text.as_str() == "x")
+    );
+    assert!(rt; matches!(&steps[2], Step::Want { key: 0, text, up: 0 } if text.as_str() == "x"));
+    assert!(rt; matches!(&steps[3], Step::None { key: 1, up: 0 }));
+    assert!(rt; matches!(&steps[4], Step::Remove { key: 0, up: 0 }));
+    assert!(rt; matches!(&steps[5], Step::Compute { key: 0, text, up: 0 } if text.as_str() == "x"));
+    assert!(rt;
+        matches!(&steps[6], Step::ComputeCloseable { key: 0, text, up: 0 } if text.as_str() == "x")
+    );
+    assert!(rt;
+        matches!(&steps[7], Step::ComputeFail { key: 0, text, up: 0 } if text.as_str() == "x")
+    );
+    assert!(rt; matches!(&steps[8], Step::Fail { text } if text.as_str() == "x"));
+    assert!(rt; matches!(&steps[9], Step::Abort { text } if text.as_str() == "x"));
+    Ok(())
+}
+
+#[test]
+fn reads_each_step_with_up(rt: HostRuntime) -> Result<(), Fail> {
+    let text = plan_with(
+        rt.alloc(),
+        "\"put a x up 1\", \"put! a x up 2\", \"want a x up 1\", \"none a up 2\", \"remove a up 1\", \"compute a x up 2\", \"compute! a x up 1\", \"computefail a x up 2\"",
+    )?;
+    let plan = read_plan(rt.alloc(), text.as_str())?;
+    let steps = steps_at(&plan, 2);
+    assert_eq!(rt; steps.len(), 8);
+    assert!(rt; matches!(&steps[0], Step::Put { key: 0, text, up: 1 } if text.as_str() == "x"));
+    assert!(rt;
+        matches!(&steps[1], Step::PutCloseable { key: 0, text, up: 2 } if text.as_str() == "x")
+    );
+    assert!(rt; matches!(&steps[2], Step::Want { key: 0, text, up: 1 } if text.as_str() == "x"));
+    assert!(rt; matches!(&steps[3], Step::None { key: 0, up: 2 }));
+    assert!(rt; matches!(&steps[4], Step::Remove { key: 0, up: 1 }));
+    assert!(rt; matches!(&steps[5], Step::Compute { key: 0, text, up: 2 } if text.as_str() == "x"));
+    assert!(rt;
+        matches!(&steps[6], Step::ComputeCloseable { key: 0, text, up: 1 } if text.as_str() == "x")
+    );
+    assert!(rt;
+        matches!(&steps[7], Step::ComputeFail { key: 0, text, up: 2 } if text.as_str() == "x")
+    );
+    Ok(())
+}
+
+#[test]
+fn number_of_words_decides(rt: HostRuntime) -> Result<(), Fail> {
+    let text = plan_with(
+        rt.alloc(),
+        "\"put up 1\", \"none up up 1\", \"none up\", \"want up up up 2\", \"fail up\"",
+    )?;
+    let plan = read_plan(rt.alloc(), text.as_str())?;
+    let steps = steps_at(&plan, 2);
+    assert_eq!(rt; steps.len(), 5);
+    assert!(rt; matches!(&steps[0], Step::Put { key: 1, text, up: 0 } if text.as_str() == "1"));
+    assert!(rt; matches!(&steps[1], Step::None { key: 1, up: 1 }));
+    assert!(rt; matches!(&steps[2], Step::None { key: 1, up: 0 }));
+    assert!(rt; matches!(&steps[3], Step::Want { key: 1, text, up: 2 } if text.as_str() == "up"));
+    assert!(rt; matches!(&steps[4], Step::Fail { text } if text.as_str() == "up"));
+    Ok(())
+}
+
+#[test]
+fn refused_steps(rt: HostRuntime) -> Result<(), Fail> {
+    let steps = [
+        "",
+        " ",
+        "put",
+        "put a",
+        "put a x y",
+        "put  a x",
+        "put a  x",
+        " put a x",
+        "put a x ",
+        "put b x",
+        "Put a x",
+        "put? a x",
+        "none",
+        "none b",
+        "none a x",
+        "remove a ",
+        "compute a",
+        "compute!! a x",
+        "computefail a",
+        "fail",
+        "fail ",
+        "fail x y",
+        "fail x up 1",
+        "abort x up 1",
+        "abort up 1",
+    ];
+    for step in steps {
+        let step = format!(in rt.alloc(); "\"want a x\", \"{step}\"")?;
+        let text = plan_with(rt.alloc(), step.as_str())?;
+        assert_eq!(rt;
+            fault_of(rt.alloc(), text.as_str()),
+            Some(PlanFault::BadStep(2)),
+            "{step}"
+        );
+    }
+    Ok(())
+}
+
+#[test]
+fn refused_heights(rt: HostRuntime) -> Result<(), Fail> {
+    let steps = [
+        "put a x up",
+        "put a up 1",
+        "put a x up 0",
+        "put a x up 01",
+        "put a x up +1",
+        "put a x up 16",
+        "put a x up x",
+        "put a x down 1",
+        "put a x  up 1",
+        "put a x up  1",
+        "put a x up 1 ",
+        "put a x up 3",
+        "put a x up 15",
+        "none a up",
+        "none a up 3",
+        "none a up 1 1",
+        "remove a up 0",
+    ];
+    for step in steps {
+        let step = format!(in rt.alloc(); "\"{step}\"")?;
+        let text = plan_with(rt.alloc(), step.as_str())?;
+        assert_eq!(rt;
+            fault_of(rt.alloc(), text.as_str()),
+            Some(PlanFault::BadStep(2)),
+            "{step}"
+        );
+    }
+    Ok(())
+}
+
+#[test]
+fn goes_up_to_the_root_and_no_further(rt: HostRuntime) -> Result<(), Fail> {
+    let mut text = String::from_str(rt.alloc(), "[[key]]\nlabel = \"a\"\n")?;
+    let mut id = String::from_str(rt.alloc(), "[a:b]")?;
+    text.push_str("[[node]]\nid = \"[a:b]\"\n")?;
+    for _ in 1..16 {
+        id.push_str("/[a:b]")?;
+        text.push_str(format!(in rt.alloc(); "[[node]]\nid = \"{id}\"\n")?.as_str())?;
+    }
+    let deep = format!(in rt.alloc(); "{text}test = [\"none a up 15\"]")?;
+    let plan = read_plan(rt.alloc(), deep.as_str())?;
+    let steps = steps_at(&plan, 15);
+    assert_eq!(rt; steps.len(), 1);
+    assert!(rt; matches!(&steps[0], Step::None { key: 0, up: 15 }));
+    let root = "[[key]]\nlabel = \"a\"\n[[node]]\nid = \"[a:b]\"\ntest = [\"none a\"]";
+    assert_eq!(rt; fault_of(rt.alloc(), root), None);
+    let above = "[[key]]\nlabel = \"a\"\n[[node]]\nid = \"[a:b]\"\ntest = [\"none a up 1\"]";
+    assert_eq!(rt; fault_of(rt.alloc(), above), Some(PlanFault::BadStep(0)));
+    Ok(())
+}
+
+#[test]
+fn reads_names_and_namespaces(rt: HostRuntime) -> Result<(), Fail> {
+    let text =
+        "[[key]]\nlabel = \"a\"\n[[key]]\nlabel = \"b\"\nname = \"\"\nnamespace = [\"x\", \"\"]\n[[node]]\nid = \"[a:b]\"";
+    let plan = read_plan(rt.alloc(), text)?;
+    assert_eq!(rt; plan.keys.len(), 2);
+    assert_eq!(rt; plan.keys[0].name.as_str(), "a");
+    assert!(rt; plan.keys[0].namespace.is_none());
+    assert_eq!(rt; plan.keys[1].label.as_str(), "b");
+    assert_eq!(rt; plan.keys[1].name.as_str(), "");
+    let Some(parts) = &plan.keys[1].namespace else {
+        assert!(rt; false, "the namespace was given");
         return Ok(());
     };
-    assert_eq!(rt; steps.len(), 2);
-    assert!(rt; matches!(&steps[0], Step::Put { key: 0, text } if text.as_str() == "x"));
-    assert!(rt; matches!(&steps[1], Step::Want { key: 0, text } if text.as_str() == "x"));
+    assert_eq!(rt; parts.len(), 2);
+    assert_eq!(rt; parts[0].as_str(), "x");
+    assert_eq!(rt; parts[1].as_str(), "");
+    Ok(())
+}
+
+#[test]
+fn numbers_keys_by_name_and_namespace(rt: HostRuntime) -> Result<(), Fail> {
+    let text =
+        "[[key]]\nlabel = \"a\"\n[[key]]\nlabel = \"b\"\nname = \"a\"\nnamespace = [\"x\", \"y\"]\n[[key]]\nlabel = \"c\"\nname = \"a\"\n[[key]]\nlabel = \"d\"\nname = \"a\"\nnamespace = [\"y\", \"x\"]\n[[node]]\nid = \"[a:b]\"";
+    let plan = read_plan(rt.alloc(), text)?;
+    assert_eq!(rt; plan.keys.len(), 4);
+    let numbers = KeyNumbers::of(rt.alloc(), plan.keys.as_slice())?;
+    assert_eq!(rt; numbers.get(0), 0);
+    assert_eq!(rt; numbers.get(1), 1);
+    assert_eq!(rt; numbers.get(2), 0);
+    assert_eq!(rt; numbers.get(3), 2);
+    assert_eq!(rt; numbers.len(), 3);
+    assert!(rt; !numbers.is_empty());
+    assert_eq!(rt; numbers.directory().len(), 3);
+    assert_eq!(rt; numbers.into_directory().len(), 3);
     Ok(())
 }
 
@@ -33,27 +258,17 @@ fn refused_plans(rt: HostRuntime) -> Result<(), Fail> {
         ("x = 1", "plan: P3"),
         ("key = 1", "plan: P4"),
         ("node = [1]", "plan: P4"),
-        ("[[key]]", "plan: P4 key 0"),
-        ("[[key]]\nlabel = 1", "plan: P4 key 0"),
-        ("[[key]]\nlabel = \"a\"\nname = \"b\"", "plan: P3 key 0"),
-        ("[[key]]\nlabel = \"\"", "plan: P5 key 0"),
-        ("[[key]]\nlabel = \"a b\"", "plan: P5 key 0"),
-        (
-            "[[key]]\nlabel = \"a\"\n[[key]]\nlabel = \"a\"",
-            "plan: P5 key 1",
-        ),
         ("[[node]]", "plan: P4 node 0"),
         ("[[node]]\nid = \"[a:b]\"\ntest = [1]", "plan: P4 node 0"),
         (
             "[[node]]\nid = \"[a:b]\"\nmode = \"concurrent\"",
             "plan: P3 node 0",
         ),
-        ("[[node]]\nid = \"[engine:a+b]\"", "plan: P6 node 0"),
-        ("[[node]]\nid = \"[a:b]/[c:d]\"", "plan: P7"),
         (
-            "[[node]]\nid = \"[a:b]\"\n[[node]]\nid = \"[a:b]\"",
-            "plan: P7",
+            "[[node]]\nid = \"[a:b]\"\nbefore_all = []",
+            "plan: P3 node 0",
         ),
+        ("[[node]]\nid = \"[engine:a+b]\"", "plan: P6 node 0"),
         (
             "[[node]]\nid = \"[a:b]\"\ntest = []\n[[node]]\nid = \"[a:b]/[c:d]\"",
             "plan: P10 node 0",
@@ -64,60 +279,144 @@ fn refused_plans(rt: HostRuntime) -> Result<(), Fail> {
         ),
     ];
     for (text, line) in cases {
-        let fault = read_plan(rt.alloc(), text).err().ok_or(text)?;
+        let fault = fault_of(rt.alloc(), text).ok_or(text)?;
         assert_eq!(rt; fault.to_string(rt.alloc())?.as_str(), line, "{text}");
     }
     Ok(())
 }
 
 #[test]
-fn refused_steps(rt: HostRuntime) -> Result<(), Fail> {
-    let steps = [
-        "",
-        "put",
-        "put a",
-        "put a x y",
-        "put  a x",
-        "put a  x",
-        " put a x",
-        "put a x ",
-        "put b x",
-        "Put a x",
-        "none a",
-        "want a x up 1",
+fn refused_keys(rt: HostRuntime) -> Result<(), Fail> {
+    let cases = [
+        ("[[key]]", "plan: P4 key 0"),
+        ("[[key]]\nlabel = 1", "plan: P4 key 0"),
+        ("[[key]]\nlabel = \"a\"\nname = 1", "plan: P4 key 0"),
+        ("[[key]]\nlabel = \"\"\nname = []", "plan: P4 key 0"),
+        (
+            "[[key]]\nlabel = \"a\"\nnamespace = \"b\"",
+            "plan: P4 key 0",
+        ),
+        ("[[key]]\nlabel = \"a\"\nnamespace = [1]", "plan: P4 key 0"),
+        ("[[key]]\nname = \"a\"", "plan: P4 key 0"),
+        ("[[key]]\nlabel = 1\nparts = []", "plan: P3 key 0"),
+        ("[[key]]\nlabel = \"\"", "plan: P5 key 0"),
+        ("[[key]]\nlabel = \"a b\"", "plan: P5 key 0"),
+        ("[[key]]\nlabel = \"a\"\nnamespace = []", "plan: P5 key 0"),
+        (
+            "[[key]]\nlabel = \"a\"\n[[key]]\nlabel = \"a\"\nname = \"b\"",
+            "plan: P5 key 1",
+        ),
+        (
+            "[[key]]\nlabel = \"a\"\n[[key]]\nlabel = \"b\"\nname = \"a\"\n[[node]]",
+            "plan: P4 node 0",
+        ),
     ];
-    for step in steps {
-        let text = format!(in rt.alloc();
-            "[[key]]\nlabel = \"a\"\n[[node]]\nid = \"[a:b]\"\ntest = [\"want a x\", \"{step}\"]"
-        )?;
-        assert_eq!(rt;
-            read_plan(rt.alloc(), text.as_str()).err(),
-            Some(PlanFault::BadStep(0)),
-            "{step}"
-        );
+    for (text, line) in cases {
+        let fault = fault_of(rt.alloc(), text).ok_or(text)?;
+        assert_eq!(rt; fault.to_string(rt.alloc())?.as_str(), line, "{text}");
     }
     Ok(())
 }
 
 #[test]
-fn counts_keys_and_cells(rt: HostRuntime) -> Result<(), Fail> {
-    let mut text = String::new(rt.alloc());
-    for i in 0..31 {
-        text.push_str(format!(in rt.alloc(); "[[key]]\nlabel = \"k{i}\"\n")?.as_str())?;
+fn reads_trees(rt: HostRuntime) -> Result<(), Fail> {
+    let text =
+        "[[node]]\nid = \"[a:b]\"\n[[node]]\nid = \"[a:b]/[c:1]\"\n[[node]]\nid = \"[a:b]/[c:2]\"\n[[node]]\nid = \"[a:b]/[c:1]/[d:1]\"\ntest = []\n[[node]]\nid = \"[a:b]/[c:2]/[d:1]\"\ntest = []\n[[node]]\nid = \"[a:b]/[c:1]/[d:2]\"\ntest = [\"fail x\"]\n[[node]]\nid = \"[a:b]/[c:3]\"\ntest = []";
+    let plan = read_plan(rt.alloc(), text)?;
+    assert_eq!(rt; plan.nodes.len(), 7);
+    let id = plan.nodes[5].id.write(rt.alloc())?;
+    assert_eq!(rt; id.as_str(), "[a:b]/[c:1]/[d:2]");
+    assert!(rt; plan.nodes[2].test.is_none());
+    assert_eq!(rt; steps_at(&plan, 5).len(), 1);
+    Ok(())
+}
+
+#[test]
+fn refused_trees(rt: HostRuntime) {
+    let cases = [
+        "[[key]]\nlabel = \"a\"",
+        "[[node]]\nid = \"[a:b]/[c:d]\"",
+        "[[node]]\nid = \"[a:b]\"\n[[node]]\nid = \"[a:c]\"",
+        "[[node]]\nid = \"[a:b]\"\n[[node]]\nid = \"[a:b]\"",
+        "[[node]]\nid = \"[a:b]\"\n[[node]]\nid = \"[a:b]/[c:d]\"\n[[node]]\nid = \"[a:b]/[c:d]\"",
+        "[[node]]\nid = \"[a:b]\"\n[[node]]\nid = \"[a:b]/[c:d]/[e:f]\"",
+        "[[node]]\nid = \"[a:b]\"\n[[node]]\nid = \"[a:b]/[c:d]/[e:f]\"\n[[node]]\nid = \"[a:b]/[c:d]\"",
+        "[[node]]\nid = \"[a:b]\"\ntest = [\"no step\"]\n[[node]]\nid = \"[a:c]\"",
+    ];
+    for text in cases {
+        assert_eq!(rt;
+            fault_of(rt.alloc(), text),
+            Some(PlanFault::BadTree),
+            "{text}"
+        );
     }
+}
+
+#[test]
+fn children_are_checked_before_steps(rt: HostRuntime) {
+    let same = "[[node]]\nid = \"[a:b]\"\ntest = [\"no step\"]\n[[node]]\nid = \"[a:b]/[c:d]\"";
+    assert_eq!(rt; fault_of(rt.alloc(), same), Some(PlanFault::BadTest(0)));
+    let later =
+        "[[node]]\nid = \"[a:b]\"\n[[node]]\nid = \"[a:b]/[c:1]\"\ntest = [\"no step\"]\n[[node]]\nid = \"[a:b]/[c:2]\"\ntest = []\n[[node]]\nid = \"[a:b]/[c:2]/[d:e]\"";
+    assert_eq!(rt; fault_of(rt.alloc(), later), Some(PlanFault::BadStep(1)));
+}
+
+/// So many keys, all different.
+fn keys(alloc: Global, count: usize) -> Result<String, AllocError> {
+    let mut text = String::new(alloc);
+    for i in 0..count {
+        text.push_str(format!(in alloc; "[[key]]\nlabel = \"k{i}\"\n")?.as_str())?;
+    }
+    Ok(text)
+}
+
+/// A root and so many children of it.
+fn nodes(alloc: Global, children: usize) -> Result<String, AllocError> {
+    let mut text = String::from_str(alloc, "[[node]]\nid = \"[a:b]\"\n")?;
+    for i in 0..children {
+        text.push_str(format!(in alloc; "[[node]]\nid = \"[a:b]/[c:{i}]\"\n")?.as_str())?;
+    }
+    Ok(text)
+}
+
+#[test]
+fn counts_different_keys(rt: HostRuntime) -> Result<(), Fail> {
+    let mut text = keys(rt.alloc(), 64)?;
     text.push_str("[[node]]\nid = \"[a:b]\"\n")?;
-    assert_eq!(rt; read_plan(rt.alloc(), text.as_str())?.keys.len(), 31);
-    text.push_str("[[key]]\nlabel = \"k31\"\n")?;
+    assert_eq!(rt; fault_of(rt.alloc(), text.as_str()), None);
+    text.push_str("[[key]]\nlabel = \"again\"\nname = \"k7\"\n")?;
+    assert_eq!(rt; read_plan(rt.alloc(), text.as_str())?.keys.len(), 65);
+    text.push_str("[[key]]\nlabel = \"other\"\nname = \"k7\"\nnamespace = [\"k7\"]\n")?;
     assert_eq!(rt;
-        read_plan(rt.alloc(), text.as_str()).err(),
+        fault_of(rt.alloc(), text.as_str()),
         Some(PlanFault::TooMany)
     );
-    for i in 32..65 {
-        text.push_str(format!(in rt.alloc(); "[[key]]\nlabel = \"k{i}\"\n")?.as_str())?;
-    }
+    Ok(())
+}
+
+#[test]
+fn counts_cells(rt: HostRuntime) -> Result<(), Fail> {
+    let keys = keys(rt.alloc(), 64)?;
+    let full = nodes(rt.alloc(), 63)?;
+    let text = format!(in rt.alloc(); "{keys}{full}")?;
+    assert_eq!(rt; read_plan(rt.alloc(), text.as_str())?.nodes.len(), 64);
+    let more = nodes(rt.alloc(), 64)?;
+    let text = format!(in rt.alloc(); "{keys}{more}")?;
     assert_eq!(rt;
-        read_plan(rt.alloc(), text.as_str()).err(),
+        fault_of(rt.alloc(), text.as_str()),
         Some(PlanFault::TooMany)
+    );
+    let wrong = format!(in rt.alloc(); "{text}test = [\"no step\"]")?;
+    assert_eq!(rt;
+        fault_of(rt.alloc(), wrong.as_str()),
+        Some(PlanFault::BadStep(64))
+    );
+    let most = nodes(rt.alloc(), 255)?;
+    assert_eq!(rt; read_plan(rt.alloc(), most.as_str())?.nodes.len(), 256);
+    let most = nodes(rt.alloc(), 256)?;
+    assert_eq!(rt;
+        fault_of(rt.alloc(), most.as_str()),
+        Some(PlanFault::BadTree)
     );
     Ok(())
 }
@@ -140,15 +439,15 @@ fn fault_texts(rt: HostRuntime) -> Result<(), Fail> {
 #[test]
 fn cut_plans(rt: HostRuntime) {
     assert_eq!(rt;
-        read_plan(rt.alloc(), &CHAIN[..18]).err(),
+        fault_of(rt.alloc(), &CHAIN[..18]),
         Some(PlanFault::NotToml)
     );
     assert_eq!(rt;
-        read_plan(rt.alloc(), &CHAIN[..19]).err(),
+        fault_of(rt.alloc(), &CHAIN[..19]),
         Some(PlanFault::BadTree)
     );
     assert_eq!(rt;
-        read_plan(rt.alloc(), &CHAIN[..20]).err(),
+        fault_of(rt.alloc(), &CHAIN[..20]),
         Some(PlanFault::BadTree)
     );
 }

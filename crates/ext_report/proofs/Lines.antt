@@ -2,14 +2,13 @@
 use Rattle.std.proofs.Common.{◌≡◌, ℕ, ◌+◌, ◌<◌, List, [], ◌++◌, length, take, get_or, Some, slice_get, refl, append-nil}
 use Rattle.std.proofs.lemmas.List.{take_more, map-append}
 use Rattle.std.proofs.lemmas.Grind.{flat_map-append}
-use Rattle.std.proofs.lemmas.Option.{get_or_from_slice_get}
 use Rattle.ext_ids.specs.Grammar.{Pair}
+use Rattle.ext_tree.specs.Trees.{id_at}
 use Rattle.ext_report.specs.declared.result.NodeResult.{NodeResult}
 use Rattle.ext_report.specs.Report.{result_view, results_view, line_of, lines_of}
 
 -- the lines of one result more
-pub lines_of-more : (ids : List (List Pair)) (rs : List NodeResult) (i : ℕ) (r : NodeResult) (id : List Pair) → i < length rs → r ≡ get_or rs i r → slice_get ids r.node ≡ Some id
+pub lines_of-more : (ids : List (List Pair)) (rs : List NodeResult) (i : ℕ) (r : NodeResult) (id : List Pair) → i < length rs → r ≡ get_or rs i r → id ≡ id_at ids r.node
     → lines_of ids (results_view (take (i + 1) rs)) ≡ lines_of ids (results_view (take i rs)) ++ line_of id (result_view r)
 lines_of-more ids rs i r id h at is =
-    let found = get_or_from_slice_get ids r.node id [] is in
-    rw (take_more rs i r h, map-append, flat_map-append, ← at, append-nil, found) refl
+    rw (take_more rs i r h, map-append, flat_map-append, ← at, append-nil, is) refl

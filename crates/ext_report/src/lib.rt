@@ -8,9 +8,7 @@ mod status;
 #[cfg(test)]
 mod tests;
 mod totals;
-mod tree;
 
 pub use report::{any_failed, report_text};
 pub use result::NodeResult;
 pub use status::Status;
-pub use tree::Tree;

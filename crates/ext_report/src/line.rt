@@ -39,7 +39,7 @@ fn write_fault(text: &mut String, node: &NodeResult) -> Result<(), AllocError>
 }
 
 /// Writes a fault, and how many more there are, at the end of a text.
-fn write_fault_and_further(text: &mut String, fault: &Fault, more: u32) -> Result<(), AllocError>
+fn write_fault_and_further(text: &mut String, fault: &Fault, more: u64) -> Result<(), AllocError>
     ensures { OnOk result
         (string_bytes text.new ≡ string_bytes text.old
         ++ fault_and_further (Some (fault_text fault.now)) more) }

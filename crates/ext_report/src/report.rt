@@ -4,7 +4,8 @@ ghost use Rattle.ext_report.specs.Report.{results_view, report_of, any_failed};
 
 use crate::line::write_line;
 use crate::totals::{NodeSums, TestCounts};
-use crate::{NodeResult, Status, Tree};
+use crate::{NodeResult, Status};
+use ext_tree::Tree;
 use std::alloc::{AllocError, Global};
 
 /// The report of at most 256 results, each of a context of the tree: one line for each, in the order of the

@@ -15,13 +15,13 @@ pub struct NodeResult {
     /// The first fault of a failed node, the first abort of an aborted one.
     pub fault: Option<Fault>,
     /// How many faults and aborts came besides `fault`.
-    pub more: u32,
+    pub more: u64,
     /// How many values the node's calls computed.
-    pub computed: u32,
+    pub computed: u64,
     /// How many values the node's calls found where they would have computed one.
-    pub found: u32,
+    pub found: u64,
     /// How many values were closed with the node's context, those whose close failed among them.
-    pub closed: u32,
+    pub closed: u64,
     /// How many of these closes failed.
-    pub close_faults: u32,
+    pub close_faults: u64,
 }

@@ -1,7 +1,8 @@
 //! Reports of worked runs, each from results made by hand.
-use crate::{NodeResult, Status, Tree, any_failed, report_text};
+use crate::{NodeResult, Status, any_failed, report_text};
 use ext_ids::UniqueId;
 use ext_model::{ContextNo, Fault};
+use ext_tree::Tree;
 use std::alloc::{AllocError, Global};
 use std::process::Abort;
 use std::test::Fail;
@@ -19,7 +20,7 @@ fn tree_of(alloc: Global, ids: &[&str]) -> Result<Tree, Fail> {
     for id in ids {
         parsed.push(UniqueId::parse(alloc, id)?)?;
     }
-    Ok(Tree::of_chain(alloc, parsed)?)
+    Ok(Tree::build(alloc, parsed.as_slice())?)
 }
 
 /// The report of the results of contexts with these ids.
@@ -239,13 +240,22 @@ fn report_of_want_of_memory(rt: HostRuntime) -> Result<(), Fail> {
 }
 
 #[test]
-fn path_and_children_in_a_chain(rt: HostRuntime) -> Result<(), Fail> {
-    let tree = tree_of(rt.alloc(), &CHAIN)?;
-    assert_eq!(rt; tree.len(), 3);
-    assert_eq!(rt; tree.id(1).write(rt.alloc())?.as_str(), CHAIN[1]);
-    assert_eq!(rt; tree.path(0), [0].as_slice());
-    assert_eq!(rt; tree.path(2), [2, 1, 0].as_slice());
-    assert_eq!(rt; tree.children(1), [2].as_slice());
-    assert!(rt; tree.children(2).is_empty());
+fn report_of_the_greatest_counts(rt: HostRuntime) -> Result<(), Fail> {
+    let root = NodeResult {
+        found: u64::MAX,
+        ..container(0)
+    };
+    let class = NodeResult {
+        found: u64::MAX,
+        ..container(1)
+    };
+    let text = report(&rt, rt.alloc(), &CHAIN, &[root, class])?;
+    assert_eq!(rt;
+        text.as_str(),
+        "[engine:x] successful closed 0\n\
+         [engine:x]/[class:A] successful closed 0\n\
+         tests 0 successful 0 aborted 0 failed 0 skipped 0\n\
+         computed 0 found 36893488147419103230 closed 0 close faults 0\n"
+    );
     Ok(())
 }

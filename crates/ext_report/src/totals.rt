@@ -52,10 +52,10 @@ impl TestCounts {
 /// The sums over all nodes.
 #[derive(Debug, Drop)]
 pub(crate) struct NodeSums {
-    computed: u64,
-    found: u64,
-    closed: u64,
-    close_faults: u64,
+    computed: u128,
+    found: u128,
+    closed: u128,
+    close_faults: u128,
 }
 
 impl NodeSums {
@@ -65,10 +65,10 @@ impl NodeSums {
         ensures { result ≡ sums_of (results_view results.now) }
     {
         NodeSums {
-            computed: results.iter().map(|r| u64::from(r.computed)).sum(),
-            found: results.iter().map(|r| u64::from(r.found)).sum(),
-            closed: results.iter().map(|r| u64::from(r.closed)).sum(),
-            close_faults: results.iter().map(|r| u64::from(r.close_faults)).sum(),
+            computed: results.iter().map(|r| u128::from(r.computed)).sum(),
+            found: results.iter().map(|r| u128::from(r.found)).sum(),
+            closed: results.iter().map(|r| u128::from(r.closed)).sum(),
+            close_faults: results.iter().map(|r| u128::from(r.close_faults)).sum(),
         }
     }
 

@@ -7,3 +7,5 @@ mod devices;
 mod hostile;
 #[cfg(test)]
 mod rows;
+#[cfg(test)]
+mod trees;

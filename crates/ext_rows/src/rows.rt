@@ -18,7 +18,7 @@ pub const CHAIN_PASSED: &str =
     "[engine:x] successful closed 0\n[engine:x]/[class:A] successful closed 0\n[engine:x]/[class:A]/[method:m()] successful closed 0\ntests 1 successful 1 aborted 0 failed 0 skipped 0\ncomputed 0 found 0 closed 0 close faults 0\n";
 
 /// What a run of these bytes answers, and what it writes.
-fn outcome(alloc: Global, plan: &[u8], written: &mut Vec<u8>) -> Result<Summary, RunFault> {
+pub fn outcome(alloc: Global, plan: &[u8], written: &mut Vec<u8>) -> Result<Summary, RunFault> {
     let mut reader = plan;
     run(alloc, &mut reader, written, PLAIN)
 }

@@ -1,8 +1,13 @@
 pub mod ReadBytes
 pub mod Outcomes
-pub mod Puts
-pub mod Nodes
-pub mod Sound
 pub mod RunAnswers
+pub mod Tallying
+pub mod Stepping
+pub mod Falling
+pub mod Sealing
+pub mod Acts
+pub mod Nodes
+pub mod Kept
 pub mod Seals
 pub mod Values
+pub mod Sound

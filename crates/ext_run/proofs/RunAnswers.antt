@@ -1,11 +1,10 @@
 -- What a run answers, from its parts.
-use Rattle.std.proofs.Common.{◌≡◌, ℕ, Bool, true, false, List, [], ◌∷◌, map, Result, Ok, Err, IfOk, IfErr, refl, ap, sym, ◌∙◌}
+use Rattle.std.proofs.Common.{◌≡◌, ℕ, Bool, true, false, List, Result, Ok, Err, IfOk, IfErr, refl, ap, sym, ◌∙◌}
 use Rattle.std.specs.Str.{IsUtf8, is_utf8}
 use Rattle.std.proofs.lemmas.Str.{IsUtf8-from_is_utf8, is_utf8-from_IsUtf8}
-use Rattle.ext_plan.specs.declared.plan.PlanNode.{PlanNode}
 use Rattle.ext_plan.specs.declared.fault.PlanFault.{PlanFault}
 use Rattle.ext_plan.specs.declared.fault.PlanFault.TheVariants as plan
-use Rattle.ext_plan.specs.Plans.{PlanText, node_view}
+use Rattle.ext_plan.specs.Plans.{PlanText}
 use Rattle.ext_plan.specs.Faults.{Fails}
 use Rattle.ext_plan.specs.Reading.{plan_of_text}
 use Rattle.ext_run.specs.declared.fault.RunFault.{RunFault}
@@ -39,10 +38,6 @@ RefusedAs-plan plan.BadTree read h = rw h refl
 RefusedAs-plan (plan.BadStep node) read h = rw h refl
 RefusedAs-plan (plan.BadTest node) read h = rw h refl
 RefusedAs-plan plan.TooMany read h = rw h refl
-
-pub ids-map : (nodes : List PlanNode) → map (λ n. n.id) (map node_view nodes) ≡ map (λ n. n.id) nodes
-ids-map [] = refl
-ids-map (n ∷ nodes) = ap (λ ids. n.id ∷ ids) (ids-map nodes)
 
 pub AnswersAs-ok : (r : Result Output RunFault) (a : Answer) (answer : Result Answer RunFault) → IfOk r (λ o. output_view o ≡ a) → IfErr r (λ e. e ≡ faults.Memory) → answer ≡ Ok a → AnswersAs r answer
 AnswersAs-ok (Ok o) a answer p q h = h ∙ ap Ok (sym p)

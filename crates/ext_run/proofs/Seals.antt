@@ -1,25 +1,27 @@
--- No step of a plain run makes a claim, so that the end of each context seals all its keys.
-use Rattle.std.proofs.Common.{◌≡◌, ℕ, zero, suc, ◌+◌, ◌<◌, Bool, true, false, List, [], ◌∷◌, length, Option, Some, None, is_some, cond, refl, sym, subst, arith, add-one, ⊎_elim}
-use Rattle.std.specs.Prelude.{fold, if◌then◌else◌}
+-- No step of a plain run leaves a claim, so that the end of each context seals all its keys.
+use Rattle.std.proofs.Common.{◌≡◌, ℕ, zero, suc, ◌+◌, ◌<◌, Bool, true, false, List, length, Option, Some, None, refl, ap, sym, subst, ◌∙◌, arith, add-one, ⊎_elim}
+use Rattle.std.specs.Prelude.{if◌then◌else◌}
 use Rattle.std.proofs.lemmas.Bool.{cases_lt}
 use Rattle.ext_model.specs.declared.event.Act.{Act}
-use Rattle.ext_model.specs.declared.event.Act.TheVariants.{Put, Seal}
+use Rattle.ext_model.specs.declared.event.Act.TheVariants.{Put, Remove, Claim, Fill, Seal}
 use Rattle.ext_model.specs.declared.event.Event.{Event}
 use Rattle.ext_model.specs.declared.slot.Slot.{Slot}
 use Rattle.ext_model.specs.declared.slot.Slot.TheVariants as slot
 use Rattle.ext_model.specs.State.{State, IsClaimed, IsSealed}
-use Rattle.ext_model.specs.Events.{Reply, Happens, Answers, Refuses, seal_reply, slot_after}
+use Rattle.ext_model.specs.Events.{Reply, Happens, Answers, Refuses, claim_reply, end_reply, seal_reply, slot_after}
 use Rattle.ext_model.specs.Plain.{Place, same_place, any_lane, state_by, next_state}
-use Rattle.ext_model.proofs.Changes.{here}
-use Rattle.ext_model.proofs.Steps.{seals_stay}
-use Rattle.ext_plan.specs.Plans.{KeyText, StepText, put, want, PlanText}
-use Rattle.ext_report.specs.Chain.{chain_children}
-use Rattle.ext_run.specs.Steps.{run_numbers, RunState, StepEnd, after_act, with_value, put_replied, reply_to, next_number, step_run, steps_run}
-use Rattle.ext_run.specs.PlainRun.{seal_keys, node_run, body_run, test_of}
+use Rattle.ext_model.proofs.Changes.{here, same_place_is}
+use Rattle.ext_model.proofs.Steps.{others_stay, seals_stay, abandon_undoes_claim}
+use Rattle.ext_plan.specs.Plans.{PlanText}
+use Rattle.ext_plan.specs.KeyNumbers.{different_keys}
+use Rattle.ext_run.specs.ValueStates.{ValueText, ValueState, run_numbers, refusal, reply_to, after_act, why_refused, next_number, keep_value}
+use Rattle.ext_run.specs.Steps.{start_of}
+use Rattle.ext_run.specs.Closes.{seal_keys}
+use Rattle.ext_run.specs.PlainRun.{RunState, key_count, test_of, body_run, node_run}
 use Rattle.ext_run.specs.Laws.{HasNoClaims}
-use Rattle.ext_run.proofs.Nodes.{steps_run-nil, steps_run-cons}
+use Rattle.ext_run.proofs.Kept.{IsKept, body-kept, node-kept, seals-kept}
 
--- ---- no claim is made
+-- ---- no claim is left
 
 either-free : (b : Bool) (x y : Option Slot) → ¬ IsClaimed x → ¬ IsClaimed y → ¬ IsClaimed (if b then x else y)
 either-free true x y p q = p
@@ -30,55 +32,63 @@ by_reply (Happens answer) s e place old new = either-free _ _ _ new old
 by_reply (Answers answer) s e place old new = old
 by_reply (Refuses why) s e place old new = old
 
-act-free : (act : Act Place) (run : RunState) → HasNoClaims run → ((place : Place) → ¬ IsClaimed (slot_after any_lane act (run.store.slots place))) → HasNoClaims (after_act act run)
-act-free act run old new = λ place. by_reply (reply_to act run) run.store (record { lane = any_lane; act = act }) place (old place) (new place)
+act-free : (act : Act Place) (s : ValueState) → HasNoClaims s → ((place : Place) → ¬ IsClaimed (slot_after any_lane act (s.store.slots place))) → HasNoClaims (after_act act s)
+act-free act s old new = λ place. by_reply (reply_to act s) s.store (record { lane = any_lane; act = act }) place (old place) (new place)
 
-put-free : (r : Reply) (label : List ℕ) (at key : ℕ) (text : List ℕ) (run : RunState) → HasNoClaims run → HasNoClaims (put_replied r label at key text run).run
-put-free (Happens answer) label at key text run h =
-    let kept = with_value text (after_act (next_number run) run) in
-    act-free (Put (at, key) kept.store.drawn) kept (act-free (next_number run) run h h) (λ place claimed. claimed)
-put-free (Answers answer) label at key text run h =
-    let kept = with_value text (after_act (next_number run) run) in
-    act-free (Put (at, key) kept.store.drawn) kept (act-free (next_number run) run h h) (λ place claimed. claimed)
-put-free (Refuses why) label at key text run h = h
+-- a claim that isn't refused was of an empty place
+was_empty : (x : Option Slot) → refusal (claim_reply false x) ≡ None → x ≡ None
+was_empty None won = refl
+was_empty (Some (slot.Entry number)) won = absurd cc
+was_empty (Some (slot.Claim lane)) won = absurd cc
+was_empty (Some (slot.Sealed kept)) won = absurd cc
 
-step-free : (keys : List KeyText) (at : ℕ) (step : StepText) (run : RunState) → HasNoClaims run → HasNoClaims (step_run keys at step run).run
-step-free keys at (put key text) run h = put-free (reply_to (next_number run) run) _ at key text run h
-step-free keys at (want key text) run h = h
+-- a claim that is followed by the draw of a number and a fill: the place has the number
+claim_stands : (s : State Place) (place : Place) → s.slots place ≡ None → (next_state run_numbers s any_lane (Claim place)).slots place ≡ Some (slot.Claim any_lane)
+claim_stands s place empty =
+    ap (λ x. (state_by (claim_reply false x) s (record { lane = any_lane; act = Claim place })).slots place) empty
+    ∙ ap (λ b. if b then Some (slot.Claim any_lane) else s.slots place) (here place)
 
-either-end : (b : Bool) (end more : StepEnd) → HasNoClaims end.run → HasNoClaims more.run → HasNoClaims (cond b end more).run
-either-end true end more p q = p
-either-end false end more p q = q
+fill_stands : (s : State Place) (place : Place) (number : ℕ) → s.slots place ≡ Some (slot.Claim any_lane) → (next_state run_numbers s any_lane (Fill place number)).slots place ≡ Some (slot.Entry number)
+fill_stands s place number claimed =
+    ap (λ x. (state_by (end_reply any_lane x) s (record { lane = any_lane; act = Fill place number })).slots place) claimed
+    ∙ ap (λ b. if b then Some (slot.Entry number) else s.slots place) (here place)
 
-steps-free : (keys : List KeyText) (at : ℕ) (steps : List StepText) (run : RunState) → HasNoClaims run → HasNoClaims (steps_run keys at steps run).run
-steps-free keys at [] run h = subst (λ (end : StepEnd). HasNoClaims end.run) (sym (steps_run-nil keys at run)) h
-steps-free keys at (step ∷ more) run h =
-    let one = step_run keys at step run in
-    let free = step-free keys at step run h in
-    subst (λ (end : StepEnd). HasNoClaims end.run) (sym (steps_run-cons keys at step more run))
-    (either-end (is_some one.fault) one (steps_run keys at more one.run) free (steps-free keys at more one.run free))
+pub filled_here : (place : Place) (value : ValueText) (s : ValueState) → why_refused (Claim place) s ≡ None
+    → (let kept = keep_value value (after_act (Claim place) s) in (after_act (Fill place kept.store.drawn) kept).store.slots place ≡ Some (slot.Entry kept.store.drawn))
+filled_here place value s won =
+    let claimed = after_act (Claim place) s in
+    let kept = keep_value value claimed in
+    fill_stands kept.store place kept.store.drawn (others_stay run_numbers claimed.store any_lane (next_number claimed) place refl ∙ claim_stands s.store place (was_empty (s.store.slots place) won))
 
-seals-free : (count at : ℕ) (run : RunState) → HasNoClaims run → HasNoClaims (seal_keys count at run)
-unfolding seal_keys
-seals-free zero at run h = h
-seals-free (suc key) at run h = act-free (Seal (at, key)) (seal_keys key at run) (seals-free key at run h) (λ place claimed. claimed)
+filled_elsewhere : (place : Place) (value : ValueText) (s : ValueState) (p : Place) → same_place place p ≡ false
+    → (let kept = keep_value value (after_act (Claim place) s) in (after_act (Fill place kept.store.drawn) kept).store.slots p ≡ s.store.slots p)
+filled_elsewhere place value s p other =
+    let claimed = after_act (Claim place) s in
+    let kept = keep_value value claimed in
+    others_stay run_numbers kept.store any_lane (Fill place kept.store.drawn) p other
+    ∙ others_stay run_numbers claimed.store any_lane (next_number claimed) p refl
+    ∙ others_stay run_numbers s.store any_lane (Claim place) p other
 
-fold-free : (child_run : ℕ → RunState → RunState) → ((at : ℕ) (run : RunState) → HasNoClaims run → HasNoClaims (child_run at run))
-    → (children : List ℕ) (run : RunState) → HasNoClaims run → HasNoClaims (fold (λ r child. child_run child r) run children)
-fold-free child_run each [] run h = h
-fold-free child_run each (child ∷ more) run h = fold-free child_run each more (child_run child run) (each child run h)
+fill-free : (place : Place) (value : ValueText) (s : ValueState) → why_refused (Claim place) s ≡ None → HasNoClaims s → (p : Place) (b : Bool) → same_place place p ≡ b
+    → (let kept = keep_value value (after_act (Claim place) s) in ¬ IsClaimed ((after_act (Fill place kept.store.drawn) kept).store.slots p))
+fill-free place value s won h p true same =
+    let kept = keep_value value (after_act (Claim place) s) in
+    let entry : ¬ IsClaimed ((after_act (Fill place kept.store.drawn) kept).store.slots place) = subst (λ x. ¬ IsClaimed x) (sym (filled_here place value s won)) (λ claimed. claimed) in
+    subst (λ q. ¬ IsClaimed ((after_act (Fill place kept.store.drawn) kept).store.slots q)) (same_place_is place p same) entry
+fill-free place value s won h p false other = subst (λ x. ¬ IsClaimed x) (sym (filled_elsewhere place value s p other)) (h p)
 
-body-free : (plan : PlanText) (child_run : ℕ → RunState → RunState) → ((at : ℕ) (run : RunState) → HasNoClaims run → HasNoClaims (child_run at run))
-    → (test : Option (List StepText)) (at : ℕ) (run : RunState) → HasNoClaims run → HasNoClaims (body_run plan child_run test at run).run
-body-free plan child_run each None at run h = fold-free child_run each (chain_children (length plan.nodes) at) run h
-body-free plan child_run each (Some steps) at run h = steps-free plan.keys at steps run h
+free : IsKept HasNoClaims
+free = record {
+  puts = λ place number s h. act-free (Put place number) s h (λ p claimed. claimed);
+  removes = λ place s h. act-free (Remove place) s h (λ p claimed. claimed);
+  seals = λ place s h. act-free (Seal place) s h (λ p claimed. claimed);
+  keeps = λ value s room h. act-free (next_number s) s h h;
+  abandons = λ place s won h. subst (λ (t : State Place). (p : Place) → ¬ IsClaimed (t.slots p)) (sym (abandon_undoes_claim run_numbers s.store any_lane place (was_empty (s.store.slots place) won))) h;
+  fills = λ place value s won room h. λ p. fill-free place value s won h p (same_place place p) refl;
+}
 
-pub node-free : (plan : PlanText) (levels at : ℕ) (run : RunState) → HasNoClaims run → HasNoClaims (node_run plan levels at run)
-unfolding node_run
-node-free plan zero at run h = h
-node-free plan (suc levels) at run h =
-    let body = body_run plan (node_run plan levels) (test_of plan at) at run in
-    seals-free (length plan.keys) at body.run (body-free plan (node_run plan levels) (node-free plan levels) (test_of plan at) at run h)
+pub node-free : (plan : PlanText) (levels : ℕ) (path : List ℕ) (run : RunState) → HasNoClaims run.state → HasNoClaims (node_run plan levels path run).state
+node-free = node-kept HasNoClaims free
 
 -- ---- where no claim stands, a seal seals
 
@@ -87,10 +97,10 @@ either-sealed true kept other is = tt
 either-sealed false kept other is = absurd (cc is)
 
 sealed_by : (x : Option Slot) (s : State Place) (place : Place) → s.slots place ≡ x → ¬ IsClaimed x → IsSealed ((state_by (seal_reply x) s (record { lane = any_lane; act = Seal place })).slots place)
-sealed_by None s place is free = either-sealed (same_place place place) _ _ (here place)
-sealed_by (Some (slot.Entry number)) s place is free = either-sealed (same_place place place) _ _ (here place)
-sealed_by (Some (slot.Claim lane)) s place is free = absurd (free tt)
-sealed_by (Some (slot.Sealed kept)) s place is free = subst IsSealed (sym is) tt
+sealed_by None s place is unclaimed = either-sealed (same_place place place) _ _ (here place)
+sealed_by (Some (slot.Entry number)) s place is unclaimed = either-sealed (same_place place place) _ _ (here place)
+sealed_by (Some (slot.Claim lane)) s place is unclaimed = absurd (unclaimed tt)
+sealed_by (Some (slot.Sealed kept)) s place is unclaimed = subst IsSealed (sym is) tt
 
 stays_by : (x : Option Slot) (s : State Place) (act : Act Place) (place : Place) → s.slots place ≡ x → IsSealed x → IsSealed ((next_state run_numbers s any_lane act).slots place)
 stays_by None s act place is sealed = absurd sealed
@@ -98,21 +108,23 @@ stays_by (Some (slot.Entry number)) s act place is sealed = absurd sealed
 stays_by (Some (slot.Claim lane)) s act place is sealed = absurd sealed
 stays_by (Some (slot.Sealed kept)) s act place is sealed = subst IsSealed (sym (seals_stay run_numbers s any_lane act place kept is)) tt
 
-seals-sealed : (count at key : ℕ) (run : RunState) → HasNoClaims run → key < count → IsSealed ((seal_keys count at run).store.slots (at, key))
+seals-sealed : (count at key : ℕ) (s : ValueState) → HasNoClaims s → key < count → IsSealed ((seal_keys count at s).store.slots (at, key))
 unfolding seal_keys
-seals-sealed zero at key run free within = absurd (omega (arith, within))
-seals-sealed (suc last) at key run free within =
-    let before = seal_keys last at run in
+seals-sealed zero at key s no_claims within = absurd (omega (arith, within))
+seals-sealed (suc last) at key s no_claims within =
+    let before = seal_keys last at s in
     ⊎_elim
-    (λ below. stays_by _ before.store (Seal (at, last)) (at, key) refl (seals-sealed last at key run free below))
+    (λ below. stays_by _ before.store (Seal (at, last)) (at, key) refl (seals-sealed last at key s no_claims below))
     (λ past.
     let is : last ≡ key = omega (arith, past, within) in
-    subst (λ k. IsSealed ((after_act (Seal (at, last)) before).store.slots (at, k))) is (sealed_by _ before.store (at, last) refl (seals-free last at run free (at, last))))
+    subst (λ k. IsSealed ((after_act (Seal (at, last)) before).store.slots (at, k))) is (sealed_by _ before.store (at, last) refl (seals-kept HasNoClaims free last at s no_claims (at, last))))
     (cases_lt key last)
 
-pub node-sealed : (plan : PlanText) (levels at key : ℕ) (run : RunState) → HasNoClaims run → key < length plan.keys → IsSealed ((node_run plan (levels + 1) at run).store.slots (at, key))
+pub node-sealed : (plan : PlanText) (levels key : ℕ) (path : List ℕ) (run : RunState) → HasNoClaims run.state → key < length (different_keys plan.keys)
+    → IsSealed ((node_run plan (levels + 1) path run).state.store.slots (start_of path, key))
 unfolding node_run
-node-sealed plan levels at key run free within =
-    let body = body_run plan (node_run plan levels) (test_of plan at) at run in
-    let free = body-free plan (node_run plan levels) (node-free plan levels) (test_of plan at) at run free in
-    subst (λ n. IsSealed ((node_run plan n at run).store.slots (at, key))) (sym (add-one levels)) (seals-sealed (length plan.keys) at key body.run free within)
+node-sealed plan levels key path run no_claims within =
+    let at = start_of path in
+    let body = body_run plan (node_run plan levels) (test_of plan at) path run in
+    let after = body-kept HasNoClaims free plan (node_run plan levels) (node-free plan levels) (test_of plan at) path run no_claims in
+    subst (λ n. IsSealed ((node_run plan n path run).state.store.slots (at, key))) (sym (add-one levels)) (seals-sealed (key_count plan) at key body.run.state after within)

@@ -1,71 +1,41 @@
 -- A plain run keeps one result for each node, in the order of the plan.
-use Rattle.std.proofs.Common.{◌≡◌, ℕ, zero, suc, ◌+◌, ◌<◌, ◌≤◌, Bool, true, false, List, [], ◌∷◌, length, map, Option, Some, None, is_some, cond, refl, ap, sym, subst, ◌∙◌, arith, zero-add}
+use Rattle.std.proofs.Common.{◌≡◌, ℕ, zero, suc, ◌+◌, ◌<◌, ◌≤◌, List, [], ◌∷◌, length, map, Option, Some, None, is_some, refl, ap, sym, subst, ◌∙◌, arith, zero-add}
 use Rattle.std.specs.Prelude.{fold, slice_get, slice_set, IfSome}
 use Rattle.std.specs.List.{All, AllByRecursion, range_with_len}
 use Rattle.std.proofs.lemmas.List.{length-map, map-set}
-use Rattle.ext_model.specs.Events.{Reply, Happens, Answers, Refuses}
-use Rattle.ext_plan.specs.Plans.{KeyText, StepText, put, want, NodeText, PlanText}
+use Rattle.ext_tree.specs.Paths.{children_of}
+use Rattle.ext_plan.specs.Plans.{StepText, NodeText, PlanText}
+use Rattle.ext_plan.specs.Laws.{ids_of_nodes}
 use Rattle.ext_report.specs.declared.result.NodeResult.{NodeResult}
-use Rattle.ext_report.specs.declared.status.Status.{Status}
-use Rattle.ext_report.specs.Chain.{chain_children}
 use Rattle.ext_report.specs.Report.{NodeOutcome, result_view}
-use Rattle.ext_run.specs.Steps.{RunState, StepEnd, put_replied, reply_to, next_number, step_run, steps_run}
-use Rattle.ext_run.specs.PlainRun.{outcome_of, status_of, seal_keys, node_end, node_run, body_run, test_in, test_of, skipped_from, run_opening, plain_run}
-use Rattle.ext_run.proofs.Nodes.{steps_run-nil, steps_run-cons}
-
--- ---- no step changes a result
-
-put-results : (r : Reply) (label : List ℕ) (at key : ℕ) (text : List ℕ) (run : RunState) → (put_replied r label at key text run).run.results ≡ run.results
-put-results (Happens answer) label at key text run = refl
-put-results (Answers answer) label at key text run = refl
-put-results (Refuses why) label at key text run = refl
-
-step-results : (keys : List KeyText) (at : ℕ) (step : StepText) (run : RunState) → (step_run keys at step run).run.results ≡ run.results
-step-results keys at (put key text) run = put-results (reply_to (next_number run) run) _ at key text run
-step-results keys at (want key text) run = refl
-
-either-results : (end : StepEnd) (b : Bool) (more : StepEnd) (results : List NodeOutcome) → end.run.results ≡ results → more.run.results ≡ results → (cond b end more).run.results ≡ results
-either-results end true more results e f = e
-either-results end false more results e f = f
-
-steps-results : (keys : List KeyText) (at : ℕ) (steps : List StepText) (run : RunState) → (steps_run keys at steps run).run.results ≡ run.results
-steps-results keys at [] run = ap (λ end. end.run.results) (steps_run-nil keys at run)
-steps-results keys at (step ∷ more) run =
-    let one = step_run keys at step run in
-    let first = step-results keys at step run in
-    ap (λ end. end.run.results) (steps_run-cons keys at step more run)
-    ∙ either-results one (is_some one.fault) (steps_run keys at more one.run) run.results first (steps-results keys at more one.run ∙ first)
-
-seal-results : (keys at : ℕ) (run : RunState) → (seal_keys keys at run).results ≡ run.results
-unfolding seal_keys
-seal-results zero at run = refl
-seal-results (suc key) at run = seal-results key at run
+use Rattle.ext_run.specs.Tallies.{VerdictText}
+use Rattle.ext_run.specs.Steps.{start_of}
+use Rattle.ext_run.specs.Closes.{seal_keys, closes}
+use Rattle.ext_run.specs.PlainRun.{RunState, BodyEnd, outcome_of, key_count, node_run, body_run, test_in, test_of, skipped_from, run_opening, plain_run}
 
 -- ---- what holds of the results, and still holds when a node's result is put in its place, holds after each node
 
 -- each result that a node may end with is put in its place
 abbrev pub IsKept : PlanText → (List NodeOutcome → Type 0) → Type 0
-IsKept plan P = (at : ℕ) (status : Status) (fault : Option (List ℕ)) (results : List NodeOutcome) → P results → P (slice_set results at (outcome_of at (test_of plan at) status fault))
+IsKept plan P = (at : ℕ) (body : BodyEnd) (closed : List VerdictText) (results : List NodeOutcome) → P results → P (slice_set results at (outcome_of at (test_of plan at) body closed))
 
-fold-kept : (P : List NodeOutcome → Type 0) (child_run : ℕ → RunState → RunState) → ((at : ℕ) (run : RunState) → P run.results → P (child_run at run).results)
-    → (children : List ℕ) (run : RunState) → P run.results → P (fold (λ r child. child_run child r) run children).results
-fold-kept P child_run each [] run h = h
-fold-kept P child_run each (child ∷ more) run h = fold-kept P child_run each more (child_run child run) (each child run h)
+fold-kept : (P : List NodeOutcome → Type 0) (path_run : List ℕ → RunState → RunState) → ((path : List ℕ) (run : RunState) → P run.results → P (path_run path run).results)
+    → (above children : List ℕ) (run : RunState) → P run.results → P (fold (λ r child. path_run (child ∷ above) r) run children).results
+fold-kept P path_run each above [] run h = h
+fold-kept P path_run each above (child ∷ more) run h = fold-kept P path_run each above more (path_run (child ∷ above) run) (each (child ∷ above) run h)
 
-body-kept : (plan : PlanText) (P : List NodeOutcome → Type 0) (child_run : ℕ → RunState → RunState) → ((at : ℕ) (run : RunState) → P run.results → P (child_run at run).results)
-    → (test : Option (List StepText)) (at : ℕ) (run : RunState) → P run.results → P (body_run plan child_run test at run).run.results
-body-kept plan P child_run each None at run h = fold-kept P child_run each (chain_children (length plan.nodes) at) run h
-body-kept plan P child_run each (Some steps) at run h = subst P (sym (steps-results plan.keys at steps run)) h
+body-kept : (plan : PlanText) (P : List NodeOutcome → Type 0) (path_run : List ℕ → RunState → RunState) → ((path : List ℕ) (run : RunState) → P run.results → P (path_run path run).results)
+    → (test : Option (List StepText)) (path : List ℕ) (run : RunState) → P run.results → P (body_run plan path_run test path run).run.results
+body-kept plan P path_run each None path run h = fold-kept P path_run each path (children_of (ids_of_nodes plan.nodes) (start_of path)) run h
+body-kept plan P path_run each (Some steps) path run h = h
 
-end-kept : (plan : PlanText) (P : List NodeOutcome → Type 0) → IsKept plan P → (at : ℕ) (end : StepEnd) → P end.run.results → P (node_end (length plan.keys) at (test_of plan at) end).results
-end-kept plan P kept at end h = kept at (status_of end.fault) end.fault _ (subst P (sym (seal-results (length plan.keys) at end.run)) h)
-
-pub node-kept : (plan : PlanText) (P : List NodeOutcome → Type 0) → IsKept plan P → (levels at : ℕ) (run : RunState) → P run.results → P (node_run plan levels at run).results
+node-kept : (plan : PlanText) (P : List NodeOutcome → Type 0) → IsKept plan P → (levels : ℕ) (path : List ℕ) (run : RunState) → P run.results → P (node_run plan levels path run).results
 unfolding node_run
-node-kept plan P kept zero at run h = h
-node-kept plan P kept (suc levels) at run h =
-    end-kept plan P kept at (body_run plan (node_run plan levels) (test_of plan at) at run)
-    (body-kept plan P (node_run plan levels) (node-kept plan P kept levels) (test_of plan at) at run h)
+node-kept plan P kept zero path run h = h
+node-kept plan P kept (suc levels) path run h =
+    let at = start_of path in
+    let body = body_run plan (node_run plan levels) (test_of plan at) path run in
+    kept at body (closes (key_count plan) at (seal_keys (key_count plan) at body.run.state)) body.run.results (body-kept plan P (node_run plan levels) (node-kept plan P kept levels) (test_of plan at) path run h)
 
 -- ---- one result for each node, in order
 
@@ -102,14 +72,14 @@ skipped-tests at (node ∷ more) = ap (λ tests. is_some node.test ∷ tests) (s
 pub result_of_each_node : (plan : PlanText) → map (λ r. r.node) (plain_run plan) ≡ range_with_len 0 (length plan.nodes)
 result_of_each_node plan =
     node-kept plan (λ results. map (λ r. r.node) results ≡ range_with_len 0 (length plan.nodes))
-    (λ at status fault results is. read-kept (λ r. r.node) _ at (outcome_of at (test_of plan at) status fault) results is (subst (λ k. IfSome (slice_get (range_with_len 0 (length plan.nodes)) at) (λ n. n ≡ k)) (zero-add at) (number_at 0 (length plan.nodes) at)))
-    (length plan.nodes) 0 (run_opening plan) (skipped-nodes 0 plan.nodes)
+    (λ at body closed results is. read-kept (λ r. r.node) _ at (outcome_of at (test_of plan at) body closed) results is (subst (λ k. IfSome (slice_get (range_with_len 0 (length plan.nodes)) at) (λ n. n ≡ k)) (zero-add at) (number_at 0 (length plan.nodes) at)))
+    (length plan.nodes) (0 ∷ []) (run_opening plan) (skipped-nodes 0 plan.nodes)
 
 pub tests_of_plan : (plan : PlanText) → map (λ r. r.is_test) (plain_run plan) ≡ map (λ n. is_some n.test) plan.nodes
 tests_of_plan plan =
     node-kept plan (λ results. map (λ r. r.is_test) results ≡ map (λ n. is_some n.test) plan.nodes)
-    (λ at status fault results is. read-kept (λ r. r.is_test) _ at (outcome_of at (test_of plan at) status fault) results is (test_of_node plan.nodes at))
-    (length plan.nodes) 0 (run_opening plan) (skipped-tests 0 plan.nodes)
+    (λ at body closed results is. read-kept (λ r. r.is_test) _ at (outcome_of at (test_of plan at) body closed) results is (test_of_node plan.nodes at))
+    (length plan.nodes) (0 ∷ []) (run_opening plan) (skipped-tests 0 plan.nodes)
 
 -- ---- results in memory
 

@@ -1,11 +1,12 @@
 -- What a run answers to the bytes of its input: the report of the plain run of the plan that they write, or
 -- the fault of a plan that is refused. Texts and plans are lists of bytes. Own rule.
-use Rattle.std.specs.Prelude.{◌≡◌, ℕ, Bool, List, length, map, nat_lt, Result, Ok, Err, IsOk, if◌then◌else◌}
+use Rattle.std.specs.Prelude.{◌≡◌, ℕ, Bool, List, length, nat_lt, Result, Ok, Err, IsOk, if◌then◌else◌}
 use Rattle.std.specs.Str.{is_utf8}
 use Rattle.ext_plan.specs.declared.fault.PlanFault.{PlanFault}
 use Rattle.ext_plan.specs.declared.fault.PlanFault.TheVariants as plan
 use Rattle.ext_plan.specs.Plans.{PlanText}
 use Rattle.ext_plan.specs.Reading.{plan_of_text}
+use Rattle.ext_plan.specs.Laws.{ids_of_nodes}
 use Rattle.ext_report.specs.Report.{report_of, any_failed}
 use Rattle.ext_run.specs.PlainRun.{plain_run}
 use Rattle.ext_run.specs.declared.fault.RunFault.{RunFault}
@@ -25,7 +26,7 @@ pub record Answer : Type 0 where
 -- to a plan: the report of its plain run
 abbrev pub answer_of : PlanText → Answer
 answer_of plan = record {
-  report = report_of (map (λ n. n.id) plan.nodes) (plain_run plan);
+  report = report_of (ids_of_nodes plan.nodes) (plain_run plan);
   failed = any_failed (plain_run plan);
 }
 

@@ -1,15 +1,25 @@
 -- What the contracts of private functions cite, and nothing else: no public clause needs it.
-use Rattle.std.specs.Prelude.{◌≡◌, ℕ, codes, Bool, List, [], map, Result, Ok, Err, string_bytes}
-use Rattle.ext_model.specs.declared.plain_fault.PlainFault.{PlainFault}
-use Rattle.ext_model.specs.declared.plain_fault.PlainFault.TheVariants as plain
+use Rattle.std.specs.Prelude.{◌≡◌, ◌≤◌, ◌+◌, ℕ, Bool, List, ◌∷◌, length, map, Option, Some, None, option_map, Result, Ok, Err, string_bytes, if◌then◌else◌}
 use Rattle.ext_model.specs.Plain.{state_of}
-use Rattle.ext_report.specs.declared.result.NodeResult.{NodeResult}
-use Rattle.ext_report.specs.Report.{results_view}
+use Rattle.ext_plan.specs.Plans.{PlanText, plan_view}
+use Rattle.ext_report.specs.Report.{NodeOutcome, fault_text, results_view}
 use Rattle.ext_run.specs.declared.fault.RunFault.{RunFault}
 use Rattle.ext_run.specs.declared.fault.RunFault.TheVariants as faults
+use Rattle.ext_run.specs.declared.node_end.NodeEnd.{NodeEnd}
 use Rattle.ext_run.specs.declared.plain.PlainRunner.{PlainRunner}
+use Rattle.ext_run.specs.declared.plain.Setting.{Setting}
 use Rattle.ext_run.specs.declared.runs.Output.{Output}
-use Rattle.ext_run.specs.Steps.{RunState}
+use Rattle.ext_run.specs.declared.tally.Tally.{Tally as TallySoFar}
+use Rattle.ext_run.specs.declared.tally.Total.{Total}
+use Rattle.ext_run.specs.declared.value_store.Value.{Value}
+use Rattle.ext_run.specs.declared.value_store.ValueStore.{ValueStore}
+use Rattle.ext_run.specs.declared.verdict.Outcome.{Outcome}
+use Rattle.ext_run.specs.declared.verdict.Verdict.{Verdict}
+use Rattle.ext_run.specs.declared.verdict.Verdict.TheVariants as verdicts
+use Rattle.ext_run.specs.Tallies.{VerdictText, successful, aborted, failed, unsuccessful, first_fault, first_abort, Tally, tally_of}
+use Rattle.ext_run.specs.ValueStates.{ValueText, ValueState}
+use Rattle.ext_run.specs.Steps.{StepEnd}
+use Rattle.ext_run.specs.PlainRun.{RunState, BodyEnd}
 use Rattle.ext_run.specs.Answers.{Answer, RefusedAs}
 
 -- ---- reading the input
@@ -22,33 +32,76 @@ IsReadFault faults.TooLong = Unit {0}
 IsReadFault (faults.Plan fault) = ⊥
 IsReadFault faults.Memory = Unit {0}
 
+-- ---- the store and its values
+
+abbrev pub value_view : Value → ValueText
+value_view v = record { text = v.text.now; closeable = v.closeable }
+
+abbrev pub state_view : ValueStore → ValueState
+state_view s = record { store = state_of s.store; values = map value_view s.values.items }
+
+-- ---- the steps
+
+abbrev pub verdict_view : Verdict → VerdictText
+verdict_view verdicts.Successful = successful
+verdict_view (verdicts.Aborted fault) = aborted (fault_text fault)
+verdict_view (verdicts.Failed fault) = failed (fault_text fault)
+
+abbrev pub end_view : ValueStore → Outcome → StepEnd
+end_view s o = record { state = state_view s; verdict = verdict_view o.verdict; computed = o.computed; found = o.found }
+
+-- one step computes or finds one value at most
+pub record AreFew (o : Outcome) : Type 0 where
+  pub computed : o.computed ≤ 1
+  pub found : o.found ≤ 1
+
+-- ---- the end of a node
+
+abbrev pub only_closeable : Option ValueText → Option ValueText
+only_closeable None = None
+only_closeable (Some value) = if value.closeable then Some value else None
+
+pub record Tallies (t : TallySoFar) (told : List VerdictText) : Type 0 where
+  pub failed : option_map fault_text t.failed ≡ first_fault told
+  pub aborted : option_map fault_text t.aborted ≡ first_abort told
+  pub count : t.unsuccessful ≡ unsuccessful told
+
+abbrev pub total_view : Total → Tally
+total_view t = record { status = t.status; fault = option_map fault_text t.fault; more = t.more }
+
+-- the body of a node ended so, and these closes came after it
+pub record Ends (e : NodeEnd) (body : VerdictText) (closes : List VerdictText) : Type 0 where
+  pub tally : Tallies e.tally (body ∷ closes)
+  pub closed : e.closed ≡ length closes
+  pub faults : e.close_faults ≡ unsuccessful closes
+
+-- no more faults than closes, and no more than one beside them
+pub record IsBounded (e : NodeEnd) : Type 0 where
+  pub faults : e.close_faults ≤ e.closed
+  pub tally : e.tally.unsuccessful ≤ e.closed + 1
+
+-- the result is of this node, by how its body and its closes ended
+pub record IsOutcome (at : ℕ) (is_test : Bool) (body : VerdictText) (closes : List VerdictText) (computes finds : ℕ) (o : NodeOutcome) : Type 0 where
+  pub node : o.node ≡ at
+  pub test : o.is_test ≡ is_test
+  pub status : o.status ≡ (tally_of (body ∷ closes)).status
+  pub fault : o.fault ≡ (tally_of (body ∷ closes)).fault
+  pub more : o.more ≡ (tally_of (body ∷ closes)).more
+  pub computed : o.computed ≡ computes
+  pub found : o.found ≡ finds
+  pub closed : o.closed ≡ length closes
+  pub close_faults : o.close_faults ≡ unsuccessful closes
+
 -- ---- the plain run
 
--- what a runner holds, without where it lies in memory
 abbrev pub run_view : PlainRunner → RunState
-run_view r = record {
-  store = state_of r.store;
-  values = map (λ text. text.now) r.values.items;
-  results = results_view r.results.items;
-}
+run_view r = record { state = state_view r.store; results = results_view r.results.items }
 
--- why a call of the store was refused, where it was not for want of memory, which ends the run
-abbrev pub fault_reason : PlainFault → List ℕ
-fault_reason plain.Busy = codes "busy"
-fault_reason plain.Closed = codes "closed"
-fault_reason (plain.Taken number) = codes "taken"
-fault_reason plain.NumbersFull = codes "numbers full"
-fault_reason plain.Memory = []
+abbrev pub body_view : PlainRunner → Outcome → BodyEnd
+body_view r o = record { run = run_view r; verdict = verdict_view o.verdict; computed = o.computed; found = o.found }
 
--- the result is of this node, with all counts 0
-pub record IsPlainResult (at : ℕ) (is_test : Bool) (r : NodeResult) : Type 0 where
-  pub node : r.node ≡ at
-  pub test : r.is_test ≡ is_test
-  pub more : r.more ≡ 0
-  pub computed : r.computed ≡ 0
-  pub found : r.found ≡ 0
-  pub closed : r.closed ≡ 0
-  pub close_faults : r.close_faults ≡ 0
+abbrev pub plan_in : Setting → PlanText
+plan_in s = plan_view s.plan.now
 
 -- ---- the answer
 

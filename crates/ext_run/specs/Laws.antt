@@ -1,13 +1,16 @@
 -- What is true of the plain run of every plan: sentences by which a reader may judge its definition.
 -- JUnit 5 User Guide, "Keeping State in Extensions": a context's store is closed at the end of the context.
 -- That results stand in the order of the plan is an own rule.
-use Rattle.std.specs.Prelude.{ℕ, ◌≡◌, ◌+◌, ◌<◌, List, map, length, None, is_some}
+use Rattle.std.specs.Prelude.{ℕ, ◌≡◌, ◌+◌, ◌<◌, List, ◌∷◌, map, length, drop, is_some}
 use Rattle.std.specs.List.{range_with_len}
 use Rattle.ext_model.specs.State.{IsClaimed, IsSealed}
 use Rattle.ext_model.specs.Plain.{Place}
-use Rattle.ext_plan.specs.Plans.{PlanText}
-use Rattle.ext_run.specs.Steps.{RunState, put_step, want_step}
-use Rattle.ext_run.specs.PlainRun.{node_run, run_opening, plain_run}
+use Rattle.ext_plan.specs.Plans.{KeyText, PlanText, put, want}
+use Rattle.ext_plan.specs.KeyNumbers.{different_keys}
+use Rattle.ext_run.specs.Tallies.{successful}
+use Rattle.ext_run.specs.ValueStates.{ValueState, value_opening}
+use Rattle.ext_run.specs.Steps.{start_of, step_run}
+use Rattle.ext_run.specs.PlainRun.{RunState, node_run, plain_run}
 
 -- ---- the results
 
@@ -19,36 +22,37 @@ HasResultOfEachNode = (plan : PlanText) → map (λ r. r.node) (plain_run plan) 
 abbrev pub HasTestsOfPlan : Type 0
 HasTestsOfPlan = (plan : PlanText) → map (λ r. r.is_test) (plain_run plan) ≡ map (λ n. is_some n.test) plan.nodes
 
--- ---- the store between two nodes
+-- ---- the store between two steps and between two nodes
 
 -- no lane has a claim anywhere
-abbrev pub HasNoClaims : RunState → Type 0
-HasNoClaims run = (place : Place) → ¬ IsClaimed (run.store.slots place)
+abbrev pub HasNoClaims : ValueState → Type 0
+HasNoClaims s = (place : Place) → ¬ IsClaimed (s.store.slots place)
 
 -- each number that was drawn has a value
-abbrev pub HasValues : RunState → Type 0
-HasValues run = length run.values ≡ run.store.drawn
+abbrev pub HasValues : ValueState → Type 0
+HasValues s = length s.values ≡ s.store.drawn
 
 -- both hold before the first node
 abbrev pub OpensClear : Type 0
-OpensClear = (plan : PlanText) → HasNoClaims (run_opening plan) × HasValues (run_opening plan)
+OpensClear = HasNoClaims value_opening × HasValues value_opening
 
 -- where there was no claim, there is none after a node
 abbrev pub MakesNoClaims : Type 0
-MakesNoClaims = (plan : PlanText) (levels at : ℕ) (run : RunState) → HasNoClaims run → HasNoClaims (node_run plan levels at run)
+MakesNoClaims = (plan : PlanText) (levels : ℕ) (path : List ℕ) (run : RunState) → HasNoClaims run.state → HasNoClaims (node_run plan levels path run).state
 
 -- and all keys are then sealed in the node's context
 abbrev pub SealsContexts : Type 0
 SealsContexts =
-    (plan : PlanText) (levels at key : ℕ) (run : RunState) → HasNoClaims run → key < length plan.keys
-    → IsSealed ((node_run plan (levels + 1) at run).store.slots (at, key))
+    (plan : PlanText) (levels key : ℕ) (path : List ℕ) (run : RunState) → HasNoClaims run.state → key < length (different_keys plan.keys)
+    → IsSealed ((node_run plan (levels + 1) path run).state.store.slots (start_of path, key))
 
 -- where each number had a value, each has one after a node
 abbrev pub KeepsValues : Type 0
-KeepsValues = (plan : PlanText) (levels at : ℕ) (run : RunState) → HasValues run → HasValues (node_run plan levels at run)
+KeepsValues = (plan : PlanText) (levels : ℕ) (path : List ℕ) (run : RunState) → HasValues run.state → HasValues (node_run plan levels path run).state
 
 -- once a `put` has passed, a `want` of the same text under the same key passes in the same context
 abbrev pub FindsWhatWasPut : Type 0
 FindsWhatWasPut =
-    (label : List ℕ) (at key : ℕ) (text : List ℕ) (run : RunState) → HasValues run → (put_step label at key text run).fault ≡ None
-    → (want_step label at key text (put_step label at key text run).run).fault ≡ None
+    (keys : List KeyText) (path : List ℕ) (at : ℕ) (above : List ℕ) (key up : ℕ) (text : List ℕ) (s : ValueState) → drop up path ≡ at ∷ above → HasValues s
+    → (step_run keys path (put key text up) s).verdict ≡ successful
+    → (step_run keys path (want key text up) (step_run keys path (put key text up) s).state).verdict ≡ successful

@@ -1,7 +1,12 @@
 pub mod StepTexts
+pub mod Tallies
+pub mod ValueStates
 pub mod Steps
+pub mod Closes
 pub mod PlainRun
 pub mod Answers
 pub mod IdText
 pub mod Laws
+pub mod Refusals
+pub mod KeyViews
 pub mod Helpers

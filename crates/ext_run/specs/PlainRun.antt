@@ -1,27 +1,41 @@
--- The plain run of a plan: one thread goes through the tree from its root. A test does its steps, a container
--- runs its children in order, and then the node's context is closed, which seals all its keys.
+-- The plain run of a plan: one thread goes through the tree from its root. A test does its steps, a container runs its children in order, and then the node's
+-- context is closed.
 --
--- JUnit 5 User Guide, "Keeping State in Extensions": a store is bound to the life of its context, and is
--- closed when that ends, so after the contexts below it. Which statuses there are, and that no value is
--- closeable yet, are an own rule.
+-- JUnit 5 User Guide, "Keeping State in Extensions": a store is bound to the life of its context, and is closed when that ends, so after the contexts below it.
+-- Which statuses there are, and that a container's status does not depend on its children's, are own rules.
 use Rattle.std.specs.Prelude.{ℕ, zero, suc, ◌+◌, List, [], ◌∷◌, length, fold, Option, Some, None, is_some, slice_get, slice_set}
-use Rattle.ext_model.specs.declared.event.Act.TheVariants.{Seal}
-use Rattle.ext_model.specs.State.{opening}
 use Rattle.ext_plan.specs.Plans.{StepText, NodeText, PlanText}
-use Rattle.ext_report.specs.Chain.{chain_children}
+use Rattle.ext_plan.specs.KeyNumbers.{different_keys}
+use Rattle.ext_plan.specs.Laws.{ids_of_nodes}
+use Rattle.ext_tree.specs.Paths.{children_of}
 use Rattle.ext_report.specs.Report.{NodeOutcome}
-use Rattle.ext_report.specs.declared.status.Status.{Status}
 use Rattle.ext_report.specs.declared.status.Status.TheVariants as statuses
-use Rattle.ext_run.specs.Steps.{RunState, StepEnd, after_act, steps_run}
+use Rattle.ext_run.specs.Tallies.{VerdictText, successful, unsuccessful, tally_of}
+use Rattle.ext_run.specs.ValueStates.{ValueState, value_opening}
+use Rattle.ext_run.specs.Steps.{StepEnd, start_of, steps_run}
+use Rattle.ext_run.specs.Closes.{seal_keys, closes}
 
--- ---- a node's result: nothing is computed or closed yet, so that all counts are 0
+-- a run between two nodes: its store, and the nodes' results so far
+pub record RunState : Type 0 where
+  pub state : ValueState
+  pub results : List NodeOutcome
 
-abbrev pub outcome_of : ℕ → Option (List StepText) → Status → Option (List ℕ) → NodeOutcome
-outcome_of at test status fault = record {
+-- what the body of a node leaves, and how it ended
+pub record BodyEnd : Type 0 where
+  pub run : RunState
+  pub verdict : VerdictText
+  pub computed : ℕ
+  pub found : ℕ
+
+-- ---- a node's result
+
+-- before a node ran
+abbrev pub skipped_outcome : ℕ → Option (List StepText) → NodeOutcome
+skipped_outcome at test = record {
   node = at;
   is_test = is_some test;
-  status = status;
-  fault = fault;
+  status = statuses.Skipped;
+  fault = None;
   more = 0;
   computed = 0;
   found = 0;
@@ -29,25 +43,29 @@ outcome_of at test status fault = record {
   close_faults = 0;
 }
 
--- the status of a node that ran, by its fault
-abbrev pub status_of : Option (List ℕ) → Status
-status_of None = statuses.Successful
-status_of (Some fault) = statuses.Failed
+-- once it has ended: by how its body ended, and how the closes of its context did
+abbrev pub outcome_of : ℕ → Option (List StepText) → BodyEnd → List VerdictText → NodeOutcome
+outcome_of at test body closed = record {
+  node = at;
+  is_test = is_some test;
+  status = (tally_of (body.verdict ∷ closed)).status;
+  fault = (tally_of (body.verdict ∷ closed)).fault;
+  more = (tally_of (body.verdict ∷ closed)).more;
+  computed = body.computed;
+  found = body.found;
+  closed = length closed;
+  close_faults = unsuccessful closed;
+}
 
--- the run with this result in its node's place
-abbrev pub with_result : NodeOutcome → RunState → RunState
-with_result outcome run = record run { results = slice_set run.results outcome.node outcome }
+-- the results with this one in its node's place
+abbrev pub with_result : NodeOutcome → List NodeOutcome → List NodeOutcome
+with_result outcome results = slice_set results outcome.node outcome
 
--- ---- the end of a node
-
--- the first so many keys are sealed in the context, in order
-unfoldable pub seal_keys : ℕ → ℕ → RunState → RunState
-seal_keys zero at run = run
-seal_keys (suc key) at run = after_act (Seal (at, key)) (seal_keys key at run)
-
--- all `keys` are sealed in the context `at`, and the node's result stands in its place
-abbrev pub node_end : ℕ → ℕ → Option (List StepText) → StepEnd → RunState
-node_end keys at test end = with_result (outcome_of at test (status_of end.fault) end.fault) (seal_keys keys at end.run)
+-- all keys are sealed in the node's context, its closeable values are closed, and its result stands in its place
+abbrev pub node_end : ℕ → ℕ → Option (List StepText) → BodyEnd → RunState
+node_end keys at test body =
+    let sealed = seal_keys keys at body.run.state in
+    record { state = sealed; results = with_result (outcome_of at test body (closes keys at sealed)) body.run.results }
 
 -- ---- the tree
 
@@ -55,36 +73,47 @@ abbrev pub test_in : Option NodeText → Option (List StepText)
 test_in None = None
 test_in (Some node) = node.test
 
+-- the body of a test, which is its steps
+abbrev pub test_body : List NodeOutcome → StepEnd → BodyEnd
+test_body results end = record { run = record { state = end.state; results = results }; verdict = end.verdict; computed = end.computed; found = end.found }
+
+-- the body of a container, which is its children: it has no fault of its own
+abbrev pub container_body : RunState → BodyEnd
+container_body run = record { run = run; verdict = successful; computed = 0; found = 0 }
+
 module _ (plan : PlanText) where
+  -- how many different keys there are
+  abbrev pub key_count : ℕ
+  key_count = length (different_keys plan.keys)
+
   -- the steps of a node that is a test
   abbrev pub test_of : ℕ → Option (List StepText)
   test_of at = test_in (slice_get plan.nodes at)
 
-  -- the body of a node, with what runs a child: the children of a container, which has no fault of its own,
-  -- or the steps
-  abbrev pub body_run : (ℕ → RunState → RunState) → Option (List StepText) → ℕ → RunState → StepEnd
-  body_run child_run None at run = record {
-    run = fold (λ r child. child_run child r) run (chain_children (length plan.nodes) at);
-    fault = None;
-  }
-  body_run child_run (Some steps) at run = steps_run plan.keys at steps run
+  -- the children of the path's first context, in order, each by what runs a path
+  abbrev pub children_run : (List ℕ → RunState → RunState) → List ℕ → RunState → RunState
+  children_run path_run path run = fold (λ r child. path_run (child ∷ path) r) run (children_of (ids_of_nodes plan.nodes) (start_of path))
 
-  -- a node and what is below it, so many levels deep
-  unfoldable pub node_run : ℕ → ℕ → RunState → RunState
-  node_run zero at run = run
-  node_run (suc levels) at run = node_end (length plan.keys) at (test_of at) (body_run (node_run levels) (test_of at) at run)
+  -- the body of the node that the path begins with
+  abbrev pub body_run : (List ℕ → RunState → RunState) → Option (List StepText) → List ℕ → RunState → BodyEnd
+  body_run path_run None path run = container_body (children_run path_run path run)
+  body_run path_run (Some steps) path run = test_body run.results (steps_run plan.keys path steps run.state)
+
+  -- the node that a path to the root begins with, and what is below it, so many levels deep
+  unfoldable pub node_run : ℕ → List ℕ → RunState → RunState
+  node_run zero path run = run
+  node_run (suc levels) path run = node_end key_count (start_of path) (test_of (start_of path)) (body_run (node_run levels) (test_of (start_of path)) path run)
 
 -- ---- the whole run
 
 -- before the run each node is skipped; these are the nodes from number `at` on
 abbrev pub skipped_from : ℕ → List NodeText → List NodeOutcome
 skipped_from at [] = []
-skipped_from at (node ∷ more) = outcome_of at node.test statuses.Skipped None ∷ skipped_from (at + 1) more
+skipped_from at (node ∷ more) = skipped_outcome at node.test ∷ skipped_from (at + 1) more
 
 abbrev pub run_opening : PlanText → RunState
-run_opening plan = record { store = opening; values = []; results = skipped_from 0 plan.nodes }
+run_opening plan = record { state = value_opening; results = skipped_from 0 plan.nodes }
 
--- The results of the nodes, in the order of the plan. The root is node 0, and no tree is deeper than it has
--- nodes
+-- The results of the nodes, in the order of the plan. The root is node 0, and no tree is deeper than it has nodes
 abbrev pub plain_run : PlanText → List NodeOutcome
-plain_run plan = (node_run plan (length plan.nodes) 0 (run_opening plan)).results
+plain_run plan = (node_run plan (length plan.nodes) (0 ∷ []) (run_opening plan)).results

@@ -1,119 +1,152 @@
--- What the steps of a test do to the store of one thread, and the fault of the first that does not pass.
+-- What the steps of a test do to the store of one thread, and how each of them ends.
 --
--- `put KEY TEXT` keeps a value with this text, which draws its number, and stores the number in the test's own
--- context. `want KEY TEXT` looks up from that context through its ancestors, and passes where the value found
--- has this text.
---
--- JUnit 5 User Guide, "Keeping State in Extensions", and Javadoc `ExtensionContext.Store`, `put` and `get`, by
--- the definitions of the store's state. The steps and their texts are an own rule.
-use Rattle.std.specs.Prelude.{ℕ, zero, suc, ◌+◌, codes, List, [], ◌∷◌, ◌++◌, Option, Some, None, is_some, slice_get, if◌then◌else◌}
+-- JUnit 5 User Guide, "Keeping State in Extensions", and Javadoc `ExtensionContext.Store`, `put`, `get`, `remove` and `getOrComputeIfAbsent`, by the definitions
+-- of the store's state. A step acts on the first context of the path that it is given, and looks up along it. The steps and their texts are an own rule.
+use Rattle.std.specs.Prelude.{ℕ, ◌+◌, codes, true, false, List, [], ◌∷◌, drop, Option, Some, None, if◌then◌else◌}
+use Rattle.std.specs.List.{slice_index_or}
 use Rattle.std.specs.Str.{bytes_eq}
 use Rattle.ext_model.specs.declared.event.Act.{Act}
-use Rattle.ext_model.specs.declared.event.Act.TheVariants.{Keep, Put}
+use Rattle.ext_model.specs.declared.event.Act.TheVariants.{Put, Remove, Claim, Fill, Abandon}
 use Rattle.ext_model.specs.declared.look.Look.{Look}
 use Rattle.ext_model.specs.declared.look.Look.TheVariants as look
-use Rattle.ext_model.specs.State.{State, lookup}
-use Rattle.ext_model.specs.Events.{Reply, Happens, Answers, Refuses}
-use Rattle.ext_model.specs.Plain.{Place, under, any_lane, plain_reply, next_state}
-use Rattle.ext_plan.specs.Plans.{KeyText, StepText, put, want}
-use Rattle.ext_report.specs.Chain.{chain_path}
-use Rattle.ext_report.specs.Report.{NodeOutcome}
-use Rattle.ext_run.specs.StepTexts.{label_of, reason, refused_text, missing_text, other_text}
+use Rattle.ext_model.specs.State.{lookup}
+use Rattle.ext_model.specs.Plain.{Place, under}
+use Rattle.ext_plan.specs.Plans.{KeyText, StepText, put, put_closeable, want, nothing, remove, compute, compute_closeable, compute_fail, fail, abort}
+use Rattle.ext_plan.specs.KeyNumbers.{numbering}
+use Rattle.ext_run.specs.StepTexts.{label_of, refused_text, missing_text, other_text, got_text}
+use Rattle.ext_run.specs.Tallies.{VerdictText, successful, aborted, failed}
+use Rattle.ext_run.specs.ValueStates.{ValueText, ValueState, after_act, why_refused, next_number, keep_value, value_of}
 
--- how many numbers a run's store draws at most
-abbrev pub run_numbers : ℕ
-run_numbers = 65535
-
--- A run between two steps: the store's state; the texts of the values that were kept, the first of which has
--- number 1; and the nodes' results so far
-pub record RunState : Type 0 where
-  pub store : State Place
-  pub values : List (List ℕ)
-  pub results : List NodeOutcome
-
--- what a step or a test leaves, with its fault where it does not pass
+-- what a step or a test leaves, how it ended, how many values it computed, and how many it found where it would have computed one
 pub record StepEnd : Type 0 where
-  pub run : RunState
-  pub fault : Option (List ℕ)
+  pub state : ValueState
+  pub verdict : VerdictText
+  pub computed : ℕ
+  pub found : ℕ
 
--- ---- an act on the store
+abbrev pub ended : VerdictText → ValueState → StepEnd
+ended verdict s = record { state = s; verdict = verdict; computed = 0; found = 0 }
 
--- what the store answers to an act
-abbrev pub reply_to : Act Place → RunState → Reply
-reply_to act run = plain_reply run_numbers run.store any_lane act
+-- how a step ends, by its first word, its label and why it was refused, if it was
+abbrev pub unless_refused : List ℕ → List ℕ → Option (List ℕ) → VerdictText
+unless_refused name label None = successful
+unless_refused name label (Some why) = failed (refused_text name label why)
 
--- the run after an act, whether the act is an event or refused
-abbrev pub after_act : Act Place → RunState → RunState
-after_act act run = record run { store = next_state run_numbers run.store any_lane act }
+-- a step's last act, refused or not
+abbrev pub act_ends : List ℕ → List ℕ → Act Place → ValueState → StepEnd
+act_ends name label act s = ended (unless_refused name label (why_refused act s)) (after_act act s)
 
--- ---- `put`
+-- what goes on, unless a step was refused: then it ends in this state
+abbrev pub or_refused : List ℕ → List ℕ → Option (List ℕ) → ValueState → StepEnd → StepEnd
+or_refused name label None s goes_on = goes_on
+or_refused name label (Some why) s goes_on = ended (failed (refused_text name label why)) s
 
--- a number is drawn: the next one
-abbrev pub next_number : RunState → Act Place
-next_number run = Keep (run.store.drawn + 1)
+-- ---- `put` and `put!`
 
--- the value whose number was drawn last is kept
-abbrev pub with_value : List ℕ → RunState → RunState
-with_value text run = record run { values = run.values ++ text ∷ [] }
+-- the number that was drawn last, that of the value kept last, is stored in the context
+abbrev pub put_kept : List ℕ → List ℕ → Place → ValueState → StepEnd
+put_kept name label place kept = act_ends name label (Put place kept.store.drawn) kept
 
--- the fault of a step, by its first word, its label and the reply to its act
-abbrev pub refused : List ℕ → List ℕ → Reply → Option (List ℕ)
-refused name label (Happens answer) = None
-refused name label (Answers answer) = None
-refused name label (Refuses why) = Some (refused_text name label (reason why))
+abbrev pub put_step : List ℕ → List ℕ → Place → ValueText → ValueState → StepEnd
+put_step name label place value s = or_refused name label (why_refused (next_number s) s) s (put_kept name label place (keep_value value s))
 
--- once the value is kept, its number, which was drawn last, is stored in the context
-abbrev pub put_kept : List ℕ → ℕ → ℕ → RunState → StepEnd
-put_kept label at key kept =
-    let act = Put (at, key) kept.store.drawn in
-    record { run = after_act act kept; fault = refused (codes "put") label (reply_to act kept) }
+-- ---- `want` and `none`, which change nothing
 
--- by the reply to the drawing of the number: where none is left, nothing is stored
-abbrev pub put_replied : Reply → List ℕ → ℕ → ℕ → List ℕ → RunState → StepEnd
-put_replied (Happens number) label at key text run = put_kept label at key (with_value text (after_act (next_number run) run))
-put_replied (Answers number) label at key text run = put_kept label at key (with_value text (after_act (next_number run) run))
-put_replied (Refuses why) label at key text run = record { run = run; fault = Some (refused_text (codes "put") label (reason why)) }
+-- by the value found, which each number that was drawn has
+abbrev pub want_found : List ℕ → List ℕ → List ℕ → Option ValueText → VerdictText
+want_found name label text None = failed (refused_text name label (codes "not shown"))
+want_found name label text (Some other) = if bytes_eq other.text text then successful else failed (other_text label text other.text)
 
-abbrev pub put_step : List ℕ → ℕ → ℕ → List ℕ → RunState → StepEnd
-put_step label at key text run = put_replied (reply_to (next_number run) run) label at key text run
+-- by what the look-up answers
+abbrev pub want_verdict : List ℕ → List ℕ → List ℕ → List ValueText → Look → VerdictText
+want_verdict name label text values (look.Found at number) = want_found name label text (value_of values number)
+want_verdict name label text values look.Absent = failed (missing_text label text)
+want_verdict name label text values (look.Busy at) = failed (refused_text name label (codes "busy"))
+want_verdict name label text values (look.Closed at) = failed (refused_text name label (codes "closed"))
 
--- ---- `want`
+-- of a step that was to find nothing, by the value found
+abbrev pub got_verdict : List ℕ → List ℕ → Option ValueText → VerdictText
+got_verdict name label None = failed (refused_text name label (codes "not shown"))
+got_verdict name label (Some other) = failed (got_text name label other.text)
 
--- the text of the value of a number, which numbers count from 1
-abbrev pub value_of : List (List ℕ) → ℕ → Option (List ℕ)
-value_of values zero = None
-value_of values (suc n) = slice_get values n
+abbrev pub none_verdict : List ℕ → List ℕ → List ValueText → Look → VerdictText
+none_verdict name label values (look.Found at number) = got_verdict name label (value_of values number)
+none_verdict name label values look.Absent = successful
+none_verdict name label values (look.Busy at) = failed (refused_text name label (codes "busy"))
+none_verdict name label values (look.Closed at) = failed (refused_text name label (codes "closed"))
 
--- the fault where a number was found, by the text of its value, which each number that was drawn has
-abbrev pub want_found : List ℕ → List ℕ → Option (List ℕ) → Option (List ℕ)
-want_found label text None = Some (refused_text (codes "want") label (codes "not shown"))
-want_found label text (Some other) = if bytes_eq other text then None else Some (other_text label text other)
+-- ---- `compute`, `compute!` and `computefail`
 
--- the fault by what the look-up answers, with the texts of the values
-abbrev pub want_fault : List ℕ → List ℕ → List (List ℕ) → Look → Option (List ℕ)
-want_fault label text values (look.Found at number) = want_found label text (value_of values number)
-want_fault label text values look.Absent = Some (missing_text label text)
-want_fault label text values (look.Busy at) = Some (refused_text (codes "want") label (codes "busy"))
-want_fault label text values (look.Closed at) = Some (refused_text (codes "want") label (codes "closed"))
+-- The factory gave this value, under the claim that now stands. Its number is drawn and stored in the place of the claim; where none is left, the claim goes
+abbrev pub factory_gave : List ℕ → List ℕ → Place → ValueText → ValueState → StepEnd
+factory_gave name label place value s =
+    let kept = keep_value value s in
+    let computed : StepEnd = record { state = after_act (Fill place kept.store.drawn) kept; verdict = successful; computed = 1; found = 0 } in
+    or_refused name label (why_refused (next_number s) s) (after_act (Abandon place) s) computed
 
--- a look-up changes nothing
-abbrev pub want_step : List ℕ → ℕ → ℕ → List ℕ → RunState → StepEnd
-want_step label at key text run = record {
-  run = run;
-  fault = want_fault label text run.values (lookup (under run.store key) (chain_path at));
-}
+-- The factory failed, and its own fault came back: the claim goes, and the step passes
+abbrev pub factory_failed : Place → ValueState → StepEnd
+factory_failed place s = ended successful (after_act (Abandon place) s)
 
--- ---- the steps of a test, in its context `at`
+-- where nothing was found the place is claimed, and its factory runs
+abbrev pub claim_and : List ℕ → List ℕ → Place → (ValueState → StepEnd) → ValueState → StepEnd
+claim_and name label place factory s = or_refused name label (why_refused (Claim place) s) s (factory (after_act (Claim place) s))
 
-abbrev pub step_run : List KeyText → ℕ → StepText → RunState → StepEnd
-step_run keys at (put key text) run = put_step (label_of keys key) at key text run
-step_run keys at (want key text) run = want_step (label_of keys key) at key text run
+-- by what the look-up answers
+abbrev pub compute_looked : List ℕ → List ℕ → Place → ValueText → ValueState → Look → StepEnd
+compute_looked name label place value s (look.Found at number) = record { state = s; verdict = successful; computed = 0; found = 1 }
+compute_looked name label place value s look.Absent = claim_and name label place (factory_gave name label place value) s
+compute_looked name label place value s (look.Busy at) = ended (failed (refused_text name label (codes "busy"))) s
+compute_looked name label place value s (look.Closed at) = ended (failed (refused_text name label (codes "closed"))) s
 
--- a fault ends the test
-abbrev pub unless_fault : StepEnd → (RunState → StepEnd) → StepEnd
-unless_fault end go_on = if is_some end.fault then end else go_on end.run
+abbrev pub computefail_looked : List ℕ → List ℕ → Place → ValueState → Look → StepEnd
+computefail_looked name label place s (look.Found at number) = record { state = s; verdict = got_verdict name label (value_of s.values number); computed = 0; found = 1 }
+computefail_looked name label place s look.Absent = claim_and name label place (factory_failed place) s
+computefail_looked name label place s (look.Busy at) = ended (failed (refused_text name label (codes "busy"))) s
+computefail_looked name label place s (look.Closed at) = ended (failed (refused_text name label (codes "closed"))) s
 
--- in order, up to the first that does not pass
-unfoldable pub steps_run : List KeyText → ℕ → List StepText → RunState → StepEnd
-steps_run keys at [] run = record { run = run; fault = None }
-steps_run keys at (step ∷ more) run = unless_fault (step_run keys at step run) (steps_run keys at more)
+-- ---- the steps of a test
+
+-- the context that a path begins with
+abbrev pub start_of : List ℕ → ℕ
+start_of path = slice_index_or path 0 0
+
+-- the number of the key that a label names
+abbrev pub key_number : List KeyText → ℕ → ℕ
+key_number keys label = slice_index_or (numbering keys).numbers label 0
+
+module _ (keys : List KeyText) where
+  -- what is found under a label's key along a path
+  abbrev pub found_along : ℕ → List ℕ → ValueState → Look
+  found_along key path s = lookup (under s.store (key_number keys key)) path
+
+  abbrev pub place_of : ℕ → List ℕ → Place
+  place_of key path = (start_of path, key_number keys key)
+
+  -- a step of a test whose path is this; with `up` it goes by the path of an ancestor
+  abbrev pub step_run : List ℕ → StepText → ValueState → StepEnd
+  step_run path (put key text up) s = put_step (codes "put") (label_of keys key) (place_of key (drop up path)) (record { text = text; closeable = false }) s
+  step_run path (put_closeable key text up) s = put_step (codes "put!") (label_of keys key) (place_of key (drop up path)) (record { text = text; closeable = true }) s
+  step_run path (want key text up) s = ended (want_verdict (codes "want") (label_of keys key) text s.values (found_along key (drop up path) s)) s
+  step_run path (nothing key up) s = ended (none_verdict (codes "none") (label_of keys key) s.values (found_along key (drop up path) s)) s
+  step_run path (remove key up) s = act_ends (codes "remove") (label_of keys key) (Remove (place_of key (drop up path))) s
+  step_run path (compute key text up) s = compute_looked (codes "compute") (label_of keys key) (place_of key (drop up path)) (record { text = text; closeable = false }) s (found_along key (drop up path) s)
+  step_run path (compute_closeable key text up) s = compute_looked (codes "compute!") (label_of keys key) (place_of key (drop up path)) (record { text = text; closeable = true }) s (found_along key (drop up path) s)
+  step_run path (compute_fail key text up) s = computefail_looked (codes "computefail") (label_of keys key) (place_of key (drop up path)) s (found_along key (drop up path) s)
+  step_run path (fail text) s = ended (failed text) s
+  step_run path (abort text) s = ended (aborted text) s
+
+-- one part of a test and then the rest: the counts of both are added up
+abbrev pub and_then : StepEnd → StepEnd → StepEnd
+and_then first rest = record { state = rest.state; verdict = rest.verdict; computed = first.computed + rest.computed; found = first.found + rest.found }
+
+-- the first step that isn't successful ends the test
+abbrev pub unless_ended : VerdictText → StepEnd → (ValueState → StepEnd) → StepEnd
+unless_ended successful first go_on = and_then first (go_on first.state)
+unless_ended (aborted text) first go_on = first
+unless_ended (failed text) first go_on = first
+
+-- in order, up to the first that isn't successful
+unfoldable pub steps_run : List KeyText → List ℕ → List StepText → ValueState → StepEnd
+steps_run keys path [] s = ended successful s
+steps_run keys path (step ∷ more) s = unless_ended (step_run keys path step s).verdict (step_run keys path step s) (steps_run keys path more)

@@ -7,19 +7,27 @@
 //! proves. The names of `ext_plan` and `ext_report` that callers need stand here too. Own rule.
 #![tactic(auto)]
 
+mod closing;
+mod computes;
 mod fault;
+mod found;
 mod id_lines;
 mod input;
 mod laws;
+mod node_end;
 mod plain;
-mod result;
+mod run_keys;
 mod runs;
-mod step_fault;
 mod step_text;
+mod steps;
+mod tally;
+mod value_store;
+mod verdict;
 
 pub use ext_ids::IdFault;
 pub use ext_plan::{LabelNo, Place, Plan, PlanFault, PlanKey, PlanNode, Step, read_plan};
-pub use ext_report::{NodeResult, Status, Tree};
+pub use ext_report::{NodeResult, Status};
+pub use ext_tree::Tree;
 pub use fault::RunFault;
 pub use id_lines::id_text;
 pub use laws::plain_run_laws;

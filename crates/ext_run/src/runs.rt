@@ -2,6 +2,7 @@
 ghost use Rattle.std.specs.Prelude.{◌≡◌, ◌≢◌, ◌≤◌, ◌<◌, ◌+◌, ℕ, List, length, map, string_bytes, IfOk, IfErr, IfSome, OnOk, All, Ok};
 ghost use Rattle.std.specs.Io.KnownBytes.{Consumes, Appends};
 ghost use Rattle.ext_plan.specs.Plans.{plan_view};
+ghost use Rattle.ext_plan.specs.Laws.{HasFewCells, NamespacesHaveParts, NodesAreTree};
 ghost use Rattle.ext_report.specs.Report.{results_view, report_of};
 ghost use Rattle.ext_run.specs.Answers.{input_limit, answer_of, answer_to_bytes, answer_to, RefusedAs};
 ghost use Rattle.ext_run.specs.Helpers.{output_view, AnswersAs};
@@ -10,8 +11,9 @@ use crate::fault::RunFault;
 use crate::input::read_input;
 use crate::plain::results_of;
 use ext_ids::UniqueId;
-use ext_plan::{Plan, PlanFault, PlanNode, read_plan};
-use ext_report::{NodeResult, Tree, any_failed};
+use ext_plan::{KeyNumbers, Plan, PlanFault, PlanNode, read_plan};
+use ext_report::{NodeResult, any_failed};
+use ext_tree::Tree;
 use std::alloc::{AllocError, Global};
 use std::io::{Read, Write};
 
@@ -120,12 +122,21 @@ fn answer(alloc: Global, input: &[u8]) -> Result<Output, RunFault>
 
 /// The report of a plan.
 fn output_of(alloc: Global, plan: &Plan) -> Result<Output, RunFault>
-    requires { length plan.now.nodes.items ≤ 16 }
+    requires tree { NodesAreTree (plan_view plan.now) }
+    requires namespaces { NamespacesHaveParts (plan_view plan.now) }
+    requires few { HasFewCells (plan_view plan.now) }
     ensures ok { IfOk result (λ o. output_view o ≡ answer_of (plan_view plan.now)) }
     ensures memory { IfErr result (λ e. e ≡ RunFault.Memory) }
 {
-    let tree = Tree::of_chain(alloc, ids_of(alloc, plan.nodes.as_slice())?)?;
-    let results = results_of(alloc, plan, &tree)?;
+    // A plan that was read has few keys, and its nodes are a tree: no more than memory can be wanted.
+    let Ok(keys) = KeyNumbers::of(alloc, plan.keys.as_slice()) else {
+        return Err(RunFault::Memory);
+    };
+    let ids = ids_of(alloc, plan.nodes.as_slice())?;
+    let Ok(tree) = Tree::build(alloc, ids.as_slice()) else {
+        return Err(RunFault::Memory);
+    };
+    let results = results_of(alloc, plan, &keys, &tree)?;
     let report = report_text(alloc, &tree, results.as_slice())?;
     Ok(Output {
         report,

@@ -1,6 +1,6 @@
 //! What a step says that does not pass.
 ghost use Rattle.std.specs.Prelude.{◌≡◌, string_bytes, IfOk};
-ghost use Rattle.ext_run.specs.StepTexts.{refused_text, missing_text, other_text};
+ghost use Rattle.ext_run.specs.StepTexts.{refused_text, missing_text, other_text, got_text, close_text};
 
 use std::alloc::{AllocError, Global};
 
@@ -36,4 +36,25 @@ pub(crate) fn other_text(
     ensures { IfOk result (λ s. string_bytes s ≡ other_text label.now text.now other.now) }
 {
     format!(in alloc; "want {label} {text}: got {other}")
+}
+
+/// `NAME LABEL: got OTHER`, of a step that was to find nothing.
+#[tactic(auto, unfolding(crate::specs::StepTexts::got_text))]
+pub(crate) fn got_text(
+    alloc: Global,
+    name: &str,
+    label: &str,
+    other: &str,
+) -> Result<String, AllocError>
+    ensures { IfOk result (λ s. string_bytes s ≡ got_text name.now label.now other.now) }
+{
+    format!(in alloc; "{name} {label}: got {other}")
+}
+
+/// `close TEXT`, of a value whose close failed.
+#[tactic(auto, unfolding(crate::specs::StepTexts::close_text))]
+pub(crate) fn close_text(alloc: Global, text: &str) -> Result<String, AllocError>
+    ensures { IfOk result (λ s. string_bytes s ≡ close_text text.now) }
+{
+    format!(in alloc; "close {text}")
 }

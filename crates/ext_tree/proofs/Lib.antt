@@ -1,5 +1,6 @@
 pub mod Children
 pub mod Deciding
+pub mod Testing
 pub mod Equalities
 pub mod KeyLaws
 pub mod Lookups

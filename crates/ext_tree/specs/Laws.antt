@@ -1,6 +1,7 @@
 -- Laws of trees and of keys, which need no call: they show that the definitions say what is meant.
-use Rattle.std.specs.Prelude.{ℕ, ◌≡◌, ◌≢◌, ◌<◌, ◌+◌, ◌*◌, ◌++◌, ◌⊎◌, List, length, Contains, AllPairs}
+use Rattle.std.specs.Prelude.{ℕ, true, ◌≡◌, ◌≢◌, ◌<◌, ◌+◌, ◌*◌, ◌++◌, ◌⊎◌, ◌↔◌, List, length, Contains, AllPairs}
 use Rattle.ext_tree.specs.declared.fault.TreeFault.{TreeFault}
+use Rattle.ext_tree.specs.Decided.{is_tree}
 use Rattle.ext_tree.specs.Keys.{NamespaceValue, KeyValue, global_namespace, created_namespace, appended, AreDifferent, HasNumber}
 use Rattle.ext_tree.specs.Paths.{IsPathOf, IsParentOf, children_of}
 use Rattle.ext_tree.specs.Trees.{Id, IsTree, HasFault}
@@ -14,6 +15,10 @@ pub record FaultsTell : Type 0 where
   pub one_of_both : (ids : List Id) → IsTreeOrFaulty ids
   pub not_both : (ids : List Id) (fault : TreeFault) → IsTree ids → HasFault ids fault → ⊥
   pub one_fault : (ids : List Id) (fault second : TreeFault) → HasFault ids fault → HasFault ids second → fault ≡ second
+
+-- the test for trees accepts the trees, and no other list
+abbrev pub TestTells : Type 0
+TestTells = (ids : List Id) → (is_tree ids ≡ true) ↔ IsTree ids
 
 -- a context of a tree has at most one parent, which stands before it, and at most one path
 pub record PathsAreUnique : Type 0 where

@@ -1,4 +1,5 @@
 pub mod Building
+pub mod Decided
 pub mod Keys
 pub mod Laws
 pub mod Paths

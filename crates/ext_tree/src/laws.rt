@@ -1,9 +1,10 @@
 //! Laws of trees and keys, each proved once and for all as the contract of an empty function.
-ghost use Rattle.ext_tree.specs.Laws.{FaultsTell, PathsAreUnique, ParentsListChildren, NumbersTell, CellsTell, NamespacesTell};
+ghost use Rattle.ext_tree.specs.Laws.{FaultsTell, TestTells, PathsAreUnique, ParentsListChildren, NumbersTell, CellsTell, NamespacesTell};
 
-/// Proves the laws of trees: faults, paths and children. It does nothing when it runs.
+/// Proves the laws of trees: faults, the test for trees, paths and children. It does nothing when it runs.
 pub fn tree_laws()
     ensures faults { FaultsTell }
+    ensures decided { TestTells }
     ensures paths { PathsAreUnique }
     ensures children { ParentsListChildren }
 {}

@@ -2,7 +2,9 @@ use Rattle.std.proofs.Common.{◌≡◌, ◌∙◌, arith, rules, length, refl}
 use Rattle.std.proofs.lemmas.List.{drop_all, length-map}
 use Rattle.std.proofs.lemmas.Result.{err_from_is_err_and}
 use Rattle.toml.specs.View.{table_view}
-use Rattle.ext_plan.specs.Plans.{keys_view}
+use Rattle.std.proofs.lemmas.List.Elements.{All-push}
+use Rattle.ext_plan.specs.KeyNumbers.{HasParts}
+use Rattle.ext_plan.specs.Plans.{key_view, keys_view}
 use Rattle.ext_plan.proofs.Lists.{map-push, map-drop}
 use Rattle.ext_plan.proofs.Turns.{keys_go, keys_stop, keys_end, Fails-whole}
 use Rattle.ext_plan.proofs.keys.keys_of.Goals as goal
@@ -23,6 +25,7 @@ loop-table-preserved c =
     record {
       rest = c.loop-table.invariant.rest ∙ rw more (keys_go _ _ _ _ key ∙ rw (c.in_ok-push.ensures.items, map-push) refl);
       labels = c.in_ok-key.ensures.labels ∙ rw (c.loop-table.invariant.labels, c.in_ok-push.ensures.items, map-push, map-push) refl;
+      parts = rw (c.in_ok-push.ensures.items, map-push) (All-push HasParts (keys_view c.loop-table.keys.items) (key_view c.in_ok-key.key) c.loop-table.invariant.parts c.in_ok-key.ensures.parts);
     }
 
 pub returns-clause-exact : goal.returns-clause-exact

@@ -1,16 +1,29 @@
 use Rattle.toml.specs.View.{table_view}
-use Rattle.ext_plan.proofs.Laws.{read_plan_names_keys, read_plan_has_few_cells, read_plan_has_own_labels}
+use Rattle.ext_plan.specs.Laws.{NodesAreTree, TestsHaveNoChildren, HasFewCells, HasOwnLabels, NamespacesHaveParts, StepsNameLabels, StepsStayBelowRoot}
+use Rattle.ext_plan.proofs.Laws.{if_read}
 use Rattle.ext_plan.proofs.NeverNotUtf8.{never_not_utf8}
 use Rattle.ext_plan.proofs.read.read_plan.Goals as goal
 
 pub returns-in-Ok-clause-utf8 : goal.returns-in-Ok-clause-utf8
-returns-in-Ok-clause-utf8 c = never_not_utf8 c.plan_of.result (table_view c.in-Ok.top) c.plan_of.ensures.exact
+returns-in-Ok-clause-utf8 c = never_not_utf8 c.plan_of.result (table_view c.in-Ok.top) c.plan_of.ensures
+
+pub returns-in-Ok-clause-tree : goal.returns-in-Ok-clause-tree
+returns-in-Ok-clause-tree c = if_read NodesAreTree (λ plan laws. laws.tree) c.plan_of.result (table_view c.in-Ok.top) c.plan_of.ensures
+
+pub returns-in-Ok-clause-tests : goal.returns-in-Ok-clause-tests
+returns-in-Ok-clause-tests c = if_read TestsHaveNoChildren (λ plan laws. laws.tests) c.plan_of.result (table_view c.in-Ok.top) c.plan_of.ensures
 
 pub returns-in-Ok-clause-cells : goal.returns-in-Ok-clause-cells
-returns-in-Ok-clause-cells c = read_plan_has_few_cells c.plan_of.result (table_view c.in-Ok.top) c.plan_of.ensures.exact
+returns-in-Ok-clause-cells c = if_read HasFewCells (λ plan laws. laws.cells) c.plan_of.result (table_view c.in-Ok.top) c.plan_of.ensures
 
 pub returns-in-Ok-clause-labels : goal.returns-in-Ok-clause-labels
-returns-in-Ok-clause-labels c = read_plan_has_own_labels c.plan_of.result (table_view c.in-Ok.top) c.plan_of.ensures.exact
+returns-in-Ok-clause-labels c = if_read HasOwnLabels (λ plan laws. laws.labels) c.plan_of.result (table_view c.in-Ok.top) c.plan_of.ensures
+
+pub returns-in-Ok-clause-namespaces : goal.returns-in-Ok-clause-namespaces
+returns-in-Ok-clause-namespaces c = if_read NamespacesHaveParts (λ plan laws. laws.namespaces) c.plan_of.result (table_view c.in-Ok.top) c.plan_of.ensures
 
 pub returns-in-Ok-clause-keys : goal.returns-in-Ok-clause-keys
-returns-in-Ok-clause-keys c = read_plan_names_keys c.plan_of.result (table_view c.in-Ok.top) c.plan_of.ensures.exact
+returns-in-Ok-clause-keys c = if_read StepsNameLabels (λ plan laws. laws.keys) c.plan_of.result (table_view c.in-Ok.top) c.plan_of.ensures
+
+pub returns-in-Ok-clause-up : goal.returns-in-Ok-clause-up
+returns-in-Ok-clause-up c = if_read StepsStayBelowRoot (λ plan laws. laws.up) c.plan_of.result (table_view c.in-Ok.top) c.plan_of.ensures

@@ -1,17 +1,17 @@
-use Rattle.std.proofs.Common.{refl, []}
+use Rattle.std.proofs.Common.{[], arith}
+use Rattle.std.proofs.lemmas.Bool.{ltb-true, ltb-false}
 use Rattle.ext_plan.proofs.Lists.{three}
+use Rattle.ext_plan.proofs.StepWords.{too_few, too_many}
 use Rattle.ext_plan.proofs.steps.step_of_words.Goals as goal
+use Rattle.ext_plan.proofs.steps.step_of_words.Goals.{in_default-via-then-words-lt2, in_default-via-else-words-lt2+else-words-lt3+else-words-lt4+else-words-lt5+else-words-lt6}
 
-pub returns-in-None : goal.returns-in-None
-returns-in-None c =
+pub returns-in-len3 : goal.returns-in-len3
+returns-in-len3 c =
     let words = three (λ w. w.now) c.args.words.now (record { ref_ptr = (0, 0); now = [] }) c.in-len3.len_at_least c.in-len3.len_below in
-    let some = c.if-is_empty.ensures in
-    let none = c.in-None.ensures in
-    rw (words, ← some, ← none) refl
+    rw words c.labelled_text_step.ensures
 
-pub returns-in-Some : goal.returns-in-Some
-returns-in-Some c =
-    let words = three (λ w. w.now) c.args.words.now (record { ref_ptr = (0, 0); now = [] }) c.in-len3.len_at_least c.in-len3.len_below in
-    let some = c.if-is_empty.ensures in
-    let number = c.in-Some.ensures in
-    rw (words, ← some, ← number) c.step_named.ensures
+pub returns-in_default : goal.returns-in_default
+returns-in_default c = elim c.in_default.branch [
+  | in_default-via-then-words-lt2 w ↦ too_few c.args.labels.now (λ w. w.now) c.args.words.now (omega (arith, ltb-true))
+  | in_default-via-else-words-lt2+else-words-lt3+else-words-lt4+else-words-lt5+else-words-lt6 w ↦ too_many c.args.labels.now (λ w. w.now) c.args.words.now (omega (arith, ltb-false))
+]

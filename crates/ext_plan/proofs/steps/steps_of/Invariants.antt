@@ -5,4 +5,4 @@ use Rattle.ext_plan.proofs.steps.steps_of.Given as goal
 
 abbrev pub invariant-loop-text : goal.invariant-loop-text
 invariant-loop-text l =
-    steps_after l.labels l.node [] (map (λ t. t.now) l.texts) ≡ steps_after l.labels l.node (steps_view l.steps) (map (λ t. t.now) (drop l.text-index l.texts))
+    steps_after l.labels l.depth l.node [] (map (λ t. t.now) l.texts) ≡ steps_after l.labels l.depth l.node (steps_view l.steps) (map (λ t. t.now) (drop l.text-index l.texts))

@@ -1,6 +1,4 @@
-use Rattle.std.proofs.Common.{◌≡◌, ◌++◌, ap, append_assoc}
-use Rattle.std.specs.List.{flat_map}
-use Rattle.ext_run.specs.IdText.{pair_line}
+use Rattle.std.proofs.Common.{append_assoc}
 use Rattle.ext_run.proofs.Outcomes.{drop_found}
 use Rattle.ext_run.proofs.id_lines.lines_of.Goals as goal
 

@@ -8,7 +8,7 @@ pub returns : goal.returns
 returns c = record {
   results = result_of_each_node;
   tests = tests_of_plan;
-  opening = λ plan. (λ place claimed. claimed, refl);
+  opening = (λ place claimed. claimed, refl);
   unclaimed = node-free;
   sealed = node-sealed;
   values = node-values;

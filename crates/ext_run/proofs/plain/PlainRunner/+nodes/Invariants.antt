@@ -1,8 +1,7 @@
-use Rattle.std.proofs.Common.{◌≡◌, ◌*◌, ◌+◌, drop}
+use Rattle.std.proofs.Common.{◌≡◌, ◌*◌, ◌+◌, ◌∷◌, drop}
 use Rattle.std.specs.Prelude.{fold}
-use Rattle.ext_plan.specs.Plans.{plan_view}
 use Rattle.ext_run.specs.PlainRun.{node_run}
-use Rattle.ext_run.specs.Helpers.{run_view}
+use Rattle.ext_run.specs.Helpers.{run_view, plan_in}
 use Rattle.ext_run.proofs.plain.PlainRunner.+nodes.Given as goal
 
 abbrev pub decreases-run_node : goal.decreases-run_node
@@ -16,5 +15,5 @@ decreases-run_children l = 3 * l.levels + 1
 
 abbrev pub invariant-run_children-loop-child : goal.invariant-run_children-loop-child
 invariant-run_children-loop-child l =
-    fold (λ run child. node_run (plan_view l.plan) l.levels child run) (run_view l.initial.self) l.children
-    ≡ fold (λ run child. node_run (plan_view l.plan) l.levels child run) (run_view l.self) (drop l.child-index l.children)
+    fold (λ run child. node_run (plan_in l.setting) l.levels (child ∷ l.path) run) (run_view l.initial.self) l.children
+    ≡ fold (λ run child. node_run (plan_in l.setting) l.levels (child ∷ l.path) run) (run_view l.self) (drop l.child-index l.children)

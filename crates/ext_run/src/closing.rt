@@ -1,0 +1,95 @@
+//! The end of a context.
+ghost use Rattle.std.specs.Prelude.{◌≡◌, ◌≤◌, ◌+◌, length, map, option_map, IfOk, OnOk};
+ghost use Rattle.ext_model.specs.Closing.{put_in};
+ghost use Rattle.ext_run.specs.ValueStates.{value_of};
+ghost use Rattle.ext_run.specs.Closes.{seal_keys, numbers_left, closeables, close_verdict};
+ghost use Rattle.ext_run.specs.Helpers.{state_view, value_view, verdict_view, only_closeable, Ends};
+
+use crate::node_end::NodeEnd;
+use crate::step_text::close_text;
+use crate::value_store::{Value, ValueStore};
+use crate::verdict::Verdict;
+use ext_model::ContextNo;
+use std::alloc::{AllocError, Global};
+
+impl<'a> ValueStore<'a> {
+    /// Seals the first so many keys of a context, in order, and answers the numbers that the seals keep, the greatest
+    /// first.
+    pub(crate) fn seal_keys(
+        &mut self,
+        alloc: Global,
+        keys: usize,
+        at: ContextNo,
+    ) -> Result<Vec<u32>, AllocError>
+        ensures state { OnOk result (state_view self.new ≡ seal_keys keys at (state_view self.old)) }
+        ensures numbers { IfOk result (λ numbers. numbers.items ≡ numbers_left keys at (state_view self.new)) }
+        ensures few { IfOk result (λ numbers. length numbers.items ≤ keys) }
+    {
+        let mut numbers = Vec::new(alloc);
+        for key in 0..keys {
+            if let Some(number) = self.seal(at, key)? {
+                put_in(&mut numbers, number)?;
+            }
+        }
+        Ok(numbers)
+    }
+
+    /// The end of a node whose body ended so: closes the closeable ones among the values of these numbers, in order,
+    /// each once. A close that fails does not stop the others.
+    pub(crate) fn close_values(
+        &self,
+        alloc: Global,
+        body: Verdict,
+        numbers: &[u32],
+    ) -> Result<NodeEnd, AllocError>
+        requires { length numbers.now ≤ 64 }
+        ensures { IfOk result (λ e. Ends e (verdict_view body) (map close_verdict (closeables (state_view self.now).values numbers.now))) }
+    {
+        let mut end = NodeEnd::after(body);
+        for number in numbers {
+            if let Some(value) = self.closeable(*number) {
+                end.add_close(close(alloc, value)?);
+            }
+        }
+        Ok(end)
+    }
+
+    /// The value of a number, if it is closeable.
+    fn closeable(&self, number: u32) -> Option<Value<'a>>
+        ensures { option_map value_view result ≡ only_closeable (value_of (state_view self.now).values number) }
+    {
+        match self.value_of(number) {
+            Some(value) if value.closeable => Some(value),
+            _ => None,
+        }
+    }
+}
+
+/// Puts a number into a falling list, before the first that is less; one that is there already is not put in again.
+fn put_in(numbers: &mut Vec<u32>, number: u32) -> Result<(), AllocError>
+    ensures items { OnOk result (numbers.new.items ≡ put_in number numbers.old.items) }
+    ensures few { OnOk result (length numbers.new.items ≤ length numbers.old.items + 1) }
+{
+    for i in 0..numbers.len() {
+        let standing = numbers[i];
+        if standing < number {
+            numbers.insert(i, number)?;
+            return Ok(());
+        }
+        if standing == number {
+            return Ok(());
+        }
+    }
+    numbers.push(number)?;
+    Ok(())
+}
+
+/// The close action of the program: it fails for a value whose text begins with `bad`.
+fn close(alloc: Global, value: Value<'_>) -> Result<Verdict, AllocError>
+    ensures { IfOk result (λ v. verdict_view v ≡ close_verdict (value_view value.entry)) }
+{
+    if value.text.as_bytes().starts_with(b"bad") {
+        return Ok(Verdict::failed(close_text(alloc, value.text)?));
+    }
+    Ok(Verdict::Successful)
+}

@@ -1,0 +1,195 @@
+//! The store of a plain run, with the values of its numbers.
+ghost use Rattle.std.specs.Prelude.{◌≡◌, ◌≢◌, true, false, None, Some, option_map, string_bytes, IfOk, OnOk};
+ghost use Rattle.ext_model.specs.declared.event.Act.TheVariants as act;
+ghost use Rattle.ext_model.specs.declared.slot.Slot.TheVariants as slot;
+ghost use Rattle.ext_model.specs.State.{lookup};
+ghost use Rattle.ext_model.specs.Plain.{any_lane, under};
+ghost use Rattle.ext_model.specs.Closing.{kept_by};
+ghost use Rattle.ext_run.specs.ValueStates.{after_act, why_refused, next_number, keep_value, value_of, value_opening, ValueText};
+ghost use Rattle.ext_run.specs.Refusals.{fault_reason, Told, Keeps};
+
+use ext_model::{ContextNo, KeyNo, LaneNo, Look, PlainFault, PlainStore};
+use std::alloc::{AllocError, Global};
+
+/// How many numbers a run's store draws at most.
+const NUMBERS: u32 = 65_535;
+
+/// The one lane of a plain run.
+const LANE: LaneNo = 0;
+
+/// A value of a run: its text, which the plan has, and whether it is closed with its context.
+#[derive(Clone, Copy, Debug, PartialEq, Eq)]
+pub(crate) struct Value<'a> {
+    pub(crate) text: &'a str,
+    pub(crate) closeable: bool,
+}
+
+impl<'a> Value<'a> {
+    ghost use Rattle.ext_run.specs.Helpers.{value_view};
+
+    /// A value that isn't closeable.
+    pub(crate) fn open(text: &'a String) -> Value<'a>
+        ensures { value_view result ≡ record { text = string_bytes text.now; closeable = false } }
+    {
+        Value {
+            text: text.as_str(),
+            closeable: false,
+        }
+    }
+
+    /// A closeable value.
+    pub(crate) fn closeable(text: &'a String) -> Value<'a>
+        ensures { value_view result ≡ record { text = string_bytes text.now; closeable = true } }
+    {
+        Value {
+            text: text.as_str(),
+            closeable: true,
+        }
+    }
+}
+
+/// The store of a plain run. A call that is refused answers the words for it; want of memory ends the run instead.
+#[derive(Drop)]
+pub(crate) struct ValueStore<'a> {
+    store: PlainStore,
+    /// The values that were kept: the first has number 1.
+    values: Vec<Value<'a>>,
+    ghost limit: { store.numbers ≡ 65535 },
+}
+
+impl<'a> ValueStore<'a> {
+    ghost use Rattle.ext_run.specs.Helpers.{value_view, state_view};
+
+    /// An empty store.
+    pub(crate) fn new(alloc: Global) -> ValueStore<'a>
+        ensures { state_view result ≡ value_opening }
+    {
+        ValueStore {
+            store: PlainStore::new(alloc, NUMBERS),
+            values: Vec::new(alloc),
+        }
+    }
+
+    /// Keeps a value, and answers the number that is drawn for it.
+    pub(crate) fn keep(&mut self, value: Value<'a>) -> Result<Result<u32, &'static str>, AllocError>
+        ensures { IfOk result (Keeps (value_view value.entry) (state_view self.old) (state_view self.new)) }
+    {
+        match self.store.keep() {
+            Ok(number) => {
+                // The first number is 1: the value of number n is the n-th that was pushed.
+                self.values.push(value)?;
+                Ok(Ok(number))
+            }
+            Err(fault) => Ok(Err(reason_of(fault)?)),
+        }
+    }
+
+    /// What is found along a path.
+    pub(crate) fn look(&self, path: &[ContextNo], key: KeyNo) -> Look
+        ensures { result ≡ lookup (under (state_view self.now).store key) path.now }
+    {
+        self.store.get(path, key)
+    }
+
+    /// The value of a number, from 1; `None` for a number that was never drawn.
+    pub(crate) fn value_of(&self, number: u32) -> Option<Value<'a>>
+        ensures { option_map value_view result ≡ value_of (state_view self.now).values number }
+    {
+        match number.checked_sub(1) {
+            None => None,
+            Some(place) => self.values.get(place as usize).copied(),
+        }
+    }
+
+    /// Stores a number, or tells why not.
+    pub(crate) fn put(
+        &mut self,
+        at: ContextNo,
+        key: KeyNo,
+        number: u32,
+    ) -> Result<Option<&'static str>, AllocError>
+        ensures state { OnOk result (state_view self.new ≡ after_act (act.Put (at, key) number) (state_view self.old)) }
+        ensures why { IfOk result (λ why. option_map (λ w. w.now) why ≡ why_refused (act.Put (at, key) number) (state_view self.old)) }
+    {
+        told(self.store.put(at, key, number))
+    }
+
+    /// Removes the number that stands there, or tells why not.
+    pub(crate) fn remove(
+        &mut self,
+        at: ContextNo,
+        key: KeyNo,
+    ) -> Result<Option<&'static str>, AllocError>
+        ensures state { OnOk result (state_view self.new ≡ after_act (act.Remove (at, key)) (state_view self.old)) }
+        ensures why { IfOk result (λ why. option_map (λ w. w.now) why ≡ why_refused (act.Remove (at, key)) (state_view self.old)) }
+    {
+        told(self.store.remove(at, key))
+    }
+
+    /// Claims an empty place, or tells why not.
+    pub(crate) fn claim(
+        &mut self,
+        at: ContextNo,
+        key: KeyNo,
+    ) -> Result<Option<&'static str>, AllocError>
+        ensures state { OnOk result (state_view self.new ≡ after_act (act.Claim (at, key)) (state_view self.old)) }
+        ensures why { IfOk result (λ why. option_map (λ w. w.now) why ≡ why_refused (act.Claim (at, key)) (state_view self.old)) }
+        ensures won { IfOk result (λ why. why ≡ None → under (state_view self.new).store key at ≡ Some (slot.Claim any_lane)) }
+    {
+        told(self.store.claim(at, key, LANE))
+    }
+
+    /// Stores a number in the place of the claim.
+    pub(crate) fn fill(&mut self, at: ContextNo, key: KeyNo, number: u32)
+        requires { under (state_view self.old).store key at ≡ Some (slot.Claim any_lane) }
+        ensures { state_view self.new ≡ after_act (act.Fill (at, key) number) (state_view self.old) }
+    {
+        // A fill is never refused: the place is in use already, so that it takes no memory.
+        let _ = self.store.fill(at, key, LANE, number);
+    }
+
+    /// Ends the claim: the place is empty.
+    pub(crate) fn abandon(&mut self, at: ContextNo, key: KeyNo)
+        requires { under (state_view self.old).store key at ≡ Some (slot.Claim any_lane) }
+        ensures { state_view self.new ≡ after_act (act.Abandon (at, key)) (state_view self.old) }
+    {
+        self.store.abandon(at, key, LANE);
+    }
+
+    /// Seals a place, and answers the number that the seal keeps.
+    pub(crate) fn seal(&mut self, at: ContextNo, key: KeyNo) -> Result<Option<u32>, AllocError>
+        ensures state { OnOk result (state_view self.new ≡ after_act (act.Seal (at, key)) (state_view self.old)) }
+        ensures kept { IfOk result (λ kept. kept ≡ kept_by (under (state_view self.new).store key at)) }
+    {
+        match self.store.seal(at, key) {
+            Ok(kept) => Ok(kept),
+            Err(PlainFault::Memory) => Err(AllocError),
+            // By a claim, which never comes: one thread has no claims between two steps.
+            Err(_) => Ok(None),
+        }
+    }
+}
+
+/// Why a call of the store was refused, if it was. Want of memory ends the run instead.
+fn told<T: Drop>(answer: Result<T, PlainFault>) -> Result<Option<&'static str>, AllocError>
+    ensures { IfOk result (λ why. Told answer (option_map (λ w. w.now) why)) }
+{
+    match answer {
+        Ok(_) => Ok(None),
+        Err(fault) => Ok(Some(reason_of(fault)?)),
+    }
+}
+
+/// The words for why a call of the store was refused.
+fn reason_of(fault: PlainFault) -> Result<&'static str, AllocError>
+    ensures words { IfOk result (λ why. why.now ≡ fault_reason fault) }
+    ensures memory { OnOk result (fault ≢ PlainFault.Memory) }
+{
+    match fault {
+        PlainFault::NumbersFull => Ok("numbers full"),
+        PlainFault::Closed => Ok("closed"),
+        PlainFault::Busy => Ok("busy"),
+        PlainFault::Taken(_) => Ok("taken"),
+        PlainFault::Memory => Err(AllocError),
+    }
+}
