@@ -1,4 +1,5 @@
 //! A lane: what a thread owns to act on the cells.
+ghost use Rattle.std.specs.Prelude.{◌≡◌};
 ghost use Rattle.ext_model.specs.History.{IsLegal};
 ghost use Rattle.ext_model.specs.Views.{seen_by};
 
@@ -19,7 +20,8 @@ pub struct CellLane {
 impl Model for CellLane {
     ghost use Rattle.std.specs.Prelude.{◌≡◌, Some};
     ghost use Rattle.crossbeam_utils.specs.Seq.{cell_view};
-    ghost use Rattle.ext_model.specs.History.{IsLegal};
+    ghost use Rattle.std.specs.Prelude.{◌≡◌};
+ghost use Rattle.ext_model.specs.History.{IsLegal};
     ghost use Rattle.ext_model.specs.Views.{seen};
     ghost use Rattle.ext_cells.specs.declared.rule.Phase.TheVariants.{Open};
     ghost use Rattle.ext_cells.specs.Lanes.{Lane};
@@ -33,6 +35,13 @@ impl Model for CellLane {
 }
 
 impl CellLane {
+    /// The lane's number, from 0 in the order in which `Cells::open` gave the lanes out. Takes no memory (own rule).
+    pub fn number(&self) -> LaneNo
+        ensures { result ≡ self.now.view.number }
+    {
+        self.number
+    }
+
     // What was seen is legal: a proof finds it here.
     pub(crate) fn look_back(&self)
         ensures { IsLegal self.now.cells.limits (seen_by self.now.view) }

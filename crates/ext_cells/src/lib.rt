@@ -25,5 +25,6 @@ pub use cell_state::CellState;
 pub use cell_word::{after, parts, word};
 pub use cells::Cells;
 pub use lane::CellLane;
+pub use opening::are_limits;
 pub use refusal::CellRefusal;
 pub use words::Words;

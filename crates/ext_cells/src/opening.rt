@@ -10,7 +10,9 @@ use ext_model::LaneNo;
 use std::alloc::{AllocError, Global};
 use std::sync::Wait;
 
-pub(crate) fn are_limits(cells: usize, lanes: usize, tries: u32, numbers: u32) -> bool
+/// Whether `Cells::open` takes these limits: at most 31 cells, 1 to 16 lanes, 1 to 64 tries and 1 to 65,535 numbers.
+/// Takes no memory (own rule).
+pub fn are_limits(cells: usize, lanes: usize, tries: u32, numbers: u32) -> bool
     ensures { IsTrue result ↔ AreLimits cells lanes tries numbers }
 {
     cells < WORDS

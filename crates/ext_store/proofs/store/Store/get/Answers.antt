@@ -1,0 +1,18 @@
+use Rattle.std.proofs.Common.{rules, ◌≡◌, ◌≤◌, ap, subst, arith, length, ℕ, Option, Some}
+use Rattle.ext_tree.specs.Paths.{IsPathOf}
+use Rattle.ext_store.specs.Stores.{StoreLane}
+use Rattle.ext_store.specs.Calls.{Gets}
+use Rattle.ext_store.proofs.LookUps.{looks_answer}
+use Rattle.ext_store.proofs.store.Store.get.Goals as goal
+
+one_number : (a b : ℕ) → (let x : Option ℕ = Some a in let y : Option ℕ = Some b in x ≡ y) → a ≡ b
+one_number a b e = cc e
+
+pub returns-clause-answer : goal.returns-clause-answer
+returns-clause-answer g c number has =
+    let same : c.in-Some.key ≡ number = one_number c.in-Some.key number (c.in-Some.ensures.found number (search rules)) in
+    let some : 1 ≤ length c.as_slice.result.now = (let l = ap length c.as_slice.ensures.contexts in let s = c.path-path.ensures.some in omega (arith, l, s)) in
+    let answers = looks_answer c.args.self.now c.as_slice.result.now c.in-Some.key c.lane.inside.cells c.look_along.new.lane c.look_along.result some c.look_along.ensures.look in
+    let path : IsPathOf c.args.self.now.tree c.args.context c.as_slice.result.now = search rules in
+    subst (λ k. Gets c.args.self.now c.args.context k c.args.lane.now.cells c.look_along.new.lane c.look_along.result) same
+    (subst (λ l. Gets c.args.self.now c.args.context c.in-Some.key l c.look_along.new.lane c.look_along.result) (ap (λ (l : StoreLane g.row.V.Denot). l.cells) c.lane.view_is) (c.as_slice.result.now, path, answers))

@@ -1,0 +1,8 @@
+use Rattle.std.proofs.Common.{ap}
+use Rattle.ext_store.specs.Stores.{StoreView}
+use Rattle.ext_store.proofs.Replies.{put_refused}
+use Rattle.ext_store.proofs.store.Store.put_at.Goals as goal
+
+pub returns-in-Err-clause-answer : goal.returns-in-Err-clause-answer
+returns-in-Err-clause-answer g c =
+    put_refused c.args.self.now c.args.context c.args.key c.args.lane.now c.put.new.lane _ _ _ c.args.kept _ c.at.result (ap (λ (s : StoreView). s.tries) c.self.view_is) c.cell-cell.ensures.cell c.kept.view_is c.at.ensures c.in-Err.ensures.reply

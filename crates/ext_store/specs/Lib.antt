@@ -1,0 +1,4 @@
+pub mod Stores
+pub mod Calls
+pub mod Looking
+pub mod Refusals

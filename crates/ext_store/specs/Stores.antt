@@ -1,0 +1,83 @@
+-- What contracts see of a store, of its lanes and closers, and of kept numbers.
+-- Own rule. A lane is seen as its lane of the cells, whose words are those of `Views` of ext_model, and as what it knows of the values of numbers.
+use Rattle.std.specs.Prelude.{ℕ, zero, suc, ◌≡◌, ◌≢◌, ◌+◌, ◌*◌, ◌<◌, List, [], ◌∷◌, ◌++◌, length, Some}
+use Rattle.ext_model.specs.History.{Limits}
+use Rattle.ext_model.specs.Calls.{MayStoreNow}
+use Rattle.ext_tree.specs.Trees.{Id}
+use Rattle.ext_tree.specs.Keys.{KeyValue}
+use Rattle.ext_values.specs.Known.{Known, AreNotesOf, known_at, nothing_known}
+use Rattle.ext_cells.specs.Lanes.{CellsId, Lane, AreLimits}
+
+-- Which store it is: its cells, and the names of the places of its values, in the order of their numbers
+pub record StoreId : Type 0 where
+  pub cells : CellsId
+  pub places : List ℕ
+
+-- A store: which it is, the ids of its contexts, its declared keys in the order of their numbers, and how many exchanges a call makes at most
+pub record StoreView : Type 0 where
+  pub id : StoreId
+  pub tree : List Id
+  pub keys : List KeyValue
+  pub tries : ℕ
+
+-- A lane: its steps on the cells, and what it knows of the value of each number
+pub record StoreLane (V : Type 0) : Type 0 where
+  pub cells : Lane
+  pub known : List (Known V)
+
+-- A closer: the cells of its store, and the context that it closes
+pub record CloserView : Type 0 where
+  pub cells : CellsId
+  pub context : ℕ
+
+-- there is a cell for each context and key, and a place for each number
+pub record IsWell (tree : List Id) (keys : List KeyValue) (limits : Limits) (places : List ℕ) : Type 0 where
+  pub cells : limits.cells ≡ length tree * length keys
+  pub numbers : limits.numbers ≡ length places
+
+-- the cell of a context and a key, by their numbers
+abbrev pub cell_in : StoreView → ℕ → ℕ → ℕ
+cell_in store key context = context * length store.keys + key
+
+-- ---- what is of a store
+
+-- the lane is of this store
+pub record IsLaneOf {V : Type 0} (id : StoreId) (lane : StoreLane V) : Type 0 where
+  pub cells : lane.cells.cells ≡ id.cells
+  pub places : AreNotesOf id.places lane.known
+
+-- the closer is of this store, and so is its context
+pub record IsCloserOf (store : StoreView) (closer : CloserView) : Type 0 where
+  pub cells : closer.cells ≡ store.id.cells
+  pub context : closer.context < length store.tree
+
+-- ---- kept numbers
+
+-- the lane drew the number and has not stored it, and knows its value
+pub record IsKeptBy {V : Type 0} (lane : StoreLane V) (number : ℕ) : Type 0 where
+  pub storable : MayStoreNow lane.cells.view number
+  pub value : V
+  pub known : known_at lane.known number ≡ Some value
+
+-- what the lane kept before, it keeps afterwards
+pub record StillKeeps {V : Type 0} (before after : StoreLane V) : Type 0 where
+  pub each : (number : ℕ) → IsKeptBy before number → IsKeptBy after number
+
+-- all but this number
+pub record StillKeepsBut {V : Type 0} (stored : ℕ) (before after : StoreLane V) : Type 0 where
+  pub each : (number : ℕ) → number ≢ stored → IsKeptBy before number → IsKeptBy after number
+
+-- ---- opening
+
+-- a lane that has made no step and knows no value
+abbrev pub fresh_store_lane : {V : Type 0} → List ℕ → Lane → StoreLane V
+fresh_store_lane places lane = record { cells = lane; known = nothing_known places }
+
+-- a closer for each of the contexts below n, in order
+abbrev pub closers_below : CellsId → ℕ → List CloserView
+closers_below cells zero = []
+closers_below cells (suc n) = closers_below cells n ++ record { cells = cells; context = n } ∷ []
+
+-- the limits are within their ranges, however many cells there are
+abbrev pub AreStoreLimits : ℕ → ℕ → ℕ → Type 0
+AreStoreLimits lanes tries numbers = AreLimits 0 lanes tries numbers

@@ -1,0 +1,33 @@
+//! The right to close a context.
+ghost use Rattle.std.specs.Prelude.{◌≡◌};
+
+use ext_cells::Cells;
+use ext_model::ContextNo;
+use std::marker::Model;
+use std::snapshot::Snapshot;
+
+/// The right to close a context, once. `Store::open` gives out one for each context, and there is no other way to
+/// one. It may go to another thread, and where it is dropped its context stays open. In contracts it is the cells of
+/// its store and its context. Own rule.
+#[derive(Drop)]
+pub struct Closer {
+    pub(crate) context: ContextNo,
+    pub(crate) cells: Snapshot<Cells>,
+}
+
+impl Model for Closer {
+    ghost use Rattle.ext_store.specs.Stores.{CloserView};
+
+    ghost Value = { CloserView };
+
+    ghost view = { λ c. record { cells = c.cells.value.id; context = c.context } };
+}
+
+impl Closer {
+    /// The context, from 0. Takes no memory. Own rule.
+    pub fn context(&self) -> ContextNo
+        ensures { result ≡ self.now.context }
+    {
+        self.context
+    }
+}

@@ -1,0 +1,28 @@
+//! A number whose value is kept, and which can be stored.
+ghost use Rattle.std.specs.Prelude.{◌≡◌};
+
+use std::marker::Model;
+
+/// The number of a value that a lane has kept: it is stored by one `put` of this lane, and by no other. Where it is
+/// dropped, its value is found by its number alone. In contracts it is the number. Own rule.
+#[derive(Debug, Drop)]
+pub struct Kept {
+    pub(crate) number: u32,
+}
+
+impl Model for Kept {
+    ghost use Rattle.std.specs.Prelude.{ℕ};
+
+    ghost Value = { ℕ };
+
+    ghost view = { λ k. k.number };
+}
+
+impl Kept {
+    /// The number, from 1. Takes no memory. Own rule.
+    pub fn number(&self) -> u32
+        ensures { result ≡ self.now }
+    {
+        self.number
+    }
+}

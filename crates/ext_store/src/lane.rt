@@ -1,0 +1,34 @@
+//! A lane of a store, which a thread owns.
+ghost use Rattle.std.specs.Prelude.{◌≡◌};
+
+use ext_cells::CellLane;
+use ext_model::LaneNo;
+use ext_values::Notes;
+use std::marker::Model;
+
+/// A lane of a store, which one thread at a time owns. It may go to another thread, and be dropped.
+///
+/// In contracts it is its lane of the cells, and what it knows of the value of each number: a value is known where
+/// the lane kept it or was shown it. Own rule.
+#[derive(Drop)]
+pub struct Lane<V> {
+    pub(crate) cells: CellLane,
+    pub(crate) notes: Notes<V>,
+}
+
+impl<V> Model for Lane<V> {
+    ghost use Rattle.ext_store.specs.Stores.{StoreLane};
+
+    ghost Value = { StoreLane V };
+
+    ghost view = { λ l. record { cells = l.cells; known = l.notes } };
+}
+
+impl<V> Lane<V> {
+    /// The lane's number, from 0 in the order in which `Store::open` gave the lanes out. Takes no memory. Own rule.
+    pub fn number(&self) -> LaneNo
+        ensures { result ≡ self.now.cells.view.number }
+    {
+        self.cells.number()
+    }
+}

@@ -1,0 +1,27 @@
+//! The store of values that parallel test engines share: contexts in a tree, declared keys, and lanes.
+//!
+//! `Store` is shared by reference, and each thread owns a `Lane`: all calls of all lanes together are one
+//! history, as the definitions of `ext_model` say it, and each answer but `Contended` is that of one thread at
+//! a point of the call. A value is kept first, which gives it a number, and the number is then stored under a
+//! key in a context. `specs/Stores` and `specs/Calls` have the words of the contracts.
+//!
+//! Each call that steps on the cells takes the runtime and may wait, until each cell is a word of its own.
+#![tactic(auto)]
+
+mod closer;
+mod fault;
+mod kept;
+mod lane;
+mod limits;
+mod opening;
+mod store;
+mod value;
+mod walk;
+
+pub use closer::Closer;
+pub use fault::{KeepFault, Refusal};
+pub use kept::Kept;
+pub use lane::Lane;
+pub use limits::{Limits, StoreFault};
+pub use store::Store;
+pub use value::StoreValue;

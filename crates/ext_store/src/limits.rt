@@ -1,0 +1,27 @@
+//! The limits of a store, and why it is not opened.
+use thiserror::Error;
+
+/// The limits of a store that is opened. Own rule.
+#[derive(Clone, Copy, Debug, PartialEq, Eq)]
+pub struct Limits {
+    /// How many lanes there are, for as many threads: 1 to 16.
+    pub lanes: usize,
+    /// How many exchanges a call makes at most before it answers `Contended`: 1 to 64.
+    pub tries: u32,
+    /// How many values can be kept while the store lives: 1 to 65,535.
+    pub numbers: u32,
+}
+
+/// Why a store is not opened. Own rule.
+#[derive(Clone, Copy, Debug, PartialEq, Eq, Error)]
+pub enum StoreFault {
+    /// There were to be too few or too many lanes, tries or numbers.
+    #[error("a limit is out of its range")]
+    BadLimit,
+    /// The contexts times the keys are more cells than there can be.
+    #[error("too many cells")]
+    TooManyCells,
+    /// An allocation failed.
+    #[error("no memory")]
+    Memory,
+}

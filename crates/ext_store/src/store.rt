@@ -1,0 +1,395 @@
+//! The store and its calls.
+ghost use Rattle.std.specs.Prelude.{ℕ, ◌≡◌, ◌≢◌, ◌↔◌, ◌*◌, ◌<◌, ◌≤◌, [], All, Contains, IfErr, IfNone, IfOk, IfSome, MatchResult, Ok, Err, length, map, take};
+ghost use mathlib.Core.List.{IsPrefix};
+ghost use Rattle.ext_model.specs.Calls.{Calls, MayStoreNow};
+ghost use Rattle.ext_model.specs.Views.{seen_by};
+ghost use Rattle.ext_tree.specs.Keys.{HasNumber};
+ghost use Rattle.ext_values.specs.Known.{AllAgree, KeepsKnown, Learns, known_at};
+ghost use Rattle.ext_cells.specs.Lanes.{AreLimits, fresh_lanes};
+ghost use Rattle.ext_store.specs.declared.limits.StoreFault.TheVariants as store_fault;
+ghost use Rattle.ext_store.specs.declared.fault.Refusal.TheVariants as refusal;
+ghost use Rattle.ext_store.specs.Stores.{AreStoreLimits, IsCloserOf, IsKeptBy, IsLaneOf, StillKeeps, StillKeepsBut, cell_in, closers_below, fresh_store_lane};
+ghost use Rattle.ext_store.specs.Calls.{Gets, KeepsAs, KeepsNothing, Puts, Removes};
+ghost use Rattle.ext_store.specs.Looking.{IsTrail, Looks};
+
+use crate::opening::{closers_of, lanes_of};
+use crate::walk::walk;
+use crate::{Closer, KeepFault, Kept, Lane, Limits, Refusal, StoreFault, StoreValue};
+use ext_cells::{CellLane, Cells, are_limits};
+use ext_model::{CellNo, ContextNo, KeyNo, Look};
+use ext_tree::{Directory, Key, Tree};
+use ext_values::Values;
+use std::alloc::Global;
+use std::marker::Model;
+use std::sync::Wait;
+
+/// Values under keys in the contexts of a test run, shared by reference between the threads that own its lanes.
+///
+/// A value is kept, which gives it a number; the number is stored under a key in a context, and is found from there
+/// and from all contexts below. A lane and a closer are used with the store that gave them out. A refused call changes
+/// nothing unless it says so.
+///
+/// Javadoc `ExtensionContext.Store`; JUnit 5 User Guide, section "Keeping State in Extensions". Numbers, lanes,
+/// claims, closers and refusals are own rules.
+#[derive(Drop)]
+pub struct Store<V> {
+    tree: Tree,
+    directory: Directory,
+    cells: Cells,
+    values: Values<V>,
+    alloc: Global,
+}
+
+impl<V> Model for Store<V> {
+    ghost use Rattle.ext_store.specs.Stores.{StoreView, IsWell};
+
+    ghost Value = { StoreView };
+
+    ghost view = { λ s. record { id = record { cells = s.cells.id; places = s.values }; tree = s.tree; keys = s.directory; tries = s.cells.tries } };
+
+    ghost invariant = { λ s. IsWell s.tree s.directory s.cells.id.limits s.values };
+}
+
+impl<V> Store<V> {
+    /// The contexts. Takes no memory. Own rule.
+    pub fn tree(&self) -> &Tree
+        ensures { result.now ≡ self.now.tree }
+    {
+        &self.tree
+    }
+
+    /// The declared keys. Takes no memory. Own rule.
+    pub fn directory(&self) -> &Directory
+        ensures { result.now ≡ self.now.keys }
+    {
+        &self.directory
+    }
+
+    // What the calls rest on.
+    fn look_back(&self)
+        ensures cells { self.now.id.cells.limits.cells ≡ length self.now.tree * length self.now.keys }
+        ensures numbers { self.now.id.cells.limits.numbers ≡ length self.now.id.places }
+        ensures few { self.now.id.cells.limits.numbers ≤ 65535 }
+    {
+        let _capacity = self.values.capacity();
+    }
+
+    // The cell of the key in the context.
+    fn cell(&self, context: ContextNo, key: KeyNo) -> CellNo
+        requires context { context < length self.now.tree }
+        requires key { key < length self.now.keys }
+        ensures cell { result ≡ cell_in self.now key context }
+        ensures within { result < self.now.id.cells.limits.cells }
+    {
+        let _contexts = self.tree.len();
+        self.directory.cell(context, key)
+    }
+
+    // The cells of the key on the path.
+    fn cells_on(&self, path: &[ContextNo], key: KeyNo) -> [CellNo; 16]
+        requires path { IsTrail self.now path.now }
+        requires key { key < length self.now.keys }
+        ensures { take (length path.now) result ≡ map (cell_in self.now key) path.now }
+    {
+        let mut cells = [0; 16];
+        for (i, context) in path.iter().enumerate() {
+            cells[i] = self.cell(*context, key);
+        }
+        cells
+    }
+
+    // The look-up of the key along the path.
+    fn look_along<R: Wait>(
+        &self,
+        rt: &R,
+        lane: &mut CellLane,
+        path: &[ContextNo],
+        key: KeyNo,
+    ) -> Result<Look, Refusal>
+        requires lane { lane.old.cells ≡ self.now.id.cells }
+        requires path { IsTrail self.now path.now }
+        requires key { key < length self.now.keys }
+        ensures lane { lane.new.cells ≡ lane.old.cells }
+        ensures look { Looks self.now path.now key lane.old lane.new result }
+    {
+        self.look_back();
+        let cells = self.cells_on(path, key);
+        match self.cells.collect(rt, lane, &cells[..path.len()]) {
+            Ok(words) => Ok(walk(path, &words)),
+            Err(_) => Err(Refusal::Contended),
+        }
+    }
+
+    // Stores the kept number under the key in the context.
+    fn put_at<R: Wait>(
+        &self,
+        rt: &R,
+        lane: &mut CellLane,
+        context: ContextNo,
+        key: KeyNo,
+        kept: Kept,
+    ) -> Result<Option<u32>, (Kept, Refusal)>
+        requires lane { lane.old.cells ≡ self.now.id.cells }
+        requires context { context < length self.now.tree }
+        requires key { key < length self.now.keys }
+        requires kept { MayStoreNow lane.old.view kept }
+        ensures lane { lane.new.cells ≡ lane.old.cells }
+        ensures answer { Puts self.now context key kept lane.old lane.new result }
+        ensures handed_back { IfErr result (λ e. e.0 ≡ kept) }
+    {
+        let cell = self.cell(context, key);
+        match self.cells.put(rt, lane, cell, kept.number) {
+            Ok(stood) => Ok(stood),
+            Err(why) => Err((kept, Refusal::at(context, why))),
+        }
+    }
+
+    // Takes out what stands under the key in the context.
+    fn remove_at<R: Wait>(
+        &self,
+        rt: &R,
+        lane: &mut CellLane,
+        context: ContextNo,
+        key: KeyNo,
+    ) -> Result<Option<u32>, Refusal>
+        requires lane { lane.old.cells ≡ self.now.id.cells }
+        requires context { context < length self.now.tree }
+        requires key { key < length self.now.keys }
+        ensures lane { lane.new.cells ≡ lane.old.cells }
+        ensures answer { Removes self.now context key lane.old lane.new result }
+    {
+        let cell = self.cell(context, key);
+        match self.cells.remove(rt, lane, cell) {
+            Ok(stood) => Ok(stood),
+            Err(why) => Err(Refusal::at(context, why)),
+        }
+    }
+}
+
+impl<V: StoreValue + Drop> Store<V> {
+    /// Opens a store in which nothing stands, with its lanes, which are numbered from 0 in the order of the list, and
+    /// with one closer for each context, in order. Takes all memory that the store needs but for the values
+    /// themselves, and may wait. Own rule.
+    ///
+    /// Refused, in this order, as `BadLimit` unless there are 1 to 16 lanes, 1 to 64 tries and 1 to 65,535 numbers, as
+    /// `TooManyCells` where the contexts times the keys are more than 31, and as `Memory`. A refused call drops the
+    /// tree and the directory.
+    pub fn open<R: Wait>(
+        rt: &R,
+        alloc: Global,
+        tree: Tree,
+        directory: Directory,
+        limits: Limits,
+    ) -> Result<(Store<V>, Vec<Lane<V>>, Vec<Closer>), StoreFault>
+        // The store is of these contexts, keys and limits.
+        ensures tree { IfOk result (λ r. (r.0.tree ≡ tree) × (r.0.keys ≡ directory)) }
+        ensures limits { IfOk result (λ r. r.0.id.cells.limits ≡ record { cells = length tree * length directory; numbers = limits.numbers }) }
+        ensures places { IfOk result (λ r. length r.0.id.places ≡ limits.numbers) }
+        ensures tries { IfOk result (λ r. r.0.tries ≡ limits.tries) }
+
+        // Its lanes have made no step and know nothing, and there is one closer a context.
+        ensures lanes { IfOk result (λ r. r.1.items ≡ map (fresh_store_lane r.0.id.places) (fresh_lanes r.0.id.cells 0 limits.lanes)) }
+        ensures own_lanes { IfOk result (λ r. All (IsLaneOf r.0.id) r.1.items) }
+        ensures closers { IfOk result (λ r. r.2.items ≡ closers_below r.0.id.cells (length tree)) }
+        ensures own_closers { IfOk result (λ r. All (IsCloserOf r.0) r.2.items) }
+
+        // When it is refused.
+        ensures within { IfOk result (λ _. AreLimits (length tree * length directory) limits.lanes limits.tries limits.numbers) }
+        ensures bad_limit { (result ≡ Err store_fault.BadLimit) ↔ (¬ AreStoreLimits limits.lanes limits.tries limits.numbers) }
+        ensures too_many { (result ≡ Err store_fault.TooManyCells) ↔ (AreStoreLimits limits.lanes limits.tries limits.numbers × (¬ AreLimits (length tree * length directory) limits.lanes limits.tries limits.numbers)) }
+    {
+        if !are_limits(0, limits.lanes, limits.tries, limits.numbers) {
+            return Err(StoreFault::BadLimit);
+        }
+        let count = tree.len() * directory.len();
+        if !are_limits(count, limits.lanes, limits.tries, limits.numbers) {
+            return Err(StoreFault::TooManyCells);
+        }
+        let Ok((cells, cell_lanes)) = Cells::open(
+            rt,
+            alloc,
+            count,
+            limits.lanes,
+            limits.tries,
+            limits.numbers,
+        ) else {
+            return Err(StoreFault::Memory);
+        };
+        let Ok(values) = Values::new(alloc, limits.numbers) else {
+            return Err(StoreFault::Memory);
+        };
+        let Ok(lanes) = lanes_of(alloc, &values, cell_lanes) else {
+            return Err(StoreFault::Memory);
+        };
+        let Ok(closers) = closers_of(alloc, &cells, tree.len()) else {
+            return Err(StoreFault::Memory);
+        };
+        let store = Store {
+            tree,
+            directory,
+            cells,
+            values,
+            alloc,
+        };
+        Ok((store, lanes, closers))
+    }
+
+    /// Keeps a value: draws the next number for it, which the value has from then on. The first number is 1, each is
+    /// the last plus one, and the order of the numbers is the order of addition. Takes memory for the value, and may
+    /// wait.
+    ///
+    /// Refused, in this order and with the value handed back, as `Memory`, as `NumbersFull` where all numbers were
+    /// drawn, as `Contended`, and as `Unplaced`, where the number is lost. Own rule: JUnit numbers values as they are
+    /// stored.
+    pub fn keep<R: Wait>(
+        &self,
+        rt: &R,
+        lane: &mut Lane<V>,
+        value: V,
+    ) -> Result<Kept, (V, KeepFault)>
+        requires lane { IsLaneOf self.now.id lane.old }
+        ensures answer { MatchResult result (KeepsAs value lane.old lane.new) (λ e. KeepsNothing self.now value lane.old lane.new e.0 e.1) }
+        ensures lane { IsLaneOf self.now.id lane.new }
+        ensures kept { StillKeeps lane.old lane.new }
+        ensures apart { IfOk result (λ number. (m : ℕ) → IsKeptBy lane.old m → m ≢ number) }
+    {
+        self.look_back();
+        let boxed = match Box::new(self.alloc, value) {
+            Ok(boxed) => boxed,
+            Err(failed) => return Err((failed.value, KeepFault::Memory)),
+        };
+        let number = match self.cells.next_number(rt, &mut lane.cells) {
+            Ok(number) => number,
+            Err(why) => return Err((Box::into_inner(boxed), KeepFault::of(why))),
+        };
+        if let Err(back) = lane.notes.place(&self.values, number, boxed) {
+            return Err((Box::into_inner(back), KeepFault::Unplaced));
+        }
+        Ok(Kept { number })
+    }
+
+    /// Looks for the key in the context and then in its ancestors, the nearest first, at one point of the call: the
+    /// first of them where anything stands under the key decides. Takes no memory, and may wait.
+    ///
+    /// Refused as `UnknownKey` where the key was not declared, which is no step of the lane, and else as `Contended`.
+    /// That a context computes a value or is closed is an answer: `Look::Busy` or `Look::Closed`.
+    ///
+    /// Javadoc `ExtensionContext.Store`, `get`. It answers the context and the number, which `show` makes a value.
+    pub fn get<R: Wait>(
+        &self,
+        rt: &R,
+        lane: &mut Lane<V>,
+        context: ContextNo,
+        key: &Key,
+    ) -> Result<Look, Refusal>
+        requires lane { IsLaneOf self.now.id lane.old }
+        requires context { context < length self.now.tree }
+        ensures unknown { ¬ Contains self.now.keys key.now → (result ≡ Err refusal.UnknownKey) × (lane.new ≡ lane.old) }
+        ensures answer { (number : ℕ) → HasNumber self.now.keys key.now number → Gets self.now context number lane.old.cells lane.new.cells result }
+        ensures known { lane.new.known ≡ lane.old.known }
+        ensures lane { IsLaneOf self.now.id lane.new }
+        ensures kept { StillKeeps lane.old lane.new }
+    {
+        let Some(key) = self.directory.number_of(key) else {
+            return Err(Refusal::UnknownKey);
+        };
+        let path = self.tree.path(context);
+        self.look_along(rt, &mut lane.cells, path.as_slice(), key)
+    }
+
+    /// Stores the kept number under the key in the context itself, over one that stands there, and answers the number
+    /// that stood. Contexts below find it unless something stands nearer to them. A replaced value is not closed.
+    /// Takes no memory, and may wait.
+    ///
+    /// Refused, in this order, as `UnknownKey`, as `Busy` where a lane computes a value for the context, as `Closed`,
+    /// as `Exhausted` where there were more than 2^40 - 3 events there, and as `Contended`. The kept number is then
+    /// handed back, and can still be put.
+    ///
+    /// Javadoc `ExtensionContext.Store`, `put`. JUnit 5 answers nothing; the answer and the refusals are own rules.
+    pub fn put<R: Wait>(
+        &self,
+        rt: &R,
+        lane: &mut Lane<V>,
+        context: ContextNo,
+        key: &Key,
+        kept: Kept,
+    ) -> Result<Option<u32>, (Kept, Refusal)>
+        requires lane { IsLaneOf self.now.id lane.old }
+        requires context { context < length self.now.tree }
+        requires kept { IsKeptBy lane.old kept }
+        ensures unknown { ¬ Contains self.now.keys key.now → (result ≡ Err (kept, refusal.UnknownKey)) × (lane.new ≡ lane.old) }
+        ensures answer { (number : ℕ) → HasNumber self.now.keys key.now number → Puts self.now context number kept lane.old.cells lane.new.cells result }
+        ensures handed_back { IfErr result (λ e. e.0 ≡ kept) }
+        ensures known { lane.new.known ≡ lane.old.known }
+        ensures lane { IsLaneOf self.now.id lane.new }
+        ensures kept { MatchResult result (λ _. StillKeepsBut kept lane.old lane.new) (λ _. StillKeeps lane.old lane.new) }
+    {
+        let Some(key) = self.directory.number_of(key) else {
+            return Err((kept, Refusal::UnknownKey));
+        };
+        self.put_at(rt, &mut lane.cells, context, key, kept)
+    }
+
+    /// Takes what stands under the key in the context itself, and in no other, and answers its number; where nothing
+    /// stands the answer is `None`, and nothing happens. The value is not closed. Takes no memory, and may wait.
+    ///
+    /// Refused, in this order, as `UnknownKey`, as `Busy` where a lane computes a value for the context, as `Closed`,
+    /// as `Exhausted` where a number stands and there were more than 2^40 - 3 events there, and as `Contended`.
+    ///
+    /// Javadoc `ExtensionContext.Store`, `remove`, which answers the value; the refusals are own rules.
+    pub fn remove<R: Wait>(
+        &self,
+        rt: &R,
+        lane: &mut Lane<V>,
+        context: ContextNo,
+        key: &Key,
+    ) -> Result<Option<u32>, Refusal>
+        requires lane { IsLaneOf self.now.id lane.old }
+        requires context { context < length self.now.tree }
+        ensures unknown { ¬ Contains self.now.keys key.now → (result ≡ Err refusal.UnknownKey) × (lane.new ≡ lane.old) }
+        ensures answer { (number : ℕ) → HasNumber self.now.keys key.now number → Removes self.now context number lane.old.cells lane.new.cells result }
+        ensures known { lane.new.known ≡ lane.old.known }
+        ensures lane { IsLaneOf self.now.id lane.new }
+        ensures kept { StillKeeps lane.old lane.new }
+    {
+        let Some(key) = self.directory.number_of(key) else {
+            return Err(Refusal::UnknownKey);
+        };
+        self.remove_at(rt, &mut lane.cells, context, key)
+    }
+
+    /// The value that the number has, which this lane knows from now on: always where the lane kept it or was shown
+    /// it, and else where this thread finds it; never the value of another number. Takes no memory and never waits.
+    ///
+    /// `None`, with nothing changed, for a number that has no place, and where the thread finds no value. Own rule.
+    pub fn show<'a>(&'a self, lane: &mut Lane<V>, number: u32) -> Option<&'a V>
+        requires lane { IsLaneOf self.now.id lane.old }
+        ensures found { IfSome result (λ value. Learns lane.old.known lane.new.known number value.now) }
+        ensures known { KeepsKnown lane.old.known lane.new.known }
+        ensures none { IfNone result ((known_at lane.old.known number ≡ None) × (lane.new ≡ lane.old)) }
+        ensures steps { lane.new.cells ≡ lane.old.cells }
+        ensures lane { IsLaneOf self.now.id lane.new }
+        ensures kept { StillKeeps lane.old lane.new }
+    {
+        lane.notes.look(&self.values, number)
+    }
+
+    /// Afterwards what the first lane has seen is a prefix of what the second has seen: so both speak of one history.
+    /// A number that both know has one value in both. Neither makes an event. Takes no memory, and may wait. Own rule.
+    pub fn meet<R: Wait>(&self, rt: &R, first: &mut Lane<V>, second: &mut Lane<V>)
+        requires first { IsLaneOf self.now.id first.old }
+        requires second { IsLaneOf self.now.id second.old }
+        ensures first_call { Calls first.old.cells.cells.limits first.old.cells.view first.new.cells.view [] }
+        ensures second_call { Calls second.old.cells.cells.limits second.old.cells.view second.new.cells.view [] }
+        ensures met { IsPrefix (seen_by first.new.cells.view) (seen_by second.new.cells.view) }
+        ensures agree { AllAgree first.old.known second.old.known }
+        ensures known { (first.new.known ≡ first.old.known) × (second.new.known ≡ second.old.known) }
+        ensures first_lane { IsLaneOf self.now.id first.new }
+        ensures second_lane { IsLaneOf self.now.id second.new }
+        ensures first_kept { StillKeeps first.old first.new }
+        ensures second_kept { StillKeeps second.old second.new }
+    {
+        self.cells.meet(rt, &mut first.cells, &mut second.cells);
+        first.notes.meet(&mut second.notes);
+    }
+}

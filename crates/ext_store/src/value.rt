@@ -1,0 +1,15 @@
+//! What a value of a store has to say of itself.
+ghost use Rattle.std.specs.Prelude.{◌≡◌, Bool};
+
+/// A value that a store keeps.
+///
+/// JUnit 5 closes values that are `CloseableResource`s, when the store of their context is closed: User Guide,
+/// section "Keeping State in Extensions". That a value says itself whether it is closeable is an own rule.
+pub trait StoreValue {
+    /// Whether it is closeable.
+    ghost is_closeable: { Self → Bool };
+
+    /// Whether the value is to be closed with its context. Takes no memory.
+    fn closeable(&self) -> bool
+        ensures { result ≡ is_closeable self.now };
+}
