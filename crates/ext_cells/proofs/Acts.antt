@@ -5,7 +5,7 @@ use Rattle.ext_model.specs.declared.event.Act.{Act}
 use Rattle.ext_model.specs.declared.event.Act.TheVariants.{Keep, Put, Remove, Claim, Fill, Abandon, Seal}
 use Rattle.ext_model.specs.declared.slot.Slot.{Slot}
 use Rattle.ext_model.specs.declared.slot.Slot.TheVariants as slot
-use Rattle.ext_model.specs.Events.{slot_after, drawn_after, is_on}
+use Rattle.ext_model.specs.Events.{slot_after, drawn_after, place_of, is_at, is_on}
 use Rattle.ext_model.specs.History.{History, Limits, by, state_after, version_of, IsAllowed, IsLegal}
 use Rattle.ext_model.specs.Words.{state_code, number_code, word_of}
 use Rattle.ext_model.specs.Allowed.{IsOpen, IsPresent, MayHappen}
@@ -17,7 +17,7 @@ use Rattle.ext_model.proofs.Versions.{version-cons, same_version, word_parts}
 use Rattle.ext_model.proofs.Claims.{same_cell, slot_on}
 use Rattle.ext_model.proofs.Words.{word-elsewhere, drawn-push}
 use Rattle.ext_cells.specs.Rule.{AreWordsOf}
-use Rattle.ext_cells.proofs.CellWords.{on_same}
+use Rattle.ext_cells.proofs.CellWords.{IsOn, on_same, off_other}
 
 -- an act draws a number, or it is on a cell
 abbrev pub Kind : Limits → Act ℕ → Type 0
@@ -40,6 +40,15 @@ no_draw cell (Claim at) drawn on = refl
 no_draw cell (Fill at number) drawn on = refl
 no_draw cell (Abandon at) drawn on = refl
 no_draw cell (Seal at) drawn on = refl
+
+-- an act on a cell is on that one alone
+pub on_place : (cell : ℕ) (act : Act ℕ) → place_of act ≡ Some cell → IsOn cell act
+on_place cell act is =
+    let here : is_on nat_eq cell act ≡ true = ap (is_at nat_eq cell) is ∙ on_same cell in record {
+      here = here;
+      elsewhere = λ other ne. ap (is_at nat_eq other) is ∙ off_other cell other ne;
+      no_keep = λ drawn. no_draw cell act drawn here;
+    }
 
 -- the limits under which words tell all
 pub record IsSmall (limits : Limits) : Type 0 where

@@ -1,7 +1,6 @@
--- A put, a remove or a seal: what a decision on the cell's word means for the lane's call.
-use Rattle.std.proofs.Common.{◌≡◌, ◌≢◌, inl, inr, ℕ, ◌<◌, Bool, true, false, List, [], ◌∷◌, ◌++◌, get_or, set, sym, refl, ap, ◌∙◌, subst, arith, Option, None, Some, IfSome, eq-eqb, nat_eq}
+-- A put, a remove, a claim or a seal: what a decision on the cell's word means for the lane's call.
+use Rattle.std.proofs.Common.{◌≡◌, inl, inr, ℕ, ◌^◌, ◌<◌, Bool, true, false, List, [], ◌∷◌, ◌++◌, get_or, set, sym, ap, ◌∙◌, subst, arith, Option, None, Some, IfSome}
 use Rattle.std.specs.Prelude.{Result, Ok, Err}
-use Rattle.std.proofs.lemmas.Bool.{ne_eqb}
 use Rattle.ext_model.specs.declared.event.Act.{Act}
 use Rattle.ext_model.specs.declared.event.Act.TheVariants.{Keep, Put, Remove, Claim, Fill, Abandon, Seal}
 use Rattle.ext_model.specs.declared.slot.Slot.{Slot}
@@ -21,9 +20,9 @@ use Rattle.ext_cells.specs.declared.decision.Decision.TheVariants.{Change, Done}
 use Rattle.ext_cells.specs.Lanes.{Lane}
 use Rattle.ext_cells.specs.Calls.{result_of, change_reply}
 use Rattle.ext_cells.specs.Deciding.{IsCellWord, IsChange, reply_on, Decides}
-use Rattle.ext_cells.specs.Steps.{Finds, MayGoOn, IsChangeOf, Changes}
+use Rattle.ext_cells.specs.Steps.{Finds, MayGoOn, IsChangeOf, idle_reply, Changes}
 use Rattle.ext_cells.proofs.CellWords.{IsOn, cell_word, words_after}
-use Rattle.ext_cells.proofs.Acts.{IsSmall}
+use Rattle.ext_cells.proofs.Acts.{on_place, IsSmall}
 use Rattle.ext_cells.proofs.Tries.{TriesOn, answered, made, goes_on, seen_on}
 
 -- what one thread replies to a change, by the cell
@@ -31,22 +30,19 @@ reply_is : (limits : Limits) (h : History) (lane cell : ℕ) (act : Act ℕ) →
 reply_is limits h lane cell (Keep n) is = absurd is
 reply_is limits h lane cell (Put at n) is = ap (λ k. events.put_reply (events.is_worn (version_of h k)) ((state_after h).slots k)) is
 reply_is limits h lane cell (Remove at) is = ap (λ k. events.remove_reply (events.is_worn (version_of h k)) ((state_after h).slots k)) is
-reply_is limits h lane cell (Claim at) is = absurd is
+reply_is limits h lane cell (Claim at) is = ap (λ k. events.claim_reply (events.is_worn_for_claim (version_of h k)) ((state_after h).slots k)) is
 reply_is limits h lane cell (Fill at n) is = absurd is
 reply_is limits h lane cell (Abandon at) is = absurd is
 reply_is limits h lane cell (Seal at) is = ap (λ k. events.seal_reply ((state_after h).slots k)) is
 
-off_it : (at cell other : ℕ) → at ≡ cell → other ≢ cell → nat_eq at other ≡ false
-off_it at cell other is ne = ne_eqb at other (λ e. ne (sym e ∙ is))
-
 is_on_it : (cell : ℕ) (act : Act ℕ) → IsChangeOf cell act → IsOn cell act
 is_on_it cell (Keep n) is = absurd is
-is_on_it cell (Put at n) is = record { here = eq-eqb at cell is; elsewhere = λ other ne. off_it at cell other is ne; no_keep = λ drawn. refl }
-is_on_it cell (Remove at) is = record { here = eq-eqb at cell is; elsewhere = λ other ne. off_it at cell other is ne; no_keep = λ drawn. refl }
-is_on_it cell (Claim at) is = absurd is
+is_on_it cell (Put at n) is = on_place cell (Put at n) (ap Some is)
+is_on_it cell (Remove at) is = on_place cell (Remove at) (ap Some is)
+is_on_it cell (Claim at) is = on_place cell (Claim at) (ap Some is)
 is_on_it cell (Fill at n) is = absurd is
 is_on_it cell (Abandon at) is = absurd is
-is_on_it cell (Seal at) is = record { here = eq-eqb at cell is; elsewhere = λ other ne. off_it at cell other is ne; no_keep = λ drawn. refl }
+is_on_it cell (Seal at) is = on_place cell (Seal at) (ap Some is)
 
 -- a change that one thread makes is allowed, where the lane may store the number
 allowed_by : (limits : Limits) (h : History) (lane cell : ℕ) (act : Act ℕ) (answer : Option ℕ) → IsChangeOf cell act → cell < limits.cells → IfSome (stored_number act) (λ number. MayStore lane number h)
@@ -54,7 +50,7 @@ allowed_by : (limits : Limits) (h : History) (lane cell : ℕ) (act : Act ℕ) (
 allowed_by limits h lane cell (Keep n) answer is less store happens = absurd is
 allowed_by limits h lane cell (Put at n) answer is less store happens = record { within = subst (λ k. k < limits.cells) (sym is) less; happens = (answer, happens); next = tt; drew = store.drew; fresh = store.fresh }
 allowed_by limits h lane cell (Remove at) answer is less store happens = record { within = subst (λ k. k < limits.cells) (sym is) less; happens = (answer, happens); next = tt; drew = tt; fresh = tt }
-allowed_by limits h lane cell (Claim at) answer is less store happens = absurd is
+allowed_by limits h lane cell (Claim at) answer is less store happens = record { within = subst (λ k. k < limits.cells) (sym is) less; happens = (answer, happens); next = tt; drew = tt; fresh = tt }
 allowed_by limits h lane cell (Fill at n) answer is less store happens = absurd is
 allowed_by limits h lane cell (Abandon at) answer is less store happens = absurd is
 allowed_by limits h lane cell (Seal at) answer is less store happens = record { within = subst (λ k. k < limits.cells) (sym is) less; happens = (answer, happens); next = tt; drew = tt; fresh = tt }
@@ -64,17 +60,19 @@ may_store limits lane h None on now = tt
 may_store limits lane h (Some number) on now = goes_on_store limits lane number h on now
 
 -- a number that the lane may store fits its bits
+pub fits_bits : (limits : Limits) (lane : LaneView) (h : History) (number : ℕ) → limits.numbers < 2 ^ 20 → GoesOn limits lane h → MayStoreNow lane number → number < 2 ^ 20
+fits_bits limits lane h number few on now =
+    let store = goes_on_store limits lane number h on now in
+    let b = bounded h on.legal in
+    let least = b.kept lane.number number store.drew in
+    let most = b.drawn in
+    omega (arith, least, most, few)
+
 is_change : (limits : Limits) (lane : LaneView) (h : History) (cell : ℕ) (act : Act ℕ) → IsSmall limits → GoesOn limits lane h → IsChangeOf cell act → IfSome (stored_number act) (MayStoreNow lane) → IsChange act
 is_change limits lane h cell (Keep n) small on is now = absurd is
-is_change limits lane h cell (Put at n) small on is now =
-    let store = goes_on_store limits lane n h on now in
-    let b = bounded h on.legal in
-    let least = b.kept lane.number n store.drew in
-    let most = b.drawn in
-    let few = small.numbers in
-    omega (arith, least, most, few)
+is_change limits lane h cell (Put at n) small on is now = fits_bits limits lane h n small.numbers on now
 is_change limits lane h cell (Remove at) small on is now = tt
-is_change limits lane h cell (Claim at) small on is now = absurd is
+is_change limits lane h cell (Claim at) small on is now = tt
 is_change limits lane h cell (Fill at n) small on is now = absurd is
 is_change limits lane h cell (Abandon at) small on is now = absurd is
 is_change limits lane h cell (Seal at) small on is now = tt
@@ -94,7 +92,10 @@ never_contended (Remove at) None v is e = cc e
 never_contended (Remove at) (Some (slot.Entry m)) v is e = worn_contended _ (Some m) e
 never_contended (Remove at) (Some (slot.Claim lane)) v is e = cc e
 never_contended (Remove at) (Some (slot.Sealed kept)) v is e = cc e
-never_contended (Claim at) s v is e = is
+never_contended (Claim at) None v is e = worn_contended _ None e
+never_contended (Claim at) (Some (slot.Entry m)) v is e = cc e
+never_contended (Claim at) (Some (slot.Claim lane)) v is e = cc e
+never_contended (Claim at) (Some (slot.Sealed kept)) v is e = cc e
 never_contended (Fill at n) s v is e = is
 never_contended (Abandon at) s v is e = is
 never_contended (Seal at) None v is e = cc e
@@ -148,7 +149,7 @@ module _ (before now : Lane) (words : List ℕ) (count cell : ℕ) (act : Act �
   refused why e = holds (λ p. change_reply before act p ≡ Err why) (ap (result_of what_stood) (reply_is before.cells.limits (seen_by now.view) before.view.number cell act is) ∙ e)
 
   answered_by : (tries : ℕ) (reply : Result (Option ℕ) CellRefusal) → Decides act ((state_after (seen_by now.view)).slots cell) (version_of (seen_by now.view) cell) (Done reply) → Changes tries before now act reply
-  answered_by tries (Ok answer) d = inr (holds (λ p. reply_after before.cells.limits p before.view.number act ≡ events.Answers answer) (reply_is before.cells.limits (seen_by now.view) before.view.number cell act is ∙ d))
+  answered_by tries (Ok answer) d = inr (holds (λ p. reply_after before.cells.limits p before.view.number act ≡ idle_reply act answer) (reply_is before.cells.limits (seen_by now.view) before.view.number cell act is ∙ d))
   answered_by tries (Err refusal.Contended) d = absurd (never_contended act _ _ act_now d)
   answered_by tries (Err refusal.Busy) d = refused refusal.Busy d
   answered_by tries (Err refusal.Closed) d = refused refusal.Closed d

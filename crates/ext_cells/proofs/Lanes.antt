@@ -1,5 +1,5 @@
 -- A lane as its pass knows it, and as contracts see it.
-use Rattle.std.proofs.Common.{◌≡◌, inl, inr, ℕ, ◌≤◌, List, [], ◌∷◌, ◌++◌, sym, ap, ◌∙◌, subst, arith, Some}
+use Rattle.std.proofs.Common.{◌≡◌, inl, inr, ℕ, ◌^◌, ◌<◌, ◌≤◌, List, [], ◌∷◌, ◌++◌, sym, ap, ◌∙◌, subst, arith, Some}
 use Rattle.atomic_table.specs.Seated.{TableId}
 use Rattle.ext_model.specs.declared.event.Act.{Act}
 use Rattle.ext_model.specs.History.{History, by, IsLegal}
@@ -8,7 +8,7 @@ use Rattle.ext_model.proofs.Legal.{legal_push}
 use Rattle.ext_model.proofs.Fronts.{last_append}
 use Rattle.ext_cells.specs.declared.rule.Phase.TheVariants.{Open}
 use Rattle.ext_cells.specs.declared.rule.View.{View}
-use Rattle.ext_cells.specs.Lanes.{Lane, CellsView}
+use Rattle.ext_cells.specs.Lanes.{CellsId, Lane, CellsView}
 use Rattle.ext_cells.specs.Rule.{limits_of, shown, FoundBy, Exchanged}
 use Rattle.ext_cells.specs.Steps.{stepped, Finds, MayGoOn}
 use Rattle.ext_cells.proofs.Acts.{IsSmall}
@@ -77,6 +77,5 @@ exchanged_stays v w x y number inv did = elim did.2 [
 ]
 
 -- and so are those of a lane of the cells
-pub small_lane : (cells : CellsView) (lane : Lane) (some_cells some_numbers : ℕ) → cells.id.limits ≡ record { cells = some_cells; numbers = some_numbers } → lane.cells ≡ cells.id → some_cells ≤ 31 → some_numbers ≤ 65535 → IsSmall lane.cells.limits
-small_lane cells lane some_cells some_numbers limits mine few_cells few_numbers =
-    subst IsSmall (sym (ap (λ z. z.limits) mine ∙ limits)) (record { cells = few_cells; numbers = omega (arith, few_numbers) })
+pub small_of : (cells : CellsId) (lane : Lane) → lane.cells ≡ cells → cells.limits.cells < 32 → cells.limits.numbers < 2 ^ 20 → IsSmall lane.cells.limits
+small_of cells lane mine few_cells few_numbers = subst (λ z. IsSmall z.limits) (sym mine) (record { cells = omega (arith, few_cells); numbers = few_numbers })

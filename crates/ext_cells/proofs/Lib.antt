@@ -6,7 +6,9 @@ pub mod Steps
 pub mod Passes
 pub mod Lanes
 pub mod Tries
+pub mod CallEvents
 pub mod Changing
+pub mod Ending
 pub mod Drawing
 pub mod Answered
 pub mod Given

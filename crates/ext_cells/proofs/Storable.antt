@@ -14,8 +14,8 @@ use Rattle.ext_model.proofs.Numbers.{bounded}
 use Rattle.ext_model.proofs.Stored.{drew_own}
 use Rattle.ext_model.proofs.Composed.{same_number}
 use Rattle.ext_cells.specs.declared.refusal.CellRefusal.{CellRefusal}
-use Rattle.ext_cells.specs.declared.refusal.CellRefusal.TheVariants as refusal
 use Rattle.ext_cells.specs.Lanes.{Lane}
+use Rattle.ext_cells.proofs.CallEvents.{call_made}
 use Rattle.ext_cells.specs.Calls.{change_reply, number_reply, number_acts, put_acts, Answers}
 
 -- none of these acts stores the number
@@ -78,20 +78,9 @@ drew_storable tries before after (Ok number) a =
     let h = a.replied (λ e. cc e) in drawn_storable before.cells.limits before.view after.view number h.point.0 h.calls h.point.1.1
 drew_storable tries before after (Err why) a = tt
 
-module _ (tries : ℕ) (before after : Lane) (cell number : ℕ) (now : MayStoreNow before.view number) where
-  kept : (why : CellRefusal) → (why ≡ refusal.Contended → ⊥) → Answers tries before after (put_acts cell number) (change_reply before (Put cell number)) (Err why) → MayStoreNow after.view number
-  kept why ne a = stays_storable before.cells.limits before.view after.view [] number (a.replied (λ e. ne (same_why why refusal.Contended e))).calls (none_at_all number) now
-    where
-      same_why : (a b : CellRefusal) → (let r : Result (Option ℕ) CellRefusal = Err a in let s : Result (Option ℕ) CellRefusal = Err b in r ≡ s) → a ≡ b
-      same_why a b e = cc e
-
-  -- and one that was not stored may be stored still
-  pub refused_storable : (r : Result (Option ℕ) CellRefusal) → Answers tries before after (put_acts cell number) (change_reply before (Put cell number)) r → IfErr r (λ _. MayStoreNow after.view number)
-  refused_storable (Ok answer) a = tt
-  refused_storable (Err refusal.Contended) a = stays_storable before.cells.limits before.view after.view [] number (a.overtaken refl).calls (none_at_all number) now
-  refused_storable (Err refusal.Busy) a = kept refusal.Busy (λ e. cc e) a
-  refused_storable (Err refusal.Closed) a = kept refusal.Closed (λ e. cc e) a
-  refused_storable (Err refusal.Exhausted) a = kept refusal.Exhausted (λ e. cc e) a
-  refused_storable (Err refusal.NumbersFull) a = kept refusal.NumbersFull (λ e. cc e) a
-  refused_storable (Err refusal.Memory) a = kept refusal.Memory (λ e. cc e) a
-  refused_storable (Err refusal.BadLimit) a = kept refusal.BadLimit (λ e. cc e) a
+-- and one that was not stored may be stored still
+pub refused_storable : (tries : ℕ) (before after : Lane) (cell number : ℕ) → MayStoreNow before.view number → (r : Result (Option ℕ) CellRefusal) → Answers tries before after (put_acts cell number) (change_reply before (Put cell number)) r
+    → IfErr r (λ _. MayStoreNow after.view number)
+refused_storable tries before after cell number now (Ok answer) a = tt
+refused_storable tries before after cell number now (Err why) a =
+    stays_storable before.cells.limits before.view after.view [] number (call_made tries before after (put_acts cell number) (change_reply before (Put cell number)) (Err why) refl a) (none_at_all number) now

@@ -3,21 +3,23 @@
 -- Here stand, for each call, what one thread is answered at a point, and which events an answer means.
 use Rattle.std.specs.Prelude.{ℕ, ◌≡◌, ◌≤◌, List, [], ◌∷◌, length, map, Option, None, Some, Result, Ok, Err}
 use Rattle.ext_model.specs.declared.event.Act.{Act}
-use Rattle.ext_model.specs.declared.event.Act.TheVariants.{Keep, Put, Remove, Seal}
+use Rattle.ext_model.specs.declared.event.Act.TheVariants.{Keep, Put, Remove, Claim, Seal}
 use Rattle.ext_model.specs.Events as events
 use Rattle.ext_model.specs.History.{History, reply_after}
 use Rattle.ext_model.specs.Plain.{number_drawn, what_stood}
 use Rattle.ext_model.specs.Words.{word_of}
 use Rattle.ext_model.specs.Views.{IsStepped, IsAnswerPoint}
 use Rattle.ext_model.specs.Calls as model
+use Rattle.ext_cells.specs.declared.claim.Claimed.{Claimed}
+use Rattle.ext_cells.specs.declared.claim.Claimed.TheVariants.{Won, Standing}
 use Rattle.ext_cells.specs.declared.refusal.CellRefusal.{CellRefusal}
 use Rattle.ext_cells.specs.declared.refusal.CellRefusal.TheVariants.{Contended, Busy, Closed, Exhausted, NumbersFull}
 use Rattle.ext_cells.specs.Lanes.{Lane}
 
 -- ---- what one thread is answered
 
--- The result of a call whose reply is this; `value` makes the result's value of what the reply answers.
--- The last two are replies to claims and their ends alone. `Contended` stands for them, as it is the one result that is never the reply of one thread
+-- The result of a call whose reply is this; `value` makes the result's value of the number that the reply answers. To a claim a number that stands is an answer.
+-- The last is a reply to the ends of claims alone. `Contended` stands for it, as it is the one result that is never the reply of one thread
 abbrev pub result_of : {A : Type 0} → (Option ℕ → A) → events.Reply → Result A CellRefusal
 result_of value (events.Happens answer) = Ok (value answer)
 result_of value (events.Answers answer) = Ok (value answer)
@@ -25,12 +27,20 @@ result_of value (events.Refuses events.NumbersFull) = Err NumbersFull
 result_of value (events.Refuses events.Busy) = Err Busy
 result_of value (events.Refuses events.Closed) = Err Closed
 result_of value (events.Refuses events.Exhausted) = Err Exhausted
-result_of value (events.Refuses (events.Standing number)) = Err Contended
+result_of value (events.Refuses (events.Standing number)) = Ok (value (Some number))
 result_of value (events.Refuses events.Barred) = Err Contended
 
 -- what one thread is answered by a change of a cell, directly after a history
 abbrev pub change_reply : Lane → Act ℕ → History → Result (Option ℕ) CellRefusal
 change_reply lane act h = result_of what_stood (reply_after lane.cells.limits h lane.view.number act)
+
+-- by a claim, where a number that stands is the answer,
+abbrev pub claimed_or : ℕ → Option ℕ → Claimed
+claimed_or cell None = Won cell
+claimed_or cell (Some number) = Standing number
+
+abbrev pub claim_reply : Lane → ℕ → History → Result Claimed CellRefusal
+claim_reply lane cell h = result_of (claimed_or cell) (reply_after lane.cells.limits h lane.view.number (Claim cell))
 
 -- and by the drawing of a number: a reply to a keep doesn't depend on the number that it is asked with
 abbrev pub number_reply : Lane → History → Result ℕ CellRefusal
@@ -54,6 +64,12 @@ remove_acts cell (Ok None) = []
 remove_acts cell (Ok (Some number)) = Remove cell ∷ []
 remove_acts cell (Err why) = []
 
+-- a claim that is won is an event
+abbrev pub claim_acts : ℕ → Result Claimed CellRefusal → List (Act ℕ)
+claim_acts cell (Ok (Won claim)) = Claim cell ∷ []
+claim_acts cell (Ok (Standing number)) = []
+claim_acts cell (Err why) = []
+
 -- ---- the results of calls
 
 -- The result is the reply at a point of the call, and the lane's events are those that it means. Or it is `Contended`, and at least `tries` events of
@@ -67,6 +83,16 @@ abbrev pub SealAnswers : ℕ → Lane → Lane → ℕ → Result (Option ℕ) C
 SealAnswers tries before after cell (Ok kept) = model.Seals before.cells.limits cell before.view after.view kept
 SealAnswers tries before after cell (Err Contended) = model.IsOvertaken before.cells.limits tries before.view after.view
 SealAnswers tries before after cell (Err why) = model.HoldsAtPoint before.cells.limits before.view after.view [] (λ p. change_reply before (Seal cell) p ≡ Err why)
+
+-- a fact of the claim, where it was won
+abbrev pub IfWon : Result Claimed CellRefusal → (ℕ → Type 0) → Type 0
+IfWon (Ok (Won claim)) Fact = Fact claim
+IfWon (Ok (Standing number)) Fact = Unit {0}
+IfWon (Err why) Fact = Unit {0}
+
+-- The call made this one event, a fill or an abandon, which one thread does at that point
+abbrev pub EndsClaim : Lane → Lane → Act ℕ → Type 0
+EndsClaim before after act = model.HoldsAtPoint before.cells.limits before.view after.view (act ∷ []) (λ p. reply_after before.cells.limits p before.view.number act ≡ events.Happens None)
 
 -- The words of the cells as they stood together at ONE point of the call, which made no event. Where there are cells to read, the call made a step of its own
 pub record StoodTogether (before after : Lane) (cells words : List ℕ) : Type 0 where

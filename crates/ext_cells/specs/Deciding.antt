@@ -14,6 +14,7 @@ use Rattle.ext_cells.specs.declared.decision.Decision.{Decision}
 use Rattle.ext_cells.specs.declared.decision.Decision.TheVariants.{Change, Done}
 use Rattle.ext_cells.specs.Words.{word_with}
 use Rattle.ext_cells.specs.Calls.{result_of}
+use Rattle.ext_cells.specs.Steps.{idle_reply}
 
 abbrev pub state_of : Option Slot → CellState
 state_of None = Empty
@@ -40,18 +41,19 @@ pub record IsCellWord (stands : Option Slot) (version word : ℕ) : Type 0 where
 abbrev pub number_in : ℕ → Option ℕ
 number_in number = if number == 0 then None else Some number
 
--- there is nothing to do for the act in this state: nothing to remove, or a seal that stands
+-- there is nothing to do for the act in this state: nothing to remove, a number where a claim was to be, or a seal that stands
 abbrev pub is_settled : Act ℕ → CellState → Bool
 is_settled (Remove at) Empty = true
+is_settled (Claim at) Present = true
 is_settled (Seal at) Sealed = true
 is_settled act state = false
 
--- a put of a number that fits its bits, a remove or a seal
+-- a put of a number that fits its bits, a remove, a claim or a seal
 abbrev pub IsChange : Act ℕ → Type 0
 IsChange (Keep number) = ⊥
 IsChange (Put at number) = number < 2 ^ 20
 IsChange (Remove at) = Unit {0}
-IsChange (Claim at) = ⊥
+IsChange (Claim at) = Unit {0}
 IsChange (Fill at number) = ⊥
 IsChange (Abandon at) = ⊥
 IsChange (Seal at) = Unit {0}
@@ -60,11 +62,12 @@ IsChange (Seal at) = Unit {0}
 abbrev pub reply_on : Act ℕ → Option Slot → ℕ → events.Reply
 reply_on (Put at number) stands version = events.put_reply (events.is_worn version) stands
 reply_on (Remove at) stands version = events.remove_reply (events.is_worn version) stands
+reply_on (Claim at) stands version = events.claim_reply (events.is_worn_for_claim version) stands
 reply_on (Seal at) stands version = events.seal_reply stands
 reply_on act stands version = events.Refuses events.Barred
 
 -- the decision is to make the event, which leaves this word; or it is the answer, without an event
 abbrev pub Decides : Act ℕ → Option Slot → ℕ → Decision → Type 0
 Decides act stands version (Change next answer) = (reply_on act stands version ≡ events.Happens answer) × ((lane : ℕ) → next ≡ slot_word (events.slot_after lane act stands) (version + 1))
-Decides act stands version (Done (Ok answer)) = reply_on act stands version ≡ events.Answers answer
+Decides act stands version (Done (Ok answer)) = reply_on act stands version ≡ idle_reply act answer
 Decides act stands version (Done (Err why)) = (result_of what_stood (reply_on act stands version) ≡ Err why)

@@ -1,6 +1,6 @@
--- What a lane is told by its two kinds of steps on the shared words, a load and an exchange, and what a change of one cell is.
+-- What a lane is told by its two kinds of steps on the shared words, a load and an exchange, what a change of one cell is, and what ends a claim.
 -- Own rule, below the public contracts.
-use Rattle.std.specs.Prelude.{◌≡◌, ◌⊎◌, ℕ, List, [], ◌∷◌, ◌++◌, Option, Result, Ok, Err}
+use Rattle.std.specs.Prelude.{◌≡◌, ◌⊎◌, ℕ, List, [], ◌∷◌, ◌++◌, Option, Some, Result, Ok, Err}
 use Rattle.ext_model.specs.declared.event.Act.{Act}
 use Rattle.ext_model.specs.declared.event.Act.TheVariants.{Keep, Put, Remove, Claim, Fill, Abandon, Seal}
 use Rattle.ext_model.specs.Events as events
@@ -27,20 +27,35 @@ pub record MayGoOn (limits : Limits) (lane : LaneView) (h : History) (words : Li
   pub allowed : IsAllowed limits h (by lane.number act)
   pub words_are : AreWordsOf (h ++ by lane.number act ∷ []) words
 
--- a put, a remove or a seal of the cell
+-- a put, a remove, a claim or a seal of the cell
 abbrev pub IsChangeOf : ℕ → Act ℕ → Type 0
 IsChangeOf cell (Keep number) = ⊥
 IsChangeOf cell (Put at number) = at ≡ cell
 IsChangeOf cell (Remove at) = at ≡ cell
-IsChangeOf cell (Claim at) = ⊥
+IsChangeOf cell (Claim at) = at ≡ cell
 IsChangeOf cell (Fill at number) = ⊥
 IsChangeOf cell (Abandon at) = ⊥
 IsChangeOf cell (Seal at) = at ≡ cell
+
+-- a fill or an abandon of the cell
+abbrev pub IsEndOf : ℕ → Act ℕ → Type 0
+IsEndOf cell (Keep number) = ⊥
+IsEndOf cell (Put at number) = ⊥
+IsEndOf cell (Remove at) = ⊥
+IsEndOf cell (Claim at) = ⊥
+IsEndOf cell (Fill at number) = at ≡ cell
+IsEndOf cell (Abandon at) = at ≡ cell
+IsEndOf cell (Seal at) = ⊥
+
+-- what one thread replies where there is nothing to do: to a claim, the number that stands
+abbrev pub idle_reply : Act ℕ → Option ℕ → events.Reply
+idle_reply (Claim at) (Some number) = events.Refuses (events.Standing number)
+idle_reply act answer = events.Answers answer
 
 -- The result of a change: it happened at a point of the call, or it was answered there without an event; or it was refused there; or other lanes were in the way
 abbrev pub Changes : ℕ → Lane → Lane → Act ℕ → Result (Option ℕ) CellRefusal → Type 0
 Changes tries before after act (Ok answer) =
     model.HoldsAtPoint before.cells.limits before.view after.view (act ∷ []) (λ p. reply_after before.cells.limits p before.view.number act ≡ events.Happens answer)
-    ⊎ model.HoldsAtPoint before.cells.limits before.view after.view [] (λ p. reply_after before.cells.limits p before.view.number act ≡ events.Answers answer)
+    ⊎ model.HoldsAtPoint before.cells.limits before.view after.view [] (λ p. reply_after before.cells.limits p before.view.number act ≡ idle_reply act answer)
 Changes tries before after act (Err Contended) = model.IsOvertaken before.cells.limits tries before.view after.view
 Changes tries before after act (Err why) = model.HoldsAtPoint before.cells.limits before.view after.view [] (λ p. change_reply before act p ≡ Err why)

@@ -84,7 +84,8 @@ fn refusal(state: CellState, version: u64, act: Act<CellNo>) -> Option<CellRefus
     }
 }
 
-fn next_word(act: Act<CellNo>, number: u32, version: u64) -> u64
+// The word after an act that is not refused.
+pub(crate) fn next_word(act: Act<CellNo>, number: u32, version: u64) -> u64
     requires number { number < 2 ^ 20 }
     requires version { version + 1 < 2 ^ 40 }
     requires act { (state : _) × Suits act state version }

@@ -1,22 +1,23 @@
 //! The cells that lanes share, and all calls on them.
-ghost use Rattle.std.specs.Prelude.{◌≡◌, ◌≢◌, ◌≤◌, ◌<◌, ◌+◌, ◌*◌, ◌↔◌, ℕ, nat_eq, [], ◌∷◌, ◌++◌, length, slice_set, All, IfOk, IfErr, IfSome, Err};
+ghost use Rattle.std.specs.Prelude.{◌≡◌, ◌≢◌, ◌≤◌, ◌<◌, ◌+◌, ◌*◌, ◌^◌, ◌↔◌, ℕ, nat_eq, [], ◌∷◌, ◌++◌, length, slice_set, All, IfOk, IfErr, IfSome, Err};
 ghost use Rattle.std.specs.List.{IsDistinct};
 ghost use mathlib.Core.List.{IsPrefix};
 ghost use Rattle.crossbeam_utils.specs.Seq.{cell_view};
 ghost use Rattle.ext_model.specs.History.{History, by, stored_number};
 ghost use Rattle.ext_model.specs.Views.{seen_by, call_fronts};
-ghost use Rattle.ext_model.specs.Calls.{Calls, MayStoreNow};
+ghost use Rattle.ext_model.specs.Calls.{Calls, IsHeld, MayStoreNow};
 ghost use Rattle.ext_model.specs.declared.event.Act.TheVariants as act_is;
 ghost use Rattle.ext_cells.specs.Lanes.{AreLimits, fresh_lanes};
 ghost use Rattle.ext_cells.specs.declared.rule.Phase.TheVariants.{Open};
 ghost use Rattle.ext_cells.specs.Rule.{Looked};
-ghost use Rattle.ext_cells.specs.Calls.{Answers, SealAnswers, Collects, change_reply, number_reply, number_acts, put_acts, remove_acts};
-ghost use Rattle.ext_cells.specs.Steps.{stepped, Finds, MayGoOn, IsChangeOf, Changes};
+ghost use Rattle.ext_cells.specs.Calls.{Answers, SealAnswers, EndsClaim, Collects, IfWon, change_reply, claim_reply, number_reply, number_acts, put_acts, remove_acts, claim_acts};
+ghost use Rattle.ext_cells.specs.Steps.{stepped, Finds, MayGoOn, IsChangeOf, IsEndOf, Changes};
 
+use crate::cell_word::{next_word, parts};
 use crate::decision::{Decision, decide};
 use crate::opening::{are_limits, give_out, open_words};
 use crate::rule::{COUNT, Exchange, LanePass, Load, Note, SharedWords, WORDS};
-use crate::{CellLane, CellRefusal, Words};
+use crate::{CellLane, CellRefusal, Claim, Claimed, Words};
 use ext_model::{Act, CellNo};
 use std::alloc::Global;
 use std::marker::Model;
@@ -26,7 +27,8 @@ use std::sync::Wait;
 ///
 /// A lane is used with the cells that it was opened with. A refused call makes no event. Each call on a lane
 /// loads the words first; a change then makes at most `tries` exchanges, and where one fails it decides anew by
-/// the words that this one found, once more after the last. Own rule.
+/// the words that this one found, once more after the last. `fill` and `abandon` go on without that bound. Own
+/// rule.
 #[derive(Drop)]
 pub struct Cells {
     shared: SharedWords,
@@ -203,6 +205,63 @@ impl Cells {
         self.change(rt, lane, cell, Act::Seal(cell))
     }
 
+    /// Claims the cell for the lane where nothing stands there; until the lane ends the claim, each other call on
+    /// the cell is refused as `Busy`. Where a number stands the answer is that number, and nothing happens.
+    /// Takes no memory, and may wait.
+    ///
+    /// Refused as `Busy` where a claim stands, the lane's own too, as `Closed` where the cell is sealed, as
+    /// `Exhausted` where nothing stands at a version above 2^40 - 4, and else as `Contended`.
+    ///
+    /// Own rule (JUnit: a running factory holds its key).
+    pub fn claim<R: Wait>(
+        &self,
+        rt: &R,
+        lane: &mut CellLane,
+        cell: CellNo,
+    ) -> Result<Claimed, CellRefusal>
+        requires lane { lane.old.cells ≡ self.now.id }
+        requires cell { cell < self.now.id.limits.cells }
+        ensures lane { lane.new.cells ≡ lane.old.cells }
+        ensures reply { Answers self.now.tries lane.old lane.new (claim_acts cell) (claim_reply lane.old cell) result }
+        ensures held { IfWon result (λ claim. (claim ≡ cell) × IsHeld lane.new.view claim) }
+        ensures steps { length (call_fronts lane.old.view lane.new.view) ≤ self.now.tries + 1 }
+    {
+        match self.change(rt, lane, cell, Act::Claim(cell))? {
+            None => Ok(Claimed::Won(Claim { cell })),
+            Some(number) => Ok(Claimed::Standing(number)),
+        }
+    }
+
+    /// Ends the lane's claim by a number, which stands in the cell then. The lane drew the number, and has not
+    /// stored it. It is never refused. Takes no memory, and may wait.
+    ///
+    /// While all words stand in one snapshot cell, the number of its steps has no bound: an event on any cell
+    /// between two of them makes it try again.
+    ///
+    /// Own rule (JUnit: the value of a factory is stored under its key).
+    pub fn fill<R: Wait>(&self, rt: &R, lane: &mut CellLane, claim: Claim, number: u32)
+        requires lane { lane.old.cells ≡ self.now.id }
+        requires held { IsHeld lane.old.view claim }
+        requires number { MayStoreNow lane.old.view number }
+        ensures lane { lane.new.cells ≡ lane.old.cells }
+        ensures filled { EndsClaim lane.old lane.new (act_is.Fill claim number) }
+    {
+        let Claim { cell } = claim;
+        self.end_claim(rt, lane, cell, Act::Fill(cell, number));
+    }
+
+    /// Ends the lane's claim, and leaves the cell empty. It is never refused. Takes no memory, and may wait, with
+    /// no bound on its steps, as `fill` (own rule).
+    pub fn abandon<R: Wait>(&self, rt: &R, lane: &mut CellLane, claim: Claim)
+        requires lane { lane.old.cells ≡ self.now.id }
+        requires held { IsHeld lane.old.view claim }
+        ensures lane { lane.new.cells ≡ lane.old.cells }
+        ensures abandoned { EndsClaim lane.old lane.new (act_is.Abandon claim) }
+    {
+        let Claim { cell } = claim;
+        self.end_claim(rt, lane, cell, Act::Abandon(cell));
+    }
+
     /// Afterwards what the first lane has seen is a prefix of what the second has seen: so both speak of one
     /// history. Neither makes an event. Takes no memory, and may wait (own rule).
     pub fn meet<R: Wait>(&self, rt: &R, first: &mut CellLane, second: &mut CellLane)
@@ -219,7 +278,7 @@ impl Cells {
         self.load(rt, &mut second.pass);
     }
 
-    // A put, a remove or a seal of the cell.
+    // A put, a remove, a claim or a seal of the cell. A claim answers a number that stands, and `None` where it is won.
     fn change<R: Wait>(
         &self,
         rt: &R,
@@ -252,11 +311,34 @@ impl Cells {
         }
     }
 
+    // A fill or an abandon of the cell, which the lane has claimed. No other lane changes that cell, but an event on
+    // any other one makes an exchange fail: so it tries until one meets the words.
+    fn end_claim<R: Wait>(&self, rt: &R, lane: &mut CellLane, cell: CellNo, act: Act<CellNo>)
+        requires lane { lane.old.cells ≡ self.now.id }
+        requires held { IsHeld lane.old.view cell }
+        requires act { IsEndOf cell act }
+        requires number { IfSome (stored_number act) (MayStoreNow lane.old.view) }
+        ensures lane { lane.new.cells ≡ lane.old.cells }
+        ensures ended { EndsClaim lane.old lane.new act }
+    {
+        let mut words = self.look(rt, lane);
+        for _ in rt.forever() {
+            let (_, number, version) = parts(words[cell]);
+            let next = next_word(act, number, version);
+            match self.exchange(rt, lane, cell, words, next, act) {
+                Ok(()) => return,
+                Err(found) => words = found,
+            }
+        }
+        unreachable!()
+    }
+
     // The words as they stand, for a lane.
     fn look<R: Wait>(&self, rt: &R, lane: &mut CellLane) -> [u64; WORDS]
         requires lane { lane.old.cells ≡ self.now.id }
         ensures found { (h : History) × Finds lane.old.cells.limits lane.old.view result h × (lane.new ≡ stepped lane.old h) }
         ensures few { self.now.id.limits.cells < WORDS }
+        ensures numbers { self.now.id.limits.numbers < 2 ^ 20 }
     {
         self.load(rt, &mut lane.pass)
     }
@@ -268,6 +350,7 @@ impl Cells {
         ensures table { pass.new.table_id ≡ pass.old.table_id }
         ensures found { Looked (cell_view pass.old) result result (cell_view pass.new) }
         ensures few { self.now.id.limits.cells < WORDS }
+        ensures numbers { self.now.id.limits.numbers < 2 ^ 20 }
     {
         self.shared.load_as::<Load, R>(rt, pass)
     }

@@ -21,8 +21,9 @@ fn is_settled(act: Act<CellNo>, state: CellState) -> bool
 {
     match act {
         Act::Remove(_) => matches!(state, CellState::Empty),
+        Act::Claim(_) => matches!(state, CellState::Present),
         Act::Seal(_) => matches!(state, CellState::Sealed),
-        Act::Keep(_) | Act::Put(_, _) | Act::Claim(_) | Act::Fill(_, _) | Act::Abandon(_) => false,
+        Act::Keep(_) | Act::Put(_, _) | Act::Fill(_, _) | Act::Abandon(_) => false,
     }
 }
 
@@ -32,7 +33,7 @@ fn number_in(number: u32) -> Option<u32>
     if number == 0 { None } else { Some(number) }
 }
 
-// Decides on a put, a remove or a seal of the cell whose word this is.
+// Decides on a put, a remove, a claim or a seal of the cell whose word this is.
 pub(crate) fn decide(word: u64, act: Act<CellNo>) -> Decision
     requires word { (stands : Option Slot) × (version : ℕ) × IsCellWord stands version word }
     requires act { IsChange act }

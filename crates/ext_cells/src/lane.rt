@@ -20,8 +20,7 @@ pub struct CellLane {
 impl Model for CellLane {
     ghost use Rattle.std.specs.Prelude.{◌≡◌, Some};
     ghost use Rattle.crossbeam_utils.specs.Seq.{cell_view};
-    ghost use Rattle.std.specs.Prelude.{◌≡◌};
-ghost use Rattle.ext_model.specs.History.{IsLegal};
+    ghost use Rattle.ext_model.specs.History.{IsLegal};
     ghost use Rattle.ext_model.specs.Views.{seen};
     ghost use Rattle.ext_cells.specs.declared.rule.Phase.TheVariants.{Open};
     ghost use Rattle.ext_cells.specs.Lanes.{Lane};
@@ -35,7 +34,8 @@ ghost use Rattle.ext_model.specs.History.{IsLegal};
 }
 
 impl CellLane {
-    /// The lane's number, from 0 in the order in which `Cells::open` gave the lanes out. Takes no memory (own rule).
+    /// The lane's number, from 0 to 15: its place in the list that `Cells::open` gave. Takes no memory
+    /// (own rule).
     pub fn number(&self) -> LaneNo
         ensures { result ≡ self.now.view.number }
     {

@@ -12,6 +12,7 @@
 mod cell_state;
 mod cell_word;
 mod cells;
+mod claim;
 mod decision;
 mod lane;
 mod opening;
@@ -24,6 +25,7 @@ mod words;
 pub use cell_state::CellState;
 pub use cell_word::{after, parts, word};
 pub use cells::Cells;
+pub use claim::{Claim, Claimed};
 pub use lane::CellLane;
 pub use opening::are_limits;
 pub use refusal::CellRefusal;

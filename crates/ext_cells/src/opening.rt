@@ -10,8 +10,8 @@ use ext_model::LaneNo;
 use std::alloc::{AllocError, Global};
 use std::sync::Wait;
 
-/// Whether `Cells::open` takes these limits: at most 31 cells, 1 to 16 lanes, 1 to 64 tries and 1 to 65,535 numbers.
-/// Takes no memory (own rule).
+/// Whether cells of these limits may be opened: at most 31 cells, 1 to 16 lanes, 1 to 64 tries and 1 to 65,535
+/// numbers. `Cells::open` refuses all others. Takes no memory (own rule).
 pub fn are_limits(cells: usize, lanes: usize, tries: u32, numbers: u32) -> bool
     ensures { IsTrue result ↔ AreLimits cells lanes tries numbers }
 {

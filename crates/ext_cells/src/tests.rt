@@ -1,7 +1,7 @@
 //! Words at their limits, cells whose answers were worked out by hand, and two lanes in threads of their own.
 ghost use Rattle.std.specs.Prelude.{◌≡◌, ◌<◌};
 
-use crate::{CellLane, CellRefusal, CellState, Cells, after, parts, word};
+use crate::{CellLane, CellRefusal, CellState, Cells, Claimed, after, parts, word};
 use ext_model::Act;
 use std::sync::Wait;
 use std::test::Fail;
@@ -136,6 +136,75 @@ fn sealed_cells_keep_their_numbers(rt: HostRuntime) {
     assert_eq!(rt; parts(words.get(0)), (CellState::Sealed, 1, 2));
 }
 
+// What a lane is answered that asks for cell 0: `None` where it won the claim, which it gives up again.
+fn ask<R: Wait>(rt: &R, cells: &Cells, lane: &mut CellLane) -> Result<Option<u32>, CellRefusal>
+    requires lane { lane.old.cells ≡ cells.now.id }
+    requires cell { 0 < cells.now.id.limits.cells }
+    ensures { lane.new.cells ≡ lane.old.cells }
+{
+    match cells.claim(rt, lane, 0)? {
+        Claimed::Won(claim) => {
+            cells.abandon(rt, lane, claim);
+            Ok(None)
+        }
+        Claimed::Standing(number) => Ok(Some(number)),
+    }
+}
+
+#[test]
+fn claims_keep_others_out(rt: HostRuntime) {
+    let Ok((cells, mut lanes)) = Cells::open(&rt, rt.alloc(), 1, 2, 8, 8) else {
+        panic!(rt; "no memory")
+    };
+    let (Some(mut second), Some(mut first)) = (lanes.pop(), lanes.pop()) else {
+        panic!(rt; "no lanes")
+    };
+    let claim = match cells.claim(&rt, &mut first, 0) {
+        Ok(Claimed::Won(claim)) => claim,
+        Ok(Claimed::Standing(_)) | Err(_) => panic!(rt; "no claim"),
+    };
+    assert_eq!(rt; ask(&rt, &cells, &mut second), Err(CellRefusal::Busy));
+    assert_eq!(rt; cells.remove(&rt, &mut second, 0), Err(CellRefusal::Busy));
+    assert_eq!(rt; cells.seal(&rt, &mut second, 0), Err(CellRefusal::Busy));
+    let Ok(number) = cells.next_number(&rt, &mut second) else {
+        panic!(rt; "no number")
+    };
+    assert_eq!(rt;
+        cells.put(&rt, &mut second, 0, number),
+        Err(CellRefusal::Busy)
+    );
+    let Ok(number) = cells.next_number(&rt, &mut first) else {
+        panic!(rt; "no number")
+    };
+    assert_eq!(rt; number, 2);
+    cells.fill(&rt, &mut first, claim, number);
+    assert_eq!(rt; ask(&rt, &cells, &mut second), Ok(Some(2)));
+    assert_eq!(rt; cells.remove(&rt, &mut second, 0), Ok(Some(2)));
+}
+
+#[test]
+fn abandoned_cells_are_empty(rt: HostRuntime) {
+    let Ok((cells, mut lanes)) = Cells::open(&rt, rt.alloc(), 1, 2, 8, 8) else {
+        panic!(rt; "no memory")
+    };
+    let (Some(mut second), Some(mut first)) = (lanes.pop(), lanes.pop()) else {
+        panic!(rt; "no lanes")
+    };
+    assert_eq!(rt; (first.number(), second.number()), (0, 1));
+    let claim = match cells.claim(&rt, &mut first, 0) {
+        Ok(Claimed::Won(claim)) => claim,
+        Ok(Claimed::Standing(_)) | Err(_) => panic!(rt; "no claim"),
+    };
+    cells.abandon(&rt, &mut first, claim);
+    assert_eq!(rt; ask(&rt, &cells, &mut second), Ok(None));
+    let Ok(words) = cells.collect(&rt, &mut second, &[0]) else {
+        panic!(rt; "contended")
+    };
+    assert_eq!(rt; parts(words.get(0)), (CellState::Empty, 0, 4));
+    assert_eq!(rt; cells.seal(&rt, &mut first, 0), Ok(None));
+    assert_eq!(rt; ask(&rt, &cells, &mut second), Err(CellRefusal::Closed));
+}
+
 // What one lane was answered: the numbers that it drew, and what each of its puts replaced.
 #[derive(Drop)]
 struct Replies {
@@ -185,6 +254,105 @@ fn in_two_threads<R: Threads + Wait + Sync>(
             requires { (second.cells ≡ cells.now.id) × (0 < cells.now.id.limits.cells) }
         { draw_and_put(rt, cells, second) },
     )
+}
+
+// Claims cell 0 and fills it, and says with which number; where a number stands, with none.
+fn fill_once<R: Wait>(
+    rt: &R,
+    cells: &Cells,
+    lane: &mut CellLane,
+) -> Result<Option<u32>, CellRefusal>
+    requires lane { lane.old.cells ≡ cells.now.id }
+    requires cell { 0 < cells.now.id.limits.cells }
+    ensures { lane.new.cells ≡ lane.old.cells }
+{
+    match cells.claim(rt, lane, 0)? {
+        Claimed::Won(claim) => match cells.next_number(rt, lane) {
+            Ok(number) => {
+                cells.fill(rt, lane, claim, number);
+                Ok(Some(number))
+            }
+            Err(refusal) => {
+                cells.abandon(rt, lane, claim);
+                Err(refusal)
+            }
+        },
+        Claimed::Standing(_) => Ok(None),
+    }
+}
+
+// Fills cell 0 and takes the number out again, and says how often both were done.
+fn fill_and_remove<R: Wait>(rt: &R, cells: &Cells, lane: CellLane) -> u32
+    requires lane { lane.cells ≡ cells.now.id }
+    requires cell { 0 < cells.now.id.limits.cells }
+{
+    let mut lane = lane;
+    let mut done = 0;
+    for _ in 0..15u32 {
+        let filled = fill_once(rt, cells, &mut lane);
+        if matches!(filled, Ok(Some(_))) && cells.remove(rt, &mut lane, 0) == filled {
+            done += 1;
+        }
+    }
+    done
+}
+
+// Puts numbers in cell 1, and says how many.
+fn put_beside<R: Wait>(rt: &R, cells: &Cells, lane: CellLane) -> u32
+    requires lane { lane.cells ≡ cells.now.id }
+    requires cell { 1 < cells.now.id.limits.cells }
+{
+    let mut lane = lane;
+    let mut done = 0;
+    for _ in 0..15u32 {
+        if let Ok(number) = cells.next_number(rt, &mut lane)
+            && cells.put(rt, &mut lane, 1, number).is_ok()
+        {
+            done += 1;
+        }
+    }
+    done
+}
+
+fn fill_while_others_put<R: Threads + Wait + Sync>(
+    rt: &R,
+    cells: &Cells,
+    first: CellLane,
+    second: CellLane,
+) -> (u32, u32)
+    requires first { first.cells ≡ cells.now.id }
+    requires second { second.cells ≡ cells.now.id }
+    requires cell { 1 < cells.now.id.limits.cells }
+{
+    join(
+        rt,
+        move || -> u32
+            requires { (first.cells ≡ cells.now.id) × (1 < cells.now.id.limits.cells) }
+        { fill_and_remove(rt, cells, first) },
+        move || -> u32
+            requires { (second.cells ≡ cells.now.id) × (1 < cells.now.id.limits.cells) }
+        { put_beside(rt, cells, second) },
+    )
+}
+
+// Neither lane makes as many events as the calls of the other have tries, so no call is contended.
+#[test]
+fn two_threads_fill_and_put(rt: HostRuntime) {
+    let Ok((cells, mut lanes)) = Cells::open(&rt, rt.alloc(), 2, 3, 64, 30) else {
+        panic!(rt; "no memory")
+    };
+    let (Some(mut third), Some(second), Some(first)) = (lanes.pop(), lanes.pop(), lanes.pop())
+    else {
+        panic!(rt; "no lanes")
+    };
+    let done = fill_while_others_put(&rt, &cells, first, second);
+    assert_eq!(rt; done, (15, 15));
+    let Ok(words) = cells.collect(&rt, &mut third, &[0, 1]) else {
+        panic!(rt; "contended")
+    };
+    assert_eq!(rt; parts(words.get(0)), (CellState::Empty, 0, 45));
+    let (state, _, version) = parts(words.get(1));
+    assert_eq!(rt; (state, version), (CellState::Present, 15));
 }
 
 // How often each number from 0 to 50 came.

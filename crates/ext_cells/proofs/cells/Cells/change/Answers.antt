@@ -1,7 +1,7 @@
 use Rattle.std.proofs.Common.{◌<◌, sym, ap, subst}
 use Rattle.ext_cells.specs.Lanes.{Lane}
 use Rattle.ext_cells.proofs.Acts.{IsSmall}
-use Rattle.ext_cells.proofs.Lanes.{small_lane}
+use Rattle.ext_cells.proofs.Lanes.{small_of}
 use Rattle.ext_cells.proofs.Tries.{first_on, next_on}
 use Rattle.ext_cells.proofs.Changing.{word_now, act_now, may_change, changed, done}
 use Rattle.ext_cells.proofs.cells.Cells.change.Goals as goal
@@ -11,31 +11,31 @@ loop-init g c = let f = c.look-words.ensures.found in first_on _ _ _ f.0 f.1 f.2
 
 pub decide-requires-clause-word : goal.decide-requires-clause-word
 decide-requires-clause-word g c =
-    let few : IsSmall c.args.lane.now.cells.limits = small_lane c.args.self.now c.args.lane.now _ _ (ap (λ z. z.id.limits) (sym c.self.view_is)) c.requires.lane c.self.invariant.0 c.self.invariant.1 in
+    let few : IsSmall c.args.lane.now.cells.limits = small_of _ c.args.lane.now c.requires.lane c.look-words.ensures.few c.look-words.ensures.numbers in
     let less : c.args.cell < c.args.lane.now.cells.limits.cells = subst (λ z. c.args.cell < z.limits.cells) (sym c.requires.lane) c.requires.cell in
     word_now c.args.lane.now c.loop.lane c.loop.words c.loop.counter c.args.cell c.args.act few less c.requires.act c.requires.number c.loop.invariant
 
 pub decide-requires-clause-act : goal.decide-requires-clause-act
 decide-requires-clause-act g c =
-    let few : IsSmall c.args.lane.now.cells.limits = small_lane c.args.self.now c.args.lane.now _ _ (ap (λ z. z.id.limits) (sym c.self.view_is)) c.requires.lane c.self.invariant.0 c.self.invariant.1 in
+    let few : IsSmall c.args.lane.now.cells.limits = small_of _ c.args.lane.now c.requires.lane c.look-words.ensures.few c.look-words.ensures.numbers in
     let less : c.args.cell < c.args.lane.now.cells.limits.cells = subst (λ z. c.args.cell < z.limits.cells) (sym c.requires.lane) c.requires.cell in
     act_now c.args.lane.now c.loop.lane c.loop.words c.loop.counter c.args.cell c.args.act few less c.requires.act c.requires.number c.loop.invariant
 
 pub returns-in-Done-clause-reply : goal.returns-in-Done-clause-reply
 returns-in-Done-clause-reply g c =
-    let few : IsSmall c.args.lane.now.cells.limits = small_lane c.args.self.now c.args.lane.now _ _ (ap (λ z. z.id.limits) (sym c.self.view_is)) c.requires.lane c.self.invariant.0 c.self.invariant.1 in
+    let few : IsSmall c.args.lane.now.cells.limits = small_of _ c.args.lane.now c.requires.lane c.look-words.ensures.few c.look-words.ensures.numbers in
     let less : c.args.cell < c.args.lane.now.cells.limits.cells = subst (λ z. c.args.cell < z.limits.cells) (sym c.requires.lane) c.requires.cell in
     done c.args.lane.now c.loop.lane c.loop.words c.loop.counter c.args.cell c.args.act few less c.requires.act c.requires.number c.loop.invariant _ c.in-Done.reply c.in-Done.ensures
 
 pub exchange-requires-clause-may : goal.exchange-requires-clause-may
 exchange-requires-clause-may g c =
-    let few : IsSmall c.args.lane.now.cells.limits = small_lane c.args.self.now c.args.lane.now _ _ (ap (λ z. z.id.limits) (sym c.self.view_is)) c.requires.lane c.self.invariant.0 c.self.invariant.1 in
+    let few : IsSmall c.args.lane.now.cells.limits = small_of _ c.args.lane.now c.requires.lane c.look-words.ensures.few c.look-words.ensures.numbers in
     let less : c.args.cell < c.args.lane.now.cells.limits.cells = subst (λ z. c.args.cell < z.limits.cells) (sym c.requires.lane) c.requires.cell in
     may_change c.args.lane.now c.loop.lane c.loop.words c.loop.counter c.args.cell c.args.act few less c.requires.act c.requires.number c.loop.invariant c.in-Change.next c.in-Change.answer c.in-Change.ensures
 
 pub returns-in-Ok-clause-reply : goal.returns-in-Ok-clause-reply
 returns-in-Ok-clause-reply g c =
-    let few : IsSmall c.args.lane.now.cells.limits = small_lane c.args.self.now c.args.lane.now _ _ (ap (λ z. z.id.limits) (sym c.self.view_is)) c.requires.lane c.self.invariant.0 c.self.invariant.1 in
+    let few : IsSmall c.args.lane.now.cells.limits = small_of _ c.args.lane.now c.requires.lane c.look-words.ensures.few c.look-words.ensures.numbers in
     let less : c.args.cell < c.args.lane.now.cells.limits.cells = subst (λ z. c.args.cell < z.limits.cells) (sym c.requires.lane) c.requires.cell in
     let m = c.in-Ok.ensures.made in
     changed c.args.lane.now c.loop.lane c.loop.words c.loop.counter c.args.cell c.args.act few less c.requires.act c.requires.number c.loop.invariant c.in-Change.next c.in-Change.answer c.in-Change.ensures c.args.self.now.tries c.exchange.new.lane m.0 m.1 (ap (λ (l : Lane). l.view) m.3)
@@ -45,18 +45,18 @@ loop-preserved g c = let m = c.in-Err.ensures.missed in next_on _ _ _ _ _ _ m.1.
 
 pub decide-requires-2-clause-word : goal.decide-requires-2-clause-word
 decide-requires-2-clause-word g c =
-    let few : IsSmall c.args.lane.now.cells.limits = small_lane c.args.self.now c.args.lane.now _ _ (ap (λ z. z.id.limits) (sym c.self.view_is)) c.requires.lane c.self.invariant.0 c.self.invariant.1 in
+    let few : IsSmall c.args.lane.now.cells.limits = small_of _ c.args.lane.now c.requires.lane c.look-words.ensures.few c.look-words.ensures.numbers in
     let less : c.args.cell < c.args.lane.now.cells.limits.cells = subst (λ z. c.args.cell < z.limits.cells) (sym c.requires.lane) c.requires.cell in
     word_now c.args.lane.now c.loop.lane c.loop.words c.loop.counter c.args.cell c.args.act few less c.requires.act c.requires.number c.loop.invariant
 
 pub decide-requires-2-clause-act : goal.decide-requires-2-clause-act
 decide-requires-2-clause-act g c =
-    let few : IsSmall c.args.lane.now.cells.limits = small_lane c.args.self.now c.args.lane.now _ _ (ap (λ z. z.id.limits) (sym c.self.view_is)) c.requires.lane c.self.invariant.0 c.self.invariant.1 in
+    let few : IsSmall c.args.lane.now.cells.limits = small_of _ c.args.lane.now c.requires.lane c.look-words.ensures.few c.look-words.ensures.numbers in
     let less : c.args.cell < c.args.lane.now.cells.limits.cells = subst (λ z. c.args.cell < z.limits.cells) (sym c.requires.lane) c.requires.cell in
     act_now c.args.lane.now c.loop.lane c.loop.words c.loop.counter c.args.cell c.args.act few less c.requires.act c.requires.number c.loop.invariant
 
 pub returns-in-Done-decide-clause-reply : goal.returns-in-Done-decide-clause-reply
 returns-in-Done-decide-clause-reply g c =
-    let few : IsSmall c.args.lane.now.cells.limits = small_lane c.args.self.now c.args.lane.now _ _ (ap (λ z. z.id.limits) (sym c.self.view_is)) c.requires.lane c.self.invariant.0 c.self.invariant.1 in
+    let few : IsSmall c.args.lane.now.cells.limits = small_of _ c.args.lane.now c.requires.lane c.look-words.ensures.few c.look-words.ensures.numbers in
     let less : c.args.cell < c.args.lane.now.cells.limits.cells = subst (λ z. c.args.cell < z.limits.cells) (sym c.requires.lane) c.requires.cell in
     done c.args.lane.now c.loop.lane c.loop.words c.loop.counter c.args.cell c.args.act few less c.requires.act c.requires.number c.loop.invariant _ c.in-Done-decide.reply c.in-Done-decide.ensures

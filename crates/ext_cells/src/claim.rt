@@ -1,0 +1,27 @@
+//! What a lane that asks for a cell is answered, and the claim that it may win.
+
+use ext_model::CellNo;
+use std::marker::Model;
+
+/// The claim of a cell by one lane. It is neither copied nor dropped: `Cells::fill` or `Cells::abandon` ends it,
+/// by a call on the lane that won it. In contracts it is the cell. Own rule (JUnit: a running factory holds its
+/// key).
+pub struct Claim {
+    pub(crate) cell: CellNo,
+}
+
+impl Model for Claim {
+    ghost use Rattle.std.specs.Prelude.{ℕ};
+
+    ghost Value = { ℕ };
+
+    ghost view = { λ s. s.cell };
+}
+
+/// What a lane that asks for a cell is answered. Own rule.
+pub enum Claimed {
+    /// The cell is claimed for the lane.
+    Won(Claim),
+    /// This number stands there, from 1 to 65,535.
+    Standing(u32),
+}
