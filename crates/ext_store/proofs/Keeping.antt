@@ -25,7 +25,7 @@ use Rattle.ext_store.proofs.Replies.{other_why}
 use Rattle.ext_store.specs.Calls.{HoldsAtPoint, reply_to, KeepFails, Puts, Removes}
 
 -- the act stores another number, or none
-abbrev StoresNot : ℕ → Act ℕ → Type 0
+abbrev pub StoresNot : ℕ → Act ℕ → Type 0
 StoresNot number act = stored_number act ≡ Some number → ⊥
 
 module _ {V : Type 0} (limits : Limits) (before after : StoreLane V) where
@@ -40,33 +40,29 @@ module _ {V : Type 0} (limits : Limits) (before after : StoreLane V) where
 
   -- after a call without an event,
   pub quiet_keeps : Calls limits before.cells.view after.cells.view [] → after.known ≡ before.known → StillKeeps before after
-  quiet_keeps calls same = record { each = λ number kept. one_kept [] number calls (All-nil (StoresNot number)) (ap (λ k. known_at k number) same) kept }
+  quiet_keeps calls same = (λ number kept. one_kept [] number calls (All-nil (StoresNot number)) (ap (λ k. known_at k number) same) kept)
 
   -- after one that stores no number,
   pub removed_keeps : (at : ℕ) → Calls limits before.cells.view after.cells.view (Remove at ∷ []) → after.known ≡ before.known → StillKeeps before after
-  removed_keeps at calls same = record { each = λ number kept. one_kept (Remove at ∷ []) number calls (All-cons (StoresNot number) (Remove at) [] (λ e. cc e) (All-nil (StoresNot number))) (ap (λ k. known_at k number) same) kept }
+  removed_keeps at calls same = (λ number kept. one_kept (Remove at ∷ []) number calls (All-cons (StoresNot number) (Remove at) [] (λ e. cc e) (All-nil (StoresNot number))) (ap (λ k. known_at k number) same) kept)
 
   -- after one that stores another,
   pub stored_keeps : (at stored : ℕ) → Calls limits before.cells.view after.cells.view (Put at stored ∷ []) → after.known ≡ before.known → StillKeepsBut stored before after
-  stored_keeps at stored calls same = record {
-    each = λ number other kept.
-        one_kept (Put at stored ∷ []) number calls (All-cons (StoresNot number) (Put at stored) [] (λ e. other (sym (one_number stored number e))) (All-nil (StoresNot number))) (ap (λ k. known_at k number) same) kept;
-  }
+  stored_keeps at stored calls same = (λ number other kept.
+      one_kept (Put at stored ∷ []) number calls (All-cons (StoresNot number) (Put at stored) [] (λ e. other (sym (one_number stored number e))) (All-nil (StoresNot number))) (ap (λ k. known_at k number) same) kept)
     where
       one_number : (a b : ℕ) → (let x : Option ℕ = Some a in let y : Option ℕ = Some b in x ≡ y) → a ≡ b
       one_number a b e = cc e
 
   -- after one that drew another, of which the lane learnt nothing,
   pub unplaced_keeps : (drawn : ℕ) → Calls limits before.cells.view after.cells.view (Keep drawn ∷ []) → after.known ≡ before.known → StillKeeps before after
-  unplaced_keeps drawn calls same = record { each = λ number kept. one_kept (Keep drawn ∷ []) number calls (All-cons (StoresNot number) (Keep drawn) [] (λ e. cc e) (All-nil (StoresNot number))) (ap (λ k. known_at k number) same) kept }
+  unplaced_keeps drawn calls same = (λ number kept. one_kept (Keep drawn ∷ []) number calls (All-cons (StoresNot number) (Keep drawn) [] (λ e. cc e) (All-nil (StoresNot number))) (ap (λ k. known_at k number) same) kept)
 
   -- and after one that drew another, whose value the lane didn't know and knows now
   pub learnt_keeps : (drawn : ℕ) (value : V) → Calls limits before.cells.view after.cells.view (Keep drawn ∷ []) → Learns before.known after.known drawn value → known_at before.known drawn ≡ None → StillKeeps before after
-  learnt_keeps drawn value calls learns free = record {
-    each = λ number kept.
-        one_kept (Keep drawn ∷ []) number calls (All-cons (StoresNot number) (Keep drawn) [] (λ e. cc e) (All-nil (StoresNot number)))
-        (learns.others number (λ same. not_both _ kept.value (ap (λ m. known_at before.known m) (sym same) ∙ kept.known) free)) kept;
-  }
+  learnt_keeps drawn value calls learns free = (λ number kept.
+      one_kept (Keep drawn ∷ []) number calls (All-cons (StoresNot number) (Keep drawn) [] (λ e. cc e) (All-nil (StoresNot number)))
+      (learns.others number (λ same. not_both _ kept.value (ap (λ m. known_at before.known m) (sym same) ∙ kept.known) free)) kept)
     where
       not_both : (o : Option V) (v : V) → o ≡ Some v → o ≡ None → ⊥
       not_both o v some none = cc (some, none)

@@ -4,3 +4,9 @@ pub mod LookUps
 pub mod Replies
 pub mod Keeping
 pub mod Fresh
+pub mod SealsKeep
+pub mod Standing
+pub mod Parts
+pub mod Missing
+pub mod Filling
+pub mod Composing

@@ -25,15 +25,20 @@ abbrev pub told_at : ℕ → Result (Option ℕ) CellRefusal → Result (Option 
 told_at context (Ok stood) = Ok stood
 told_at context (Err why) = Err (refusal_at context why)
 
-told_reply : (context : ℕ) (reply : events.Reply) → result_at context reply ≡ told_at context (cells.result_of what_stood reply)
-told_reply context (events.Happens answer) = refl
-told_reply context (events.Answers answer) = refl
-told_reply context (events.Refuses events.NumbersFull) = refl
-told_reply context (events.Refuses events.Busy) = refl
-told_reply context (events.Refuses events.Closed) = refl
-told_reply context (events.Refuses events.Exhausted) = refl
-told_reply context (events.Refuses (events.Standing number)) = refl
-told_reply context (events.Refuses events.Barred) = refl
+put_told : (context : ℕ) (worn : Bool) (s : Option Slot) → result_at context (events.put_reply worn s) ≡ told_at context (cells.result_of what_stood (events.put_reply worn s))
+put_told context true None = refl
+put_told context false None = refl
+put_told context true (Some (slot.Entry number)) = refl
+put_told context false (Some (slot.Entry number)) = refl
+put_told context worn (Some (slot.Claim lane)) = refl
+put_told context worn (Some (slot.Sealed kept)) = refl
+
+remove_told : (context : ℕ) (worn : Bool) (s : Option Slot) → result_at context (events.remove_reply worn s) ≡ told_at context (cells.result_of what_stood (events.remove_reply worn s))
+remove_told context worn None = refl
+remove_told context true (Some (slot.Entry number)) = refl
+remove_told context false (Some (slot.Entry number)) = refl
+remove_told context worn (Some (slot.Claim lane)) = refl
+remove_told context worn (Some (slot.Sealed kept)) = refl
 
 -- a put is never refused as contended by one thread,
 put_never : (context : ℕ) (worn : Bool) (s : Option Slot) → told_at context (cells.result_of what_stood (events.put_reply worn s)) ≢ Err refusal.Contended
@@ -113,13 +118,13 @@ module _ (store : StoreView) (context key : ℕ) (before after : Lane) where
       → Puts store context key number before after (with_kept number (told_at context r))
   puts number r a =
       answers_too store (Err (number, refusal.Contended)) before after (cells.put_acts (cell_in store key context) number) (Put (cell_in store key context) number) (put_acts (cell_in store key context) number)
-      (λ x. with_kept number (told_at context x)) refl (λ p e. put_never context _ _ (unpaired number _ refusal.Contended e)) r _ (λ p. ap (with_kept number) (told_reply context _)) (same_put_acts context _ number r) a
+      (λ x. with_kept number (told_at context x)) refl (λ p e. put_never context _ _ (unpaired number _ refusal.Contended e)) r _ (λ p. ap (with_kept number) (put_told context _ _)) (same_put_acts context _ number r) a
 
   pub removes : (r : Result (Option ℕ) CellRefusal) → cells.Answers store.tries before after (cells.remove_acts (cell_in store key context)) (cells.change_reply before (Remove (cell_in store key context))) r
       → Removes store context key before after (told_at context r)
   removes r a =
       answers_too store (Err refusal.Contended) before after (cells.remove_acts (cell_in store key context)) (Remove (cell_in store key context)) (remove_acts (cell_in store key context))
-      (told_at context) refl (λ p. remove_never context _ _) r _ (λ p. told_reply context _) (same_remove_acts context _ r) a
+      (told_at context) refl (λ p. remove_never context _ _) r _ (λ p. remove_told context _ _) (same_remove_acts context _ r) a
 
   -- a refusal of the cells, as the store hands it on
   pub put_refused : (tries cell kept number : ℕ) (why : CellRefusal) (told : Refusal) → tries ≡ store.tries → cell ≡ cell_in store key context → kept ≡ number → told ≡ refusal_at context why

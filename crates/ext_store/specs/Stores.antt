@@ -60,12 +60,12 @@ pub record IsKeptBy {V : Type 0} (lane : StoreLane V) (number : ℕ) : Type 0 wh
   pub known : known_at lane.known number ≡ Some value
 
 -- what the lane kept before, it keeps afterwards
-pub record StillKeeps {V : Type 0} (before after : StoreLane V) : Type 0 where
-  pub each : (number : ℕ) → IsKeptBy before number → IsKeptBy after number
+abbrev pub StillKeeps : {V : Type 0} → StoreLane V → StoreLane V → Type 0
+StillKeeps before after = (number : ℕ) → IsKeptBy before number → IsKeptBy after number
 
 -- all but this number
-pub record StillKeepsBut {V : Type 0} (stored : ℕ) (before after : StoreLane V) : Type 0 where
-  pub each : (number : ℕ) → number ≢ stored → IsKeptBy before number → IsKeptBy after number
+abbrev pub StillKeepsBut : {V : Type 0} → ℕ → StoreLane V → StoreLane V → Type 0
+StillKeepsBut stored before after = (number : ℕ) → number ≢ stored → IsKeptBy before number → IsKeptBy after number
 
 -- ---- opening
 

@@ -9,16 +9,20 @@
 #![tactic(auto)]
 
 mod closer;
+mod compute;
+mod computed;
 mod fault;
 mod kept;
 mod lane;
 mod limits;
 mod opening;
+mod sealing;
 mod store;
 mod value;
 mod walk;
 
 pub use closer::Closer;
+pub use computed::Compute;
 pub use fault::{KeepFault, Refusal};
 pub use kept::Kept;
 pub use lane::Lane;

@@ -33,9 +33,9 @@ use std::sync::Wait;
 /// claims, closers and refusals are own rules.
 #[derive(Drop)]
 pub struct Store<V> {
-    tree: Tree,
-    directory: Directory,
-    cells: Cells,
+    pub(crate) tree: Tree,
+    pub(crate) directory: Directory,
+    pub(crate) cells: Cells,
     values: Values<V>,
     alloc: Global,
 }
@@ -75,7 +75,7 @@ impl<V> Store<V> {
     }
 
     // The cell of the key in the context.
-    fn cell(&self, context: ContextNo, key: KeyNo) -> CellNo
+    pub(crate) fn cell(&self, context: ContextNo, key: KeyNo) -> CellNo
         requires context { context < length self.now.tree }
         requires key { key < length self.now.keys }
         ensures cell { result ≡ cell_in self.now key context }
@@ -99,7 +99,7 @@ impl<V> Store<V> {
     }
 
     // The look-up of the key along the path.
-    fn look_along<R: Wait>(
+    pub(crate) fn look_along<R: Wait>(
         &self,
         rt: &R,
         lane: &mut CellLane,

@@ -1,0 +1,7 @@
+pub mod PutIn
+pub mod Counting
+pub mod Knowing
+pub mod Joining
+pub mod Calling
+pub mod Sealing
+pub mod InHand

@@ -1,0 +1,25 @@
+use Rattle.std.proofs.Common.{◌∙◌, ◌≡◌, ◌≤◌, ◌<◌, ◌+◌, length, sym, subst, arith, ap}
+use Rattle.ext_closing.specs.Steps.{SealedSoFar}
+use Rattle.ext_closing.proofs.Sealing.{one_more_sealed, refused_end}
+use Rattle.ext_closing.proofs.closing.seal_all.Goals as goal
+
+pub returns-in-Err-clause-ends : goal.returns-in-Err-clause-ends
+returns-in-Err-clause-ends g c =
+    let next = c.in-Err.ensures in
+    let below : c.loop-key.key < length c.args.store.now.keys = omega (arith, c.loop-key-test.true, c.len-key-end.ensures.count, ap length c.directory.ensures) in
+    refused_end c.args.store.now c.args.closer.now.context c.args.lane.now.cells c.loop-key.lane.cells c.seal_key.new.lane.cells (next.lane.cells ∙ sym c.loop-key.invariant.lane.cells)
+    c.loop-key.numbers c.loop-key.key c.loop-key.invariant.so_far below c.in-Err.why next.answer
+
+pub loop-key-preserved : goal.loop-key-preserved
+loop-key-preserved g c =
+    let next = c.in-Ok.ensures in
+    let inv = c.loop-key.invariant in
+    record {
+      so_far = subst (λ numbers. SealedSoFar c.args.store.now c.args.closer.now.context (c.loop-key.key + 1) c.args.lane.now.cells c.seal_key.new.lane.cells numbers) (sym c.keep.ensures.numbers)
+          (one_more_sealed c.args.store.now c.args.closer.now.context c.args.lane.now.cells c.loop-key.lane.cells c.seal_key.new.lane.cells (next.lane.cells ∙ sym inv.lane.cells)
+          c.loop-key.numbers c.loop-key.key inv.so_far c.in-Ok.kept next.answer);
+      few = omega (arith, inv.few, c.keep.ensures.few);
+      known = next.known ∙ inv.known;
+      lane = next.lane;
+      kept = (λ number keeps. next.kept number (inv.kept number keeps));
+    }

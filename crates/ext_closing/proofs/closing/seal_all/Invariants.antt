@@ -1,0 +1,13 @@
+use Rattle.std.proofs.Common.{◌≡◌, ◌≤◌, length}
+use Rattle.ext_store.specs.Stores.{IsLaneOf, StillKeeps}
+use Rattle.ext_closing.specs.Steps.{SealedSoFar}
+use Rattle.ext_closing.proofs.closing.seal_all.Given as goal
+
+abbrev pub invariant-loop-key : goal.invariant-loop-key
+invariant-loop-key g l = record {
+  so_far : SealedSoFar l.store l.closer.context l.key l.fn.lane.cells l.lane.cells l.numbers;
+  few : length l.numbers ≤ l.key;
+  known : l.lane.known ≡ l.fn.lane.known;
+  lane : IsLaneOf l.store.id l.lane;
+  kept : StillKeeps l.fn.lane l.lane;
+}

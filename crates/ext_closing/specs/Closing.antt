@@ -1,0 +1,59 @@
+-- Which calls of the close action a close makes, and what it counts of their answers.
+-- JUnit 5 User Guide, "Keeping State in Extensions", and Javadoc `ExtensionContext.Store.CloseableResource`: the closeable values of a context are closed in the
+-- inverse order in which they were added. Here the greatest number is the latest value. That faults are counted and do not stop the others is an own rule.
+use Rattle.std.specs.Prelude.{ℕ, ◌≡◌, ◌-◌, Bool, true, false, List, [], ◌∷◌, ◌++◌, length, slice_get, Option, None, Some, Result, Ok, Err}
+use Rattle.std.specs.List.{FoldsTo}
+use Rattle.ext_model.specs.declared.look.Fault.{Fault}
+use Rattle.ext_store.specs.Stores.{StoreLane}
+use Rattle.ext_closing.specs.declared.closed.Closed.{Closed}
+use Rattle.ext_closing.specs.declared.fault.CloseFault.{CloseFault}
+use Rattle.ext_closing.specs.declared.fault.CloseFault.TheVariants.{Busy, Contended, Unjoined}
+use Rattle.ext_closing.specs.Lanes.{IsKnown, IsGreatestUnjoined}
+
+-- ---- answers
+
+-- what a call of the action answers
+abbrev pub Answer : Type 0
+Answer = Result (Unit {0}) Fault
+
+-- the faults among the answers, in order
+abbrev pub faults_in : List Answer → List Fault
+faults_in [] = []
+faults_in (Ok done ∷ answers) = faults_in answers
+faults_in (Err fault ∷ answers) = fault ∷ faults_in answers
+
+-- what is reported of the answers: how many calls there were, the first fault, and how many further ones
+abbrev pub counted : List Answer → Closed
+counted answers = record { closed = length answers; first_fault = slice_get (faults_in answers) 0; more_faults = length (faults_in answers) - 1 }
+
+-- ---- calls
+
+-- The action as it stands, and the answers of its calls so far
+pub record Closing (A : Type 0) : Type 0 where
+  pub action : A
+  pub answers : List Answer
+
+-- `is_closeable` says which values are, and `gives` is the action's own relation
+module _ {V A : Type 0} (is_closeable : V → Bool) (gives : A → ℕ → V → Answer → A → Type 0) where
+  -- one call with the number and the value where the value is closeable, and else none
+  abbrev pub CallIf : Bool → ℕ → V → Closing A → Closing A → Type 0
+  CallIf true number value before after = (answer : Answer) × gives before.action number value answer after.action × (after.answers ≡ before.answers ++ answer ∷ [])
+  CallIf false number value before after = after ≡ before
+
+  -- what a close does for a number: it is given to the action with its value, which a lane in hand knows, where that is closeable
+  abbrev pub ClosesOne : List (StoreLane V) → Closing A → ℕ → Closing A → Type 0
+  ClosesOne lanes before number after = (value : V) × IsKnown lanes number value × CallIf (is_closeable value) number value before after
+
+  -- The action goes from its first to its last state by these calls, for the numbers in their order, and by no other; and this is reported of the answers
+  pub record ClosesNumbers (lanes : List (StoreLane V)) (numbers : List ℕ) (first last : A) (closed : Closed) : Type 0 where
+    pub answers : List Answer
+    pub calls : FoldsTo (ClosesOne lanes) (record { action = first; answers = [] }) numbers (record { action = last; answers = answers })
+    pub counts : closed ≡ counted answers
+
+-- ---- refusals
+
+-- a close that is refused as `Unjoined` names the greatest remaining number whose value no lane in hand knows
+abbrev pub NamesUnjoined : {V : Type 0} → List (StoreLane V) → List ℕ → CloseFault → Type 0
+NamesUnjoined lanes numbers (Busy key) = Unit {0}
+NamesUnjoined lanes numbers (Contended key) = Unit {0}
+NamesUnjoined lanes numbers (Unjoined number) = IsGreatestUnjoined lanes numbers number

@@ -1,0 +1,4 @@
+pub mod Lanes
+pub mod Sealing
+pub mod Closing
+pub mod Steps

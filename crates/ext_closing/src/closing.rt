@@ -1,0 +1,211 @@
+//! The close of a context.
+ghost use Rattle.std.specs.Prelude.{ℕ, ◌≡◌, ◌≤◌, ◌<◌, ◌+◌, List, [], ◌∷◌, ◌++◌, length, slice_index_or, is_some, true, All, IfErr, IfNone, IfOk, IfSome};
+ghost use Rattle.std.specs.List.{AllZip};
+ghost use Rattle.ext_model.specs.Closing.{IsFalling};
+ghost use Rattle.ext_values.specs.Known.{known_at};
+ghost use Rattle.ext_store.specs.Stores.{IsCloserOf, IsLaneOf, StillKeeps};
+ghost use Rattle.ext_closing.specs.Lanes.{IsGreatestUnjoined, IsJoined, IsKnown, IsUnknown, OnlyFirstSteps, first_lane};
+ghost use Rattle.ext_closing.specs.Sealing.{AreSealed, MakesSeals, SealsUntil, fault_beside, fault_of, keys_sealed, numbers_left};
+ghost use Rattle.ext_closing.specs.Closing.{ClosesNumbers, NamesUnjoined};
+ghost use Rattle.ext_closing.specs.Steps.{IsOfKey, SealingEnds, SealsNext};
+
+use crate::numbers::Numbers;
+use crate::{CloseAction, CloseFault, Closed};
+use ext_model::KeyNo;
+use ext_store::{Closer, Lane, Refusal, Store, StoreValue};
+use std::sync::Wait;
+
+/// Closes the closer's context: seals its keys, in their order, by the first of the lanes, and then closes those of
+/// its remaining values that are closeable, the one with the greatest number first, each by one call of the action. A
+/// value remains where it stood in the context when its key was sealed. A close that fails does not stop the others.
+/// Neither the parent nor the children of the context are closed. Afterwards nothing is stored or claimed in the
+/// context. Takes no memory of its own, and may wait.
+///
+/// It is a condition that there is at least one lane, and that the lanes and the closer are of the store.
+///
+/// Refused as `Busy` at the first key for which a lane computes a value in the context, as `Contended` at the first
+/// key whose seal is, and then as `Unjoined` with the greatest remaining number whose value no lane in hand kept or
+/// was shown, closeable or not. The closer is then handed back and the action as it was, what was sealed stays sealed,
+/// and the close may be tried again.
+///
+/// JUnit 5 User Guide, section "Keeping State in Extensions", and Javadoc
+/// `ExtensionContext.Store.CloseableResource`; seals, lanes and refusals are own rules.
+pub fn close<R: Wait, V: StoreValue + Drop, A: CloseAction<V>>(
+    rt: &R,
+    store: &Store<V>,
+    closer: Closer,
+    lanes: &mut [Lane<V>],
+    action: &mut A,
+) -> Result<Closed, (Closer, CloseFault)>
+    requires lanes { 1 ≤ length lanes.old }
+    requires own_lanes { All (IsLaneOf store.now.id) lanes.old }
+    requires closer { IsCloserOf store.now closer }
+
+    // The first lane seals the keys, and does nothing else.
+    ensures seals { SealsUntil store.now closer.context (first_lane store.now lanes.old) (first_lane store.now lanes.new) (fault_beside result) }
+    ensures sealed { AreSealed store.now closer.context (keys_sealed store.now (fault_beside result)) (first_lane store.now lanes.new) }
+    ensures own_events { MakesSeals store.now closer.context (keys_sealed store.now (fault_beside result)) (first_lane store.now lanes.old) (first_lane store.now lanes.new) }
+
+    // The action closes what remains and is closeable, and is called for nothing else.
+    ensures closes { IfOk result (λ closed. ClosesNumbers V.is_closeable A.close_gives lanes.new (numbers_left store.now closer.context (first_lane store.now lanes.new)) action.old action.new closed) }
+
+    // When it is refused, and what is left then.
+    ensures unjoined { IfErr result (λ e. NamesUnjoined lanes.new (numbers_left store.now closer.context (first_lane store.now lanes.new)) e.1) }
+    ensures handed_back { IfErr result (λ e. e.0 ≡ closer) }
+    ensures not_called { IfErr result (λ _. action.new ≡ action.old) }
+
+    // The lanes know and keep what they did, and the others made no step.
+    ensures lanes { OnlyFirstSteps lanes.old lanes.new }
+    ensures own_lanes { All (IsLaneOf store.now.id) lanes.new }
+    ensures kept { AllZip StillKeeps lanes.old lanes.new }
+{
+    let numbers = match seal_all(rt, store, &closer, &mut lanes[0]) {
+        Ok(numbers) => numbers,
+        Err(why) => return Err((closer, why)),
+    };
+    let remaining = numbers.as_slice();
+    if let Some(number) = first_unjoined(store, lanes, remaining) {
+        return Err((closer, CloseFault::Unjoined(number)));
+    }
+    Ok(close_all(store, lanes, remaining, action))
+}
+
+// Seals all keys of the closer's context, in their order, and answers the numbers that remain, the greatest first.
+fn seal_all<R: Wait, V>(
+    rt: &R,
+    store: &Store<V>,
+    closer: &Closer,
+    lane: &mut Lane<V>,
+) -> Result<Numbers, CloseFault>
+    requires lane { IsLaneOf store.now.id lane.old }
+    requires closer { IsCloserOf store.now closer.now }
+    ensures ends { SealingEnds store.now closer.now.context lane.old.cells lane.new.cells (fault_of result) }
+    ensures numbers { IfOk result (λ numbers. numbers ≡ numbers_left store.now closer.now.context lane.new.cells) }
+    ensures few { IfOk result (λ numbers. length numbers ≤ 64) }
+    ensures refusal { IfErr result IsOfKey }
+    ensures known { lane.new.known ≡ lane.old.known }
+    ensures lane { IsLaneOf store.now.id lane.new }
+    ensures kept { StillKeeps lane.old lane.new }
+{
+    let mut numbers = Numbers::new();
+    for key in 0..store.directory().len() {
+        match seal_key(rt, store, closer, lane, key) {
+            Ok(kept) => numbers.keep(kept),
+            Err(why) => return Err(why),
+        }
+    }
+    Ok(numbers)
+}
+
+// Seals one key of the closer's context.
+fn seal_key<R: Wait, V>(
+    rt: &R,
+    store: &Store<V>,
+    closer: &Closer,
+    lane: &mut Lane<V>,
+    key: KeyNo,
+) -> Result<Option<u32>, CloseFault>
+    requires lane { IsLaneOf store.now.id lane.old }
+    requires closer { IsCloserOf store.now closer.now }
+    requires key { key < length store.now.keys }
+    ensures answer { SealsNext store.now closer.now.context key lane.old.cells lane.new.cells result }
+    ensures known { lane.new.known ≡ lane.old.known }
+    ensures lane { IsLaneOf store.now.id lane.new }
+    ensures kept { StillKeeps lane.old lane.new }
+{
+    match store.seal(rt, lane, closer, key) {
+        Ok(kept) => Ok(kept),
+        Err(Refusal::Busy(_)) => Err(CloseFault::Busy(key)),
+        Err(Refusal::Closed(_) | Refusal::Contended | Refusal::UnknownKey | Refusal::Exhausted) =>
+            Err(CloseFault::Contended(key)),
+    }
+}
+
+// The first of the falling numbers whose value no lane in hand knows.
+fn first_unjoined<V>(store: &Store<V>, lanes: &[Lane<V>], numbers: &[u32]) -> Option<u32>
+    requires { IsFalling numbers.now }
+    ensures joined { IfNone result (All (IsJoined lanes.now) numbers.now) }
+    ensures unjoined { IfSome result (IsGreatestUnjoined lanes.now numbers.now) }
+{
+    for number in numbers {
+        if lane_knowing(store, lanes, *number).is_none() {
+            return Some(*number);
+        }
+    }
+    None
+}
+
+// A lane in hand that knows the number's value.
+fn lane_knowing<V>(store: &Store<V>, lanes: &[Lane<V>], number: u32) -> Option<usize>
+    ensures within { IfSome result (λ at. at < length lanes.now) }
+    ensures knows { IfSome result (λ at. (lane : _) → is_some (known_at (slice_index_or lanes.now at lane).known number) ≡ true) }
+    ensures none { IfNone result (IsUnknown lanes.now number) }
+{
+    lanes.iter().position(|lane| store.knows(lane, number))
+}
+
+// Gives the closeable ones among the values of these numbers to the action, in order.
+fn close_all<V: StoreValue + Drop, A: CloseAction<V>>(
+    store: &Store<V>,
+    lanes: &mut [Lane<V>],
+    numbers: &[u32],
+    action: &mut A,
+) -> Closed
+    requires lanes { All (IsLaneOf store.now.id) lanes.old }
+    requires joined { All (IsJoined lanes.old) numbers.now }
+    requires few { length numbers.now ≤ 64 }
+    ensures closes { ClosesNumbers V.is_closeable A.close_gives lanes.old numbers.now action.old action.new result }
+    ensures unchanged { lanes.new ≡ lanes.old }
+{
+    let mut closed = Closed {
+        closed: 0,
+        first_fault: None,
+        more_faults: 0,
+    };
+    for number in numbers {
+        close_one(store, lanes, *number, action, &mut closed);
+    }
+    closed
+}
+
+// Gives the number's value to the action, where it is closeable, and counts the answer.
+fn close_one<V: StoreValue + Drop, A: CloseAction<V>>(
+    store: &Store<V>,
+    lanes: &mut [Lane<V>],
+    number: u32,
+    action: &mut A,
+    closed: &mut Closed,
+)
+    requires lanes { All (IsLaneOf store.now.id) lanes.old }
+    requires joined { IsJoined lanes.old number }
+    requires room { (closed.old.closed < 64) × (closed.old.more_faults ≤ closed.old.closed) }
+    ensures closes { (numbers : List ℕ) (first : A) → ClosesNumbers V.is_closeable A.close_gives lanes.old numbers first action.old closed.old → ClosesNumbers V.is_closeable A.close_gives lanes.old (numbers ++ number ∷ []) first action.new closed.new }
+    ensures one_more { closed.new.closed ≤ closed.old.closed + 1 }
+    ensures few { closed.new.more_faults ≤ closed.new.closed }
+    ensures unchanged { lanes.new ≡ lanes.old }
+{
+    let value = known_value(store, lanes, number);
+    if value.closeable() {
+        closed.count(action.close(number, value));
+    }
+}
+
+// The number's value, which a lane in hand knows.
+fn known_value<'a, V: StoreValue + Drop>(
+    store: &'a Store<V>,
+    lanes: &mut [Lane<V>],
+    number: u32,
+) -> &'a V
+    requires lanes { All (IsLaneOf store.now.id) lanes.old }
+    requires joined { IsJoined lanes.old number }
+    ensures value { IsKnown lanes.old number result.now }
+    ensures unchanged { lanes.new ≡ lanes.old }
+{
+    let Some(at) = lane_knowing(store, lanes, number) else {
+        unreachable!()
+    };
+    let Some(value) = store.show(&mut lanes[at], number) else {
+        unreachable!()
+    };
+    value
+}

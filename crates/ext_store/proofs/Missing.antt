@@ -1,0 +1,189 @@
+-- What the claim of a missing value says, from what its steps say.
+use Rattle.std.proofs.Common.{◌≡◌, ◌≢◌, ℕ, suc, ◌<◌, ◌≤◌, ◌-◌, List, [], ◌∷◌, ◌++◌, take, drop, length, false, sym, refl, ap, ◌∙◌, subst, arith, inl, inr, nat_eq}
+use Rattle.std.specs.Prelude.{Option, None, Some, Result, Ok, Err, All, AllPairs}
+use Rattle.std.proofs.lemmas.List.Elements.{All-nil, All-tail}
+use Rattle.ext_model.specs.declared.event.Act.{Act}
+use Rattle.ext_model.specs.declared.event.Act.TheVariants.{Claim, Abandon}
+use Rattle.ext_model.specs.declared.look.Look.{Look}
+use Rattle.ext_model.specs.declared.look.Look.TheVariants as look
+use Rattle.ext_model.specs.Events as events
+use Rattle.ext_model.specs.History.{History, Limits, slots_in, reply_after}
+use Rattle.ext_model.specs.Views.{LaneView, IsStepped, IsAnswerPoint}
+use Rattle.ext_model.specs.Calls as model
+use Rattle.ext_model.specs.Calls.{Calls, HoldsAtPoint, IsOvertaken, IsCrowded, IsHeld}
+use Rattle.ext_model.specs.SecondLook.{look_after, LooksAgain}
+use Rattle.ext_model.proofs.Composed.{same_number, calls_compose, later_answers, answer_first, overtaken_crowded, crowded_overtaken, crowded_by_first, crowded_by_second}
+use Rattle.ext_model.proofs.Held.{claim_held}
+use Rattle.ext_tree.specs.Trees.{Id}
+use Rattle.ext_tree.specs.Paths.{IsPathOf}
+use Rattle.ext_cells.specs.declared.claim.Claimed.{Claimed}
+use Rattle.ext_cells.specs.declared.claim.Claimed.TheVariants.{Won, Standing}
+use Rattle.ext_cells.specs.declared.refusal.CellRefusal.{CellRefusal}
+use Rattle.ext_cells.specs.declared.refusal.CellRefusal.TheVariants as cell
+use Rattle.ext_cells.specs.Lanes.{CellsId, Lane}
+use Rattle.ext_cells.specs.Calls as cells
+use Rattle.ext_store.specs.declared.fault.Refusal.TheVariants as refusal
+use Rattle.ext_store.specs.declared.computed.Unused.{Unused}
+use Rattle.ext_store.specs.declared.computed.Unused.TheVariants.{Found, Refused}
+use Rattle.ext_store.specs.Stores.{StoreView, cell_in}
+use Rattle.ext_store.specs.Refusals.{refusal_at}
+use Rattle.ext_store.specs.Looking.{IsTrail, LooksAt}
+use Rattle.ext_store.specs.Computing.{Happens, ClaimsAndLooks, given_up, Meets, IsRefused}
+use Rattle.ext_store.specs.Claiming.{Stands, ClaimsFrom}
+use Rattle.ext_store.proofs.Parts.{happens_first, looks_second, happens_alone, claims_first}
+use Rattle.ext_store.proofs.Standing.{Told, told}
+
+-- ---- the path
+
+take_all : (xs : List ℕ) → take (length xs) xs ≡ xs
+take_all [] = refl
+take_all (x ∷ xs) = ap (λ z. x ∷ z) (take_all xs)
+
+-- the path without its first context
+rest_of : (path : List ℕ) → take (length path - 1) (drop 1 path) ≡ drop 1 path
+rest_of [] = refl
+rest_of (x ∷ xs) = let less : length (x ∷ xs) - 1 ≡ length xs = omega arith in ap (λ n. take n xs) less ∙ take_all xs
+
+path_parts : (tree : List Id) (context : ℕ) (path : List ℕ) → IsPathOf tree context path → path ≡ context ∷ drop 1 path
+path_parts tree context [] is = absurd is
+path_parts tree context (x ∷ xs) is = ap (λ z. z ∷ xs) is.0
+
+-- a path is its context and then the rest
+pub path_whole : (tree : List Id) (context : ℕ) (path found : List ℕ) → found ≡ path → IsPathOf tree context path → found ≡ context ∷ take (length found - 1) (drop 1 found)
+path_whole tree context path found same is = path_parts tree context found (subst (IsPathOf tree context) (sym same) is) ∙ ap (λ z. context ∷ z) (sym (rest_of found))
+
+pub path_is : (tree told : List Id) (context : ℕ) (path found : List ℕ) → told ≡ tree → found ≡ path → IsPathOf told context path → IsPathOf tree context (context ∷ take (length found - 1) (drop 1 found))
+path_is tree told context path found one same is = subst (λ t. IsPathOf t context (context ∷ take (length found - 1) (drop 1 found))) one
+    (subst (IsPathOf told context) (sym same ∙ path_whole told context path found same is) is)
+
+pub trail_rest : (store : StoreView) (context : ℕ) (rest : List ℕ) → IsTrail store (context ∷ rest) → IsTrail store rest
+trail_rest store context rest trail = let few = trail.few in record {
+  few = omega (arith, few);
+  within = All-tail (λ c. c < length store.tree) context rest trail.within;
+  different = λ i j d less within. trail.different (suc i) (suc j) d (omega (arith, less)) (omega (arith, within));
+}
+
+-- ---- one look-up
+
+pub stands_calls : (store : StoreView) (path : List ℕ) (key : ℕ) (a b : Lane) (r : Option Unused) → Stands store path key a b r → Calls a.cells.limits a.view b.view []
+stands_calls store path key a b None s = s.calls
+stands_calls store path key a b (Some (Found at number)) s = s.calls
+stands_calls store path key a b (Some (Refused (refusal.Busy at))) s = s.calls
+stands_calls store path key a b (Some (Refused (refusal.Closed at))) s = s.calls
+stands_calls store path key a b (Some (Refused refusal.Contended)) s = s.calls
+stands_calls store path key a b (Some (Refused refusal.UnknownKey)) s = absurd s
+stands_calls store path key a b (Some (Refused refusal.Exhausted)) s = absurd s
+
+module _ (store : StoreView) (context key : ℕ) (rest : List ℕ) where
+  abbrev limits : Limits
+  limits = store.id.cells.limits
+
+  abbrev here : ℕ
+  here = cell_in store key context
+
+  module _ (a b : Lane) (is : a.cells ≡ store.id.cells) where
+    -- the calls of a look-up, by the store's own limits
+    pub quiet : (path : List ℕ) (r : Option Unused) → Stands store path key a b r → Calls store.id.cells.limits a.view b.view []
+    quiet path r s = subst (λ (z : CellsId). Calls z.limits a.view b.view []) is (stands_calls store path key a b r s)
+
+    -- a look-up from the context, by which something stands
+    meets : (met : Look) → LooksAt store (context ∷ rest) key a b met → Meets store context rest key a.view b.view met
+    meets met l = inl (subst (λ (z : CellsId). HoldsAtPoint z.limits a.view b.view [] (λ p. look_after (cell_in store key) (context ∷ rest) p ≡ met)) is
+        (record { calls = l.calls; stepped = l.stepped (omega arith); point = (l.point.0, l.point.1, sym l.point.2) }))
+
+    pub first_look : (unused : Unused) → Stands store (context ∷ rest) key a b (Some unused) → ClaimsFrom store context rest key a.view b.view (Err unused)
+    first_look (Found at number) s = meets (look.Found at number) s
+    first_look (Refused (refusal.Busy at)) s = meets (look.Busy at) s
+    first_look (Refused (refusal.Closed at)) s = meets (look.Closed at) s
+    first_look (Refused refusal.Contended) s = inl (subst (λ (z : CellsId). IsOvertaken z.limits store.tries a.view b.view) is s)
+    first_look (Refused refusal.UnknownKey) s = absurd s
+    first_look (Refused refusal.Exhausted) s = absurd s
+
+  -- ---- the claim
+
+  module _ (a b c : Lane) (is : b.cells ≡ store.id.cells) (tries : ℕ) (same : tries ≡ store.tries) (one : Calls store.id.cells.limits a.view b.view []) where
+    -- what a claim tells, said of the look-up and the claim together
+    claim_told : (r : Result Claimed CellRefusal) → (let s : Result Claimed CellRefusal = Err cell.Contended in r ≢ s)
+        → cells.Answers tries b c (cells.claim_acts (cell_in store key context)) (cells.claim_reply b (cell_in store key context)) r
+        → HoldsAtPoint store.id.cells.limits a.view c.view (cells.claim_acts (cell_in store key context) r)
+        (λ p. Told (slots_in (cell_in store key) p) context rest (reply_after store.id.cells.limits p b.view.number (Claim (cell_in store key context))) r)
+    claim_told r ne all =
+        let acts = cells.claim_acts here r in
+        let h : HoldsAtPoint limits b.view c.view acts (λ p. r ≡ cells.result_of (cells.claimed_or here) (reply_after limits p b.view.number (Claim here))) =
+        subst (λ (z : CellsId). HoldsAtPoint z.limits b.view c.view acts (λ p. r ≡ cells.result_of (cells.claimed_or here) (reply_after z.limits p b.view.number (Claim here)))) is (all.replied ne) in
+        later_answers limits a.view b.view c.view acts (λ p. Told (slots_in (cell_in store key) p) context rest (reply_after limits p b.view.number (Claim here)) r) one
+        (record { calls = h.calls; stepped = h.stepped; point = (h.point.0, h.point.1, told limits b.view.number (cell_in store key) context rest h.point.0 r h.point.2) })
+
+    pub standing : (number : ℕ) → cells.Answers tries b c (cells.claim_acts (cell_in store key context)) (cells.claim_reply b (cell_in store key context)) (Ok (Standing number)) → ClaimsFrom store context rest key a.view c.view (Err (Found context number))
+    standing number all = inl (claim_told (Ok (Standing number)) (λ e. cc e) all)
+
+    overtaken : IsOvertaken store.id.cells.limits store.tries b.view c.view → ClaimsFrom store context rest key a.view c.view (Err (Refused refusal.Contended))
+    overtaken over = inl (crowded_overtaken limits store.tries a.view c.view (calls_compose limits a.view b.view c.view [] [] one over.calls)
+        (crowded_by_second limits store.tries a.view b.view c.view [] [] one over.calls (overtaken_crowded limits store.tries b.view c.view over)))
+
+    never : {P : History → Type 0} → ((p : History) → P p → ⊥) → HoldsAtPoint store.id.cells.limits a.view c.view [] P → ⊥
+    never none h = none h.point.0 h.point.2
+
+    pub refused : (why : CellRefusal) → cells.Answers tries b c (cells.claim_acts (cell_in store key context)) (cells.claim_reply b (cell_in store key context)) (Err why) → ClaimsFrom store context rest key a.view c.view (Err (Refused (refusal_at context why)))
+    refused cell.Busy all = inl (claim_told (Err cell.Busy) (λ e. cc e) all)
+    refused cell.Closed all = inl (claim_told (Err cell.Closed) (λ e. cc e) all)
+    refused cell.Exhausted all = subst (λ k. HoldsAtPoint limits a.view c.view [] (λ p. reply_after limits p k (Claim here) ≡ events.Refuses events.Exhausted)) (same_number limits a.view b.view [] one) (claim_told (Err cell.Exhausted) (λ e. cc e) all)
+    refused cell.Contended all = overtaken (subst (λ (z : CellsId × ℕ). IsOvertaken z.0.limits z.1 b.view c.view) (λ i. (is i, same i)) (all.overtaken refl))
+    refused cell.NumbersFull all = absurd (never (λ p none. none) (claim_told (Err cell.NumbersFull) (λ e. cc e) all))
+    refused cell.Memory all = absurd (never (λ p none. none) (claim_told (Err cell.Memory) (λ e. cc e) all))
+    refused cell.BadLimit all = absurd (never (λ p none. none) (claim_told (Err cell.BadLimit) (λ e. cc e) all))
+
+    pub won_calls : (claim : ℕ) → cells.Answers tries b c (cells.claim_acts (cell_in store key context)) (cells.claim_reply b (cell_in store key context)) (Ok (Won claim)) → Calls store.id.cells.limits a.view c.view (Claim (cell_in store key context) ∷ [])
+    won_calls claim all = (claim_told (Ok (Won claim)) (λ e. cc e) all).calls
+
+    pub won_happens : (claim : ℕ) → cells.Answers tries b c (cells.claim_acts (cell_in store key context)) (cells.claim_reply b (cell_in store key context)) (Ok (Won claim)) → Happens store.id.cells.limits [] a.view c.view (Claim (cell_in store key context)) None
+    won_happens claim all =
+        happens_alone limits a.view c.view (Claim here) None
+        (subst (λ k. HoldsAtPoint limits a.view c.view (Claim here ∷ []) (λ p. reply_after limits p k (Claim here) ≡ events.Happens None)) (same_number limits a.view b.view [] one) (claim_told (Ok (Won claim)) (λ e. cc e) all))
+
+  -- ---- the second look
+
+  module _ (a c d : Lane) (is : c.cells ≡ store.id.cells) (won : Calls store.id.cells.limits a.view c.view (Claim (cell_in store key context) ∷ [])) (did : Happens store.id.cells.limits [] a.view c.view (Claim (cell_in store key context)) None) where
+    looks : (met : Look) → LooksAt store rest key c d met → ClaimsAndLooks store context rest key a.view d.view met
+    looks met l =
+        let two : Calls limits c.view d.view [] = subst (λ (z : CellsId). Calls z.limits c.view d.view []) is l.calls in record {
+          claimed = happens_first limits a.view c.view d.view (Claim here ∷ []) [] won two [] (Claim here) None did;
+          looked = looks_second limits a.view c.view d.view (Claim here ∷ []) [] won two (cell_in store key) rest [] met (l.point.0, answer_first limits c.view d.view [] l.point.0 two l.point.1, sym l.point.2);
+        }
+
+    pub held_on : (claim : ℕ) (r : Option Unused) → claim ≡ cell_in store key context → IsHeld c.view (cell_in store key context) → Stands store rest key c d r → IsHeld d.view claim
+    held_on claim r same held s = subst (IsHeld d.view) (sym same) (claim_held limits c.view d.view [] here (quiet c d is rest r s) (All-nil _) held).0
+
+    pub second_look : (claim : ℕ) → claim ≡ cell_in store key context → IsHeld c.view (cell_in store key context) → Stands store rest key c d None → ClaimsFrom store context rest key a.view d.view (Ok claim)
+    second_look claim same held s = (
+      same,
+      held_on claim None same held s,
+      calls_compose limits a.view c.view d.view (Claim here ∷ []) [] won (quiet c d is rest None s),
+      looks look.Absent s,
+    )
+
+    module _ (e : Lane) (ended : Calls store.id.cells.limits d.view e.view (Abandon (cell_in store key context) ∷ [])) where
+      both : Calls store.id.cells.limits c.view d.view [] → Calls store.id.cells.limits a.view d.view (Claim (cell_in store key context) ∷ [])
+      both two = calls_compose limits a.view c.view d.view (Claim here ∷ []) [] won two
+
+      gives_up : (met : Look) → LooksAt store rest key c d met → Meets store context rest key a.view e.view met
+      gives_up met l =
+          let two : Calls limits c.view d.view [] = subst (λ (z : CellsId). Calls z.limits c.view d.view []) is l.calls in
+          inr (
+            calls_compose limits a.view d.view e.view (Claim here ∷ []) (Abandon here ∷ []) (both two) ended,
+            claims_first store context rest key a.view d.view e.view (Abandon here ∷ []) met (both two) ended (looks met l),
+          )
+
+      pub given_up_look : (unused : Unused) → Stands store rest key c d (Some unused) → ClaimsFrom store context rest key a.view e.view (Err unused)
+      given_up_look (Found at number) s = gives_up (look.Found at number) s
+      given_up_look (Refused (refusal.Busy at)) s = gives_up (look.Busy at) s
+      given_up_look (Refused (refusal.Closed at)) s = gives_up (look.Closed at) s
+      given_up_look (Refused refusal.Contended) s =
+          let over : IsOvertaken limits store.tries c.view d.view = subst (λ (z : CellsId). IsOvertaken z.limits store.tries c.view d.view) is s in
+          inr (
+            calls_compose limits a.view d.view e.view (Claim here ∷ []) (Abandon here ∷ []) (both over.calls) ended,
+            crowded_by_first limits store.tries a.view d.view e.view (Claim here ∷ []) (Abandon here ∷ []) (both over.calls) ended
+                (crowded_by_second limits store.tries a.view c.view d.view (Claim here ∷ []) [] won over.calls (overtaken_crowded limits store.tries c.view d.view over)),
+          )
+      given_up_look (Refused refusal.UnknownKey) s = absurd s
+      given_up_look (Refused refusal.Exhausted) s = absurd s

@@ -1,0 +1,46 @@
+-- What the parts of `compute` say of their results.
+-- Own rule, below the public contracts.
+use Rattle.std.specs.Prelude.{ℕ, ◌≡◌, List, [], ◌∷◌, Option, None, Some, Result, Ok, Err}
+use Rattle.ext_model.specs.declared.event.Act.TheVariants.{Claim}
+use Rattle.ext_model.specs.declared.look.Look.TheVariants as look
+use Rattle.ext_model.specs.Views.{LaneView}
+use Rattle.ext_model.specs.Calls.{Calls, IsOvertaken, IsHeld}
+use Rattle.ext_tree.specs.Paths.{IsPathOf}
+use Rattle.ext_cells.specs.Lanes.{Lane}
+use Rattle.ext_store.specs.declared.fault.Refusal.{Refusal}
+use Rattle.ext_store.specs.declared.fault.Refusal.TheVariants.{Busy, Closed, Contended, UnknownKey, Exhausted}
+use Rattle.ext_store.specs.declared.computed.Unused.{Unused}
+use Rattle.ext_store.specs.declared.computed.Unused.TheVariants.{Found, Refused}
+use Rattle.ext_store.specs.declared.computed.Compute.{Compute}
+use Rattle.ext_store.specs.declared.computed.Compute.TheVariants as compute
+use Rattle.ext_store.specs.Stores.{StoreView, cell_in}
+use Rattle.ext_store.specs.Looking.{LooksAt}
+use Rattle.ext_store.specs.Computing.{ClaimsAndLooks, Meets, IsRefused}
+
+-- the result that hands the factory back
+abbrev pub handed_back : {V F : Type 0} → F → Unused → Compute V F
+handed_back factory (Found at number) = compute.Found at number factory
+handed_back factory (Refused why) = compute.Refused why factory
+
+-- the look-up along the path, at a point of a call without events: nothing stands there, or this does, or other lanes were in the way
+abbrev pub Stands : StoreView → List ℕ → ℕ → Lane → Lane → Option Unused → Type 0
+Stands store path key before after None = LooksAt store path key before after look.Absent
+Stands store path key before after (Some (Found at number)) = LooksAt store path key before after (look.Found at number)
+Stands store path key before after (Some (Refused (Busy at))) = LooksAt store path key before after (look.Busy at)
+Stands store path key before after (Some (Refused (Closed at))) = LooksAt store path key before after (look.Closed at)
+Stands store path key before after (Some (Refused Contended)) = IsOvertaken before.cells.limits store.tries before.view after.view
+Stands store path key before after (Some (Refused UnknownKey)) = ⊥
+Stands store path key before after (Some (Refused Exhausted)) = ⊥
+
+-- a claim under which the look-up from the parent is absent, or why there is none
+abbrev pub ClaimsFrom : StoreView → ℕ → List ℕ → ℕ → LaneView → LaneView → Result ℕ Unused → Type 0
+ClaimsFrom store context ancestors key before after (Ok claim) =
+    (claim ≡ cell_in store key context) × IsHeld after claim
+    × Calls store.id.cells.limits before after (Claim (cell_in store key context) ∷ [])
+    × ClaimsAndLooks store context ancestors key before after look.Absent
+ClaimsFrom store context ancestors key before after (Err (Found at number)) = Meets store context ancestors key before after (look.Found at number)
+ClaimsFrom store context ancestors key before after (Err (Refused why)) = IsRefused store context ancestors key before after why
+
+-- for the path of the context
+abbrev pub ClaimsMissing : StoreView → ℕ → ℕ → LaneView → LaneView → Result ℕ Unused → Type 0
+ClaimsMissing store context key before after result = (ancestors : List ℕ) × IsPathOf store.tree context (context ∷ ancestors) × ClaimsFrom store context ancestors key before after result

@@ -1,0 +1,46 @@
+//! What the store gives to those who close a context.
+ghost use Rattle.std.specs.Prelude.{◌≡◌, ◌<◌, length, is_some};
+ghost use Rattle.ext_values.specs.Known.{known_at};
+ghost use Rattle.ext_store.specs.Stores.{IsCloserOf, IsLaneOf, StillKeeps};
+ghost use Rattle.ext_store.specs.Sealing.{SealsKey};
+
+use crate::{Closer, Lane, Refusal, Store};
+use ext_model::KeyNo;
+use std::sync::Wait;
+
+impl<V> Store<V> {
+    /// Seals the key in the closer's context for good, and answers the number that stood there, which the seal keeps.
+    /// A key that is sealed already answers what its seal kept, and nothing happens. Takes no memory, and may wait.
+    ///
+    /// Refused as `Busy` with the context where a lane computes a value for it under this key, and else as
+    /// `Contended`. Own rule.
+    pub fn seal<R: Wait>(
+        &self,
+        rt: &R,
+        lane: &mut Lane<V>,
+        closer: &Closer,
+        key: KeyNo,
+    ) -> Result<Option<u32>, Refusal>
+        requires lane { IsLaneOf self.now.id lane.old }
+        requires closer { IsCloserOf self.now closer.now }
+        requires key { key < length self.now.keys }
+        ensures answer { SealsKey self.now closer.now.context key lane.old.cells lane.new.cells result }
+        ensures known { lane.new.known ≡ lane.old.known }
+        ensures lane { IsLaneOf self.now.id lane.new }
+        ensures kept { StillKeeps lane.old lane.new }
+    {
+        let cell = self.cell(closer.context, key);
+        match self.cells.seal(rt, &mut lane.cells, cell) {
+            Ok(kept) => Ok(kept),
+            Err(why) => Err(Refusal::at(closer.context, why)),
+        }
+    }
+
+    /// Whether the lane knows the number's value: whether it kept the value or was shown it. False for a number that
+    /// has no place. Takes no memory. Own rule.
+    pub fn knows(&self, lane: &Lane<V>, number: u32) -> bool
+        ensures { result ≡ is_some (known_at lane.now.known number) }
+    {
+        lane.notes.knows(number)
+    }
+}
