@@ -11,6 +11,8 @@ mod closed;
 mod closing;
 mod fault;
 mod numbers;
+#[cfg(test)]
+mod tests;
 
 pub use action::CloseAction;
 pub use closed::Closed;

@@ -16,7 +16,7 @@ use Rattle.ext_store.specs.declared.fault.KeepFault.TheVariants as fault
 use Rattle.ext_store.specs.declared.computed.Unused.{Unused}
 use Rattle.ext_store.specs.declared.computed.Unused.TheVariants.{Found, Refused}
 use Rattle.ext_store.specs.Stores.{StoreView, StoreLane, StillKeeps, cell_in}
-use Rattle.ext_store.specs.Computing.{ClaimsAndLooks, given_up, Meets, Fills, IsUnkept, ComputesFrom}
+use Rattle.ext_store.specs.Computing.{ClaimsAndLooks, given_up, Meets, IsRefused, Fills, IsUnkept, ComputesFrom}
 use Rattle.ext_store.specs.Claiming.{handed_back, ClaimsFrom}
 use Rattle.ext_store.proofs.Parts.{happens_second, claims_first}
 use Rattle.ext_store.proofs.Filling.{none_stored, nor_this, storing_none}
@@ -24,6 +24,7 @@ use Rattle.ext_store.proofs.Filling.{none_stored, nor_this, storing_none}
 -- the factory is handed back
 pub unused_computes : (V : Type 0) {F : Type 0} (store : StoreView) (context : ℕ) (ancestors : List ℕ) (key : ℕ) (a b : LaneView) (factory : F) (unused : Unused)
     → ClaimsFrom store context ancestors key a b (Err unused) → ComputesFrom store context ancestors key a b (handed_back {V = V} {F = F} factory unused)
+unfolding ComputesFrom
 unused_computes V store context ancestors key a b factory (Found at number) m = m
 unused_computes V store context ancestors key a b factory (Refused why) m = m
 
@@ -58,6 +59,7 @@ module _ (store : StoreView) (context : ℕ) (ancestors : List ℕ) (key claim :
 
   pub keeps_not : (why : KeepFault) → IsUnkept store [] claim b c why
       → ClaimsAndLooks store context ancestors key a c look.Absent × IsUnkept store (Claim (cell_in store key context) ∷ []) (cell_in store key context) a c why
+  unfolding IsUnkept
   keeps_not fault.Memory u = fails u
   keeps_not fault.NumbersFull u =
       let k = fails u.0 in (
@@ -94,12 +96,14 @@ module _ {V : Type 0} (store : StoreView) (context : ℕ) (ancestors : List ℕ)
   given_up_keeps one = storing_none store.id.cells.limits before after (given_up store context key) (nor_this (Claim (cell_in store key context)) (Abandon (cell_in store key context) ∷ []) refl (nor_this (Abandon (cell_in store key context)) [] refl none_stored)) one same
 
   meets_keeps : (met : Look) → Meets store context ancestors key before.cells.view after.cells.view met → StillKeeps before after
+  unfolding Meets
   meets_keeps met m = elim m [
     | inl h ↦ quiet_keeps h.calls
     | inr k ↦ given_up_keeps k.0
   ]
 
   pub unused_keeps : (unused : Unused) → ClaimsFrom store context ancestors key before.cells.view after.cells.view (Err unused) → StillKeeps before after
+  unfolding IsRefused
   unused_keeps (Found at number) m = meets_keeps (look.Found at number) m
   unused_keeps (Refused (refusal.Busy at)) m = meets_keeps (look.Busy at) m
   unused_keeps (Refused (refusal.Closed at)) m = meets_keeps (look.Closed at) m

@@ -68,6 +68,7 @@ module _ (store : StoreView) (a b : Lane) (is : a.cells ≡ store.id.cells) (cel
   kept_held number h held = held_after (Keep number ∷ []) (off_keep number) (drew number h).calls held
 
   pub fails_held : (why : KeepFault) → KeepFails store a b why → IsHeld a.view cell → IsHeld b.view cell
+  unfolding KeepFails
   fails_held fault.Memory h held = subst (λ (l : Lane). IsHeld l.view cell) (sym h) held
   fails_held fault.NumbersFull h held = held_after [] (All-nil _) (subst (λ (z : CellsId). Calls z.limits a.view b.view []) is h.calls) held
   fails_held fault.Contended h held = held_after [] (All-nil _) (subst (λ (z : CellsId). Calls z.limits a.view b.view []) is h.calls) held
@@ -82,6 +83,7 @@ module _ (store : StoreView) (a b : Lane) (is : a.cells ≡ store.id.cells) (cel
     }
 
     pub unkept : (why : KeepFault) → KeepFails store a b why → Calls store.id.cells.limits b.view c.view (Abandon cell ∷ []) → IsUnkept store [] cell a.view c.view why
+    unfolding IsUnkept KeepFails
     unkept fault.Memory h two = subst (λ (l : Lane). Calls limits l.view c.view (Abandon cell ∷ [])) h two
     unkept fault.NumbersFull h two =
         let full : HoldsAtPoint limits a.view b.view [] (λ p. reply_after limits p a.view.number (Keep 0) ≡ events.Refuses events.NumbersFull) =

@@ -76,6 +76,7 @@ looks_quiet store path key before after (Err why) l = l.1.calls
 module _ {V : Type 0} (store : StoreView) (context key : ℕ) (before after : StoreLane V) (same : after.known ≡ before.known) where
   pub put_keeps : (number : ℕ) (r : Result (Option ℕ) (ℕ × Refusal)) → Puts store context key number before.cells after.cells r → IfErr r (λ e. e.0 ≡ number)
       → MatchResult r (λ _. StillKeepsBut number before after) (λ _. StillKeeps before after)
+  unfolding Puts
   put_keeps number (Ok stood) a back = stored_keeps before.cells.cells.limits before after (cell_in store key context) number (a.replied (λ e. cc e)).calls same
   put_keeps number (Err (k, refusal.Contended)) a back = quiet_keeps before.cells.cells.limits before after (a.overtaken (ap (λ n. Err (n, refusal.Contended)) back)).calls same
   put_keeps number (Err (k, refusal.Busy at)) a back = quiet_keeps before.cells.cells.limits before after (a.replied (other_why k number (refusal.Busy at) refusal.Contended (λ e. cc e))).calls same
@@ -84,6 +85,7 @@ module _ {V : Type 0} (store : StoreView) (context key : ℕ) (before after : St
   put_keeps number (Err (k, refusal.Exhausted)) a back = quiet_keeps before.cells.cells.limits before after (a.replied (other_why k number refusal.Exhausted refusal.Contended (λ e. cc e))).calls same
 
   pub remove_keeps : (r : Result (Option ℕ) Refusal) → Removes store context key before.cells after.cells r → StillKeeps before after
+  unfolding Removes
   remove_keeps (Ok None) a = quiet_keeps before.cells.cells.limits before after (a.replied (λ e. cc e)).calls same
   remove_keeps (Ok (Some number)) a = removed_keeps before.cells.cells.limits before after (cell_in store key context) (a.replied (λ e. cc e)).calls same
   remove_keeps (Err refusal.Contended) a = quiet_keeps before.cells.cells.limits before after (a.overtaken refl).calls same
@@ -120,6 +122,7 @@ module _ (store : StoreView) (tries : ℕ) (before after : Lane) (same : tries �
   none_drawn why ne a = let h = a.replied ne in (full_is (state_after h.point.0).drawn _ why h.point.2).0
 
   pub drew_none : (why : CellRefusal) → cells.Answers tries before after cells.number_acts (cells.number_reply before) (Err why) → KeepFails store before after (keep_fault why)
+  unfolding KeepFails
   drew_none cell.NumbersFull a =
       let h = a.replied (λ e. cc e) in
       record { calls = h.calls; stepped = h.stepped; point = (h.point.0, h.point.1, (full_is (state_after h.point.0).drawn _ cell.NumbersFull h.point.2).1) }

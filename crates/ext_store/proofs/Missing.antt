@@ -88,10 +88,12 @@ module _ (store : StoreView) (context key : ℕ) (rest : List ℕ) where
 
     -- a look-up from the context, by which something stands
     meets : (met : Look) → LooksAt store (context ∷ rest) key a b met → Meets store context rest key a.view b.view met
+    unfolding Meets
     meets met l = inl (subst (λ (z : CellsId). HoldsAtPoint z.limits a.view b.view [] (λ p. look_after (cell_in store key) (context ∷ rest) p ≡ met)) is
         (record { calls = l.calls; stepped = l.stepped (omega arith); point = (l.point.0, l.point.1, sym l.point.2) }))
 
     pub first_look : (unused : Unused) → Stands store (context ∷ rest) key a b (Some unused) → ClaimsFrom store context rest key a.view b.view (Err unused)
+    unfolding IsRefused
     first_look (Found at number) s = meets (look.Found at number) s
     first_look (Refused (refusal.Busy at)) s = meets (look.Busy at) s
     first_look (Refused (refusal.Closed at)) s = meets (look.Closed at) s
@@ -115,9 +117,11 @@ module _ (store : StoreView) (context key : ℕ) (rest : List ℕ) where
         (record { calls = h.calls; stepped = h.stepped; point = (h.point.0, h.point.1, told limits b.view.number (cell_in store key) context rest h.point.0 r h.point.2) })
 
     pub standing : (number : ℕ) → cells.Answers tries b c (cells.claim_acts (cell_in store key context)) (cells.claim_reply b (cell_in store key context)) (Ok (Standing number)) → ClaimsFrom store context rest key a.view c.view (Err (Found context number))
+    unfolding Meets
     standing number all = inl (claim_told (Ok (Standing number)) (λ e. cc e) all)
 
     overtaken : IsOvertaken store.id.cells.limits store.tries b.view c.view → ClaimsFrom store context rest key a.view c.view (Err (Refused refusal.Contended))
+    unfolding IsRefused
     overtaken over = inl (crowded_overtaken limits store.tries a.view c.view (calls_compose limits a.view b.view c.view [] [] one over.calls)
         (crowded_by_second limits store.tries a.view b.view c.view [] [] one over.calls (overtaken_crowded limits store.tries b.view c.view over)))
 
@@ -125,6 +129,7 @@ module _ (store : StoreView) (context key : ℕ) (rest : List ℕ) where
     never none h = none h.point.0 h.point.2
 
     pub refused : (why : CellRefusal) → cells.Answers tries b c (cells.claim_acts (cell_in store key context)) (cells.claim_reply b (cell_in store key context)) (Err why) → ClaimsFrom store context rest key a.view c.view (Err (Refused (refusal_at context why)))
+    unfolding IsRefused Meets
     refused cell.Busy all = inl (claim_told (Err cell.Busy) (λ e. cc e) all)
     refused cell.Closed all = inl (claim_told (Err cell.Closed) (λ e. cc e) all)
     refused cell.Exhausted all = subst (λ k. HoldsAtPoint limits a.view c.view [] (λ p. reply_after limits p k (Claim here) ≡ events.Refuses events.Exhausted)) (same_number limits a.view b.view [] one) (claim_told (Err cell.Exhausted) (λ e. cc e) all)
@@ -167,6 +172,7 @@ module _ (store : StoreView) (context key : ℕ) (rest : List ℕ) where
       both two = calls_compose limits a.view c.view d.view (Claim here ∷ []) [] won two
 
       gives_up : (met : Look) → LooksAt store rest key c d met → Meets store context rest key a.view e.view met
+      unfolding Meets
       gives_up met l =
           let two : Calls limits c.view d.view [] = subst (λ (z : CellsId). Calls z.limits c.view d.view []) is l.calls in
           inr (
@@ -175,6 +181,7 @@ module _ (store : StoreView) (context key : ℕ) (rest : List ℕ) where
           )
 
       pub given_up_look : (unused : Unused) → Stands store rest key c d (Some unused) → ClaimsFrom store context rest key a.view e.view (Err unused)
+      unfolding IsRefused
       given_up_look (Found at number) s = gives_up (look.Found at number) s
       given_up_look (Refused (refusal.Busy at)) s = gives_up (look.Busy at) s
       given_up_look (Refused (refusal.Closed at)) s = gives_up (look.Closed at) s

@@ -116,12 +116,14 @@ same_remove_acts context cell (Err why) = refl
 module _ (store : StoreView) (context key : ℕ) (before after : Lane) where
   pub puts : (number : ℕ) (r : Result (Option ℕ) CellRefusal) → cells.Answers store.tries before after (cells.put_acts (cell_in store key context) number) (cells.change_reply before (Put (cell_in store key context) number)) r
       → Puts store context key number before after (with_kept number (told_at context r))
+  unfolding Puts
   puts number r a =
       answers_too store (Err (number, refusal.Contended)) before after (cells.put_acts (cell_in store key context) number) (Put (cell_in store key context) number) (put_acts (cell_in store key context) number)
       (λ x. with_kept number (told_at context x)) refl (λ p e. put_never context _ _ (unpaired number _ refusal.Contended e)) r _ (λ p. ap (with_kept number) (put_told context _ _)) (same_put_acts context _ number r) a
 
   pub removes : (r : Result (Option ℕ) CellRefusal) → cells.Answers store.tries before after (cells.remove_acts (cell_in store key context)) (cells.change_reply before (Remove (cell_in store key context))) r
       → Removes store context key before after (told_at context r)
+  unfolding Removes
   removes r a =
       answers_too store (Err refusal.Contended) before after (cells.remove_acts (cell_in store key context)) (Remove (cell_in store key context)) (remove_acts (cell_in store key context))
       (told_at context) refl (λ p. remove_never context _ _) r _ (λ p. remove_told context _ _) (same_remove_acts context _ r) a

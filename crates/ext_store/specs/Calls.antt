@@ -38,7 +38,7 @@ abbrev pub look_acts : Result Look Refusal → List (Act ℕ)
 look_acts result = []
 
 -- the result is the look-up from the context through its ancestors, the nearest first, at ONE point of the call
-abbrev pub Gets : StoreView → ℕ → ℕ → Lane → Lane → Result Look Refusal → Type 0
+unfoldable pub Gets : StoreView → ℕ → ℕ → Lane → Lane → Result Look Refusal → Type 0
 Gets store context key before after result =
     (path : List ℕ) × IsPathOf store.tree context path × Answers store (Err Contended) before after look_acts (λ p. Ok (look_after (cell_in store key) path p)) result
 
@@ -67,7 +67,7 @@ put_acts cell number (Ok stood) = Put cell number ∷ []
 put_acts cell number (Err refused) = []
 
 -- the number is stored in the context, and the number that stood there is answered
-abbrev pub Puts : StoreView → ℕ → ℕ → ℕ → Lane → Lane → Result (Option ℕ) (ℕ × Refusal) → Type 0
+unfoldable pub Puts : StoreView → ℕ → ℕ → ℕ → Lane → Lane → Result (Option ℕ) (ℕ × Refusal) → Type 0
 Puts store context key number before after result =
     Answers store (Err (number, Contended)) before after (put_acts (cell_in store key context) number)
     (λ p. with_kept number (result_at context (reply_to before (Put (cell_in store key context) number) p))) result
@@ -79,14 +79,14 @@ remove_acts cell (Ok (Some number)) = Remove cell ∷ []
 remove_acts cell (Err why) = []
 
 -- what stands in the context alone is taken out, and answered
-abbrev pub Removes : StoreView → ℕ → ℕ → Lane → Lane → Result (Option ℕ) Refusal → Type 0
+unfoldable pub Removes : StoreView → ℕ → ℕ → Lane → Lane → Result (Option ℕ) Refusal → Type 0
 Removes store context key before after result =
     Answers store (Err Contended) before after (remove_acts (cell_in store key context)) (λ p. result_at context (reply_to before (Remove (cell_in store key context)) p)) result
 
 -- ---- keep
 
 -- what each fault of a keep says of the lane's steps
-abbrev pub KeepFails : StoreView → Lane → Lane → KeepFault → Type 0
+unfoldable pub KeepFails : StoreView → Lane → Lane → KeepFault → Type 0
 KeepFails store before after fault.Memory = after ≡ before
 KeepFails store before after fault.NumbersFull = HoldsAtPoint before after [] (λ p. reply_to before (Keep 0) p ≡ events.Refuses events.NumbersFull)
 KeepFails store before after fault.Contended = model.IsOvertaken before.cells.limits store.tries before.view after.view

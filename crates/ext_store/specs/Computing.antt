@@ -45,13 +45,13 @@ given_up store context key = Claim (cell_in store key context) ∷ Abandon (cell
 
 -- The look-up from the context is this at a point of the call, which made no event. Or the look-up from its parent is this while the lane's claim stands, which
 -- is then given up
-abbrev pub Meets : StoreView → ℕ → List ℕ → ℕ → LaneView → LaneView → Look → Type 0
+unfoldable pub Meets : StoreView → ℕ → List ℕ → ℕ → LaneView → LaneView → Look → Type 0
 Meets store context ancestors key before after met =
     HoldsAtPoint store.id.cells.limits before after [] (λ p. look_after (cell_in store key) (context ∷ ancestors) p ≡ met)
     ⊎ (Calls store.id.cells.limits before after (given_up store context key) × ClaimsAndLooks store context ancestors key before after met)
 
 -- what each refusal says
-abbrev pub IsRefused : StoreView → ℕ → List ℕ → ℕ → LaneView → LaneView → Refusal → Type 0
+unfoldable pub IsRefused : StoreView → ℕ → List ℕ → ℕ → LaneView → LaneView → Refusal → Type 0
 IsRefused store context ancestors key before after (refusal.Busy at) = Meets store context ancestors key before after (look.Busy at)
 IsRefused store context ancestors key before after (refusal.Closed at) = Meets store context ancestors key before after (look.Closed at)
 IsRefused store context ancestors key before after refusal.Contended =
@@ -73,7 +73,7 @@ abbrev pub GivesUp : Limits → List (Act ℕ) → ℕ → LaneView → LaneView
 GivesUp limits first cell before after = Calls limits before after (first ++ Abandon cell ∷ [])
 
 -- why the value is not kept; where its place does not take it, its number was drawn
-abbrev pub IsUnkept : StoreView → List (Act ℕ) → ℕ → LaneView → LaneView → KeepFault → Type 0
+unfoldable pub IsUnkept : StoreView → List (Act ℕ) → ℕ → LaneView → LaneView → KeepFault → Type 0
 IsUnkept store first cell before after fault.Memory = GivesUp store.id.cells.limits first cell before after
 IsUnkept store first cell before after fault.NumbersFull =
     GivesUp store.id.cells.limits first cell before after
@@ -85,7 +85,7 @@ IsUnkept store first cell before after fault.Unplaced =
 -- ---- compute
 
 -- the events of the call and the points of its answer, by its result
-abbrev pub ComputesFrom : {V F : Type 0} → StoreView → ℕ → List ℕ → ℕ → LaneView → LaneView → Compute V F → Type 0
+unfoldable pub ComputesFrom : {V F : Type 0} → StoreView → ℕ → List ℕ → ℕ → LaneView → LaneView → Compute V F → Type 0
 ComputesFrom store context ancestors key before after (Computed number) =
     ClaimsAndLooks store context ancestors key before after look.Absent
     × Fills store.id.cells.limits (Claim (cell_in store key context) ∷ []) (cell_in store key context) before after number

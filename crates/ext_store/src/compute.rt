@@ -20,20 +20,22 @@ use std::sync::Wait;
 
 impl<V: StoreValue + Drop> Store<V> {
     /// Computes a value for the key in the context where a look-up from there finds none: calls the factory with the
-    /// key, keeps its value, and stores the number in the context itself. The factory is called at most once, and only
-    /// after the lane has claimed the context's cell and looked at the ancestors again: while the claim stands, other
-    /// lanes' calls on the cell are refused as `Busy`, and a value that an ancestor gets after that look does not stop
-    /// the factory. So no two factories are called for one place unless a remove stands between what they stored, as
-    /// `history_laws` of ext_model says. Takes memory for the value, and may wait.
+    /// key, keeps its value, and stores the number in the context itself. The factory is called at most once, after the
+    /// lane has claimed the context's cell and has looked at the ancestors again. While the claim stands, calls of
+    /// other lanes on the cell are refused as `Busy`; a value that an ancestor gets after that look does not stop the
+    /// factory. Takes memory for the value, and may wait. The end of a claim has no bound on its steps, while all
+    /// cells stand in one snapshot cell.
     ///
-    /// `Found` where a value stands in the context or in an ancestor, the nearest first; the factory comes back unused.
+    /// `Found` where a value stands in the context or in an ancestor, the nearest first. Between two values that were
+    /// computed for one place a remove of the place stands, as `history_laws` of ext_model says.
     ///
-    /// Refused, with the factory handed back, as `UnknownKey` where the key was not declared, which is no step of the
-    /// lane; as `Contended`; as `Busy` or `Closed` where a claim or a seal decides the look-up; and as `Exhausted`
-    /// where there were more than 2^40 - 4 events in the context under the key.
+    /// Refused, step by step, as `UnknownKey` where the key was not declared, which is no step of the lane; at the
+    /// first look-up as `Contended`, or as `Busy` or `Closed` where that decides it; at the claim also as `Exhausted`,
+    /// where there were more than 2^40 - 4 events in the context under the key; and at the second look-up as at the
+    /// first. Where the answer is `Found` or `Refused`, the factory was not called, and comes back.
     ///
-    /// `Failed` where the factory fails, and `Unkept` with the value where it is not kept, with the causes of `keep`:
-    /// the claim is then given up, and the context is empty under the key.
+    /// `Failed` where the factory fails, and `Unkept`, with the value, where it is not kept, with the causes of
+    /// `keep`. Nothing is stored then.
     ///
     /// Javadoc `ExtensionContext.Store`, `getOrComputeIfAbsent`; JUnit 5 User Guide, section "Keeping State in
     /// Extensions". Claims, the second look, numbers and refusals are own rules.

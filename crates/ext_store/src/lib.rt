@@ -18,6 +18,8 @@ mod limits;
 mod opening;
 mod sealing;
 mod store;
+#[cfg(test)]
+mod tests;
 mod value;
 mod walk;
 

@@ -121,6 +121,7 @@ impl<V> Store<V> {
     }
 
     // Stores the kept number under the key in the context.
+    #[tactic(auto, unfolding(crate::specs::Calls::Puts))]
     fn put_at<R: Wait>(
         &self,
         rt: &R,
@@ -145,6 +146,7 @@ impl<V> Store<V> {
     }
 
     // Takes out what stands under the key in the context.
+    #[tactic(auto, unfolding(crate::specs::Calls::Removes))]
     fn remove_at<R: Wait>(
         &self,
         rt: &R,
@@ -241,6 +243,7 @@ impl<V: StoreValue + Drop> Store<V> {
     /// Refused, in this order and with the value handed back, as `Memory`, as `NumbersFull` where all numbers were
     /// drawn, as `Contended`, and as `Unplaced`, where the number is lost. Own rule: JUnit numbers values as they are
     /// stored.
+    #[tactic(auto, unfolding(crate::specs::Calls::KeepFails))]
     pub fn keep<R: Wait>(
         &self,
         rt: &R,

@@ -31,6 +31,7 @@ returns-in-Err-clause-kept g c =
     (unused_keeps c.args.self.now c.args.context m.0 c.in-Some.number (record { cells = c.lane.inside.cells; known = c.lane.inside.notes }) (record { cells = c.claim_missing.new.lane; known = c.lane.inside.notes }) refl c.in-Err.why m.2)
 
 pub returns-in-Err-factory-clause-answer : goal.returns-in-Err-factory-clause-answer
+unfolding ComputesFrom
 returns-in-Err-factory-clause-answer g c number has =
     let s = c.args.self.now in
     let same : c.in-Some.number ≡ number = one_number c.in-Some.number number (c.in-Some.ensures.found number (search rules)) in
@@ -54,6 +55,7 @@ returns-in-Err-factory-clause-kept g c =
     (λ number kept. second number (first number kept))
 
 pub returns-in-Ok-keep_and_fill-clause-answer : goal.returns-in-Ok-keep_and_fill-clause-answer
+unfolding ComputesFrom
 returns-in-Ok-keep_and_fill-clause-answer g c number has =
     let s = c.args.self.now in
     let same : c.in-Some.number ≡ number = one_number c.in-Some.number number (c.in-Some.ensures.found number (search rules)) in
@@ -73,6 +75,7 @@ returns-in-Ok-keep_and_fill-clause-kept g c =
     (λ number kept. c.keep_and_fill.ensures.kept number (first number kept))
 
 pub returns-in-Err-keep_and_fill-clause-answer : goal.returns-in-Err-keep_and_fill-clause-answer
+unfolding ComputesFrom
 returns-in-Err-keep_and_fill-clause-answer g c number has =
     let s = c.args.self.now in
     let same : c.in-Some.number ≡ number = one_number c.in-Some.number number (c.in-Some.ensures.found number (search rules)) in

@@ -9,6 +9,7 @@ one_number : (a b : ℕ) → (let x : Option ℕ = Some a in let y : Option ℕ 
 one_number a b e = cc e
 
 pub returns-clause-answer : goal.returns-clause-answer
+unfolding Gets
 returns-clause-answer g c number has =
     let same : c.in-Some.key ≡ number = one_number c.in-Some.key number (c.in-Some.ensures.found number (search rules)) in
     let some : 1 ≤ length c.as_slice.result.now = (let l = ap length c.as_slice.ensures.contexts in let s = c.path-path.ensures.some in omega (arith, l, s)) in
