@@ -1,5 +1,5 @@
 -- What is counted of one answer more.
-use Rattle.std.proofs.Common.{◌≡◌, ℕ, ◌+◌, ◌-◌, List, [], ◌∷◌, ◌++◌, length, length-append, refl, ap, sym, ◌∙◌, arith, Option, None, Some}
+use Rattle.std.proofs.Common.{◌≡◌, ℕ, ◌+◌, ◌-◌, List, [], ◌∷◌, ◌++◌, length, length-append, refl, ap, sym, ◌∙◌, arith, Option, Some}
 use Rattle.std.specs.Prelude.{Ok, Err, slice_get, is_some, true, false}
 use Rattle.ext_model.specs.declared.look.Fault.{Fault}
 use Rattle.ext_closing.specs.declared.closed.Closed.{Closed}

@@ -1,5 +1,5 @@
 -- Which of the falling numbers is the greatest that no lane in hand knows: the first.
-use Rattle.std.proofs.Common.{◌≡◌, ◌<◌, ◌≤◌, ◌+◌, ℕ, zero, suc, List, [], ◌∷◌, length, get_or, refl, ap, sym, subst, ◌∙◌, arith, Option, None, Some, Contains, IfSome, IfNone, below_more}
+use Rattle.std.proofs.Common.{◌≡◌, ◌<◌, ◌≤◌, ℕ, zero, suc, List, [], ◌∷◌, length, get_or, subst, ◌∙◌, arith, Option, None, Some, IfSome, IfNone}
 use Rattle.std.specs.Prelude.{is_some, true, false}
 use Rattle.std.proofs.lemmas.List.{get_or_default}
 use Rattle.ext_model.specs.Closing.{IsBelow, IsFalling}

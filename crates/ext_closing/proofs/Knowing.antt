@@ -1,7 +1,7 @@
 -- A lane that is shown what it knows already stays as it was.
-use Rattle.std.proofs.Common.{◌≡◌, ◌≢◌, ◌<◌, ℕ, zero, suc, List, [], ◌∷◌, length, get_or, refl, ap, sym, ◌∙◌, arith, Option, None, Some}
+use Rattle.std.proofs.Common.{◌≡◌, ◌<◌, ℕ, zero, suc, List, [], ◌∷◌, length, get_or, refl, ap, sym, ◌∙◌, arith, Option, None, Some}
 use Rattle.std.proofs.Math.ListN.{set}
-use Rattle.std.specs.Prelude.{is_some, true, false}
+use Rattle.std.specs.Prelude.{is_some, true}
 use Rattle.ext_values.specs.Known.{Known, KeepsKnown, Learns, known_at}
 use Rattle.ext_values.proofs.NotesLaws.{learning_tells}
 use Rattle.ext_store.specs.Stores.{StoreLane}

@@ -1,5 +1,5 @@
 -- Where a number stands that is put into a falling list.
-use Rattle.std.proofs.Common.{◌≡◌, ℕ, zero, suc, ◌<◌, ◌+◌, List, [], ◌∷◌, ◌++◌, length, take, drop, get_or, refl, ap, sym, ◌∙◌, arith}
+use Rattle.std.proofs.Common.{◌≡◌, ℕ, zero, suc, ◌<◌, List, [], ◌∷◌, ◌++◌, length, take, drop, get_or, refl, ap, ◌∙◌, arith}
 use Rattle.ext_model.specs.Closing.{put_in}
 use Rattle.ext_model.proofs.Remaining.{put_before, put_same, put_after}
 

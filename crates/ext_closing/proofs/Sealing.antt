@@ -1,11 +1,10 @@
 -- One key more is sealed: what was sealed stays, and the numbers are those of all seals so far.
-use Rattle.std.proofs.Common.{◌≡◌, ◌<◌, ◌⊎◌, inl, inr, ℕ, zero, suc, ◌+◌, true, List, [], ◌∷◌, ◌++◌, map, length, refl, ap, sym, subst, ◌∙◌, arith, append-nil, Option, None, Some, nat_eq, add-one}
+use Rattle.std.proofs.Common.{◌≡◌, ◌<◌, ◌⊎◌, inl, inr, ℕ, suc, ◌+◌, true, List, [], ◌∷◌, ◌++◌, length, refl, ap, sym, subst, ◌∙◌, arith, append-nil, Option, None, Some, nat_eq, add-one}
 use Rattle.std.specs.Prelude.{if◌then◌else◌, Err}
-use Rattle.std.proofs.Common.{below_more, ◌≤◌}
+use Rattle.std.proofs.Common.{below_more}
 use Rattle.std.proofs.lemmas.Bool.Decides.{nat_tests}
 use Rattle.std.proofs.lemmas.List.{map-append}
 use mathlib.Core.List.{IsPrefix}
-use base.Growing.{prefix_refl, prefix_trans}
 use Rattle.ext_model.specs.declared.event.Act.{Act}
 use Rattle.ext_model.specs.declared.event.Act.TheVariants.{Seal}
 use Rattle.ext_model.specs.declared.slot.Slot.{Slot}
@@ -13,8 +12,8 @@ use Rattle.ext_model.specs.declared.slot.Slot.TheVariants as slot
 use Rattle.ext_model.specs.State.{standing}
 use Rattle.ext_model.specs.Events.{Happens, Answers, seal_reply, apply}
 use Rattle.ext_model.specs.History.{History, Limits, by, state_after, slots_in, IsLegal}
-use Rattle.ext_model.specs.Views.{LaneView, seen_by, first_front}
-use Rattle.ext_model.specs.Calls.{Calls, HoldsAtPoint, IsOvertaken, Seals}
+use Rattle.ext_model.specs.Views.{LaneView, seen_by}
+use Rattle.ext_model.specs.Calls.{Calls, Seals}
 use Rattle.ext_model.specs.Closing.{IsClosed, kept_by, put_in_kept, remaining}
 use Rattle.ext_model.proofs.Legal.{after-push}
 use Rattle.ext_model.proofs.Standing.{is_sealed, none_after_seal}
@@ -24,10 +23,9 @@ use Rattle.ext_model.proofs.Remaining.{stays_closed, remaining_stays}
 use Rattle.ext_cells.specs.Lanes.{CellsId, Lane}
 use Rattle.ext_store.specs.Stores.{StoreView, cell_in}
 use Rattle.ext_store.specs.Sealing.{SealsCell, IsBusyThere, IsInTheWay}
-use Rattle.ext_closing.specs.Sealing.{slots_seen, AreSealed, SealsAll, AreSome, seals_of, MakesSeals}
+use Rattle.ext_closing.specs.Sealing.{slots_seen, AreSealed, seals_of, MakesSeals}
 use Rattle.ext_closing.specs.declared.fault.CloseFault.{CloseFault}
 use Rattle.ext_closing.specs.declared.fault.CloseFault.TheVariants.{Busy, Contended, Unjoined}
-use Rattle.ext_closing.specs.Sealing.{SealsUntil, keys_sealed, numbers_left}
 use Rattle.ext_closing.specs.Steps.{SealsNext, SealedSoFar, SealingEnds}
 
 -- ---- one seal
@@ -170,18 +168,3 @@ module _ (store : StoreView) (context : ℕ) (before between after : Lane) (same
     refused_end (Busy at) next = subst (λ k. SealingEnds store context before after (Some (Busy k))) (sym next.0) (busy_end next.1)
     refused_end (Contended at) next = subst (λ k. SealingEnds store context before after (Some (Contended k))) (sym next.0) (contended_end next.1)
     refused_end (Unjoined number) next = absurd next
-
--- all keys were sealed
-module _ (store : StoreView) (context : ℕ) (before after : Lane) (numbers : List ℕ) (keys : ℕ) (all : keys ≡ length store.keys) (so_far : SealedSoFar store context keys before after numbers) where
-  all_so_far : SealedSoFar store context (length store.keys) before after numbers
-  all_so_far = subst (λ n. SealedSoFar store context n before after numbers) all so_far
-
-  pub all_end : SealingEnds store context before after None
-  all_end = record { seals = all_so_far.seals; sealed = all_so_far.sealed; made = all_so_far.made }
-
-  pub all_numbers : numbers ≡ numbers_left store context after
-  all_numbers = all_so_far.numbers_are
-
--- and what is found after that changes nothing
-pub unjoined_end : (store : StoreView) (context : ℕ) (before after : Lane) (number : ℕ) → SealingEnds store context before after None → SealingEnds store context before after (Some (Unjoined number))
-unjoined_end store context before after number ends = record { seals = ends.seals; sealed = ends.sealed; made = ends.made }

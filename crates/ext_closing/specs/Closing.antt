@@ -1,7 +1,7 @@
 -- Which calls of the close action a close makes, and what it counts of their answers.
 -- JUnit 5 User Guide, "Keeping State in Extensions", and Javadoc `ExtensionContext.Store.CloseableResource`: the closeable values of a context are closed in the
 -- inverse order in which they were added. Here the greatest number is the latest value. That faults are counted and do not stop the others is an own rule.
-use Rattle.std.specs.Prelude.{ℕ, ◌≡◌, ◌-◌, Bool, true, false, List, [], ◌∷◌, ◌++◌, length, slice_get, Option, None, Some, Result, Ok, Err}
+use Rattle.std.specs.Prelude.{ℕ, ◌≡◌, ◌-◌, Bool, true, false, List, [], ◌∷◌, ◌++◌, length, slice_get, Result, Ok, Err}
 use Rattle.std.specs.List.{FoldsTo}
 use Rattle.ext_model.specs.declared.look.Fault.{Fault}
 use Rattle.ext_store.specs.Stores.{StoreLane}

@@ -1,11 +1,8 @@
 -- What the parts of a close say, below the public contract.
 -- Own rule.
-use Rattle.std.specs.Prelude.{ℕ, ◌≡◌, ◌≤◌, List, length, Option, Result, Ok, Err}
-use Rattle.ext_values.specs.Known.{known_at}
+use Rattle.std.specs.Prelude.{ℕ, ◌≡◌, List, Option, Result, Ok, Err}
 use Rattle.ext_model.specs.Closing.{remaining}
 use Rattle.ext_cells.specs.Lanes.{Lane}
-use Rattle.ext_store.specs.declared.fault.Refusal.{Refusal}
-use Rattle.ext_store.specs.declared.fault.Refusal.TheVariants as refusal
 use Rattle.ext_store.specs.Stores.{StoreView}
 use Rattle.ext_store.specs.Sealing.{SealsCell, IsBusyThere, IsInTheWay}
 use Rattle.ext_closing.specs.declared.fault.CloseFault.{CloseFault}

@@ -1,15 +1,17 @@
 //! Closes on the chain of an engine, a class and a method, with the keys a, b and c.
-ghost use Rattle.std.specs.Prelude.{◌≡◌, ◌≤◌, ◌<◌, length, All};
-ghost use Rattle.ext_store.specs.Stores.{IsCloserOf, IsLaneOf};
+ghost use Rattle.std.specs.Prelude.{◌≡◌, ◌≤◌, ◌<◌, length, slice_index_or, All};
+ghost use Rattle.ext_store.specs.Stores.{IsCloserOf, IsKeptBy, IsLaneOf, StillKeeps};
 
 use crate::{CloseAction, CloseFault, Closed, close};
 use ext_ids::UniqueId;
 use ext_model::{ContextNo, Fault, Look};
-use ext_store::{Closer, Lane, Limits, Store, StoreValue};
+use ext_store::{Closer, Compute, Kept, Lane, Limits, Refusal, Store, StoreValue};
 use ext_tree::{Directory, Key, Namespace, Tree};
 use std::alloc::Global;
 use std::process::Abort;
 use std::sync::Wait;
+use std::sync::atomic::{AtomicU64, Ordering};
+use std::thread::join;
 
 // The value of a test, which says whether it is closeable.
 #[derive(Drop)]
@@ -146,6 +148,7 @@ fn look<R: Abort + Wait>(
     key: &Key,
 ) -> Look
     requires { IsLaneOf store.now.id lane.old }
+    ensures { IsLaneOf store.now.id lane.new }
 {
     assert!(rt; context < store.tree().len());
     let Ok(found) = store.get(rt, lane, context, key) else {
@@ -344,4 +347,205 @@ fn values_that_are_not_closeable_stay(rt: HostRuntime) {
         }
     );
     assert_eq!(rt; recorder.numbers, [2, 0, 0, 0]);
+}
+
+// How often a thread looks for another one, by one atomic load each.
+const TURNS: u64 = 100_000_000;
+
+// Holds a factory from its start until other calls were made beside it.
+#[derive(Drop)]
+struct Gate {
+    runs: AtomicU64,
+    may_end: AtomicU64,
+}
+
+fn wait_for(flag: &AtomicU64) {
+    for _ in 0..TURNS {
+        if flag.load(Ordering::SeqCst) == 1 {
+            return;
+        }
+    }
+}
+
+// Computes a closeable value in the class, by a factory that is held.
+fn compute_held<R: Abort + Wait>(
+    rt: &R,
+    store: &Store<Item>,
+    lane: Lane<Item>,
+    key: &Key,
+    gate: &Gate,
+) -> Lane<Item>
+    requires { IsLaneOf store.now.id lane }
+    ensures { IsLaneOf store.now.id result }
+{
+    let mut lane = lane;
+    assert!(rt; 1 < store.tree().len());
+    let computed = store.compute(rt, &mut lane, 1, key, |_key: &Key| -> Result<Item, Fault> {
+        gate.runs.store(1, Ordering::SeqCst);
+        wait_for(&gate.may_end);
+        Ok(CLOSEABLE)
+    });
+    assert!(rt; matches!(&computed, Compute::Computed { number: 2 }));
+    lane
+}
+
+// A compute and a remove in the class, which are refused as busy there.
+fn change_busy<R: Abort + Wait>(rt: &R, store: &Store<Item>, lane: &mut Lane<Item>, key: &Key)
+    requires { IsLaneOf store.now.id lane.old }
+    ensures { IsLaneOf store.now.id lane.new }
+{
+    assert!(rt; 2 < store.tree().len());
+    assert_eq!(rt; store.remove(rt, lane, 1, key), Err(Refusal::Busy(1)));
+    match store.compute(rt, lane, 2, key, |_key: &Key| -> Result<Item, Fault> {
+        Ok(CLOSEABLE)
+    }) {
+        Compute::Refused { refusal, unused } => {
+            assert_eq!(rt; refusal, Refusal::Busy(1));
+            assert!(rt; unused(key).is_ok());
+        }
+        _ => panic!(rt; "not refused"),
+    }
+}
+
+// A put in the class, which is refused so, with the kept number handed back.
+fn put_refused<R: Abort + Wait>(
+    rt: &R,
+    store: &Store<Item>,
+    lane: &mut Lane<Item>,
+    key: &Key,
+    kept: Kept,
+    wanted: Refusal,
+) -> Kept
+    requires lane { IsLaneOf store.now.id lane.old }
+    requires kept { IsKeptBy lane.old kept }
+    ensures lane { IsLaneOf store.now.id lane.new }
+    ensures kept { IsKeptBy lane.new result }
+{
+    assert!(rt; 1 < store.tree().len());
+    let Err((kept, refusal)) = store.put(rt, lane, 1, key, kept) else {
+        panic!(rt; "not refused")
+    };
+    assert_eq!(rt; refusal, wanted);
+    kept
+}
+
+// Keeps the first value.
+fn keep_first<R: Abort + Wait>(rt: &R, store: &Store<Item>, lane: &mut Lane<Item>) -> Kept
+    requires { IsLaneOf store.now.id lane.old }
+    ensures lane { IsLaneOf store.now.id lane.new }
+    ensures kept { IsKeptBy lane.new result }
+{
+    let Ok(kept) = store.keep(rt, lane, CLOSEABLE) else {
+        panic!(rt; "not kept")
+    };
+    assert_eq!(rt; kept.number(), 1);
+    kept
+}
+
+// A close of the class, which is refused as busy at its first key.
+fn close_busy<R: Abort + Wait>(
+    rt: &R,
+    alloc: Global,
+    store: &Store<Item>,
+    closer: Closer,
+    lane: Lane<Item>,
+) -> (Closer, Lane<Item>)
+    requires lane { IsLaneOf store.now.id lane }
+    requires closer { IsCloserOf store.now closer }
+    ensures closer { IsCloserOf store.now result.0 }
+    ensures lane { IsLaneOf store.now.id result.1 }
+    ensures kept { StillKeeps lane result.1 }
+{
+    let mut recorder = Recorder::new(alloc, false);
+    let mut hand = [lane];
+    let Err((closer, fault)) = close(rt, store, closer, &mut hand, &mut recorder) else {
+        panic!(rt; "closed")
+    };
+    assert_eq!(rt; (fault, recorder.calls), (CloseFault::Busy(0), 0));
+    let [lane] = hand;
+    (closer, lane)
+}
+
+// The calls of another lane while the factory runs.
+fn call_beside<R: Abort + Wait>(
+    rt: &R,
+    alloc: Global,
+    store: &Store<Item>,
+    closer: Closer,
+    lane: Lane<Item>,
+    gate: &Gate,
+) -> (Closer, Lane<Item>, Kept)
+    requires lane { IsLaneOf store.now.id lane }
+    requires closer { IsCloserOf store.now closer }
+    ensures closer { IsCloserOf store.now result.0 }
+    ensures lane { IsLaneOf store.now.id result.1 }
+    ensures kept { IsKeptBy result.1 result.2 }
+{
+    let mut lane = lane;
+    let a = key(rt, alloc, "a");
+    wait_for(&gate.runs);
+    assert_eq!(rt; look(rt, store, &mut lane, 2, &a), Look::Busy(1));
+    let b = key(rt, alloc, "b");
+    assert_eq!(rt; look(rt, store, &mut lane, 2, &b), Look::Absent);
+    change_busy(rt, store, &mut lane, &a);
+    let kept = keep_first(rt, store, &mut lane);
+    let kept = put_refused(rt, store, &mut lane, &a, kept, Refusal::Busy(1));
+    let (closer, lane) = close_busy(rt, alloc, store, closer, lane);
+    gate.may_end.store(1, Ordering::SeqCst);
+    (closer, lane, kept)
+}
+
+// Closes the class with both lanes in hand, which closes the computed value.
+fn close_computed<R: Abort + Wait>(
+    rt: &R,
+    alloc: Global,
+    store: &Store<Item>,
+    closer: Closer,
+    lanes: &mut [Lane<Item>],
+)
+    requires two { length lanes.old ≡ 2 }
+    requires lanes { All (IsLaneOf store.now.id) lanes.old }
+    requires closer { IsCloserOf store.now closer }
+    ensures lanes { All (IsLaneOf store.now.id) lanes.new }
+    ensures kept { (d : _) → StillKeeps (slice_index_or lanes.old 1 d) (slice_index_or lanes.new 1 d) }
+{
+    let mut recorder = Recorder::new(alloc, false);
+    let Ok(closed) = close(rt, store, closer, lanes, &mut recorder) else {
+        panic!(rt; "not closed")
+    };
+    let (count, numbers) = (closed.closed, recorder.numbers);
+    assert_eq!(rt; (count, numbers), (1, [2, 0, 0, 0]));
+}
+
+#[test]
+fn busy_while_factory_runs(rt: HostRuntime) {
+    let alloc = rt.alloc();
+    let (store, mut lanes, closers) = open(&rt, alloc);
+    let closer = closer_of(&rt, &store, closers, 1);
+    let second = last_of(&rt, &store, &mut lanes);
+    let first = last_of(&rt, &store, &mut lanes);
+    let a = key(&rt, alloc, "a");
+    let gate = Gate {
+        runs: AtomicU64::new(0),
+        may_end: AtomicU64::new(0),
+    };
+    let (runtime, shared, name, held) = (&rt, &store, &a, &gate);
+    let (first, (closer, second, kept)) = join(
+        runtime,
+        move || -> Lane<Item>
+            requires { IsLaneOf shared.now.id first }
+            ensures { IsLaneOf shared.entry.now.id result }
+        { compute_held(runtime, shared, first, name, held) },
+        move || -> (Closer, Lane<Item>, Kept)
+            requires { IsLaneOf shared.now.id second × IsCloserOf shared.now closer }
+            ensures closer { IsCloserOf shared.entry.now result.0 }
+            ensures lane { IsLaneOf shared.entry.now.id result.1 }
+            ensures kept { IsKeptBy result.1 result.2 }
+        { call_beside(runtime, alloc, shared, closer, second, held) },
+    );
+    let mut hand = [first, second];
+    close_computed(&rt, alloc, &store, closer, &mut hand);
+    let kept = put_refused(&rt, &store, &mut hand[1], &a, kept, Refusal::Closed(1));
+    assert_eq!(rt; kept.number(), 1);
+    assert_eq!(rt; look(&rt, &store, &mut hand[1], 2, &a), Look::Closed(1));
 }

@@ -1,14 +1,14 @@
 -- What a whole compute says, from what the claim of a missing value and the part after it say.
-use Rattle.std.proofs.Common.{◌≡◌, ℕ, List, [], ◌∷◌, ◌++◌, sym, refl, ap, ◌∙◌, subst, inl, inr, ◌⊎◌}
-use Rattle.std.specs.Prelude.{Option, None, Some, Result, Ok, Err, All}
+use Rattle.std.proofs.Common.{◌≡◌, ℕ, List, [], ◌∷◌, refl, subst, inl, inr}
+use Rattle.std.specs.Prelude.{Some, Ok, Err}
 use Rattle.ext_model.specs.declared.event.Act.{Act}
 use Rattle.ext_model.specs.declared.event.Act.TheVariants.{Keep, Claim, Fill, Abandon}
 use Rattle.ext_model.specs.declared.look.Look.{Look}
 use Rattle.ext_model.specs.declared.look.Look.TheVariants as look
 use Rattle.ext_model.specs.Events as events
-use Rattle.ext_model.specs.History.{Limits, stored_number, reply_after}
+use Rattle.ext_model.specs.History.{Limits, reply_after}
 use Rattle.ext_model.specs.Views.{LaneView}
-use Rattle.ext_model.specs.Calls.{Calls, IsHeld}
+use Rattle.ext_model.specs.Calls.{Calls}
 use Rattle.ext_model.proofs.Composed.{same_number, calls_compose, point_of_second, crowded_by_second}
 use Rattle.ext_store.specs.declared.fault.Refusal.TheVariants as refusal
 use Rattle.ext_store.specs.declared.fault.KeepFault.{KeepFault}
@@ -16,14 +16,14 @@ use Rattle.ext_store.specs.declared.fault.KeepFault.TheVariants as fault
 use Rattle.ext_store.specs.declared.computed.Unused.{Unused}
 use Rattle.ext_store.specs.declared.computed.Unused.TheVariants.{Found, Refused}
 use Rattle.ext_store.specs.Stores.{StoreView, StoreLane, StillKeeps, cell_in}
-use Rattle.ext_store.specs.Computing.{ClaimsAndLooks, given_up, Meets, IsRefused, Fills, IsUnkept, ComputesFrom}
-use Rattle.ext_store.specs.Claiming.{handed_back, ClaimsFrom}
+use Rattle.ext_store.specs.Computing.{ClaimsAndLooks, given_up_events, Meets, IsRefused, Fills, IsUnkept, ComputesFrom}
+use Rattle.ext_store.specs.Claiming.{with_factory, ClaimsFrom}
 use Rattle.ext_store.proofs.Parts.{happens_second, claims_first}
 use Rattle.ext_store.proofs.Filling.{none_stored, nor_this, storing_none}
 
 -- the factory is handed back
 pub unused_computes : (V : Type 0) {F : Type 0} (store : StoreView) (context : ℕ) (ancestors : List ℕ) (key : ℕ) (a b : LaneView) (factory : F) (unused : Unused)
-    → ClaimsFrom store context ancestors key a b (Err unused) → ComputesFrom store context ancestors key a b (handed_back {V = V} {F = F} factory unused)
+    → ClaimsFrom store context ancestors key a b (Err unused) → ComputesFrom store context ancestors key a b (with_factory {V = V} {F = F} factory unused)
 unfolding ComputesFrom
 unused_computes V store context ancestors key a b factory (Found at number) m = m
 unused_computes V store context ancestors key a b factory (Refused why) m = m
@@ -43,7 +43,7 @@ module _ (store : StoreView) (context : ℕ) (ancestors : List ℕ) (key claim :
   looks : (ys : List (Act ℕ)) → Calls store.id.cells.limits b c ys → ClaimsAndLooks store context ancestors key a c look.Absent
   looks ys two = claims_first store context ancestors key a b c ys look.Absent one two m.3
 
-  pub fails : Calls store.id.cells.limits b c (Abandon claim ∷ []) → ClaimsAndLooks store context ancestors key a c look.Absent × Calls store.id.cells.limits a c (given_up store context key)
+  pub fails : Calls store.id.cells.limits b c (Abandon claim ∷ []) → ClaimsAndLooks store context ancestors key a c look.Absent × Calls store.id.cells.limits a c (given_up_events store context key)
   fails two =
       (looks (Abandon claim ∷ []) two, calls_compose limits a b c (Claim here ∷ []) (Abandon here ∷ []) one (subst (λ k. Calls limits b c (Abandon k ∷ [])) m.0 two))
 
@@ -92,8 +92,8 @@ module _ {V : Type 0} (store : StoreView) (context : ℕ) (ancestors : List ℕ)
   quiet_keeps : Calls store.id.cells.limits before.cells.view after.cells.view [] → StillKeeps before after
   quiet_keeps one = storing_none store.id.cells.limits before after [] none_stored one same
 
-  given_up_keeps : Calls store.id.cells.limits before.cells.view after.cells.view (given_up store context key) → StillKeeps before after
-  given_up_keeps one = storing_none store.id.cells.limits before after (given_up store context key) (nor_this (Claim (cell_in store key context)) (Abandon (cell_in store key context) ∷ []) refl (nor_this (Abandon (cell_in store key context)) [] refl none_stored)) one same
+  given_up_keeps : Calls store.id.cells.limits before.cells.view after.cells.view (given_up_events store context key) → StillKeeps before after
+  given_up_keeps one = storing_none store.id.cells.limits before after (given_up_events store context key) (nor_this (Claim (cell_in store key context)) (Abandon (cell_in store key context) ∷ []) refl (nor_this (Abandon (cell_in store key context)) [] refl none_stored)) one same
 
   meets_keeps : (met : Look) → Meets store context ancestors key before.cells.view after.cells.view met → StillKeeps before after
   unfolding Meets

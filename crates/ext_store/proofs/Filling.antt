@@ -1,13 +1,12 @@
 -- What keeping a value and storing its number in a claimed cell says, from what its two steps say.
-use Rattle.std.proofs.Common.{◌≡◌, ◌≢◌, ℕ, List, [], ◌∷◌, ◌++◌, false, sym, refl, ap, ◌∙◌, subst, nat_eq}
+use Rattle.std.proofs.Common.{◌≡◌, ◌≢◌, ℕ, List, [], ◌∷◌, false, sym, refl, ap, ◌∙◌, subst, nat_eq}
 use Rattle.std.specs.Prelude.{Option, None, Some, All}
 use Rattle.std.proofs.lemmas.List.Elements.{All-nil, All-cons}
 use Rattle.ext_model.specs.declared.event.Act.{Act}
-use Rattle.ext_model.specs.declared.event.Act.TheVariants.{Keep, Claim, Fill, Abandon}
+use Rattle.ext_model.specs.declared.event.Act.TheVariants.{Keep, Fill, Abandon}
 use Rattle.ext_model.specs.Events as events
 use Rattle.ext_model.specs.Events.{is_on}
-use Rattle.ext_model.specs.History.{History, Limits, stored_number, reply_after}
-use Rattle.ext_model.specs.Views.{LaneView, IsPointAfter}
+use Rattle.ext_model.specs.History.{Limits, stored_number, reply_after}
 use Rattle.ext_model.specs.Calls.{Calls, HoldsAtPoint, IsOvertaken, IsHeld}
 use Rattle.ext_model.proofs.Composed.{calls_compose, point_of_first, answer_first, overtaken_crowded, crowded_by_first}
 use Rattle.ext_model.proofs.Held.{claim_held}
@@ -18,7 +17,7 @@ use Rattle.ext_store.specs.declared.fault.KeepFault.TheVariants as fault
 use Rattle.ext_store.specs.Stores.{StoreView, StoreLane, IsKeptBy, StillKeeps}
 use Rattle.ext_store.specs.Calls as calls
 use Rattle.ext_store.specs.Calls.{KeepFails}
-use Rattle.ext_store.specs.Computing.{Happens, Fills, IsUnkept}
+use Rattle.ext_store.specs.Computing.{Fills, IsUnkept}
 use Rattle.ext_store.proofs.Keeping.{one_kept}
 use Rattle.ext_store.proofs.Parts.{happens_first, happens_alone}
 

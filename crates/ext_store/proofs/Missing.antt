@@ -1,17 +1,14 @@
 -- What the claim of a missing value says, from what its steps say.
-use Rattle.std.proofs.Common.{◌≡◌, ◌≢◌, ℕ, suc, ◌<◌, ◌≤◌, ◌-◌, List, [], ◌∷◌, ◌++◌, take, drop, length, false, sym, refl, ap, ◌∙◌, subst, arith, inl, inr, nat_eq}
-use Rattle.std.specs.Prelude.{Option, None, Some, Result, Ok, Err, All, AllPairs}
+use Rattle.std.proofs.Common.{◌≡◌, ◌≢◌, ℕ, suc, ◌<◌, ◌-◌, List, [], ◌∷◌, take, drop, length, sym, refl, ap, ◌∙◌, subst, arith, inl, inr}
+use Rattle.std.specs.Prelude.{Option, None, Some, Result, Ok, Err}
 use Rattle.std.proofs.lemmas.List.Elements.{All-nil, All-tail}
-use Rattle.ext_model.specs.declared.event.Act.{Act}
 use Rattle.ext_model.specs.declared.event.Act.TheVariants.{Claim, Abandon}
 use Rattle.ext_model.specs.declared.look.Look.{Look}
 use Rattle.ext_model.specs.declared.look.Look.TheVariants as look
 use Rattle.ext_model.specs.Events as events
 use Rattle.ext_model.specs.History.{History, Limits, slots_in, reply_after}
-use Rattle.ext_model.specs.Views.{LaneView, IsStepped, IsAnswerPoint}
-use Rattle.ext_model.specs.Calls as model
-use Rattle.ext_model.specs.Calls.{Calls, HoldsAtPoint, IsOvertaken, IsCrowded, IsHeld}
-use Rattle.ext_model.specs.SecondLook.{look_after, LooksAgain}
+use Rattle.ext_model.specs.Calls.{Calls, HoldsAtPoint, IsOvertaken, IsHeld}
+use Rattle.ext_model.specs.SecondLook.{look_after}
 use Rattle.ext_model.proofs.Composed.{same_number, calls_compose, later_answers, answer_first, overtaken_crowded, crowded_overtaken, crowded_by_first, crowded_by_second}
 use Rattle.ext_model.proofs.Held.{claim_held}
 use Rattle.ext_tree.specs.Trees.{Id}
@@ -28,7 +25,7 @@ use Rattle.ext_store.specs.declared.computed.Unused.TheVariants.{Found, Refused}
 use Rattle.ext_store.specs.Stores.{StoreView, cell_in}
 use Rattle.ext_store.specs.Refusals.{refusal_at}
 use Rattle.ext_store.specs.Looking.{IsTrail, LooksAt}
-use Rattle.ext_store.specs.Computing.{Happens, ClaimsAndLooks, given_up, Meets, IsRefused}
+use Rattle.ext_store.specs.Computing.{Happens, ClaimsAndLooks, Meets, IsRefused}
 use Rattle.ext_store.specs.Claiming.{Stands, ClaimsFrom}
 use Rattle.ext_store.proofs.Parts.{happens_first, looks_second, happens_alone, claims_first}
 use Rattle.ext_store.proofs.Standing.{Told, told}

@@ -1,12 +1,12 @@
 -- What a part of a call says, said of the whole call.
-use Rattle.std.proofs.Common.{◌≡◌, ℕ, List, [], ◌∷◌, ◌++◌, sym, ap, ◌∙◌, subst, append_assoc}
+use Rattle.std.proofs.Common.{◌≡◌, ℕ, List, [], ◌∷◌, ◌++◌, sym, subst, append_assoc}
 use Rattle.std.specs.Prelude.{Option, None}
 use Rattle.ext_model.specs.declared.event.Act.{Act}
 use Rattle.ext_model.specs.declared.event.Act.TheVariants.{Claim}
 use Rattle.ext_model.specs.declared.look.Look.{Look}
 use Rattle.ext_model.specs.Events.{Happens}
-use Rattle.ext_model.specs.History.{History, Limits, by, reply_after}
-use Rattle.ext_model.specs.Views.{LaneView, seen_by, IsAnswerPoint, IsPointAfter}
+use Rattle.ext_model.specs.History.{Limits, by, reply_after}
+use Rattle.ext_model.specs.Views.{LaneView, IsPointAfter}
 use Rattle.ext_model.specs.Calls.{Calls, HoldsAtPoint}
 use Rattle.ext_model.specs.SecondLook.{LooksAgain}
 use Rattle.ext_model.proofs.Composed.{same_number, point_of_first, point_of_second, answer_first, seen_is_point}

@@ -1,5 +1,5 @@
 -- What the answer to a claim says of the look-up from the context of the cell.
-use Rattle.std.proofs.Common.{◌≡◌, ℕ, Bool, true, false, List, ◌∷◌, sym, refl, ap, ◌∙◌, subst}
+use Rattle.std.proofs.Common.{◌≡◌, ℕ, Bool, true, false, List, ◌∷◌, sym, refl, subst}
 use Rattle.std.specs.Prelude.{Option, None, Some, Result, Ok, Err}
 use Rattle.ext_model.specs.declared.event.Act.TheVariants.{Claim}
 use Rattle.ext_model.specs.declared.look.Look.TheVariants as look

@@ -7,7 +7,6 @@ use Rattle.ext_model.specs.Views.{LaneView}
 use Rattle.ext_model.specs.Calls.{Calls, IsOvertaken, IsHeld}
 use Rattle.ext_tree.specs.Paths.{IsPathOf}
 use Rattle.ext_cells.specs.Lanes.{Lane}
-use Rattle.ext_store.specs.declared.fault.Refusal.{Refusal}
 use Rattle.ext_store.specs.declared.fault.Refusal.TheVariants.{Busy, Closed, Contended, UnknownKey, Exhausted}
 use Rattle.ext_store.specs.declared.computed.Unused.{Unused}
 use Rattle.ext_store.specs.declared.computed.Unused.TheVariants.{Found, Refused}
@@ -18,9 +17,9 @@ use Rattle.ext_store.specs.Looking.{LooksAt}
 use Rattle.ext_store.specs.Computing.{ClaimsAndLooks, Meets, IsRefused}
 
 -- the result that hands the factory back
-abbrev pub handed_back : {V F : Type 0} → F → Unused → Compute V F
-handed_back factory (Found at number) = compute.Found at number factory
-handed_back factory (Refused why) = compute.Refused why factory
+abbrev pub with_factory : {V F : Type 0} → F → Unused → Compute V F
+with_factory factory (Found at number) = compute.Found at number factory
+with_factory factory (Refused why) = compute.Refused why factory
 
 -- the look-up along the path, at a point of a call without events: nothing stands there, or this does, or other lanes were in the way
 abbrev pub Stands : StoreView → List ℕ → ℕ → Lane → Lane → Option Unused → Type 0

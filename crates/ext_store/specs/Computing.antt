@@ -40,15 +40,15 @@ pub record ClaimsAndLooks (store : StoreView) (context : ℕ) (ancestors : List 
   pub looked : LooksAgain (cell_in store key) ancestors before after (Claim (cell_in store key context) ∷ []) look
 
 -- the events of a claim that is given up
-abbrev pub given_up : StoreView → ℕ → ℕ → List (Act ℕ)
-given_up store context key = Claim (cell_in store key context) ∷ Abandon (cell_in store key context) ∷ []
+abbrev pub given_up_events : StoreView → ℕ → ℕ → List (Act ℕ)
+given_up_events store context key = Claim (cell_in store key context) ∷ Abandon (cell_in store key context) ∷ []
 
 -- The look-up from the context is this at a point of the call, which made no event. Or the look-up from its parent is this while the lane's claim stands, which
 -- is then given up
 unfoldable pub Meets : StoreView → ℕ → List ℕ → ℕ → LaneView → LaneView → Look → Type 0
 Meets store context ancestors key before after met =
     HoldsAtPoint store.id.cells.limits before after [] (λ p. look_after (cell_in store key) (context ∷ ancestors) p ≡ met)
-    ⊎ (Calls store.id.cells.limits before after (given_up store context key) × ClaimsAndLooks store context ancestors key before after met)
+    ⊎ (Calls store.id.cells.limits before after (given_up_events store context key) × ClaimsAndLooks store context ancestors key before after met)
 
 -- what each refusal says
 unfoldable pub IsRefused : StoreView → ℕ → List ℕ → ℕ → LaneView → LaneView → Refusal → Type 0
@@ -56,7 +56,7 @@ IsRefused store context ancestors key before after (refusal.Busy at) = Meets sto
 IsRefused store context ancestors key before after (refusal.Closed at) = Meets store context ancestors key before after (look.Closed at)
 IsRefused store context ancestors key before after refusal.Contended =
     IsOvertaken store.id.cells.limits store.tries before after
-    ⊎ (Calls store.id.cells.limits before after (given_up store context key) × IsCrowded store.tries before after)
+    ⊎ (Calls store.id.cells.limits before after (given_up_events store context key) × IsCrowded store.tries before after)
 IsRefused store context ancestors key before after refusal.UnknownKey = ⊥
 IsRefused store context ancestors key before after refusal.Exhausted =
     HoldsAtPoint store.id.cells.limits before after [] (λ p. reply_after store.id.cells.limits p before.number (Claim (cell_in store key context)) ≡ events.Refuses events.Exhausted)
@@ -91,7 +91,7 @@ ComputesFrom store context ancestors key before after (Computed number) =
     × Fills store.id.cells.limits (Claim (cell_in store key context) ∷ []) (cell_in store key context) before after number
 ComputesFrom store context ancestors key before after (Found at number unused) = Meets store context ancestors key before after (look.Found at number)
 ComputesFrom store context ancestors key before after (Failed why) =
-    ClaimsAndLooks store context ancestors key before after look.Absent × Calls store.id.cells.limits before after (given_up store context key)
+    ClaimsAndLooks store context ancestors key before after look.Absent × Calls store.id.cells.limits before after (given_up_events store context key)
 ComputesFrom store context ancestors key before after (Unkept value cause) =
     ClaimsAndLooks store context ancestors key before after look.Absent × IsUnkept store (Claim (cell_in store key context) ∷ []) (cell_in store key context) before after cause
 ComputesFrom store context ancestors key before after (Refused why unused) = IsRefused store context ancestors key before after why

@@ -1,6 +1,6 @@
 //! What comes of a call that computes a missing value.
 ghost use Rattle.std.specs.Prelude.{◌≡◌};
-ghost use Rattle.ext_store.specs.Claiming.{handed_back};
+ghost use Rattle.ext_store.specs.Claiming.{with_factory};
 
 use crate::{KeepFault, Refusal};
 use ext_model::{ContextNo, Fault};
@@ -43,7 +43,7 @@ pub(crate) enum Unused {
 impl Unused {
     // The result that hands the factory back.
     pub(crate) fn hand_back<V, F>(self, factory: F) -> Compute<V, F>
-        ensures { result ≡ handed_back factory self }
+        ensures { result ≡ with_factory factory self }
     {
         match self {
             Unused::Found { at, number } => Compute::Found {

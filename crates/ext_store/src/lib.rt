@@ -3,7 +3,8 @@
 //! `Store` is shared by reference, and each thread owns a `Lane`: all calls of all lanes together are one
 //! history, as the definitions of `ext_model` say it, and each answer but `Contended` is that of one thread at
 //! a point of the call. A value is kept first, which gives it a number, and the number is then stored under a
-//! key in a context. `specs/Stores` and `specs/Calls` have the words of the contracts.
+//! key in a context; or it is computed where none is found. `specs/Stores`, `specs/Calls` and `specs/Computing`
+//! have the words of the contracts.
 //!
 //! Each call that steps on the cells takes the runtime and may wait, until each cell is a word of its own.
 #![tactic(auto)]

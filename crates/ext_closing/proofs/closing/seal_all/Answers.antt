@@ -1,4 +1,4 @@
-use Rattle.std.proofs.Common.{◌∙◌, ◌≡◌, ◌≤◌, ◌<◌, ◌+◌, length, sym, subst, arith, ap}
+use Rattle.std.proofs.Common.{◌∙◌, ◌<◌, ◌+◌, length, sym, subst, arith, ap}
 use Rattle.ext_closing.specs.Steps.{SealedSoFar}
 use Rattle.ext_closing.proofs.Sealing.{one_more_sealed, refused_end}
 use Rattle.ext_closing.proofs.closing.seal_all.Goals as goal

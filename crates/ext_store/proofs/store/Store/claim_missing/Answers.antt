@@ -1,10 +1,8 @@
-use Rattle.std.proofs.Common.{rules, ◌≡◌, ℕ, List, [], ◌∷◌, ◌-◌, take, drop, length, sym, refl, ap, ◌∙◌, subst}
+use Rattle.std.proofs.Common.{rules, ◌≡◌, ℕ, [], ◌∷◌, ◌-◌, take, drop, length, sym, ap, ◌∙◌, subst}
 use Rattle.std.specs.Prelude.{Ok, Err, Some, None}
 use Rattle.ext_model.specs.declared.event.Act.TheVariants.{Abandon}
 use Rattle.ext_model.specs.Calls.{Calls, IsHeld}
-use Rattle.ext_tree.specs.Paths.{IsPathOf}
 use Rattle.ext_cells.specs.declared.claim.Claimed.{Claimed}
-use Rattle.ext_cells.specs.declared.claim.Claimed.TheVariants.{Won, Standing}
 use Rattle.ext_cells.specs.Lanes.{CellsId}
 use Rattle.ext_cells.specs.Calls.{Answers, IfWon, claim_acts, claim_reply}
 use Rattle.ext_store.specs.declared.computed.Unused.TheVariants.{Refused}

@@ -3,8 +3,8 @@ use Rattle.std.specs.Prelude.{Option, Some, Ok, Err}
 use Rattle.ext_model.specs.declared.event.Act.TheVariants.{Abandon}
 use Rattle.ext_model.specs.Calls.{Calls}
 use Rattle.ext_cells.specs.Lanes.{CellsId, Lane}
-use Rattle.ext_store.specs.Stores.{StoreView, StoreLane, StillKeeps}
-use Rattle.ext_store.specs.Computing.{Computes, ComputesFrom, Fills, IsUnkept}
+use Rattle.ext_store.specs.Stores.{StoreLane, StillKeeps}
+use Rattle.ext_store.specs.Computing.{ComputesFrom}
 use Rattle.ext_store.specs.Claiming.{ClaimsMissing}
 use Rattle.ext_store.proofs.Filling.{none_stored, nor_this, storing_none}
 use Rattle.ext_store.proofs.Composing.{unused_computes, fails, computes, keeps_not, claim_keeps, unused_keeps}

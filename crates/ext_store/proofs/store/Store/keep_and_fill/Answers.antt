@@ -1,7 +1,6 @@
 use Rattle.std.proofs.Common.{◌≡◌, ℕ, [], ◌∷◌, sym, refl, ap, ◌∙◌, subst}
 use Rattle.ext_model.specs.declared.event.Act.TheVariants.{Fill, Abandon}
 use Rattle.ext_model.specs.Calls.{Calls, IsHeld}
-use Rattle.ext_values.specs.Known.{Known}
 use Rattle.ext_cells.specs.Lanes.{CellsId, Lane}
 use Rattle.ext_store.specs.Stores.{StoreLane, IsKeptBy}
 use Rattle.ext_store.specs.Computing.{Fills}
