@@ -4,27 +4,31 @@ use std::alloc::Global;
 use std::test::Fail;
 
 /// How the rows are run.
-pub const PLAIN: Options = Options {
+pub(crate) const PLAIN: Options = Options {
     lanes: 4,
     plain: true,
 };
 
 /// The contexts of the chain before its method, with one key.
-pub const CHAIN_HEAD: &str =
+pub(crate) const CHAIN_HEAD: &str =
     "[[key]]\nlabel = \"a\"\n\n[[node]]\nid = \"[engine:x]\"\n\n[[node]]\nid = \"[engine:x]/[class:A]\"\n\n[[node]]\nid = \"[engine:x]/[class:A]/[method:m()]\"\n";
 
 /// The report of the chain whose method passes.
-pub const CHAIN_PASSED: &str =
+pub(crate) const CHAIN_PASSED: &str =
     "[engine:x] successful closed 0\n[engine:x]/[class:A] successful closed 0\n[engine:x]/[class:A]/[method:m()] successful closed 0\ntests 1 successful 1 aborted 0 failed 0 skipped 0\ncomputed 0 found 0 closed 0 close faults 0\n";
 
 /// What a run of these bytes answers, and what it writes.
-pub fn outcome(alloc: Global, plan: &[u8], written: &mut Vec<u8>) -> Result<Summary, RunFault> {
+pub(crate) fn outcome(
+    alloc: Global,
+    plan: &[u8],
+    written: &mut Vec<u8>,
+) -> Result<Summary, RunFault> {
     let mut reader = plan;
     run(alloc, &mut reader, written, PLAIN)
 }
 
 /// The chain whose method has these steps.
-pub fn chain(alloc: Global, steps: &str) -> Result<String, Fail> {
+pub(crate) fn chain(alloc: Global, steps: &str) -> Result<String, Fail> {
     let text = format!(in alloc; "{CHAIN_HEAD}test = [{steps}]\n")?;
     Ok(text)
 }

@@ -13,9 +13,9 @@ use std::thread;
 
 /// A value of the rows: a letter, and whether it is closeable.
 #[derive(Debug, Drop, PartialEq, Eq)]
-pub struct Letter {
-    pub letter: char,
-    pub closeable: bool,
+struct Letter {
+    letter: char,
+    closeable: bool,
 }
 
 impl StoreValue for Letter {

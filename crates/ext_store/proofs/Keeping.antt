@@ -24,6 +24,10 @@ use Rattle.ext_store.specs.Looking.{Looks}
 use Rattle.ext_store.proofs.Replies.{other_why}
 use Rattle.ext_store.specs.Calls.{HoldsAtPoint, reply_to, KeepFails, Puts, Removes}
 
+-- where two are there, they are one
+pub one_number : (a b : ℕ) → (let x : Option ℕ = Some a in let y : Option ℕ = Some b in x ≡ y) → a ≡ b
+one_number a b e = cc e
+
 -- the act stores another number, or none
 abbrev pub StoresNot : ℕ → Act ℕ → Type 0
 StoresNot number act = stored_number act ≡ Some number → ⊥
@@ -50,9 +54,6 @@ module _ {V : Type 0} (limits : Limits) (before after : StoreLane V) where
   pub stored_keeps : (at stored : ℕ) → Calls limits before.cells.view after.cells.view (Put at stored ∷ []) → after.known ≡ before.known → StillKeepsBut stored before after
   stored_keeps at stored calls same = (λ number other kept.
       one_kept (Put at stored ∷ []) number calls (All-cons (StoresNot number) (Put at stored) [] (λ e. other (sym (one_number stored number e))) (All-nil (StoresNot number))) (ap (λ k. known_at k number) same) kept)
-    where
-      one_number : (a b : ℕ) → (let x : Option ℕ = Some a in let y : Option ℕ = Some b in x ≡ y) → a ≡ b
-      one_number a b e = cc e
 
   -- after one that drew another, of which the lane learnt nothing,
   pub unplaced_keeps : (drawn : ℕ) → Calls limits before.cells.view after.cells.view (Keep drawn ∷ []) → after.known ≡ before.known → StillKeeps before after

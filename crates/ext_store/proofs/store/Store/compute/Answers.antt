@@ -8,10 +8,8 @@ use Rattle.ext_store.specs.Computing.{ComputesFrom}
 use Rattle.ext_store.specs.Claiming.{ClaimsMissing}
 use Rattle.ext_store.proofs.Filling.{none_stored, nor_this, storing_none}
 use Rattle.ext_store.proofs.Composing.{unused_computes, fails, computes, keeps_not, claim_keeps, unused_keeps}
+use Rattle.ext_store.proofs.Keeping.{one_number}
 use Rattle.ext_store.proofs.store.Store.compute.Goals as goal
-
-one_number : (a b : ℕ) → (let x : Option ℕ = Some a in let y : Option ℕ = Some b in x ≡ y) → a ≡ b
-one_number a b e = cc e
 
 pub returns-in-Err-clause-answer : goal.returns-in-Err-clause-answer
 returns-in-Err-clause-answer g c number has =

@@ -3,10 +3,8 @@ use Rattle.ext_tree.specs.Paths.{IsPathOf}
 use Rattle.ext_store.specs.Stores.{StoreLane}
 use Rattle.ext_store.specs.Calls.{Gets}
 use Rattle.ext_store.proofs.LookUps.{looks_answer}
+use Rattle.ext_store.proofs.Keeping.{one_number}
 use Rattle.ext_store.proofs.store.Store.get.Goals as goal
-
-one_number : (a b : ℕ) → (let x : Option ℕ = Some a in let y : Option ℕ = Some b in x ≡ y) → a ≡ b
-one_number a b e = cc e
 
 pub returns-clause-answer : goal.returns-clause-answer
 unfolding Gets
