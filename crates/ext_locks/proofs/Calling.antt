@@ -1,26 +1,34 @@
 -- From the seats that the code has to the lanes that contracts see.
-use Rattle.std.proofs.Common.{◌≡◌, ℕ, ◌<◌, List, length, Option, Some, sym, ap, ◌∙◌, subst}
+use Rattle.std.proofs.Common.{◌≡◌, ℕ, ◌<◌, ◌≤◌, List, [], length, Option, Some, sym, ap, ◌∙◌, subst}
 use Rattle.atomic_table.specs.declared.shared.Seat.{Seat}
 use Rattle.ext_locks.specs.declared.event.LockMode.{LockMode}
 use Rattle.ext_locks.specs.declared.event.LockEvent.{LockEvent}
 use Rattle.ext_locks.specs.declared.seat.SeatView.{SeatView}
 use Rattle.ext_locks.specs.declared.refusal.LockRefusal.{LockRefusal}
 use Rattle.ext_locks.specs.History.{holds}
-use Rattle.ext_locks.specs.Views.{LaneView, seen, seen_by, own_of, AreLegal, Calls}
+use Rattle.ext_locks.specs.Views.{LaneView, seen, seen_by, own_of, Follow, Calls}
 use Rattle.ext_locks.specs.Sets.{locks_of, wants, takes_of, gives_of, AllBelow, HoldsExactly, HeldView, IsHeldBy}
 use Rattle.ext_locks.specs.Refusals.{undone}
 use Rattle.ext_locks.specs.Steps.{lane_at, Makes, HoldsBetween, IsWithin}
 use Rattle.ext_locks.proofs.Histories.{by_own}
-use Rattle.ext_locks.proofs.Fronts.{goes_legal, calls_made}
+use Rattle.ext_locks.proofs.Fronts.{goes_follow, calls_made}
 use Rattle.ext_locks.proofs.Whole.{within_of, held_all}
 
 -- what a lane's fields keep
-pub kept : (s t : Seat (Unit {0}) SeatView) (l : ℕ) (xs : List LockEvent) → (s.me.0.number ≡ Some l) × (l < 16) × AreLegal s.me.0.fronts → Makes s t l xs → (t.me.0.number ≡ Some l) × (l < 16) × AreLegal t.me.0.fronts
-kept s t l xs was makes = (makes.number ∙ was.0, was.1, goes_legal s.me.0.fronts t.me.0.fronts was.2 makes.fronts)
+abbrev IsLaneSeat : Seat (Unit {0}) SeatView → ℕ → Type 0
+IsLaneSeat s l = (s.me.0.number ≡ Some l) × (l < s.me.0.lanes) × (s.me.0.lanes ≤ 16) × Follow s.me.0.lanes s.me.0.fronts []
 
-pub called : (now : LaneView) (s t : Seat (Unit {0}) SeatView) (l : ℕ) (xs ys : List LockEvent) → lane_at s l ≡ now → (s.me.0.number ≡ Some l) × (l < 16) × AreLegal s.me.0.fronts → Makes s t l xs → xs ≡ ys → Calls now (lane_at t l) ys
+pub kept : (s t : Seat (Unit {0}) SeatView) (l : ℕ) (xs : List LockEvent) → IsLaneSeat s l → Makes s t l xs → IsLaneSeat t l
+kept s t l xs was makes = (
+  makes.number ∙ was.0,
+  subst (λ n. l < n) (sym makes.lanes) was.1,
+  subst (λ n. n ≤ 16) (sym makes.lanes) was.2,
+  subst (λ n. Follow n t.me.0.fronts []) (sym makes.lanes) (goes_follow s.me.0.lanes s.me.0.fronts t.me.0.fronts was.3 makes.fronts),
+)
+
+pub called : (now : LaneView) (s t : Seat (Unit {0}) SeatView) (l : ℕ) (xs ys : List LockEvent) → lane_at s l ≡ now → IsLaneSeat s l → Makes s t l xs → xs ≡ ys → Calls now (lane_at t l) ys
 called now s t l xs ys view was makes same =
-    subst (λ v. Calls v (lane_at t l) ys) view (subst (λ z. Calls (lane_at s l) (lane_at t l) z) same (calls_made s t l xs was.2 makes))
+    subst (λ v. Calls v (lane_at t l) ys) view (subst (λ z. Calls (lane_at s l) (lane_at t l) z) same (calls_made s t l xs was.3 makes))
 
 module _ (now : LaneView) (s : Seat (Unit {0}) SeatView) (l : ℕ) (view : lane_at s l ≡ now) (set now_set : List (ℕ × LockMode)) (same : set ≡ now_set) where
   pub takes_same : takes_of l set ≡ takes_of now.number now_set
@@ -37,9 +45,9 @@ pub within : (modes : List (Option LockMode)) (set : List (ℕ × LockMode)) (co
 within modes set count keys same all is = within_of modes count keys (subst (AllBelow count) (sym same) all) is
 
 -- a lane that made no event since it took a set still holds it
-pub still_held : (taken now : LaneView) (held : HeldView) (s : Seat (Unit {0}) SeatView) (l : ℕ) (modes : List (Option LockMode)) (set : List (ℕ × LockMode)) → lane_at s l ≡ now → locks_of modes ≡ set
-    → record { table = taken.table; lane = taken.number; set = set; own_events = own_of taken } ≡ held → HoldsExactly taken set → IsHeldBy held now → HoldsBetween s.me.0.fronts l modes 0 (length modes)
-still_held taken now held s l modes set view same made exactly since = held_all s.me.0.fronts l modes each
+pub still_held : (names : List (List ℕ)) (taken now : LaneView) (held : HeldView) (s : Seat (Unit {0}) SeatView) (l : ℕ) (modes : List (Option LockMode)) (set : List (ℕ × LockMode)) → lane_at s l ≡ now → locks_of modes ≡ set
+    → record { table = taken.table; lane = taken.number; names = names; set = set; own_events = own_of taken } ≡ held → HoldsExactly taken set → IsHeldBy held now → HoldsBetween s.me.0.fronts l modes 0 (length modes)
+still_held names taken now held s l modes set view same made exactly since = held_all s.me.0.fronts l modes each
   where
     each : (key : ℕ) (mode : LockMode) → holds (seen s.me.0.fronts) key mode l ≡ wants (locks_of modes) key mode
     each key mode =

@@ -1,5 +1,5 @@
 -- Laws of lock histories.
-use Rattle.std.proofs.Common.{◌≡◌, ◌≢◌, ◌==◌, ◌&&◌, ℕ, Bool, true, false, if◌then◌else◌, List, [], ◌∷◌, ◌++◌, refl, sym, ap, ◌∙◌, subst, true≢false, append_assoc}
+use Rattle.std.proofs.Common.{◌≡◌, ◌≢◌, ◌==◌, ◌&&◌, ◌<◌, ◌≤◌, ℕ, Bool, true, false, if◌then◌else◌, List, [], ◌∷◌, ◌++◌, refl, sym, ap, ◌∙◌, subst, true≢false, arith, append_assoc}
 use Rattle.std.proofs.lemmas.Bool.{eqb-true, eq-eqb, ne_eqb, and_parts, cond_both, cond-true, cond-false, both_ways, false_from_ne_true}
 use Rattle.ext_locks.specs.declared.event.LockMode.{LockMode}
 use Rattle.ext_locks.specs.declared.event.LockMode.TheVariants.{Read, ReadWrite}
@@ -59,15 +59,15 @@ not_beside : (h : List LockEvent) (k : ℕ) (m : LockMode) (l w : ℕ) → IsFre
 not_beside h k Read l w free writes = both_ways _ (free w) writes
 not_beside h k ReadWrite l w free writes = both_ways _ (free w ReadWrite) writes
 
-lawful_more : (e : LockEvent) (h : List LockEvent) → IsAllowed h e → IsLawful h → IsLawful (e ∷ h)
-lawful_more e h may old k w l m writes holds_it =
+lawful_more : (lanes : ℕ) (e : LockEvent) (h : List LockEvent) → IsAllowed lanes h e → IsLawful h → IsLawful (e ∷ h)
+lawful_more lanes e h may old k w l m writes holds_it =
     split (is_about e k ReadWrite w) refl (is_about e k m l) refl
   where
     takes : (n : LockMode) (o : ℕ) → is_about e k n o ≡ true → holds (e ∷ h) k n o ≡ true → IsFree h k n
     takes n o is it =
         let t : e.takes ≡ true = sym (cond-true (is_about e k n o) e.takes (holds h k n o) is) ∙ it in
         let a = about e k n o is in
-        let free : IsFree h e.key e.mode = subst (λ b. IsAllowedAs b h e) t may in
+        let free : IsFree h e.key e.mode = subst (λ b. IsAllowedAs b h e) t may.1 in
         subst (λ (x : ℕ × LockMode). IsFree h x.0 x.1) (λ i. (a.key i, a.mode i)) free
 
     before : (n : LockMode) (o : ℕ) → is_about e k n o ≡ false → holds (e ∷ h) k n o ≡ true → holds h k n o ≡ true
@@ -79,9 +79,27 @@ lawful_more e h may old k w l m writes holds_it =
     split false isnt true is' = absurd (not_beside h k m l w (takes m l is' holds_it) (before ReadWrite w isnt writes))
     split false isnt false isnt' = old k w l m (before ReadWrite w isnt writes) (before m l isnt' holds_it)
 
-pub lawful : (h : List LockEvent) → IsLegal h → IsLawful h
-lawful [] legal = λ k w l m writes holds_it. absurd (true≢false (sym writes))
-lawful (e ∷ h) legal = lawful_more e h legal.0 (lawful h legal.1)
+pub lawful : (lanes : ℕ) (h : List LockEvent) → IsLegal lanes h → IsLawful h
+lawful lanes [] legal = λ k w l m writes holds_it. absurd (true≢false (sym writes))
+lawful lanes (e ∷ h) legal = lawful_more lanes e h legal.0 (lawful lanes h legal.1)
+
+-- only the lanes that there are make events
+pub unmade : (lanes : ℕ) (h : List LockEvent) → IsLegal lanes h → (l : ℕ) → lanes ≤ l → own l h ≡ []
+unmade lanes [] legal l many = refl
+unmade lanes (e ∷ h) legal l many = own_other e h l (λ same. let below = legal.0.0 in omega arith) ∙ unmade lanes h legal.1 l many
+
+-- where none of them made one, there is none
+pub nothing_yet : (lanes : ℕ) (h : List LockEvent) → IsLegal lanes h → ((l : ℕ) → l < lanes → own l h ≡ []) → h ≡ []
+nothing_yet lanes [] legal none = refl
+nothing_yet lanes (e ∷ h) legal none = let one : e ∷ own e.lane h ≡ [] = sym (own_self e h) ∙ none e.lane legal.0.0 in absurd (cc)
+
+legal_part : (lanes : ℕ) (since f : List LockEvent) → IsLegal lanes (since ++ f) → IsLegal lanes f
+legal_part lanes [] f legal = legal
+legal_part lanes (e ∷ since) f legal = legal_part lanes since f legal.1
+
+-- what a legal history goes on from is legal
+pub legal_before : (lanes : ℕ) (f h : List LockEvent) → IsBefore f h → IsLegal lanes h → IsLegal lanes f
+legal_before lanes f h b legal = legal_part lanes b.0 f (subst (IsLegal lanes) b.1 legal)
 
 -- beginnings
 pub before_self : (h : List LockEvent) → IsBefore h h

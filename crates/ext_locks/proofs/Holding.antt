@@ -5,7 +5,7 @@ use Rattle.std.proofs.lemmas.List.{get_or_past}
 use Rattle.std.proofs.lemmas.Bool.Decides.{nat_tests}
 use Rattle.ext_locks.specs.declared.event.LockMode.{LockMode}
 use Rattle.ext_locks.specs.declared.seat.SeatView.{SeatView}
-use Rattle.ext_locks.specs.History.{LockHistory, event, same_mode, is_about, holds, own}
+use Rattle.ext_locks.specs.History.{LockHistory, event, same_mode, is_about, holds}
 use Rattle.ext_locks.specs.Views.{seen}
 use Rattle.ext_locks.specs.Rule.{Looked, Stepped}
 use Rattle.ext_locks.specs.Steps.{is_mode, has_mode, is_between, HoldsBetween, SameHeld, HeldBut}

@@ -11,4 +11,5 @@ pub mod Seats
 pub mod Meeting
 pub mod Calling
 pub mod Merged
+pub mod OneSet
 pub mod Texts

@@ -1,5 +1,5 @@
 -- What two lanes that were told of each other know.
-use Rattle.std.proofs.Common.{◌≡◌, ◌≢◌, ◌==◌, ℕ, ◌+◌, Bool, true, false, if◌then◌else◌, [], ◌∷◌, ◌++◌, length, refl, sym, ap, ◌∙◌, subst, arith, length-append}
+use Rattle.std.proofs.Common.{◌≡◌, ◌≢◌, ◌==◌, ℕ, Bool, true, false, if◌then◌else◌, [], ◌∷◌, ◌++◌, length, refl, sym, ap, ◌∙◌, subst, arith, length-append}
 use Rattle.std.proofs.lemmas.Bool.{false_from_ne_true}
 use Rattle.atomic_table.specs.declared.shared.Seat.{Seat}
 use Rattle.ext_locks.specs.declared.event.LockMode.{LockMode}
@@ -56,11 +56,11 @@ module _ (v w v' w' : SeatView) (one other k n m : ℕ) (apart : one ≢ other) 
 
   pub shuts_out : (key : ℕ) (mode : LockMode) → holds (seen v'.fronts) key ReadWrite one ≡ true → holds (seen w'.fronts) key mode other ≡ false
   shuts_out key mode writes =
-      false_from_ne_true _ (λ held. apart (lawful first.history first.meets.legal key one other mode (one_holds key ReadWrite ∙ writes) (other_holds key mode ∙ held)))
+      false_from_ne_true _ (λ held. apart (lawful w.lanes first.history first.meets.legal key one other mode (one_holds key ReadWrite ∙ writes) (other_holds key mode ∙ held)))
 
   pub is_shut_out : (key : ℕ) (mode : LockMode) → holds (seen w'.fronts) key ReadWrite other ≡ true → holds (seen v'.fronts) key mode one ≡ false
   is_shut_out key mode writes =
-      false_from_ne_true _ (λ held. apart (sym (lawful first.history first.meets.legal key other one mode (other_holds key ReadWrite ∙ writes) (one_holds key mode ∙ held))))
+      false_from_ne_true _ (λ held. apart (sym (lawful w.lanes first.history first.meets.legal key other one mode (other_holds key ReadWrite ∙ writes) (one_holds key mode ∙ held))))
 
   pub sees : IsBefore (seen w'.fronts) (seen v'.fronts)
   sees = subst (λ x. IsBefore (seen x.fronts) (seen v'.fronts)) (sym first.view) (subst (λ x. IsBefore first.history (seen x.fronts)) (sym second.view) reaches)

@@ -1,5 +1,5 @@
 -- What is known while requests are merged.
-use Rattle.std.proofs.Common.{◌≡◌, ◌≢◌, ◌⊎◌, ℕ, zero, suc, ◌+◌, ◌<◌, ◌≤◌, true, false, List, [], ◌∷◌, ◌++◌, length, take, set, Option, Some, None, slice_index_or, refl, sym, ap, ◌∙◌, subst, ⊎_elim, true≢false, arith, get_or, get_or-set_same, get_or-set_other, length-set}
+use Rattle.std.proofs.Common.{◌≡◌, ◌≢◌, ◌⊎◌, ℕ, zero, suc, ◌+◌, ◌<◌, ◌≤◌, true, List, [], ◌∷◌, ◌++◌, length, take, set, Option, Some, None, slice_index_or, refl, sym, ap, ◌∙◌, subst, ⊎_elim, true≢false, arith, get_or, get_or-set_same, get_or-set_other, length-set}
 use Rattle.std.specs.Prelude.{All, Any, IfSome, replicate}
 use Rattle.std.proofs.lemmas.Bool.{cases_eq}
 use Rattle.std.proofs.lemmas.List.{take_more, take_all, get_or_append_left, length-replicate}

@@ -1,5 +1,5 @@
 -- Each step keeps the rule.
-use Rattle.std.proofs.Common.{◌≡◌, ◌≢◌, ◌⊎◌, ◌==◌, ℕ, zero, suc, ◌^◌, ◌<◌, Bool, true, false, List, [], ◌∷◌, set, get_or, Option, Some, None, refl, sym, ap, ◌∙◌, subst, ⊎_elim, arith, get_or-set_same, get_or-set_other, length-set, w64}
+use Rattle.std.proofs.Common.{◌≡◌, ◌≢◌, ◌==◌, ℕ, zero, suc, ◌^◌, ◌<◌, Bool, true, false, List, [], ◌∷◌, set, get_or, Option, Some, None, refl, sym, ap, ◌∙◌, subst, ⊎_elim, arith, get_or-set_same, get_or-set_other, length-set, w64}
 use Rattle.std.proofs.lemmas.Bool.{cases_eq, eqb-true}
 use Rattle.std.specs.Prelude.{slice_index, slice_set}
 use Rattle.std.specs.Int.{bit_not}
@@ -12,11 +12,11 @@ use Rattle.atomic_table.proofs.Lists.{at_set}
 use Rattle.ext_locks.specs.declared.event.LockMode.{LockMode}
 use Rattle.ext_locks.specs.declared.event.LockEvent.{LockEvent}
 use Rattle.ext_locks.specs.declared.seat.SeatView.{SeatView}
-use Rattle.ext_locks.specs.History.{LockHistory, event, holds, own, IsAllowed}
+use Rattle.ext_locks.specs.History.{LockHistory, event, holds, IsAllowed, IsLegal}
 use Rattle.ext_locks.specs.Views.{seen}
 use Rattle.ext_locks.specs.Words.{bit_of, IsWord, IsFreeWord}
-use Rattle.ext_locks.specs.Rule.{KnowsOwn, Fits, Gives, Kept, seeing, Meets, Looked, Stepped, TakesIf, Takes, GivesBack, Looks}
-use Rattle.ext_locks.proofs.Histories.{before_self, all_before_more, own_other, same_held}
+use Rattle.ext_locks.specs.Rule.{KnowsOwn, Fits, Counts, Gives, Kept, seeing, Meets, Looked, Stepped, TakesIf, Takes, GivesBack, Looks}
+use Rattle.ext_locks.proofs.Histories.{before_self, all_before_more, own_other, same_held, unmade}
 use Rattle.ext_locks.proofs.Words.{word_stays, taken_word, given_word, free_word}
 
 knows_seen : (h : List LockEvent) (fs : List LockHistory) (o : Option ℕ) → KnowsOwn h (h ∷ fs) o
@@ -38,15 +38,29 @@ record Was (views : List SeatView) (j : ℕ) (u : SeatView) : Type 0 where
   pub there : get_elem? views j ≡ some view
   pub number : view.number ≡ u.number
   pub next : view.next ≡ u.next
+  pub lanes : view.lanes ≡ u.lanes
 
 was : (views : List SeatView) (id : ℕ) (v : SeatView) (h : List LockEvent) → get_elem? views id ≡ some v → (j : ℕ) (u : SeatView) → get_elem? (set views id (seeing v h)) j ≡ some u → Was views j u
 was views id v h at j u there =
     ⊎_elim
-    (λ (x : (j ≡ id) × (seeing v h ≡ u)). record { view = v; there = subst (λ i. get_elem? views i ≡ some v) (sym x.0) at; number = ap (λ y. y.number) x.1; next = ap (λ y. y.next) x.1 })
-    (λ (x : (j ≢ id) × (get_elem? views j ≡ some u)). record { view = u; there = x.1; number = refl; next = refl })
+    (λ (x : (j ≡ id) × (seeing v h ≡ u)). record { view = v; there = subst (λ i. get_elem? views i ≡ some v) (sym x.0) at; number = ap (λ y. y.number) x.1; next = ap (λ y. y.next) x.1; lanes = ap (λ y. y.lanes) x.1 })
+    (λ (x : (j ≢ id) × (get_elem? views j ≡ some u)). record { view = u; there = x.1; number = refl; next = refl; lanes = refl })
     (at_set views id j (seeing v h) u there)
 
-module _ (keys : ℕ) (words : List ℕ) (views : List SeatView) (kept : Kept keys words views) (id l : ℕ) (v : SeatView) (at : get_elem? views id ≡ some v) (mine : v.number ≡ Some l) where
+module _ (keys lanes : ℕ) (words : List ℕ) (views : List SeatView) (kept : Kept keys lanes words views) (id l : ℕ) (v : SeatView) (at : get_elem? views id ≡ some v) (mine : v.number ≡ Some l) where
+  -- the lane is one of those that there are
+  pub counted : (l < lanes) × (v.lanes ≡ lanes)
+  counted = (kept.counts id v at).lane l mine
+
+  counts_set : (h : List LockEvent) (j : ℕ) (u : SeatView) → get_elem? (set views id (seeing v h)) j ≡ some u → Counts lanes u
+  counts_set h j u there =
+      let s = was views id v h at j u there in
+      let c = kept.counts j s.view s.there in
+      record {
+        lane = λ number is. let k = c.lane number (s.number ∙ is) in (k.0, sym s.lanes ∙ k.1);
+        gives = λ next is. sym s.lanes ∙ c.gives next (s.next ∙ is);
+      }
+
   apart_set : (h : List LockEvent) (one other lane : ℕ) (x y : SeatView) → get_elem? (set views id (seeing v h)) one ≡ some x → get_elem? (set views id (seeing v h)) other ≡ some y
       → x.number ≡ Some lane → y.number ≡ Some lane → one ≡ other
   apart_set h one other lane x y p q a b =
@@ -61,10 +75,10 @@ module _ (keys : ℕ) (words : List ℕ) (views : List SeatView) (kept : Kept ke
       let t = was views id v h at other y q in
       kept.one_gives one other m n s.view t.view s.there t.there (s.next ∙ a) (t.next ∙ b)
 
-  below_set : (h : List LockEvent) (next : ℕ) → Gives kept.history views next → (j lane : ℕ) (u : SeatView) → get_elem? (set views id (seeing v h)) j ≡ some u → u.number ≡ Some lane → lane < next
+  below_set : (h : List LockEvent) (next : ℕ) → Gives lanes kept.history views next → (j lane : ℕ) (u : SeatView) → get_elem? (set views id (seeing v h)) j ≡ some u → u.number ≡ Some lane → lane < next
   below_set h next gives j lane u there is = let s = was views id v h at j u there in gives.below j lane s.view s.there (s.number ∙ is)
 
-  module _ (k : ℕ) (m : LockMode) (t : Bool) (n : ℕ) (few : l < 16) (inside : k < keys) (may : IsAllowed kept.history (event l k m t)) (word : IsWord (event l k m t ∷ kept.history) k n) where
+  module _ (k : ℕ) (m : LockMode) (t : Bool) (n : ℕ) (inside : k < keys) (may : IsAllowed lanes kept.history (event l k m t)) (word : IsWord (event l k m t ∷ kept.history) k n) where
     fits_more : (j : ℕ) (u : SeatView) → j ≢ id → get_elem? views j ≡ some u → Fits (event l k m t ∷ kept.history) u
     fits_more j u apart there =
         let f = kept.fits j u there in record {
@@ -89,13 +103,14 @@ module _ (keys : ℕ) (words : List ℕ) (views : List SeatView) (kept : Kept ke
         (word_stays (event l k m t) kept.history j (get_or words j 0) (λ same. isnt (sym same)) (kept.bits j below)))
         (cases_eq j k)
 
-    pub keeps_event : Kept keys (set words k n) (set views id (seeing v (event l k m t ∷ kept.history)))
+    pub keeps_event : Kept keys lanes (set words k n) (set views id (seeing v (event l k m t ∷ kept.history)))
     keeps_event = record {
       size = length-set words k n ∙ kept.size;
       history = event l k m t ∷ kept.history;
       legal = (may, kept.legal);
       bits = bits_set;
-      lanes = λ lane many. own_other (event l k m t) kept.history lane (λ same. omega arith) ∙ kept.lanes lane many;
+      few = kept.few;
+      counts = counts_set (event l k m t ∷ kept.history);
       fits = λ j u there. ⊎_elim
           (λ (x : (j ≡ id) × (seeing v (event l k m t ∷ kept.history) ≡ u)). subst (λ y. Fits (event l k m t ∷ kept.history) y) x.1 fits_mine)
           (λ (x : (j ≢ id) × (get_elem? views j ≡ some u)). fits_more j u x.0 x.1)
@@ -122,14 +137,15 @@ module _ (keys : ℕ) (words : List ℕ) (views : List SeatView) (kept : Kept ke
       (λ (x : (j ≢ id) × (get_elem? views j ≡ some u)). kept.fits j u x.1)
       (at_set views id j (seeing v kept.history) u there)
 
-  pub keeps_look : Kept keys words (set views id (seeing v kept.history))
+  pub keeps_look : Kept keys lanes words (set views id (seeing v kept.history))
   keeps_look = record {
     size = kept.size;
     history = kept.history;
     legal = kept.legal;
+    few = kept.few;
     bits = kept.bits;
-    lanes = kept.lanes;
     fits = fits_look;
+    counts = counts_set kept.history;
     apart = apart_set kept.history;
     one_gives = one_set kept.history;
     gives = λ j next u there is.
@@ -140,84 +156,86 @@ module _ (keys : ℕ) (words : List ℕ) (views : List SeatView) (kept : Kept ke
 
   pub meets : Meets v l kept.history
   meets = record {
-    legal = kept.legal;
-    few = kept.lanes;
+    legal = subst (λ n. IsLegal n kept.history) (sym counted.1) kept.legal;
+    few = λ other many. unmade lanes kept.history kept.legal other (let few = kept.few in omega arith);
     fronts = (kept.fits id v at).fronts;
     told = (kept.fits id v at).told;
     own = subst (λ o. KnowsOwn kept.history v.fronts o) mine (kept.fits id v at).knows;
   }
 
-module _ (keys slots id l : ℕ) (me : Me (Unit {0}) SeatView) (mine : me.0.number ≡ Some l) where
+module _ (keys lanes slots id l : ℕ) (me : Me (Unit {0}) SeatView) (mine : me.0.number ≡ Some l) where
   only : (P : ℕ → Type 0) → P l → (lane : ℕ) → me.0.number ≡ Some lane → P lane
   only P p lane is = subst P (some-of (sym mine ∙ is)) p
     where
       some-of : {x y : ℕ} → Some x ≡ Some y → x ≡ y
       some-of e = cc
 
-  looked : (k : ℕ) → k < keys → (words : List ℕ) (views : List SeatView) (kept : Kept keys words views) → get_elem? views id ≡ some me.0
+  looked : (k : ℕ) → k < keys → (words : List ℕ) (views : List SeatView) (kept : Kept keys lanes words views) → get_elem? views id ≡ some me.0
       → (lane : ℕ) → me.0.number ≡ Some lane → Looked me.0 lane k (slice_index words k) (seeing me.0 kept.history)
   looked k inside words views kept at = only (λ lane. Looked me.0 lane k (slice_index words k) (seeing me.0 kept.history))
-      (record { history = kept.history; meets = meets keys words views kept id l me.0 at mine; word = kept.bits k inside; view = refl })
+      (record { history = kept.history; meets = meets keys lanes words views kept id l me.0 at mine; word = kept.bits k inside; view = refl })
 
-  stays : (k : ℕ) (words : List ℕ) (views : List SeatView) (kept : Kept keys words views) → get_elem? views id ≡ some me.0 → Kept keys (slice_set words k (slice_index words k)) (slice_set views id (seeing me.0 kept.history))
-  stays k words views kept at = subst (λ ws. Kept keys ws (set views id (seeing me.0 kept.history))) (sym (set_same words k)) (keeps_look keys words views kept id l me.0 at mine)
+  stays : (k : ℕ) (words : List ℕ) (views : List SeatView) (kept : Kept keys lanes words views) → get_elem? views id ≡ some me.0 → Kept keys lanes (slice_set words k (slice_index words k)) (slice_set views id (seeing me.0 kept.history))
+  stays k words views kept at = subst (λ ws. Kept keys lanes ws (set views id (seeing me.0 kept.history))) (sym (set_same words k)) (keeps_look keys lanes words views kept id l me.0 at mine)
 
-  pub looks : (k : ℕ) → k < keys → Allows (λ s. Kept keys s.words s.views) slots id me k (λ n. n) (Looks (step slots k 0 0 none) me)
+  pub looks : (k : ℕ) → k < keys → Allows (λ s. Kept keys lanes s.words s.views) slots id me k (λ n. n) (Looks (step slots k 0 0 none) me)
   looks k inside s kept same at small = (seeing me.0 kept.history, keeps, tt, stays k s.words s.views kept at, (refl, looked k inside s.words s.views kept at))
 
   module _ (k : ℕ) (m : LockMode) (few : l < 16) (inside : k < keys) where
     pub takes : (old : ℕ) → IsFreeWord m old
-        → Allows (λ s. Kept keys s.words s.views) slots id me k (λ n. either (n == old) (bit_or old (2 ^ bit_of m l)) n) (Takes m (step slots k old (bit_or old (2 ^ bit_of m l)) none) me)
+        → Allows (λ s. Kept keys lanes s.words s.views) slots id me k (λ n. either (n == old) (bit_or old (2 ^ bit_of m l)) n) (Takes m (step slots k old (bit_or old (2 ^ bit_of m l)) none) me)
     takes old free s kept same at small = go (slice_index s.words k == old) refl
       where
         go : (b : Bool) → (slice_index s.words k == old) ≡ b
             → (w : SeatView) × (a : Act (Unit {0})) × Valid s.homes me.1 a
-            × Kept keys (slice_set s.words k (either b (bit_or old (2 ^ bit_of m l)) (slice_index s.words k))) (slice_set s.views id w)
+            × Kept keys lanes (slice_set s.words k (either b (bit_or old (2 ^ bit_of m l)) (slice_index s.words k))) (slice_set s.views id w)
             × ((carried_after me.1 a ≡ me.1) × ((lane : ℕ) → me.0.number ≡ Some lane → TakesIf b me.0 lane k m (slice_index s.words k) w))
         go true is =
             let hit : slice_index s.words k ≡ old = eqb-true _ _ is in
             let word = subst (λ n. IsWord kept.history k n) hit (kept.bits k inside) in
-            let may = free_word m kept.history k old free word kept.lanes in (
+            let among = counted keys lanes s.words s.views kept id l me.0 at mine in
+            let may = free_word m kept.history k old free word (λ other many. unmade lanes kept.history kept.legal other (let bound = kept.few in omega arith)) in (
               seeing me.0 (event l k m true ∷ kept.history),
               keeps,
               tt,
-              keeps_event keys s.words s.views kept id l me.0 at mine k m true (bit_or old (2 ^ bit_of m l)) few inside may (taken_word kept.history l k m old few word),
+              keeps_event keys lanes s.words s.views kept id l me.0 at mine k m true (bit_or old (2 ^ bit_of m l)) inside (among.0, may) (taken_word kept.history l k m old few word),
               (
                 refl,
                 only (λ lane. Stepped me.0 lane k m true (seeing me.0 (event l k m true ∷ kept.history)))
-                    (record { history = kept.history; meets = meets keys s.words s.views kept id l me.0 at mine; allowed = may; view = refl }),
+                    (record { history = kept.history; meets = meets keys lanes s.words s.views kept id l me.0 at mine; allowed = (subst (λ n. l < n) (sym among.1) among.0, may); view = refl }),
               ),
             )
         go false isnt = (seeing me.0 kept.history, keeps, tt, stays k s.words s.views kept at, (refl, looked k inside s.words s.views kept at))
 
     pub gives_back : holds (seen me.0.fronts) k m l ≡ true
-        → Allows (λ s. Kept keys s.words s.views) slots id me k (λ n. bit_and n (bit_not w64 (2 ^ bit_of m l))) (GivesBack m (step slots k (bit_not w64 (2 ^ bit_of m l)) 0 none) me)
+        → Allows (λ s. Kept keys lanes s.words s.views) slots id me k (λ n. bit_and n (bit_not w64 (2 ^ bit_of m l))) (GivesBack m (step slots k (bit_not w64 (2 ^ bit_of m l)) 0 none) me)
     gives_back held s kept same at small =
-        let met = meets keys s.words s.views kept id l me.0 at mine in
+        let met = meets keys lanes s.words s.views kept id l me.0 at mine in
+        let among = counted keys lanes s.words s.views kept id l me.0 at mine in
         let may : holds kept.history k m l ≡ true = same_held kept.history (seen me.0.fronts) k m l met.own ∙ held in (
           seeing me.0 (event l k m false ∷ kept.history),
           keeps,
           tt,
-          keeps_event keys s.words s.views kept id l me.0 at mine k m false (bit_and (slice_index s.words k) (bit_not w64 (2 ^ bit_of m l))) few inside may
+          keeps_event keys lanes s.words s.views kept id l me.0 at mine k m false (bit_and (slice_index s.words k) (bit_not w64 (2 ^ bit_of m l))) inside (among.0, may)
               (given_word kept.history l k m (slice_index s.words k) few (kept.bits k inside)),
           (
             refl,
             only (λ lane. Stepped me.0 lane k m false (seeing me.0 (event l k m false ∷ kept.history)))
-                (record { history = kept.history; meets = met; allowed = may; view = refl }),
+                (record { history = kept.history; meets = met; allowed = (subst (λ n. l < n) (sym among.1) among.0, may); view = refl }),
           ),
         )
 
   -- the same, at the bit and the mode that the code has
   pub takes_at : (k : ℕ) (m mode : LockMode) (bit old : ℕ) → l < 16 → k < keys → mode ≡ m → bit ≡ 2 ^ bit_of mode l → IsFreeWord mode old
-      → Allows (λ s. Kept keys s.words s.views) slots id me k (λ n. either (n == old) (bit_or old bit) n) (Takes m (step slots k old (bit_or old bit) none) me)
+      → Allows (λ s. Kept keys lanes s.words s.views) slots id me k (λ n. either (n == old) (bit_or old bit) n) (Takes m (step slots k old (bit_or old bit) none) me)
   takes_at k m mode bit old few inside is set free =
-      subst (λ b. Allows (λ s. Kept keys s.words s.views) slots id me k (λ n. either (n == old) (bit_or old b) n) (Takes m (step slots k old (bit_or old b) none) me))
+      subst (λ b. Allows (λ s. Kept keys lanes s.words s.views) slots id me k (λ n. either (n == old) (bit_or old b) n) (Takes m (step slots k old (bit_or old b) none) me))
       (sym (set ∙ ap (λ x. 2 ^ bit_of x l) is))
       (takes k m few inside old (subst (λ x. IsFreeWord x old) is free))
 
   pub gives_back_at : (k : ℕ) (m mode : LockMode) (bit : ℕ) → l < 16 → k < keys → mode ≡ m → bit ≡ 2 ^ bit_of mode l → holds (seen me.0.fronts) k mode l ≡ true
-      → Allows (λ s. Kept keys s.words s.views) slots id me k (λ n. bit_and n (bit_not w64 bit)) (GivesBack m (step slots k (bit_not w64 bit) 0 none) me)
+      → Allows (λ s. Kept keys lanes s.words s.views) slots id me k (λ n. bit_and n (bit_not w64 bit)) (GivesBack m (step slots k (bit_not w64 bit) 0 none) me)
   gives_back_at k m mode bit few inside is set held =
-      subst (λ b. Allows (λ s. Kept keys s.words s.views) slots id me k (λ n. bit_and n (bit_not w64 b)) (GivesBack m (step slots k (bit_not w64 b) 0 none) me))
+      subst (λ b. Allows (λ s. Kept keys lanes s.words s.views) slots id me k (λ n. bit_and n (bit_not w64 b)) (GivesBack m (step slots k (bit_not w64 b) 0 none) me))
       (sym (set ∙ ap (λ x. 2 ^ bit_of x l) is))
       (gives_back k m few inside (subst (λ x. holds (seen me.0.fronts) k x l ≡ true) is held))

@@ -29,12 +29,12 @@ earliest_past h f [] x = refl
 earliest_past h f (g ∷ y) x = earliest_past g f y x
 
 -- the earliest of fronts that follow one another, and of one past them, is no later than that one
-pub earliest_from : (fs x : List LockHistory) (f : LockHistory) → Follow x fs → IsBefore (seen (x ++ fs)) f → IsBefore (earliest_or f x) f
-earliest_from fs [] f follow b = before_self f
-earliest_from fs (g ∷ x) f follow b = before_then (earliest_or g x) g f (earliest_from fs x g follow.2 follow.1) b
+pub earliest_from : (lanes : ℕ) (fs x : List LockHistory) (f : LockHistory) → Follow lanes x fs → IsBefore (seen (x ++ fs)) f → IsBefore (earliest_or f x) f
+earliest_from lanes fs [] f follow b = before_self f
+earliest_from lanes fs (g ∷ x) f follow b = before_then (earliest_or g x) g f (earliest_from lanes fs x g follow.2 follow.1) b
 
 -- a call went on to `start`, then made a front `first`, and went on from there
-module _ (fs start end : List LockHistory) (first : LockHistory) (a : GoesOn fs start) (b : GoesOn (first ∷ start) end) where
+module _ (lanes : ℕ) (fs start end : List LockHistory) (first : LockHistory) (a : GoesOn lanes fs start) (b : GoesOn lanes (first ∷ start) end) where
   all : end ≡ (b.added ++ first ∷ a.added) ++ fs
   all = b.all ∙ (ap (λ g. b.added ++ first ∷ g) a.all ∙ sym (append_assoc b.added (first ∷ a.added) fs))
 

@@ -1,5 +1,5 @@
 -- The rule where a seat is split off, or joined in.
-use Rattle.std.proofs.Common.{◌≡◌, ◌≢◌, ◌⊎◌, ℕ, zero, suc, ◌+◌, ◌<◌, List, [], ◌∷◌, ◌++◌, length, set, get_or, Option, Some, None, refl, sym, ap, ◌∙◌, subst, ⊎_elim, inl, inr, arith}
+use Rattle.std.proofs.Common.{◌≡◌, ◌≢◌, ◌⊎◌, ℕ, zero, suc, ◌+◌, ◌<◌, ◌≤◌, List, [], ◌∷◌, ◌++◌, length, set, get_or, Option, Some, None, refl, sym, ap, ◌∙◌, subst, ⊎_elim, inl, inr, arith}
 use Rattle.std.specs.Prelude.{replicate}
 use Rattle.std.proofs.lemmas.List.{get_or_past, get_or-replicate, length-replicate}
 use Rattle.std.proofs.lemmas.Bool.{cases_lt}
@@ -12,7 +12,7 @@ use Rattle.atomic_table.specs.Table.{Splits, Joins}
 use Rattle.atomic_table.proofs.Lists.{at_set, set_again}
 use Rattle.ext_locks.specs.declared.seat.SeatView.{SeatView}
 use Rattle.ext_locks.specs.Words.{bit_of, IsWord}
-use Rattle.ext_locks.specs.Rule.{KnowsOwn, Fits, Gives, Kept, dealer, dealt, noted, told_of, nobody, next_after}
+use Rattle.ext_locks.specs.Rule.{KnowsOwn, Fits, Counts, Gives, Kept, founder, dealer, dealt, noted, told_of, nobody, next_after}
 
 at_end : (l : List SeatView) (a b : SeatView) (j : ℕ) → get_elem? (l ++ a ∷ []) j ≡ some b → (get_elem? l j ≡ some b) ⊎ ((j ≡ length l) × (a ≡ b))
 at_end [] a b zero e = inr (refl, some-injective a b e)
@@ -26,6 +26,7 @@ record Same (views : List SeatView) (j : ℕ) (u : SeatView) : Type 0 where
   pub there : get_elem? views j ≡ some view
   pub number : view.number ≡ u.number
   pub next : view.next ≡ u.next
+  pub lanes : view.lanes ≡ u.lanes
 
 record Numberless (u : SeatView) : Type 0 where
   pub number : u.number ≡ None
@@ -40,17 +41,25 @@ record Numbered (views : List SeatView) (j lane : ℕ) : Type 0 where
 none-some : {X : Type 0} {o : Option ℕ} {n : ℕ} → o ≡ None → o ≡ Some n → X
 none-some a b = absurd (cc)
 
-module _ (keys : ℕ) (words : List ℕ) (views : List SeatView) (kept : Kept keys words views) where
+-- a view with the numbers of one that stood there, or with none, counts as many lanes
+counts_from : (lanes : ℕ) (views : List SeatView) → ((j : ℕ) (u : SeatView) → get_elem? views j ≡ some u → Counts lanes u) → (j : ℕ) (u : SeatView) → Same views j u ⊎ Numberless u → Counts lanes u
+counts_from lanes views counts j u from = record {
+  lane = λ number is. ⊎_elim (λ (s : Same views j u). let k = (counts j s.view s.there).lane number (s.number ∙ is) in (k.0, sym s.lanes ∙ k.1)) (λ (n : Numberless u). none-some n.number is) from;
+  gives = λ next is. ⊎_elim (λ (s : Same views j u). sym s.lanes ∙ (counts j s.view s.there).gives next (s.next ∙ is)) (λ (n : Numberless u). none-some n.next is) from;
+}
+
+module _ (keys lanes : ℕ) (words : List ℕ) (views : List SeatView) (kept : Kept keys lanes words views) where
   -- views with the old numbers and no others keep the rule, where what they know fits
   kept_as : (new : List SeatView) → ((j : ℕ) (u : SeatView) → get_elem? new j ≡ some u → Same views j u ⊎ Numberless u)
-      → ((j : ℕ) (u : SeatView) → get_elem? new j ≡ some u → Fits kept.history u) → Kept keys words new
+      → ((j : ℕ) (u : SeatView) → get_elem? new j ≡ some u → Fits kept.history u) → Kept keys lanes words new
   kept_as new from fits = record {
     size = kept.size;
     history = kept.history;
     legal = kept.legal;
+    few = kept.few;
     bits = kept.bits;
-    lanes = kept.lanes;
     fits = fits;
+    counts = λ j u there. counts_from lanes views kept.counts j u (from j u there);
     apart = λ one other lane v w p q a b.
         ⊎_elim
         (λ (x : Same views one v). ⊎_elim
@@ -81,19 +90,19 @@ module _ (keys : ℕ) (words : List ℕ) (views : List SeatView) (kept : Kept ke
   }
 
   same_here : (j : ℕ) (u : SeatView) → get_elem? views j ≡ some u → Same views j u
-  same_here j u there = record { view = u; there = there; number = refl; next = refl }
+  same_here j u there = record { view = u; there = there; number = refl; next = refl; lanes = refl }
 
-  kept_note : (id : ℕ) (v : SeatView) → get_elem? views id ≡ some v → Kept keys words (views ++ noted v ∷ [])
+  kept_note : (id : ℕ) (v : SeatView) → get_elem? views id ≡ some v → Kept keys lanes words (views ++ noted v ∷ [])
   kept_note id v at = kept_as (views ++ noted v ∷ [])
       (λ j u there. ⊎_elim (λ old. inl (same_here j u old)) (λ (x : (j ≡ length views) × (noted v ≡ u)). inr (record { number = sym (ap (λ y. y.number) x.1); next = sym (ap (λ y. y.next) x.1) })) (at_end views (noted v) u j there))
       (λ j u there. ⊎_elim (kept.fits j u) (λ (x : (j ≡ length views) × (noted v ≡ u)). subst (λ y. Fits kept.history y) x.1 (record { fronts = (kept.fits id v at).fronts; told = tt; knows = tt })) (at_end views (noted v) u j there))
 
-  kept_join : (id other : ℕ) (v w : SeatView) → get_elem? views id ≡ some v → get_elem? views other ≡ some w → Kept keys words (set (set views id (told_of v w)) other nobody)
+  kept_join : (id other : ℕ) (v w : SeatView) → get_elem? views id ≡ some v → get_elem? views other ≡ some w → Kept keys lanes words (set (set views id (told_of v w)) other nobody)
   kept_join id other v w at there = kept_as (set (set views id (told_of v w)) other nobody)
       (λ j u q. ⊎_elim
       (λ (x : (j ≡ other) × (nobody ≡ u)). inr (record { number = sym (ap (λ y. y.number) x.1); next = sym (ap (λ y. y.next) x.1) }))
       (λ (x : (j ≢ other) × (get_elem? (set views id (told_of v w)) j ≡ some u)). ⊎_elim
-      (λ (y : (j ≡ id) × (told_of v w ≡ u)). inl (record { view = v; there = subst (λ i. get_elem? views i ≡ some v) (sym y.0) at; number = ap (λ z. z.number) y.1; next = ap (λ z. z.next) y.1 }))
+      (λ (y : (j ≡ id) × (told_of v w ≡ u)). inl (record { view = v; there = subst (λ i. get_elem? views i ≡ some v) (sym y.0) at; number = ap (λ z. z.number) y.1; next = ap (λ z. z.next) y.1; lanes = ap (λ z. z.lanes) y.1 }))
       (λ (y : (j ≢ id) × (get_elem? views j ≡ some u)). inl (same_here j u y.1))
       (at_set views id j (told_of v w) u x.1))
       (at_set (set views id (told_of v w)) other j nobody u q))
@@ -106,23 +115,23 @@ module _ (keys : ℕ) (words : List ℕ) (views : List SeatView) (kept : Kept ke
       (at_set views id j (told_of v w) u x.1))
       (at_set (set views id (told_of v w)) other j nobody u q))
 
-pub notes : (keys id : ℕ) (v : SeatView) → Splits {S = Unit {0}} (λ s. Kept keys s.words s.views) id v v (noted v)
-notes keys id v s kept at = subst (λ (l : List SeatView). Kept keys s.words (l ++ noted v ∷ [])) (sym (set_again s.views id v at)) (kept_note keys s.words s.views kept id v at)
+pub notes : (keys lanes id : ℕ) (v : SeatView) → Splits {S = Unit {0}} (λ s. Kept keys lanes s.words s.views) id v v (noted v)
+notes keys lanes id v s kept at = subst (λ (l : List SeatView). Kept keys lanes s.words (l ++ noted v ∷ [])) (sym (set_again s.views id v at)) (kept_note keys lanes s.words s.views kept id v at)
 
-pub joins : (keys id other : ℕ) (v w : SeatView) → Joins {S = Unit {0}} (λ s. Kept keys s.words s.views) id v other w (told_of v w) nobody
-joins keys id other v w s kept at apart there =
-    kept_join keys s.words s.views kept id other v w at
+pub joins : (keys lanes id other : ℕ) (v w : SeatView) → Joins {S = Unit {0}} (λ s. Kept keys lanes s.words s.views) id v other w (told_of v w) nobody
+joins keys lanes id other v w s kept at apart there =
+    kept_join keys lanes s.words s.views kept id other v w at
     (⊎_elim (λ (x : (other ≡ id) × (told_of v w ≡ w)). absurd (apart x.0)) (λ (x : (other ≢ id) × (get_elem? s.views other ≡ some w)). x.1) (at_set s.views id other (told_of v w) w there))
 
 -- a lane is dealt
-module _ (keys : ℕ) (words : List ℕ) (views : List SeatView) (kept : Kept keys words views) (id n : ℕ) (v : SeatView) (at : get_elem? views id ≡ some v) (next_is : v.next ≡ Some n) (few : n < 16) where
+module _ (keys lanes : ℕ) (words : List ℕ) (views : List SeatView) (kept : Kept keys lanes words views) (id n : ℕ) (v : SeatView) (at : get_elem? views id ≡ some v) (next_is : v.next ≡ Some n) (few : n < lanes) where
   some-of : {x y : ℕ} → Some x ≡ Some y → x ≡ y
   some-of e = cc
 
   new : List SeatView
   new = set views id (dealer v) ++ dealt v ∷ []
 
-  mine : Gives kept.history views n
+  mine : Gives lanes kept.history views n
   mine = kept.gives id n v at next_is
 
   -- a view that stood there before, with its number, or the new lane's
@@ -131,7 +140,7 @@ module _ (keys : ℕ) (words : List ℕ) (views : List SeatView) (kept : Kept ke
       ⊎_elim
       (λ (old : get_elem? (set views id (dealer v)) j ≡ some u). ⊎_elim
       (λ (x : (j ≡ id) × (dealer v ≡ u)). inr (inl x))
-      (λ (x : (j ≢ id) × (get_elem? views j ≡ some u)). inl (x.0, record { view = u; there = x.1; number = refl; next = refl }))
+      (λ (x : (j ≢ id) × (get_elem? views j ≡ some u)). inl (x.0, record { view = u; there = x.1; number = refl; next = refl; lanes = refl }))
       (at_set views id j (dealer v) u old))
       (λ (x : (j ≡ length (set views id (dealer v))) × (dealt v ≡ u)). inr (inr x))
       (at_end (set views id (dealer v)) (dealt v) u j there)
@@ -164,13 +173,25 @@ module _ (keys : ℕ) (words : List ℕ) (views : List SeatView) (kept : Kept ke
       (λ (x : (j ≡ length (set views id (dealer v))) × (lane ≡ n)). let e = x.1 in omega arith)
       (numbered j lane u there is)
 
-  kept_deal : Kept keys words (set views id (dealer v) ++ dealt v ∷ [])
+  counts_new : (j : ℕ) (u : SeatView) → get_elem? (set views id (dealer v) ++ dealt v ∷ []) j ≡ some u → Counts lanes u
+  counts_new j u there =
+      ⊎_elim
+      (λ (x : (j ≢ id) × Same views j u). counts_from lanes views kept.counts j u (inl x.1))
+      (λ r. ⊎_elim
+      (λ (x : (j ≡ id) × (dealer v ≡ u)). subst (λ y. Counts lanes y) x.1 (record { lane = (kept.counts id v at).lane; gives = λ next is. (kept.counts id v at).gives n next_is }))
+      (λ (x : (j ≡ length (set views id (dealer v))) × (dealt v ≡ u)). subst (λ y. Counts lanes y) x.1
+      (record { lane = λ number is. (subst (λ o. o < lanes) (some-of (sym next_is ∙ is)) few, (kept.counts id v at).gives n next_is); gives = λ next is. none-some refl is }))
+      r)
+      (source j u there)
+
+  kept_deal : Kept keys lanes words (set views id (dealer v) ++ dealt v ∷ [])
   kept_deal = record {
     size = kept.size;
     history = kept.history;
     legal = kept.legal;
+    few = kept.few;
     bits = kept.bits;
-    lanes = kept.lanes;
+    counts = counts_new;
     fits = λ j u there. ⊎_elim
         (λ (old : get_elem? (set views id (dealer v)) j ≡ some u). ⊎_elim
         (λ (x : (j ≡ id) × (dealer v ≡ u)). subst (λ y. Fits kept.history y) x.1 (record { fronts = (kept.fits id v at).fronts; told = (kept.fits id v at).told; knows = (kept.fits id v at).knows }))
@@ -193,12 +214,12 @@ module _ (keys : ℕ) (words : List ℕ) (views : List SeatView) (kept : Kept ke
     one_gives = λ one other m k x y p q a b. (gives_one one m x p a).0 ∙ sym (gives_one other k y q b).0;
     gives = λ seat next u p is.
         let g = gives_one seat next u p is in
-        subst (λ z. Gives kept.history (set views id (dealer v) ++ dealt v ∷ []) z) (sym g.1)
+        subst (λ z. Gives lanes kept.history (set views id (dealer v) ++ dealt v ∷ []) z) (sym g.1)
         (record { most = omega arith; below = below_new; unused = λ lane many. mine.unused lane (omega arith) });
   }
 
-pub deals : (keys id n : ℕ) (v : SeatView) → v.next ≡ Some n → n < 16 → Splits {S = Unit {0}} (λ s. Kept keys s.words s.views) id v (dealer v) (dealt v)
-deals keys id n v is few s kept at = kept_deal keys s.words s.views kept id n v at is few
+pub deals : (keys lanes id n : ℕ) (v : SeatView) → v.next ≡ Some n → n < lanes → Splits {S = Unit {0}} (λ s. Kept keys lanes s.words s.views) id v (dealer v) (dealt v)
+deals keys lanes id n v is few s kept at = kept_deal keys lanes s.words s.views kept id n v at is few
 
 -- the rule at the start
 bit_none : (m : LockMode) (lane : ℕ) → bit_at 0 (bit_of m lane) ≡ 0
@@ -208,25 +229,23 @@ at_first : (v w : SeatView) (j : ℕ) → get_elem? (v ∷ []) j ≡ some w → 
 at_first v w zero e = (refl, some-injective v w e)
 at_first v w (suc j) e = absurd (some-ne-none w (sym e))
 
-abbrev founder : SeatView
-founder = record { number = None; next = Some 0; fronts = []; told = [] }
-
-pub opens : (keys : ℕ) (words : List ℕ) → length words ≡ keys → ((k : ℕ) → get_or words k 0 ≡ 0) → Kept keys words (record { number = None; next = Some 0; fronts = []; told = [] } ∷ [])
-opens keys words size zeros = record {
+pub opens : (keys lanes : ℕ) (words : List ℕ) → lanes ≤ 16 → length words ≡ keys → ((k : ℕ) → get_or words k 0 ≡ 0) → Kept keys lanes words (founder lanes ∷ [])
+opens keys lanes words few size zeros = record {
   size = size;
   history = [];
   legal = tt;
   bits = λ k inside. subst (λ w. IsWord [] k w) (sym (zeros k)) (record { small = omega arith; bits = λ m lane few. bit_none m lane });
-  lanes = λ lane many. refl;
-  fits = λ j u there. subst (λ y. Fits [] y) (at_first founder u j there).1 (record { fronts = tt; told = tt; knows = tt });
-  apart = λ one other lane v w p q a b. (at_first founder v one p).0 ∙ sym (at_first founder w other q).0;
-  one_gives = λ one other m n v w p q a b. (at_first founder v one p).0 ∙ sym (at_first founder w other q).0;
+  few = few;
+  counts = λ j u there. subst (λ y. Counts lanes y) (at_first (founder lanes) u j there).1 (record { lane = λ number is. none-some refl is; gives = λ next is. refl });
+  fits = λ j u there. subst (λ y. Fits [] y) (at_first (founder lanes) u j there).1 (record { fronts = tt; told = tt; knows = tt });
+  apart = λ one other lane v w p q a b. (at_first (founder lanes) v one p).0 ∙ sym (at_first (founder lanes) w other q).0;
+  one_gives = λ one other m n v w p q a b. (at_first (founder lanes) v one p).0 ∙ sym (at_first (founder lanes) w other q).0;
   gives = λ seat next u p is.
-      let e : 0 ≡ next = cc ((at_first founder u seat p).1, is) in
-      subst (λ z. Gives [] (founder ∷ []) z) e
+      let e : 0 ≡ next = cc ((at_first (founder lanes) u seat p).1, is) in
+      subst (λ z. Gives lanes [] (founder lanes ∷ []) z) e
       (record {
         most = omega arith;
-        below = λ j lane w q its. none-some (sym (ap (λ y. y.number) (at_first founder w j q).1)) its;
+        below = λ j lane w q its. none-some (sym (ap (λ y. y.number) (at_first (founder lanes) w j q).1)) its;
         unused = λ lane many. refl;
       });
 }
@@ -234,5 +253,5 @@ opens keys words size zeros = record {
 zero_at : (n k : ℕ) → get_or {A = ℕ} (replicate n 0) k 0 ≡ 0
 zero_at n k = ⊎_elim (λ few. get_or-replicate {A = ℕ} n k 0 0 few) (λ many. get_or_past {X = ℕ} (replicate n 0) k 0 (let l = length-replicate {A = ℕ} n 0 in omega arith)) (cases_lt k n)
 
-pub opens_zero : (keys : ℕ) (words : List ℕ) → words ≡ replicate keys 0 → Kept keys words (record { number = None; next = Some 0; fronts = []; told = [] } ∷ [])
-opens_zero keys words is = subst (λ ws. Kept keys ws (founder ∷ [])) (sym is) (opens keys (replicate keys 0) (length-replicate keys 0) (zero_at keys))
+pub opens_zero : (keys lanes : ℕ) (words : List ℕ) → lanes ≤ 16 → words ≡ replicate keys 0 → Kept keys lanes words (founder lanes ∷ [])
+opens_zero keys lanes words few is = subst (λ ws. Kept keys lanes ws (founder lanes ∷ [])) (sym is) (opens keys lanes (replicate keys 0) few (length-replicate keys 0) (zero_at keys))

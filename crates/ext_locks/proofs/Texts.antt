@@ -1,5 +1,5 @@
 -- Names in the order of their bytes, and the place of one among them.
-use Rattle.std.proofs.Common.{◌≡◌, ◌≢◌, ◌⊎◌, ℕ, zero, suc, ◌+◌, ◌<◌, ◌≤◌, Bool, true, false, List, [], ◌∷◌, ◌++◌, length, map, Option, Some, None, Result, Ok, Err, refl, sym, ap, ◌∙◌, subst, ⊎_elim, true≢false, arith, String, Global, string_bytes, get_or, take, Bor, nat_eq}
+use Rattle.std.proofs.Common.{◌≡◌, ◌≢◌, ℕ, zero, suc, ◌+◌, ◌<◌, ◌≤◌, Bool, true, false, List, [], ◌∷◌, ◌++◌, length, map, Option, Some, None, Result, Ok, Err, refl, sym, ap, ◌∙◌, subst, ⊎_elim, true≢false, arith, String, Global, string_bytes, get_or, take, Bor, nat_eq}
 use Rattle.std.specs.Prelude.{slice_get, MatchResult, IfSome, Contains, IsPermutation}
 use Rattle.std.specs.Result.{result_ok}
 use Rattle.std.specs.List.Sorted.{IsSorted, IsBinarySearchResult, IsSearchInRange, IsPartitionPoint}
@@ -15,6 +15,8 @@ use Rattle.std.proofs.lemmas.Cmp.{nat_list_cmp_total}
 use Rattle.std.proofs.lemmas.List.{get_or-map, length-map, take_all, take_more, get_or-take, map_push}
 use Rattle.std.proofs.lemmas.List.Quantifiers.{all_pairs_push}
 use Rattle.std.proofs.lemmas.List.Sorted.{searchable_from_sorted, IsPermutation-map, length_permutation}
+use Rattle.std.proofs.lemmas.Map.Keys.{IsDistinct-IsPermutation}
+use Rattle.std.proofs.lemmas.Map.Made.{AllPairs-from_IsDistinct, IsDistinct-from_AllPairs}
 use Rattle.std.proofs.lemmas.Map.Text.{is_eq-slice_cmp}
 use Rattle.std.proofs.lemmas.Option.{slice_get-get_or}
 
@@ -163,3 +165,17 @@ names_count names copies moved =
     let b = length-map names (λ (t : Bor (List ℕ)). t.now) in
     let c = length-map copies string_bytes in
     omega arith
+
+same_text : (xs ys : List ℕ) → pointwise nat_eq xs ys ≡ pointwise nat_eq ys xs
+same_text xs ys = go (pointwise nat_eq xs ys) refl (pointwise nat_eq ys xs) refl
+  where
+    go : (a : Bool) → pointwise nat_eq xs ys ≡ a → (b : Bool) → pointwise nat_eq ys xs ≡ b → pointwise nat_eq xs ys ≡ pointwise nat_eq ys xs
+    go true p true q = p ∙ sym q
+    go true p false q = absurd (true≢false (sym ((bytes_decides ys xs).1 (sym ((bytes_decides xs ys).0 p))) ∙ q))
+    go false p true q = absurd (true≢false (sym ((bytes_decides xs ys).1 (sym ((bytes_decides ys xs).0 q))) ∙ p))
+    go false p false q = p ∙ sym q
+
+-- names that are different stay so when they change places
+pub different_still : (names moved : List (List ℕ)) → IsPermutation names moved → AreDifferent names → AreDifferent moved
+different_still names moved places different =
+    AllPairs-from_IsDistinct bytes_decides moved (IsDistinct-IsPermutation (pointwise nat_eq) same_text names moved places (IsDistinct-from_AllPairs bytes_decides names different))

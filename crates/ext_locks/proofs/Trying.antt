@@ -14,9 +14,9 @@ use Rattle.ext_locks.specs.declared.refusal.LockRefusal.TheVariants.{Taken, Cont
 use Rattle.ext_locks.specs.History.{LockHistory, event, is_about, holds, own, others, IsBefore}
 use Rattle.ext_locks.specs.Views.{seen, GoesOn}
 use Rattle.ext_locks.specs.Words.{as_bit, IsWord, IsFreeWord}
-use Rattle.ext_locks.specs.Rule.{Looked, TakesIf}
+use Rattle.ext_locks.specs.Rule.{Looked, Stepped, TakesIf}
 use Rattle.ext_locks.specs.Refusals.{IsTakenBy}
-use Rattle.ext_locks.specs.Steps.{Makes, SameHeld, HeldBut, Missed}
+use Rattle.ext_locks.specs.Steps.{Makes, AddsAtMost, SameHeld, HeldBut, Missed}
 use Rattle.ext_locks.proofs.Words.{free_word}
 use Rattle.ext_locks.proofs.Holding.{looked_held, stepped_held}
 use Rattle.ext_locks.proofs.Fronts.{makes_self, makes_then, makes_quiet, looked_makes, stepped_makes, seen_before}
@@ -128,6 +128,7 @@ pub record Tried (start now : Seat (Unit {0}) SeatView) (l k found n : ℕ) : Ty
   pub word : IsWord (seen now.me.0.fronts) k found
   pub few : (other : ℕ) → 16 ≤ other → own other (seen now.me.0.fronts) ≡ []
   pub count : n + others l (seen start.me.0.fronts) ≤ others l (seen now.me.0.fronts)
+  pub steps : AddsAtMost n start.me.0.fronts now.me.0.fronts
 
 looked_word : (v w : SeatView) (l k n : ℕ) → Looked v l k n w → IsWord (seen w.fronts) k n
 looked_word v w l k n it = subst (λ x. IsWord (seen x.fronts) k n) (sym it.view) it.word
@@ -142,6 +143,7 @@ tried_first s t l k n it = record {
   word = looked_word s.me.0 t.me.0 l k n it;
   few = looked_few s.me.0 t.me.0 l k n it;
   count = omega arith;
+  steps = omega arith;
 }
 
 pub tried_again : (start s t : Seat (Unit {0}) SeatView) (l k found next n : ℕ) (m : LockMode) → Tried start s l k found n → t.table_id ≡ s.table_id → (b : Bool) → (next == found) ≡ b → b ≡ false → TakesIf b s.me.0 l k m next t.me.0
@@ -157,10 +159,22 @@ tried_again start s t l k found next n m tried same false is isnt it = record {
       let c = tried.count in
       let e = ap (λ x. others l (seen x.fronts)) it.view in
       omega arith);
+  steps = (let was = tried.steps in let e = ap (λ x. length x.fronts) it.view in omega arith);
 }
   where
     other : it.history ≢ seen s.me.0.fronts
     other at_once = eqb-false _ _ is (one_word it.history k next found it.word (subst (λ h. IsWord h k found) (sym at_once) tried.word))
+
+-- a look adds a front, and so does an exchange
+looked_adds : (v w : SeatView) (l k n : ℕ) → Looked v l k n w → length w.fronts ≡ length v.fronts + 1
+looked_adds v w l k n it = let e = ap (λ x. length x.fronts) it.view in omega arith
+
+pub stepped_adds : (v w : SeatView) (l k : ℕ) (m : LockMode) (t : Bool) → Stepped v l k m t w → length w.fronts ≡ length v.fronts + 1
+stepped_adds v w l k m t it = let e = ap (λ x. length x.fronts) it.view in omega arith
+
+exchange_adds : (b : Bool) (v w : SeatView) (l k n : ℕ) (m : LockMode) → TakesIf b v l k m n w → length w.fronts ≡ length v.fronts + 1
+exchange_adds true v w l k n m it = stepped_adds v w l k m true it
+exchange_adds false v w l k n m it = looked_adds v w l k n it
 
 taken_then : (start s t : Seat (Unit {0}) SeatView) (l k found next n : ℕ) (m : LockMode) → Tried start s l k found n → t.table_id ≡ s.table_id → (b : Bool) → b ≡ true → TakesIf b s.me.0 l k m next t.me.0
     → Makes start t l (event l k m true ∷ []) × HeldBut start.me.0.fronts t.me.0.fronts l k m true
@@ -178,10 +192,13 @@ module _ (before start now : Seat (Unit {0}) SeatView) (l k first found n : ℕ)
   pub all_held : SameHeld before.me.0.fronts now.me.0.fronts l
   all_held = record { each = λ key mode. tried.held.each key mode ∙ (looked_held before.me.0 start.me.0 l k first it).each key mode }
 
-  goes : GoesOn (it.history ∷ before.me.0.fronts) now.me.0.fronts
-  goes = subst (λ f. GoesOn f now.me.0.fronts) (ap (λ x. x.fronts) it.view) tried.makes.fronts
+  pub all_steps : (tries : ℕ) → n ≤ tries → AddsAtMost (tries + 1) before.me.0.fronts now.me.0.fronts
+  all_steps tries most = let e = looked_adds before.me.0 start.me.0 l k first it in let s = tried.steps in omega arith
 
-  pub all_contended : (m : LockMode) (tries : ℕ) → tries ≤ n → IsFreeWord m found → Missed (Contended k) before.me.0.fronts now.me.0.fronts l m tries
+  goes : GoesOn before.me.0.lanes (it.history ∷ before.me.0.fronts) now.me.0.fronts
+  goes = subst (λ (x : SeatView). GoesOn x.lanes x.fronts now.me.0.fronts) it.view tried.makes.fronts
+
+  pub all_contended : (m : LockMode) (tries : ℕ) → tries ≤ n → IsFreeWord m found → Missed (Contended k) before.me.0.lanes before.me.0.fronts now.me.0.fronts l m tries
   all_contended m tries most free = record {
     first = it.history;
     begins = seen_before before.me.0.fronts it.history it.meets.fronts;
@@ -192,7 +209,7 @@ module _ (before start now : Seat (Unit {0}) SeatView) (l k first found n : ℕ)
     );
   }
 
-  pub all_taken : (m : LockMode) (tries : ℕ) → (IsFreeWord m found → ⊥) → ((x : LockMode) → holds (seen before.me.0.fronts) k x l ≡ false) → Missed (Taken k) before.me.0.fronts now.me.0.fronts l m tries
+  pub all_taken : (m : LockMode) (tries : ℕ) → (IsFreeWord m found → ⊥) → ((x : LockMode) → holds (seen before.me.0.fronts) k x l ≡ false) → Missed (Taken k) before.me.0.lanes before.me.0.fronts now.me.0.fronts l m tries
   all_taken m tries isnt none = record {
     first = it.history;
     begins = seen_before before.me.0.fronts it.history it.meets.fronts;
@@ -207,3 +224,10 @@ module _ (before start now : Seat (Unit {0}) SeatView) (l k first found n : ℕ)
         makes_then before start after l [] (event l k m true ∷ []) (looked_makes before start l k first b it) t.0,
         record { each = λ key mode. t.1.each key mode ∙ ap (λ y. if is_about (event l k m true) key mode l then true else y) ((looked_held before.me.0 start.me.0 l k first it).each key mode) },
       )
+
+  pub then_steps : (after : Seat (Unit {0}) SeatView) (next tries : ℕ) (m : LockMode) (x : Bool) → TakesIf x now.me.0 l k m next after.me.0 → n < tries → AddsAtMost (tries + 1) before.me.0.fronts after.me.0.fronts
+  then_steps after next tries m x step few =
+      let a = exchange_adds x now.me.0 after.me.0 l k next m step in
+      let e = looked_adds before.me.0 start.me.0 l k first it in
+      let s = tried.steps in
+      omega arith

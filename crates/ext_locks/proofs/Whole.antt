@@ -1,5 +1,6 @@
 -- What is known while a lane takes a whole set, or gives it back.
-use Rattle.std.proofs.Common.{◌≡◌, ℕ, ◌+◌, ◌-◌, ◌<◌, true, false, List, [], ◌∷◌, ◌++◌, length, take, map, Option, Some, None, slice_index_or, refl, sym, ap, ◌∙◌, subst}
+use Rattle.std.proofs.Common.{◌≡◌, ℕ, ◌+◌, ◌*◌, ◌<◌, ◌≤◌, true, false, List, [], ◌∷◌, ◌++◌, length, take, map, Option, Some, None, slice_index_or, refl, sym, ap, ◌∙◌, subst, arith, length-append}
+use Rattle.std.proofs.Math.Nat.{add-mul, mul-add}
 use Rattle.std.proofs.Math.Seq.{take-length}
 use Rattle.std.proofs.lemmas.Bool.{and_left}
 use Rattle.atomic_table.specs.declared.shared.Seat.{Seat}
@@ -11,8 +12,8 @@ use Rattle.ext_locks.specs.declared.refusal.LockRefusal.TheVariants.{Taken, Cont
 use Rattle.ext_locks.specs.History.{LockHistory, event, holds, own, IsBefore}
 use Rattle.ext_locks.specs.Views.{seen, first_front, GoesOn, earliest_or}
 use Rattle.ext_locks.specs.Sets.{locks_of, locks_below, wants, takes_of, gives_of, HoldsNothing, HoldsExactly, AllBelow}
-use Rattle.ext_locks.specs.Refusals.{key_of, undone, StoodAt, IsRefused}
-use Rattle.ext_locks.specs.Steps.{lane_at, Makes, HoldsBetween, HeldBut, IsWithin, Stands, Missed}
+use Rattle.ext_locks.specs.Refusals.{key_of, undone, steps_to_take, steps_to_refuse, StoodAt, IsRefused}
+use Rattle.ext_locks.specs.Steps.{lane_at, Makes, AddsAtMost, HoldsBetween, HeldBut, IsWithin, Stands, Missed}
 use Rattle.ext_locks.proofs.Histories.{before_then}
 use Rattle.ext_locks.proofs.Holding.{passed, took, passed_back, gave, none_between, all_between, has_own}
 use Rattle.ext_locks.proofs.Lists.{wants_modes, locks_more, locks_same, below_take}
@@ -23,50 +24,70 @@ map_one : (f : ℕ × LockMode → LockEvent) (xs : List (ℕ × LockMode)) (x :
 map_one f [] x = refl
 map_one f (y ∷ xs) x = ap (λ t. f y ∷ t) (map_one f xs x)
 
+-- each lock more takes a look and the exchanges of its tries
+more_locks : (n t : ℕ) → (n + 1) * (t + 1) ≡ n * (t + 1) + (t + 1)
+more_locks n t = let e = add-mul n 1 (t + 1) in omega arith
+
+-- and a step to give it back
+more_steps : (n t : ℕ) → n * (t + 2) ≡ n * (t + 1) + n
+more_steps n t = let e = mul-add n t 2 in let f = mul-add n t 1 in omega arith
+
+steps_more : (tries : ℕ) (set : List (ℕ × LockMode)) (lock : ℕ × LockMode) → steps_to_take tries (set ++ lock ∷ []) ≡ steps_to_take tries set + (tries + 1)
+steps_more tries set lock = ap (λ n. n * (tries + 1)) (length-append set (lock ∷ [])) ∙ more_locks (length set) tries
+
 -- the locks of the set below `key` were taken
-pub record TookBelow (start now : Seat (Unit {0}) SeatView) (l : ℕ) (modes : List (Option LockMode)) (key : ℕ) : Type 0 where
+pub record TookBelow (start now : Seat (Unit {0}) SeatView) (l : ℕ) (modes : List (Option LockMode)) (tries key : ℕ) : Type 0 where
   pub makes : Makes start now l (takes_of l (locks_of (take key modes)))
+  pub steps : AddsAtMost (steps_to_take tries (locks_of (take key modes))) start.me.0.fronts now.me.0.fronts
   pub held : HoldsBetween now.me.0.fronts l modes 0 key
 
 -- the locks of the set below `key` were given back, and those up to `end` are held
 pub record GaveBelow (start now : Seat (Unit {0}) SeatView) (l : ℕ) (modes : List (Option LockMode)) (key end : ℕ) : Type 0 where
   pub makes : Makes start now l (gives_of l (locks_of (take key modes)))
+  pub steps : length now.me.0.fronts ≡ length start.me.0.fronts + length (locks_of (take key modes))
   pub held : HoldsBetween now.me.0.fronts l modes key end
 
 module _ (start now : Seat (Unit {0}) SeatView) (l : ℕ) (modes : List (Option LockMode)) where
-  pub took_none : HoldsNothing (lane_at start l) → TookBelow start start l modes 0
-  took_none none = record {
+  pub took_none : (tries : ℕ) → HoldsNothing (lane_at start l) → TookBelow start start l modes tries 0
+  took_none tries none = record {
     makes = makes_self start l;
+    steps = omega arith;
     held = record { each = λ key mode. none.each key mode ∙ sym (and_left _ _ (none_between 0 key)) };
   }
 
   pub gave_none : (end : ℕ) → HoldsBetween start.me.0.fronts l modes 0 end → GaveBelow start start l modes 0 end
-  gave_none end held = record { makes = makes_self start l; held = held }
+  gave_none end held = record { makes = makes_self start l; steps = omega arith; held = held }
 
   module _ (k : ℕ) (below : k < length modes) where
-    pub took_same : TookBelow start now l modes k → slice_index_or modes k None ≡ None → TookBelow start now l modes (k + 1)
-    took_same t none = record {
+    pub took_same : (tries : ℕ) → TookBelow start now l modes tries k → slice_index_or modes k None ≡ None → TookBelow start now l modes tries (k + 1)
+    took_same tries t none = record {
+      steps = subst (λ x. AddsAtMost (steps_to_take tries x) start.me.0.fronts now.me.0.fronts) (sym (locks_same modes k below none)) t.steps;
       makes = subst (λ x. Makes start now l (takes_of l x)) (sym (locks_same modes k below none)) t.makes;
       held = passed now.me.0.fronts now.me.0.fronts l modes k t.held none;
     }
 
     pub gave_same : (end : ℕ) → GaveBelow start now l modes k end → slice_index_or modes k None ≡ None → GaveBelow start now l modes (k + 1) end
     gave_same end t none = record {
+      steps = subst (λ (x : List (ℕ × LockMode)). length now.me.0.fronts ≡ length start.me.0.fronts + length x) (sym (locks_same modes k below none)) t.steps;
       makes = subst (λ x. Makes start now l (gives_of l x)) (sym (locks_same modes k below none)) t.makes;
       held = passed_back now.me.0.fronts now.me.0.fronts l modes k end t.held none;
     }
 
     module _ (after : Seat (Unit {0}) SeatView) (m : LockMode) (is : slice_index_or modes k None ≡ Some m) where
-      pub took_more : TookBelow start now l modes k → Makes now after l (event l k m true ∷ []) → HeldBut now.me.0.fronts after.me.0.fronts l k m true → TookBelow start after l modes (k + 1)
-      took_more t makes but = record {
+      pub took_more : (tries : ℕ) → TookBelow start now l modes tries k → AddsAtMost (tries + 1) now.me.0.fronts after.me.0.fronts → Makes now after l (event l k m true ∷ []) → HeldBut now.me.0.fronts after.me.0.fronts l k m true
+          → TookBelow start after l modes tries (k + 1)
+      took_more tries t adds makes but = record {
+        steps = (let e = ap (steps_to_take tries) (locks_more modes k m below is) ∙ steps_more tries (locks_of (take k modes)) (k, m) in let s = t.steps in omega arith);
         makes = subst (λ x. Makes start after l x)
             (sym (ap (takes_of l) (locks_more modes k m below is) ∙ map_one (λ lock. event l lock.0 lock.1 true) (locks_of (take k modes)) (k, m)))
             (makes_then start now after l (takes_of l (locks_of (take k modes))) (event l k m true ∷ []) t.makes makes);
         held = took now.me.0.fronts after.me.0.fronts l modes k m t.held is but;
       }
 
-      pub gave_more : (end : ℕ) → GaveBelow start now l modes k end → Makes now after l (event l k m false ∷ []) → HeldBut now.me.0.fronts after.me.0.fronts l k m false → GaveBelow start after l modes (k + 1) end
-      gave_more end t makes but = record {
+      pub gave_more : (end : ℕ) → GaveBelow start now l modes k end → length after.me.0.fronts ≡ length now.me.0.fronts + 1 → Makes now after l (event l k m false ∷ []) → HeldBut now.me.0.fronts after.me.0.fronts l k m false
+          → GaveBelow start after l modes (k + 1) end
+      gave_more end t adds makes but = record {
+        steps = (let e = ap length (locks_more modes k m below is) in let a = length-append (locks_of (take k modes)) ((k, m) ∷ []) in let s = t.steps in omega arith);
         makes = subst (λ x. Makes start after l x)
             (sym (ap (gives_of l) (locks_more modes k m below is) ∙ map_one (λ lock. event l lock.0 lock.1 false) (locks_of (take k modes)) (k, m)))
             (makes_then start now after l (gives_of l (locks_of (take k modes))) (event l k m false ∷ []) t.makes makes);
@@ -74,10 +95,12 @@ module _ (start now : Seat (Unit {0}) SeatView) (l : ℕ) (modes : List (Option 
       }
 
   -- the ends of both loops
-  pub took_all : TookBelow start now l modes (length modes) → Makes start now l (takes_of l (locks_of modes)) × HoldsExactly (lane_at now l) (locks_of modes)
-  took_all t = (
+  pub took_all : (tries : ℕ) → TookBelow start now l modes tries (length modes)
+      → Makes start now l (takes_of l (locks_of modes)) × HoldsExactly (lane_at now l) (locks_of modes) × AddsAtMost (steps_to_take tries (locks_of modes)) start.me.0.fronts now.me.0.fronts
+  took_all tries t = (
     subst (λ x. Makes start now l (takes_of l (locks_of x))) (take-length modes) t.makes,
     record { each = λ key mode. t.held.each key mode ∙ (all_between modes key mode ∙ sym (wants_modes modes key mode)) },
+    subst (λ x. AddsAtMost (steps_to_take tries (locks_of x)) start.me.0.fronts now.me.0.fronts) (take-length modes) t.steps,
   )
 
   pub gave_all : (end : ℕ) → GaveBelow start now l modes end end → HoldsNothing (lane_at now l)
@@ -93,37 +116,47 @@ within_of modes count keys all same = record { each = λ key mode is. subst (λ 
 -- ---- a lock of the set was refused
 
 module _ (start mid last after : Seat (Unit {0}) SeatView) (l : ℕ) (modes : List (Option LockMode)) (k : ℕ) (m : LockMode) (is : slice_index_or modes k None ≡ Some m)
-    (took : TookBelow start mid l modes k) (missed : Makes mid last l []) (gave : Makes last after l (gives_of l (locks_of (take k modes)))) where
+    (tries : ℕ) (took : TookBelow start mid l modes tries k) (missed : Makes mid last l []) (gave : Makes last after l (gives_of l (locks_of (take k modes)))) where
   pub refused_makes : (refusal : LockRefusal) → key_of refusal ≡ k → Makes start after l (undone l (locks_of modes) refusal)
   refused_makes refusal key =
       subst (λ x. Makes start after l (takes_of l x ++ gives_of l x)) (sym (ap (λ n. locks_below n (locks_of modes)) key ∙ below_take modes k))
       (makes_then start last after l (takes_of l (locks_of (take k modes))) (gives_of l (locks_of (take k modes)))
       (makes_quiet start mid last l (takes_of l (locks_of (take k modes))) took.makes missed) gave)
 
-  module _ (refusal : LockRefusal) (key : key_of refusal ≡ k) (tries : ℕ) (why : Missed refusal mid.me.0.fronts last.me.0.fronts l m tries) where
-    rest : GoesOn (why.first ∷ mid.me.0.fronts) after.me.0.fronts
-    rest = goes_then (why.first ∷ mid.me.0.fronts) last.me.0.fronts after.me.0.fronts why.goes_on gave.fronts
+  pub refused_steps : (refusal : LockRefusal) → key_of refusal ≡ k → AddsAtMost (tries + 1) mid.me.0.fronts last.me.0.fronts → length after.me.0.fronts ≡ length last.me.0.fronts + length (locks_of (take k modes))
+      → AddsAtMost (steps_to_refuse tries (locks_of modes) refusal) start.me.0.fronts after.me.0.fronts
+  refused_steps refusal key tried given =
+      subst (λ (x : List (ℕ × LockMode)). length after.me.0.fronts ≤ length start.me.0.fronts + (length x * (tries + 2) + (tries + 1))) (sym (ap (λ n. locks_below n (locks_of modes)) key ∙ below_take modes k))
+      (let s = took.steps in let e = more_steps (length (locks_of (take k modes))) tries in omega arith)
+
+  module _ (refusal : LockRefusal) (key : key_of refusal ≡ k) (why : Missed refusal mid.me.0.lanes mid.me.0.fronts last.me.0.fronts l m tries) where
+    missed_on : GoesOn start.me.0.lanes (why.first ∷ mid.me.0.fronts) last.me.0.fronts
+    missed_on = subst (λ n. GoesOn n (why.first ∷ mid.me.0.fronts) last.me.0.fronts) took.makes.lanes why.goes_on
+
+    rest : GoesOn start.me.0.lanes (why.first ∷ mid.me.0.fronts) after.me.0.fronts
+    rest = goes_then start.me.0.lanes (why.first ∷ mid.me.0.fronts) last.me.0.fronts after.me.0.fronts missed_on
+        (subst (λ n. GoesOn n last.me.0.fronts after.me.0.fronts) (missed.lanes ∙ took.makes.lanes) gave.fronts)
 
     front_is : first_front (lane_at start l) (lane_at after l) ≡ earliest_or why.first took.makes.fronts.added
-    front_is = first_is start.me.0.fronts mid.me.0.fronts after.me.0.fronts why.first took.makes.fronts rest (seen start.me.0.fronts)
+    front_is = first_is start.me.0.lanes start.me.0.fronts mid.me.0.fronts after.me.0.fronts why.first took.makes.fronts rest (seen start.me.0.fronts)
 
     early : IsBefore (first_front (lane_at start l) (lane_at after l)) why.first
     early = subst (λ h. IsBefore h why.first) (sym front_is)
-        (earliest_from start.me.0.fronts took.makes.fronts.added why.first took.makes.fronts.follow (subst (λ fs. IsBefore (seen fs) why.first) took.makes.fronts.all why.begins))
+        (earliest_from start.me.0.lanes start.me.0.fronts took.makes.fronts.added why.first took.makes.fronts.follow (subst (λ fs. IsBefore (seen fs) why.first) took.makes.fronts.all why.begins))
 
     stood_at : (refusal : LockRefusal) → Stands refusal why.first (seen last.me.0.fronts) l m tries → StoodAt refusal m tries (lane_at start l) (lane_at after l) (seen last.me.0.fronts)
     stood_at (Taken key') stands = stands
-    stood_at (Contended key') stands = (stands.0, crowd l tries (first_front (lane_at start l) (lane_at after l)) why.first (seen last.me.0.fronts) early (goes_seen (why.first ∷ mid.me.0.fronts) last.me.0.fronts why.goes_on) stands.1)
+    stood_at (Contended key') stands = (stands.0, crowd l tries (first_front (lane_at start l) (lane_at after l)) why.first (seen last.me.0.fronts) early (goes_seen start.me.0.lanes (why.first ∷ mid.me.0.fronts) last.me.0.fronts missed_on) stands.1)
 
     pub refused_why : IsRefused tries (locks_of modes) (lane_at start l) (lane_at after l) refusal
     refused_why = record {
       mode = m;
       wanted = ap (λ n. wants (locks_of modes) n m) key ∙ (wants_modes modes k m ∙ has_own modes k m is);
-      stepped = stepped_call start.me.0.fronts mid.me.0.fronts after.me.0.fronts why.first took.makes.fronts rest;
+      stepped = stepped_call start.me.0.lanes start.me.0.fronts mid.me.0.fronts after.me.0.fronts why.first took.makes.fronts rest;
       point = seen last.me.0.fronts;
       is_point = record {
-        since = before_then (first_front (lane_at start l) (lane_at after l)) why.first (seen last.me.0.fronts) early (goes_seen (why.first ∷ mid.me.0.fronts) last.me.0.fronts why.goes_on);
-        until = goes_seen last.me.0.fronts after.me.0.fronts gave.fronts;
+        since = before_then (first_front (lane_at start l) (lane_at after l)) why.first (seen last.me.0.fronts) early (goes_seen start.me.0.lanes (why.first ∷ mid.me.0.fronts) last.me.0.fronts missed_on);
+        until = goes_seen last.me.0.lanes last.me.0.fronts after.me.0.fronts gave.fronts;
         own_events = subst (λ x. own l (seen last.me.0.fronts) ≡ Rattle.ext_locks.specs.History.then_events (takes_of l x) (own l (seen start.me.0.fronts)))
             (sym (ap (λ n. locks_below n (locks_of modes)) key ∙ below_take modes k))
             (missed.own_events ∙ took.makes.own_events);

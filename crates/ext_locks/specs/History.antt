@@ -1,7 +1,7 @@
 -- Lock histories: the lists of events that all lanes together made, who holds which lock after them, and which of them are legal.
 -- JUnit 5 User Guide, section "Synchronization": readers may run together, and a writer excludes all others. Histories are an own rule.
 -- A history is one list over all locks, and its latest event stands first.
-use Rattle.std.specs.Prelude.{ℕ, ◌≡◌, ◌+◌, ◌==◌, ◌&&◌, Bool, true, false, if◌then◌else◌, List, [], ◌∷◌, ◌++◌}
+use Rattle.std.specs.Prelude.{ℕ, ◌≡◌, ◌+◌, ◌<◌, ◌==◌, ◌&&◌, Bool, true, false, if◌then◌else◌, List, [], ◌∷◌, ◌++◌}
 use Rattle.ext_locks.specs.declared.event.LockMode.{LockMode}
 use Rattle.ext_locks.specs.declared.event.LockMode.TheVariants.{Read, ReadWrite}
 use Rattle.ext_locks.specs.declared.event.LockEvent.{LockEvent}
@@ -52,14 +52,15 @@ abbrev pub IsAllowedAs : Bool → LockHistory → LockEvent → Type 0
 IsAllowedAs true h e = IsFree h e.key e.mode
 IsAllowedAs false h e = holds h e.key e.mode e.lane ≡ true
 
--- The event may come directly after these: a lock is taken where it is free for the mode, and given back by its holder
-abbrev pub IsAllowed : LockHistory → LockEvent → Type 0
-IsAllowed h e = IsAllowedAs e.takes h e
+-- The event may come directly after these, where there are so many lanes: it is by one of them, and a lock is taken where it is free for
+-- the mode, and given back by its holder
+abbrev pub IsAllowed : ℕ → LockHistory → LockEvent → Type 0
+IsAllowed lanes h e = (e.lane < lanes) × IsAllowedAs e.takes h e
 
 -- A history is legal where each event is allowed directly after those before it
-abbrev pub IsLegal : LockHistory → Type 0
-IsLegal [] = Unit {0}
-IsLegal (e ∷ h) = IsAllowed h e × IsLegal h
+abbrev pub IsLegal : ℕ → LockHistory → Type 0
+IsLegal lanes [] = Unit {0}
+IsLegal lanes (e ∷ h) = IsAllowed lanes h e × IsLegal lanes h
 
 -- A history is lawful where at most one lane writes by a lock, and then no other lane holds it
 abbrev pub IsLawful : LockHistory → Type 0

@@ -1,6 +1,6 @@
 -- What locks are once they are opened, and when they are not.
 -- Own rule. There are 1 to 16 lanes, 1 to 64 tries, and at most 63 names beside the global lock.
-use Rattle.std.specs.Prelude.{ℕ, zero, suc, ◌≡◌, ◌+◌, ◌<◌, ◌≤◌, List, [], ◌∷◌, ◌++◌, length, IsPermutation}
+use Rattle.std.specs.Prelude.{ℕ, zero, suc, ◌≡◌, ◌<◌, ◌≤◌, List, [], ◌∷◌, ◌++◌, length, IsPermutation}
 use Rattle.std.specs.List.Sorted.{IsSorted}
 use Rattle.std.specs.Ordering.{nat_cmp}
 use Rattle.std.specs.Cmp.Lexicographic.{slice_cmp}
@@ -10,20 +10,22 @@ use Rattle.ext_locks.specs.declared.fault.LockFault.TheVariants.{BadLimit, TooMa
 use Rattle.ext_locks.specs.Views.{LaneView}
 use Rattle.ext_locks.specs.Names.{AreDifferent, IsFirstTwice}
 
--- Locks as contracts see them: their table of words, the names in the order of their numbers, and how many exchanges a call makes at most for one lock
+-- Locks as contracts see them: their table of words, the names in the order of their numbers, how many lanes there are, and how many
+-- exchanges a call makes at most for one lock
 pub record LocksView : Type 0 where
   pub table : TableId
   pub names : List (List ℕ)
+  pub lanes : ℕ
   pub tries : ℕ
 
--- a lane that has seen nothing
-abbrev pub fresh_lane : TableId → ℕ → LaneView
-fresh_lane table number = record { table = table; number = number; fronts = [] }
+-- a lane, of so many, that has seen nothing
+abbrev pub fresh_lane : TableId → ℕ → ℕ → LaneView
+fresh_lane table lanes number = record { table = table; lanes = lanes; number = number; fronts = [] }
 
--- the first lanes, numbered from 0
-abbrev pub fresh_lanes : TableId → ℕ → List LaneView
-fresh_lanes table zero = []
-fresh_lanes table (suc n) = fresh_lanes table n ++ fresh_lane table n ∷ []
+-- the first of so many lanes, numbered from 0
+abbrev pub fresh_lanes : TableId → ℕ → ℕ → List LaneView
+fresh_lanes table lanes zero = []
+fresh_lanes table lanes (suc n) = fresh_lanes table lanes n ++ fresh_lane table lanes n ∷ []
 
 abbrev pub AreLimits : ℕ → ℕ → Type 0
 AreLimits lanes tries = (1 ≤ lanes) × (lanes ≤ 16) × (1 ≤ tries) × (tries ≤ 64)
@@ -36,12 +38,21 @@ IsNotOpened names lanes tries (Twice at) = AreLimits lanes tries × (length name
 IsNotOpened names lanes tries (UnknownKey at) = ⊥
 IsNotOpened names lanes tries Memory = AreLimits lanes tries × (length names ≤ 63) × AreDifferent names
 
--- The names are those handed in, in the order of their bytes, and the lanes are fresh, so the history is empty and nobody holds anything
+-- What is true of all locks: their limits, and names that are few, different, and in the order of their bytes
+pub record AreLocks (locks : LocksView) : Type 0 where
+  pub limits : AreLimits locks.lanes locks.tries
+  pub few : length locks.names ≤ 63
+  pub different : AreDifferent locks.names
+  pub sorted : IsSorted (slice_cmp nat_cmp) locks.names
+
+-- The names are those handed in, in the order of their bytes, and the lanes are fresh, all that there are: so the history is empty and
+-- nobody holds anything (`fresh` of `lock_laws`)
 pub record IsOpened (names : List (List ℕ)) (lanes tries : ℕ) (locks : LocksView) (made : List LaneView) : Type 0 where
   pub limits : AreLimits lanes tries
   pub few : length names ≤ 63
   pub different : AreDifferent names
   pub same_names : IsPermutation names locks.names
   pub sorted : IsSorted (slice_cmp nat_cmp) locks.names
+  pub same_lanes : locks.lanes ≡ lanes
   pub same_tries : locks.tries ≡ tries
-  pub lanes_made : made ≡ fresh_lanes locks.table lanes
+  pub lanes_made : made ≡ fresh_lanes locks.table lanes lanes

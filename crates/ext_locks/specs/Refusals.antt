@@ -1,6 +1,6 @@
 -- When a set of locks is refused: another lane held one of them, or other lanes were in the way.
 -- JUnit waits instead; that a set is refused whole, and why, is an own rule.
-use Rattle.std.specs.Prelude.{ℕ, ◌≡◌, ◌≢◌, Bool, true, false, List, ◌++◌}
+use Rattle.std.specs.Prelude.{ℕ, ◌≡◌, ◌≢◌, ◌+◌, ◌*◌, Bool, true, false, List, ◌++◌, length}
 use Rattle.ext_locks.specs.declared.event.LockMode.{LockMode}
 use Rattle.ext_locks.specs.declared.event.LockMode.TheVariants.{Read, ReadWrite}
 use Rattle.ext_locks.specs.declared.event.LockEvent.{LockEvent}
@@ -39,6 +39,18 @@ undone lane set refusal = takes_of lane (locks_below (key_of refusal) set) ++ gi
 abbrev pub StoodAt : LockRefusal → LockMode → ℕ → LaneView → LaneView → LockHistory → Type 0
 StoodAt (Taken key) mode tries before after p = IsTakenBy p before.number key mode
 StoodAt (Contended key) mode tries before after p = IsFree p key mode × IsCrowdedAt tries before after p
+
+-- ---- how many steps a call makes at most
+
+-- where it takes the set: for each lock a look, and as many exchanges as there are tries
+abbrev pub steps_to_take : ℕ → List (ℕ × LockMode) → ℕ
+steps_to_take tries set = length set * (tries + 1)
+
+-- where the set is refused: the same for the locks below the one that refused it, which are then given back by a step each, and for that one
+abbrev pub steps_to_refuse : ℕ → List (ℕ × LockMode) → LockRefusal → ℕ
+steps_to_refuse tries set refusal = length (locks_below (key_of refusal) set) * (tries + 2) + (tries + 1)
+
+-- ---- why a set was refused
 
 -- Why the set was refused: by which lock of it, and at which point of the call
 pub record IsRefused (tries : ℕ) (set : List (ℕ × LockMode)) (before after : LaneView) (refusal : LockRefusal) : Type 0 where

@@ -23,33 +23,39 @@ pub record Fits (h : LockHistory) (v : SeatView) : Type 0 where
   pub told : AllBefore v.told h
   pub knows : KnowsOwn h v.fronts v.number
 
--- no lane has a number that is yet to be given, and there are at most 16
-pub record Gives (h : LockHistory) (views : List SeatView) (next : ℕ) : Type 0 where
-  pub most : next ≤ 16
+-- a seat that is a lane's has a number below the count of lanes, and like the one that gives numbers it knows the count
+pub record Counts (lanes : ℕ) (v : SeatView) : Type 0 where
+  pub lane : (number : ℕ) → v.number ≡ Some number → (number < lanes) × (v.lanes ≡ lanes)
+  pub gives : (next : ℕ) → v.next ≡ Some next → v.lanes ≡ lanes
+
+-- no lane has a number that is yet to be given, and none is given past the count of lanes
+pub record Gives (lanes : ℕ) (h : LockHistory) (views : List SeatView) (next : ℕ) : Type 0 where
+  pub most : next ≤ lanes
   pub below : (seat lane : ℕ) (v : SeatView) → get_elem? views seat ≡ some v → v.number ≡ Some lane → lane < next
   pub unused : (lane : ℕ) → next ≤ lane → own lane h ≡ []
 
--- The rule over all words and views of a table of so many locks
-pub record Kept (keys : ℕ) (words : List ℕ) (views : List SeatView) : Type 0 where
+-- The rule over all words and views of a table of so many locks and lanes
+pub record Kept (keys lanes : ℕ) (words : List ℕ) (views : List SeatView) : Type 0 where
   pub size : length words ≡ keys
+  pub few : lanes ≤ 16
   pub history : LockHistory
-  pub legal : IsLegal history
+  pub legal : IsLegal lanes history
   pub bits : (key : ℕ) → key < keys → IsWord history key (slice_index words key)
-  pub lanes : (lane : ℕ) → 16 ≤ lane → own lane history ≡ []
   pub fits : (seat : ℕ) (v : SeatView) → get_elem? views seat ≡ some v → Fits history v
+  pub counts : (seat : ℕ) (v : SeatView) → get_elem? views seat ≡ some v → Counts lanes v
   pub apart : (one other lane : ℕ) (v w : SeatView) → get_elem? views one ≡ some v → get_elem? views other ≡ some w → v.number ≡ Some lane → w.number ≡ Some lane → one ≡ other
   pub one_gives : (one other m n : ℕ) (v w : SeatView) → get_elem? views one ≡ some v → get_elem? views other ≡ some w → v.next ≡ Some m → w.next ≡ Some n → one ≡ other
-  pub gives : (seat next : ℕ) (v : SeatView) → get_elem? views seat ≡ some v → v.next ≡ Some next → Gives history views next
+  pub gives : (seat next : ℕ) (v : SeatView) → get_elem? views seat ≡ some v → v.next ≡ Some next → Gives lanes history views next
 
 -- ---- what the steps of a lane tell
 
 -- the view after this history was seen
 abbrev pub seeing : SeatView → LockHistory → SeatView
-seeing v h = record { number = v.number; next = v.next; fronts = h ∷ v.fronts; told = [] }
+seeing v h = record { number = v.number; next = v.next; lanes = v.lanes; fronts = h ∷ v.fronts; told = [] }
 
 -- a lane meets a legal history: it goes on from all that the lane had seen or was told of, and of the lane's events has just those that it had seen
 pub record Meets (v : SeatView) (lane : ℕ) (h : LockHistory) : Type 0 where
-  pub legal : IsLegal h
+  pub legal : IsLegal v.lanes h
   pub few : (other : ℕ) → 16 ≤ other → own other h ≡ []
   pub fronts : AllBefore v.fronts h
   pub told : AllBefore v.told h
@@ -66,7 +72,7 @@ pub record Looked (v : SeatView) (lane key found : ℕ) (w : SeatView) : Type 0 
 pub record Stepped (v : SeatView) (lane key : ℕ) (mode : LockMode) (takes : Bool) (w : SeatView) : Type 0 where
   pub history : LockHistory
   pub meets : Meets v lane history
-  pub allowed : IsAllowed history (event lane key mode takes)
+  pub allowed : IsAllowed v.lanes history (event lane key mode takes)
   pub view : w ≡ seeing v (event lane key mode takes ∷ history)
 
 -- an exchange that found the word it expected took the lock, and any other was a look
@@ -89,19 +95,23 @@ abbrev pub next_after : Option ℕ → Option ℕ
 next_after None = None
 next_after (Some n) = Some (n + 1)
 
+-- the first seat, which gives the numbers of so many lanes
+abbrev pub founder : ℕ → SeatView
+founder lanes = record { number = None; next = Some 0; lanes = lanes; fronts = []; told = [] }
+
 -- a lane is split off the seat that gives the numbers
 abbrev pub dealer : SeatView → SeatView
-dealer v = record { number = v.number; next = next_after v.next; fronts = v.fronts; told = v.told }
+dealer v = record { number = v.number; next = next_after v.next; lanes = v.lanes; fronts = v.fronts; told = v.told }
 
 abbrev pub dealt : SeatView → SeatView
-dealt v = record { number = v.next; next = None; fronts = []; told = [] }
+dealt v = record { number = v.next; next = None; lanes = v.lanes; fronts = []; told = [] }
 
 -- a note of what a lane has seen, and a lane that was told of it
 abbrev pub noted : SeatView → SeatView
-noted v = record { number = None; next = None; fronts = v.fronts; told = [] }
+noted v = record { number = None; next = None; lanes = v.lanes; fronts = v.fronts; told = [] }
 
 abbrev pub told_of : SeatView → SeatView → SeatView
-told_of v w = record { number = v.number; next = v.next; fronts = v.fronts; told = w.fronts }
+told_of v w = record { number = v.number; next = v.next; lanes = v.lanes; fronts = v.fronts; told = w.fronts }
 
 abbrev pub nobody : SeatView
-nobody = record { number = None; next = None; fronts = []; told = [] }
+nobody = record { number = None; next = None; lanes = 0; fronts = []; told = [] }

@@ -57,11 +57,12 @@ pub record HoldsExactly (lane : LaneView) (set : List (ℕ × LockMode)) : Type 
 pub record Excludes (one other : LaneView) : Type 0 where
   pub each : (key : ℕ) (mode : LockMode) → holds (seen_by one) key ReadWrite one.number ≡ true → holds (seen_by other) key mode other.number ≡ false
 
--- A held set as contracts see it: the lane that took it, the set, and the lane's own events as they were once it was taken.
--- How many these are tells one taking of a lane from every other
+-- A held set as contracts see it: the lane that took it, the names of its locks, the set, and the lane's own events as they were once it
+-- was taken. How many these are tells one taking of a lane from every other
 pub record HeldView : Type 0 where
   pub table : TableId
   pub lane : ℕ
+  pub names : List (List ℕ)
   pub set : List (ℕ × LockMode)
   pub own_events : LockHistory
 

@@ -1,6 +1,6 @@
 -- What the parts of a call on a set of locks do to a lane's seat. No public clause cites these.
 -- Own rule. A set stands here as one mode, or none, for each lock number.
-use Rattle.std.specs.Prelude.{ℕ, ◌≡◌, ◌+◌, ◌<◌, ◌≤◌, ◌&&◌, Bool, false, if◌then◌else◌, leb, ltb, List, ◌∷◌, Option, Some, None, slice_index_or}
+use Rattle.std.specs.Prelude.{ℕ, ◌≡◌, ◌+◌, ◌<◌, ◌≤◌, ◌&&◌, Bool, false, if◌then◌else◌, leb, ltb, List, ◌∷◌, length, Option, Some, None, slice_index_or}
 use Rattle.atomic_table.specs.Seated.{TableId}
 use Rattle.atomic_table.specs.declared.shared.Seat.{Seat}
 use Rattle.ext_locks.specs.declared.event.LockMode.{LockMode}
@@ -14,7 +14,7 @@ use Rattle.ext_locks.specs.Refusals.{IsTakenBy}
 
 -- the lane of a seat, as contracts see it
 abbrev pub lane_at : Seat (Unit {0}) SeatView → ℕ → LaneView
-lane_at seat lane = record { table = seat.table_id; number = lane; fronts = seat.me.0.fronts }
+lane_at seat lane = record { table = seat.table_id; lanes = seat.me.0.lanes; number = lane; fronts = seat.me.0.fronts }
 
 -- the seat is this lane's, of a table with a word for each lock
 pub record IsLane (table : TableId) (keys : ℕ) (seat : Seat (Unit {0}) SeatView) (lane : ℕ) : Type 0 where
@@ -27,8 +27,13 @@ pub record IsLane (table : TableId) (keys : ℕ) (seat : Seat (Unit {0}) SeatVie
 pub record Makes (before after : Seat (Unit {0}) SeatView) (lane : ℕ) (events : List LockEvent) : Type 0 where
   pub table : after.table_id ≡ before.table_id
   pub number : after.me.0.number ≡ before.me.0.number
-  pub fronts : GoesOn before.me.0.fronts after.me.0.fronts
+  pub lanes : after.me.0.lanes ≡ before.me.0.lanes
+  pub fronts : GoesOn before.me.0.lanes before.me.0.fronts after.me.0.fronts
   pub own_events : own lane (seen after.me.0.fronts) ≡ then_events events (own lane (seen before.me.0.fronts))
+
+-- at most so many fronts were added
+abbrev pub AddsAtMost : ℕ → List LockHistory → List LockHistory → Type 0
+AddsAtMost count before after = length after ≤ length before + count
 
 -- ---- what is held of a set
 
@@ -67,8 +72,8 @@ Stands (Taken key) first last lane mode tries = IsTakenBy last lane key mode
 Stands (Contended key) first last lane mode tries = IsFree last key mode × (tries + others lane first ≤ others lane last)
 
 -- between these fronts there was at least one, the first of them, and what was seen last says why
-pub record Missed (refusal : LockRefusal) (before after : List LockHistory) (lane : ℕ) (mode : LockMode) (tries : ℕ) : Type 0 where
+pub record Missed (refusal : LockRefusal) (lanes : ℕ) (before after : List LockHistory) (lane : ℕ) (mode : LockMode) (tries : ℕ) : Type 0 where
   pub first : LockHistory
   pub begins : IsBefore (seen before) first
-  pub goes_on : GoesOn (first ∷ before) after
+  pub goes_on : GoesOn lanes (first ∷ before) after
   pub stands : Stands refusal first (seen after) lane mode tries

@@ -5,10 +5,11 @@ use Rattle.atomic_table.specs.Seated.{TableId}
 use Rattle.ext_locks.specs.declared.event.LockEvent.{LockEvent}
 use Rattle.ext_locks.specs.History.{LockHistory, own, others, IsLegal, IsBefore, then_events}
 
--- A lane as contracts see it: the locks that it belongs to, by their table of words, its number, and its fronts,
--- which are the history as it stood after each of the lane's steps, the latest first
+-- A lane as contracts see it: the locks that it belongs to, by their table of words, how many lanes these have, its own number, from 0,
+-- and its fronts, which are the history as it stood after each of the lane's steps, the latest first
 pub record LaneView : Type 0 where
   pub table : TableId
+  pub lanes : ℕ
   pub number : ℕ
   pub fronts : List LockHistory
 
@@ -25,32 +26,28 @@ abbrev pub own_of : LaneView → LockHistory
 own_of lane = own lane.number (seen_by lane)
 
 -- each of these fronts is legal, and goes on from the one before it, the first of them from the last that stood there
-abbrev pub Follow : List LockHistory → List LockHistory → Type 0
-Follow [] before = Unit {0}
-Follow (f ∷ added) before = IsLegal f × IsBefore (seen (added ++ before)) f × Follow added before
-
--- every history that was seen is legal
-abbrev pub AreLegal : List LockHistory → Type 0
-AreLegal [] = Unit {0}
-AreLegal (f ∷ fs) = IsLegal f × AreLegal fs
+abbrev pub Follow : ℕ → List LockHistory → List LockHistory → Type 0
+Follow lanes [] before = Unit {0}
+Follow lanes (f ∷ added) before = IsLegal lanes f × IsBefore (seen (added ++ before)) f × Follow lanes added before
 
 -- ---- what a call adds: the lane is given as it was before the call and as it is after it
 
 -- only fronts were added
-pub record GoesOn (before after : List LockHistory) : Type 0 where
+pub record GoesOn (lanes : ℕ) (before after : List LockHistory) : Type 0 where
   pub added : List LockHistory
   pub all : after ≡ added ++ before
-  pub follow : Follow added before
+  pub follow : Follow lanes added before
 
 -- The call made these events of the lane, each once and in this order, and no others
 pub record Calls (before after : LaneView) (events : List LockEvent) : Type 0 where
   -- the lane is the same
   pub table : after.table ≡ before.table
+  pub lanes : after.lanes ≡ before.lanes
   pub number : after.number ≡ before.number
   -- its fronts are those before and then those of the call, and each of them is legal and goes on from the one before it
-  pub fronts : GoesOn before.fronts after.fronts
+  pub fronts : GoesOn before.lanes before.fronts after.fronts
   -- what is seen is legal, and so lawful: `lock_laws`
-  pub legal : IsLegal (seen_by after)
+  pub legal : IsLegal before.lanes (seen_by after)
   -- the lane's events are those before and then these
   pub own_events : own before.number (seen_by after) ≡ then_events events (own_of before)
 

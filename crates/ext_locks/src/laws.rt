@@ -1,7 +1,7 @@
-//! What is true of all lock histories, as the contract of a function that does nothing.
-ghost use Rattle.ext_locks.specs.Laws.{LegalIsLawful, OwnEventsDecide, FreeIsNotHeld, EmptyIsLegal};
+//! What is true of all lock histories, calls and merged sets, as the contract of a function that does nothing.
+ghost use Rattle.ext_locks.specs.Laws.{LegalIsLawful, OwnEventsDecide, FreeIsNotHeld, EmptyIsLegal, FreshIsEmpty, OnlyLanesHold, BeginningsAreLegal, CallsCompose, NoCall, OneMergedSet};
 
-/// Proves the laws of lock histories. It does nothing when it runs.
+/// Proves the laws of lock histories, of calls and of merged sets. It does nothing when it runs.
 ///
 /// JUnit 5 User Guide, section "Synchronization", for `lawful`; the others are own rules.
 pub fn lock_laws()
@@ -9,4 +9,10 @@ pub fn lock_laws()
     ensures own { OwnEventsDecide }
     ensures free { FreeIsNotHeld }
     ensures empty { EmptyIsLegal }
+    ensures fresh { FreshIsEmpty }
+    ensures only_lanes { OnlyLanesHold }
+    ensures beginnings { BeginningsAreLegal }
+    ensures compose { CallsCompose }
+    ensures none { NoCall }
+    ensures one_set { OneMergedSet }
 {}

@@ -3,12 +3,12 @@ ghost use Rattle.std.specs.Prelude.{◌≡◌, ◌≤◌, IfOk, IsPermutation, l
 ghost use Rattle.std.specs.List.Sorted.{IsSorted};
 ghost use Rattle.std.specs.Ordering.{nat_cmp};
 ghost use Rattle.std.specs.Cmp.Lexicographic.{slice_cmp};
-ghost use Rattle.ext_locks.specs.Names.{texts_of};
-ghost use Rattle.ext_locks.specs.Opening.{fresh_lanes};
+ghost use Rattle.ext_locks.specs.Names.{texts_of, AreDifferent};
+ghost use Rattle.ext_locks.specs.Opening.{AreLimits, fresh_lanes};
 
 use crate::merging::merge_requests;
 use crate::names::{first_twice, sorted_copies};
-use crate::rule::{Deals, LockRule};
+use crate::rule::{Deals, LockCounts, LockRule};
 use crate::seat::SeatView;
 use crate::set::MAX_LOCKS;
 use crate::steps::MAX_LANES;
@@ -25,10 +25,10 @@ const MAX_TRIES: u32 = 64;
 
 /// The global lock and named ones, one word for each. They are shared by reference: only lanes change them.
 ///
-/// Contracts see the table of words, the names, and the tries (own rule).
+/// Contracts see the table of words, the names, the number of lanes, and the tries (own rule).
 #[derive(Drop)]
 pub struct Locks {
-    table: Table<(), SeatView, u64, LockRule, Global>,
+    table: Table<(), SeatView, LockCounts, LockRule, Global>,
     names: Vec<String>,
     tries: u32,
 }
@@ -37,31 +37,37 @@ impl Model for Locks {
     ghost use Rattle.std.specs.Prelude.{◌≡◌, ◌+◌, ◌≤◌, map, length, string_bytes};
     ghost use Rattle.std.specs.String.{string_cmp};
     ghost use Rattle.std.specs.List.Sorted.{IsSorted};
-    ghost use Rattle.ext_locks.specs.Opening.{LocksView};
+    ghost use Rattle.ext_locks.specs.Names.{AreDifferent};
+    ghost use Rattle.ext_locks.specs.Opening.{LocksView, AreLimits};
 
     ghost Value = { LocksView };
 
-    ghost view = { λ l. record { table = l.table.shared.table_id; names = map string_bytes l.names.items; tries = l.tries } };
+    ghost view = { λ l. record { table = l.table.shared.table_id; names = map string_bytes l.names.items; lanes = l.table.shared.key.lanes; tries = l.tries } };
 
     ghost invariant = { λ l.
-        (l.table.shared.key ≡ l.table.shared.table_id.words)
-        × (l.table.shared.key ≡ length l.names.items + 1)
+        (l.table.shared.key.locks ≡ l.table.shared.table_id.words)
+        × (l.table.shared.key.locks ≡ length l.names.items + 1)
         × (length l.names.items ≤ 63)
-        × IsSorted string_cmp l.names.items };
+        × IsSorted string_cmp l.names.items
+        × AreDifferent (map string_bytes l.names.items)
+        × AreLimits l.table.shared.key.lanes l.tries };
 }
 
 impl Locks {
     ghost use Rattle.std.specs.Prelude.{◌≡◌, ◌≢◌, ◌+◌, ◌≤◌, ◌↔◌, [], length, None, IfOk, IfErr, IfSome, OnOk, OnErr};
     ghost use Rattle.ext_locks.specs.History.{IsBefore};
-    ghost use Rattle.ext_locks.specs.Views.{seen_by, Calls};
+    ghost use Rattle.ext_locks.specs.Views.{seen_by, call_fronts, Calls};
     ghost use Rattle.ext_locks.specs.Sets.{AllBelow, takes_of, gives_of, HoldsNothing, HoldsExactly, Excludes, IsHeldBy};
-    ghost use Rattle.ext_locks.specs.Refusals.{undone, IsRefused};
+    ghost use Rattle.ext_locks.specs.Refusals.{undone, steps_to_take, steps_to_refuse, IsRefused};
     ghost use Rattle.ext_locks.specs.Names.{IsNamed, IsMerged, IsNotMerged};
-    ghost use Rattle.ext_locks.specs.Opening.{IsOpened, IsNotOpened};
+    ghost use Rattle.ext_locks.specs.Opening.{AreLocks, IsOpened, IsNotOpened};
 
     /// Locks that nobody holds: the global one, and one for each name. The names, of which there are at most 63, get the
     /// numbers from 1 on in the order of their bytes. Also gives the lanes, 1 to 16 of them, numbered from 0. A call
     /// makes at most `tries` exchanges, 1 to 64, for each lock. Takes memory; no other call does.
+    ///
+    /// These are all lanes that there are: only they can make events, and none of them has made any. So nobody holds a
+    /// lock, and nobody but these lanes ever will (`fresh` and `only_lanes` of `lock_laws`).
     ///
     /// Refused, in this order, as `BadLimit`, `TooMany`, `Twice(at)` and `Memory`. JUnit 5 User Guide, section
     /// "Synchronization"; limits and refusals are own rules.
@@ -114,7 +120,16 @@ impl Locks {
         Some(self.names[lock - 1].as_str())
     }
 
-    /// Takes all locks of a set, in the order of their numbers, or none. Takes no memory, and waits for nobody.
+    /// Shows what is true of all locks: that no name stands twice, so that requests have one merged set, and that there is
+    /// at least one try. Does nothing when it runs. Own rule.
+    pub fn look_back(&self)
+        ensures { AreLocks self.now }
+    {
+        let _tries = self.tries;
+    }
+
+    /// Takes all locks of a set, in the order of their numbers, or none. Takes no memory, and waits for nobody: for each lock
+    /// it looks once and makes at most `tries` exchanges.
     ///
     /// Refused as `Taken(lock)` where another lane held that lock, in a mode that excludes the one wanted, at a moment of
     /// the call, and as `Contended(lock)` where other lanes made at least as many lock events during the call as there are
@@ -124,9 +139,12 @@ impl Locks {
         requires lane { lane.old.table ≡ self.now.table }
         requires free_hands { HoldsNothing lane.old }
         requires set { AllBelow (length self.now.names + 1) set.now }
+        ensures steps { OnOk result (length (call_fronts lane.old lane.new) ≤ steps_to_take self.now.tries set.now) }
         ensures taken { OnOk result (HoldsExactly lane.new set.now) }
         ensures taken_events { OnOk result (Calls lane.old lane.new (takes_of lane.old.number set.now)) }
         ensures held { IfOk result (λ held. (held.set ≡ set.now) × IsHeldBy held lane.new) }
+        ensures names { IfOk result (λ held. held.names ≡ self.now.names) }
+        ensures refused_steps { IfErr result (λ refusal. length (call_fronts lane.old lane.new) ≤ steps_to_refuse self.now.tries set.now refusal) }
         ensures nothing { OnErr result (HoldsNothing lane.new) }
         ensures refused_events { IfErr result (λ refusal. Calls lane.old lane.new (undone lane.old.number set.now refusal)) }
         ensures refusal { IfErr result (λ refusal. IsRefused self.now.tries set.now lane.old lane.new refusal) }
@@ -141,21 +159,28 @@ impl Locks {
             Ok(()) => Ok(Held {
                 set: LockSet { modes: set.modes },
                 taken: Snapshot::of(lane),
+                names: Snapshot::of(&self.names),
             }),
             Err(refusal) => Err(refusal),
         }
     }
 
-    /// Gives back what a lane holds, in the order of the locks' numbers. Cannot fail, takes no memory, and waits for nobody.
+    /// Gives back what a lane holds, in the order of the locks' numbers, by one step each. Cannot fail, takes no memory, and
+    /// waits for nobody.
     ///
     /// JUnit 5 User Guide, section "Synchronization".
     pub fn give(&self, lane: &mut LockLane, held: Held)
         requires lane { lane.old.table ≡ self.now.table }
         requires held { IsHeldBy held lane.old }
+        ensures steps { length (call_fronts lane.old lane.new) ≡ length held.set }
         ensures nothing { HoldsNothing lane.new }
         ensures events { Calls lane.old lane.new (gives_of lane.old.number held.set) }
     {
-        let Held { set, taken: _ } = held;
+        let Held {
+            set,
+            taken: _,
+            names: _,
+        } = held;
         let modes: &[Option<LockMode>] = &set.modes;
         give_keys(
             &self.table.shared,
@@ -205,17 +230,19 @@ fn open_words(
     tries: u32,
 ) -> Result<(Locks, Vec<LockLane>), AllocError>
     requires names { length names.now ≤ 63 }
-    requires lanes { lanes ≤ 16 }
+    requires different { AreDifferent (texts_of names.now) }
+    requires limits { AreLimits lanes tries }
     ensures names { IfOk result (λ made. IsPermutation (texts_of names.now) made.0.names) }
     ensures sorted { IfOk result (λ made. IsSorted (slice_cmp nat_cmp) made.0.names) }
     ensures tries { IfOk result (λ made. made.0.tries ≡ tries) }
-    ensures lanes { IfOk result (λ made. made.1.items ≡ fresh_lanes made.0.table lanes) }
+    ensures limits { IfOk result (λ made. made.0.lanes ≡ lanes) }
+    ensures lanes { IfOk result (λ made. made.1.items ≡ fresh_lanes made.0.table lanes lanes) }
 {
     let names = sorted_copies(alloc, names)?;
     let locks = names.len() + 1;
     let zeros = zero_words(alloc, locks)?;
-    let count = locks as u64;
-    let (table, mut dealer) = Table::of_words(alloc, zeros.as_slice(), &count)?;
+    let counts = LockCounts { locks, lanes };
+    let (table, mut dealer) = Table::of_words(alloc, zeros.as_slice(), &counts)?;
     let mut made = Vec::with_capacity(alloc, lanes)?;
     for number in 0..lanes {
         let seat = table.shared.split_seat::<Deals>(&mut dealer);

@@ -20,7 +20,9 @@ pub(crate) fn first_twice(names: &[&str]) -> Option<usize>
 
 /// Copies of the names, in the order of their bytes; takes memory.
 pub(crate) fn sorted_copies(alloc: Global, names: &[&str]) -> Result<Vec<String>, AllocError>
+    requires { AreDifferent (texts_of names.now) }
     ensures names { IfOk result (λ v. IsPermutation (texts_of names.now) (map string_bytes v.items)) }
+    ensures different { IfOk result (λ v. AreDifferent (map string_bytes v.items)) }
     ensures sorted { IfOk result (λ v. IsSorted string_cmp v.items) }
 {
     let mut copies = Vec::with_capacity(alloc, names.len())?;

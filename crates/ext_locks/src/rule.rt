@@ -2,8 +2,15 @@
 use crate::seat::SeatView;
 use atomic_table::{Join, Play, Seat, Shared, Split, TableRule};
 
+/// How many locks and lanes there are: the rule reads it, and nothing changes it.
+#[derive(Clone, Copy)]
+pub(crate) struct LockCounts {
+    pub locks: usize,
+    pub lanes: usize,
+}
+
 /// The words of the locks, which all lanes step on.
-pub(crate) type LockWords = Shared<(), SeatView, u64, LockRule>;
+pub(crate) type LockWords = Shared<(), SeatView, LockCounts, LockRule>;
 
 /// A lane's seat at these words.
 pub(crate) type LaneSeat = Seat<(), SeatView>;
@@ -11,13 +18,12 @@ pub(crate) type LaneSeat = Seat<(), SeatView>;
 /// Each word has the bits of its lock's holders in one legal history, of which every lane has seen beginnings.
 pub(crate) struct LockRule;
 
-impl TableRule<(), SeatView, u64> for LockRule {
-    ghost use Rattle.std.specs.Prelude.{[], Some, None};
-    ghost use Rattle.ext_locks.specs.Rule.{Kept};
+impl TableRule<(), SeatView, LockCounts> for LockRule {
+    ghost use Rattle.ext_locks.specs.Rule.{Kept, founder};
 
-    ghost holds = { λ keys s. Kept keys s.words s.views };
+    ghost holds = { λ counts s. Kept counts.locks counts.lanes s.words s.views };
 
-    ghost first = { λ _. record { number = None; next = Some 0; fronts = []; told = [] } };
+    ghost first = { λ counts. founder counts.lanes };
 }
 
 /// An exchange that may take a lock for reading.

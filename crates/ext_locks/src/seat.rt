@@ -8,6 +8,8 @@ pub(crate) struct SeatView {
     pub number: Option<u64>,
     /// The next number to be given to a lane, where this seat gives them.
     pub next: Option<u64>,
+    /// How many lanes there are, where this seat is a lane's or gives the numbers.
+    pub lanes: u64,
     /// The histories that the lane saw, the latest first.
     pub fronts: LinkedList<LinkedList<LockEvent>>,
     /// The histories that it was told of and has not seen yet.

@@ -1,12 +1,12 @@
 //! Single steps on the word of one lock. Only these touch the shared words.
-ghost use Rattle.std.specs.Prelude.{◌≡◌, ◌^◌, ◌<◌, ◌==◌, Some, true, false, [], ◌∷◌, ◌↔◌, IsTrue, IfErr, IfOk, OnOk};
+ghost use Rattle.std.specs.Prelude.{◌≡◌, ◌+◌, ◌^◌, ◌<◌, ◌==◌, Some, true, false, [], ◌∷◌, ◌↔◌, IsTrue, IfErr, IfOk, OnOk};
 ghost use Rattle.ext_locks.specs.declared.event.LockMode.{LockMode};
 ghost use Rattle.ext_locks.specs.History.{event, holds};
 ghost use Rattle.ext_locks.specs.Views.{seen};
 ghost use Rattle.ext_locks.specs.Words.{bit_of, IsFreeWord};
 ghost use Rattle.ext_locks.specs.Rule.{TakesIf, Stepped, Looked};
 ghost use Rattle.ext_locks.specs.Refusals.{key_of};
-ghost use Rattle.ext_locks.specs.Steps.{IsLane, Makes, SameHeld, HeldBut, Missed};
+ghost use Rattle.ext_locks.specs.Steps.{IsLane, Makes, AddsAtMost, SameHeld, HeldBut, Missed};
 
 use crate::rule::{GivesRead, GivesWrite, LaneSeat, LockWords, Sees, TakesRead, TakesWrite};
 use crate::{LockMode, LockNo, LockRefusal};
@@ -34,9 +34,9 @@ fn take_if(
     mode: LockMode,
     old: u64,
 ) -> u64
-    requires table { (seat.old.table_id ≡ words.now.table_id) × (words.now.key ≡ words.now.table_id.words) }
+    requires table { (seat.old.table_id ≡ words.now.table_id) × (words.now.key.locks ≡ words.now.table_id.words) }
     requires lane { (seat.old.me.0.number ≡ Some lane) × (lane < 16) }
-    requires key { key < words.now.key }
+    requires key { key < words.now.key.locks }
     requires free { IsFreeWord mode old }
     ensures table { seat.new.table_id ≡ seat.old.table_id }
     ensures step { TakesIf (result == old) seat.old.me.0 lane key mode result seat.new.me.0 }
@@ -56,9 +56,9 @@ pub(crate) fn give_back(
     key: LockNo,
     mode: LockMode,
 )
-    requires table { (seat.old.table_id ≡ words.now.table_id) × (words.now.key ≡ words.now.table_id.words) }
+    requires table { (seat.old.table_id ≡ words.now.table_id) × (words.now.key.locks ≡ words.now.table_id.words) }
     requires lane { (seat.old.me.0.number ≡ Some lane) × (lane < 16) }
-    requires key { key < words.now.key }
+    requires key { key < words.now.key.locks }
     requires held { holds (seen seat.old.me.0.fronts) key mode lane ≡ true }
     ensures table { seat.new.table_id ≡ seat.old.table_id }
     ensures step { Stepped seat.old.me.0 lane key mode false seat.new.me.0 }
@@ -72,9 +72,9 @@ pub(crate) fn give_back(
 
 /// Reads the word of a lock.
 pub(crate) fn look(words: &LockWords, seat: &mut LaneSeat, lane: usize, key: LockNo) -> u64
-    requires table { (seat.old.table_id ≡ words.now.table_id) × (words.now.key ≡ words.now.table_id.words) }
+    requires table { (seat.old.table_id ≡ words.now.table_id) × (words.now.key.locks ≡ words.now.table_id.words) }
     requires lane { seat.old.me.0.number ≡ Some lane }
-    requires key { key < words.now.key }
+    requires key { key < words.now.key.locks }
     ensures table { seat.new.table_id ≡ seat.old.table_id }
     ensures step { Looked seat.old.me.0 lane key result seat.new.me.0 }
 {
@@ -101,15 +101,16 @@ pub(crate) fn take_key(
     mode: LockMode,
     tries: u32,
 ) -> Result<(), LockRefusal>
-    requires lane { IsLane words.now.table_id words.now.key seat.old lane }
-    requires key { key < words.now.key }
+    requires lane { IsLane words.now.table_id words.now.key.locks seat.old lane }
+    requires key { key < words.now.key.locks }
     requires unheld { (held : LockMode) → holds (seen seat.old.me.0.fronts) key held lane ≡ false }
+    ensures steps { AddsAtMost (tries + 1) seat.old.me.0.fronts seat.new.me.0.fronts }
     ensures taken { OnOk result (Makes seat.old seat.new lane (event lane key mode true ∷ [])) }
     ensures held { OnOk result (HeldBut seat.old.me.0.fronts seat.new.me.0.fronts lane key mode true) }
     ensures missed { IfErr result (λ _. Makes seat.old seat.new lane []) }
     ensures unheld { IfErr result (λ _. SameHeld seat.old.me.0.fronts seat.new.me.0.fronts lane) }
     ensures key { IfErr result (λ refusal. key_of refusal ≡ key) }
-    ensures why { IfErr result (λ refusal. Missed refusal seat.old.me.0.fronts seat.new.me.0.fronts lane mode tries) }
+    ensures why { IfErr result (λ refusal. Missed refusal seat.old.me.0.lanes seat.old.me.0.fronts seat.new.me.0.fronts lane mode tries) }
 {
     let mut found = look(words, seat, lane, key);
     for attempt in 0..tries {

@@ -1,8 +1,8 @@
 //! The steps of a whole set of locks.
-ghost use Rattle.std.specs.Prelude.{◌≡◌, ◌≤◌, length, take, IfErr, OnOk, OnErr};
+ghost use Rattle.std.specs.Prelude.{◌≡◌, ◌+◌, ◌≤◌, length, take, IfErr, OnOk, OnErr};
 ghost use Rattle.ext_locks.specs.Sets.{locks_of, takes_of, gives_of, HoldsNothing, HoldsExactly};
-ghost use Rattle.ext_locks.specs.Refusals.{undone, IsRefused};
-ghost use Rattle.ext_locks.specs.Steps.{lane_at, IsLane, Makes, HoldsBetween, IsWithin};
+ghost use Rattle.ext_locks.specs.Refusals.{undone, steps_to_take, steps_to_refuse, IsRefused};
+ghost use Rattle.ext_locks.specs.Steps.{lane_at, IsLane, Makes, AddsAtMost, HoldsBetween, IsWithin};
 
 use crate::rule::{LaneSeat, LockWords};
 use crate::steps::{give_back, take_key};
@@ -16,10 +16,11 @@ pub(crate) fn give_keys(
     modes: &[Option<LockMode>],
     end: usize,
 )
-    requires lane { IsLane words.now.table_id words.now.key seat.old lane }
-    requires keys { IsWithin modes.now words.now.key }
+    requires lane { IsLane words.now.table_id words.now.key.locks seat.old lane }
+    requires keys { IsWithin modes.now words.now.key.locks }
     requires end { end ≤ length modes.now }
     requires held { HoldsBetween seat.old.me.0.fronts lane modes.now 0 end }
+    ensures steps { length seat.new.me.0.fronts ≡ length seat.old.me.0.fronts + length (locks_of (take end modes.now)) }
     ensures events { Makes seat.old seat.new lane (gives_of lane (locks_of (take end modes.now))) }
     ensures nothing { HoldsNothing (lane_at seat.new lane) }
 {
@@ -38,9 +39,11 @@ pub(crate) fn take_keys(
     modes: &[Option<LockMode>],
     tries: u32,
 ) -> Result<(), LockRefusal>
-    requires lane { IsLane words.now.table_id words.now.key seat.old lane }
-    requires keys { IsWithin modes.now words.now.key }
+    requires lane { IsLane words.now.table_id words.now.key.locks seat.old lane }
+    requires keys { IsWithin modes.now words.now.key.locks }
     requires nothing { HoldsNothing (lane_at seat.old lane) }
+    ensures steps { OnOk result (AddsAtMost (steps_to_take tries (locks_of modes.now)) seat.old.me.0.fronts seat.new.me.0.fronts) }
+    ensures refused_steps { IfErr result (λ refusal. AddsAtMost (steps_to_refuse tries (locks_of modes.now) refusal) seat.old.me.0.fronts seat.new.me.0.fronts) }
     ensures taken { OnOk result (Makes seat.old seat.new lane (takes_of lane (locks_of modes.now))) }
     ensures held { OnOk result (HoldsExactly (lane_at seat.new lane) (locks_of modes.now)) }
     ensures undone { IfErr result (λ refusal. Makes seat.old seat.new lane (undone lane (locks_of modes.now) refusal)) }

@@ -12,8 +12,8 @@ use crate::steps::look;
 /// Tells a lane of all that another has seen, and lets it look.
 fn tell(words: &LockWords, from: &mut LaneSeat, to: &mut LaneSeat, lane: usize) -> u64
     requires from { from.old.table_id ≡ words.now.table_id }
-    requires to { IsLane words.now.table_id words.now.key to.old lane }
-    requires key { 0 < words.now.key }
+    requires to { IsLane words.now.table_id words.now.key.locks to.old lane }
+    requires key { 0 < words.now.key.locks }
     ensures from { (from.new.table_id ≡ from.old.table_id) × (from.new.me ≡ from.old.me) }
     ensures table { to.new.table_id ≡ to.old.table_id }
     ensures step { Looked (told_of to.old.me.0 from.old.me.0) lane 0 result to.new.me.0 }
@@ -34,10 +34,10 @@ pub(crate) fn exclude(
     other: &mut LaneSeat,
     other_lane: usize,
 )
-    requires one { IsLane words.now.table_id words.now.key one.old one_lane }
-    requires other { IsLane words.now.table_id words.now.key other.old other_lane }
+    requires one { IsLane words.now.table_id words.now.key.locks one.old one_lane }
+    requires other { IsLane words.now.table_id words.now.key.locks other.old other_lane }
     requires apart { one_lane ≢ other_lane }
-    requires key { 0 < words.now.key }
+    requires key { 0 < words.now.key.locks }
     ensures one { Makes one.old one.new one_lane [] }
     ensures other { Makes other.old other.new other_lane [] }
     ensures seen { IsBefore (seen other.new.me.0.fronts) (seen one.new.me.0.fronts) }

@@ -1,8 +1,13 @@
 //! Sets that are taken, refused and given back, and the refusals of opening and merging.
-ghost use Rattle.std.specs.Prelude.{◌≡◌, ◌+◌, ◌≤◌, length};
-ghost use Rattle.ext_locks.specs.Sets.{HoldsNothing, AllBelow};
+ghost use Rattle.std.specs.Prelude.{◌≡◌, ◌+◌, [], ◌++◌, ◌≤◌, length, IsTrue, IfNone, IfSome};
+ghost use Rattle.std.specs.Bool.{OnTrue};
+ghost use Rattle.ext_locks.specs.Views.{Calls};
+ghost use Rattle.ext_locks.specs.Sets.{takes_of, gives_of, HoldsNothing, Excludes, AllBelow};
+ghost use Rattle.ext_locks.specs.Refusals.{undone};
 
-use crate::{LockFault, LockKey, LockLane, LockMode, LockRefusal, LockRequest, LockSet, Locks};
+use crate::{
+    LockFault, LockKey, LockLane, LockMode, LockRefusal, LockRequest, LockSet, Locks, lock_laws,
+};
 use std::sync::atomic::{AtomicU64, Ordering};
 use std::test::Fail;
 use std::thread;
@@ -28,37 +33,111 @@ fn global(mode: LockMode) -> LockRequest<'static> {
     }
 }
 
+/// Takes a set and gives it back: that is one call, with the events of both. Answers why it was refused, if it was.
+fn take_and_give(locks: &Locks, lane: &mut LockLane, set: &LockSet) -> Option<LockRefusal>
+    requires lane { lane.old.table ≡ locks.now.table }
+    requires nothing { HoldsNothing lane.old }
+    requires set { AllBelow (length locks.now.names + 1) set.now }
+    ensures held { IfNone result (Calls lane.old lane.new (takes_of lane.old.number set.now ++ gives_of lane.old.number set.now)) }
+    ensures refused { IfSome result (λ refusal. Calls lane.old lane.new (undone lane.old.number set.now refusal)) }
+    ensures nothing { HoldsNothing lane.new }
+    ensures table { lane.new.table ≡ lane.old.table }
+{
+    lock_laws();
+    match locks.try_take(lane, set) {
+        Ok(held) => {
+            locks.give(lane, held);
+            None
+        }
+        Err(refusal) => Some(refusal),
+    }
+}
+
+/// Shows that two lanes exclude each other, where their numbers tell that they are two. Nothing else is known of them here.
+fn show_apart(locks: &Locks, one: &mut LockLane, other: &mut LockLane) -> bool
+    requires one { one.old.table ≡ locks.now.table }
+    requires other { other.old.table ≡ locks.now.table }
+    ensures one { Calls one.old one.new [] }
+    ensures other { Calls other.old other.new [] }
+    ensures apart { OnTrue result (Excludes one.new other.new) }
+{
+    if one.number() == other.number() {
+        lock_laws();
+        one.look_back();
+        other.look_back();
+        return false;
+    }
+    locks.exclusive(one, other);
+    true
+}
+
+/// The one lane that there is gets every set: nobody else can hold a lock, or make the events of a contended call.
+fn take_alone(locks: &Locks, lane: &mut LockLane, set: &LockSet) -> bool
+    requires lane { lane.old.table ≡ locks.now.table }
+    requires alone { lane.old.lanes ≡ 1 }
+    requires nothing { HoldsNothing lane.old }
+    requires set { AllBelow (length locks.now.names + 1) set.now }
+    ensures taken { IsTrue result }
+{
+    lock_laws();
+    locks.look_back();
+    lane.look_back();
+    match locks.try_take(lane, set) {
+        Ok(held) => {
+            locks.give(lane, held);
+            true
+        }
+        Err(_) => false,
+    }
+}
+
+/// Runs a test while its lane holds the locks that it asks for. Where it answers `false`, ask again later.
+fn run_test(locks: &Locks, lane: &mut LockLane, requests: &[LockRequest]) -> Result<bool, LockFault>
+    requires lane { lane.old.table ≡ locks.now.table }
+    requires free_hands { HoldsNothing lane.old }
+    ensures lane { lane.new.table ≡ lane.old.table }
+    ensures free_hands { HoldsNothing lane.new }
+{
+    let set = locks.merge(requests)?;
+    match locks.try_take(lane, &set) {
+        Ok(held) => {
+            let _first = held.set().get(0);
+            locks.give(lane, held);
+            Ok(true)
+        }
+        Err(LockRefusal::Taken(_)) => Ok(false),
+        Err(LockRefusal::Contended(_)) => Ok(false),
+    }
+}
+
 #[test]
 fn merge_and_shared_read(rt: HostRuntime) -> Result<(), Fail> {
     let (locks, mut lanes) = Locks::open(rt.alloc(), &["b", "a"], 3, 8)?;
-    let merged = locks.merge(&[read("b"), write("a"), write("b"), global(LockMode::Read)])?;
-    assert_eq!(rt; merged.get(0), Some((0, LockMode::Read)));
-    assert_eq!(rt; merged.get(1), Some((1, LockMode::ReadWrite)));
-    assert_eq!(rt; merged.get(2), Some((2, LockMode::ReadWrite)));
-    assert_eq!(rt; merged.get(3), None);
     let reads = locks.merge(&[read("b")])?;
     let both = locks.merge(&[write("b"), write("a")])?;
     let alone = locks.merge(&[write("a")])?;
     let Ok(first) = locks.try_take(&mut lanes[0], &reads) else {
         panic!(rt; "nobody held b")
     };
-    let Ok(second) = locks.try_take(&mut lanes[1], &reads) else {
-        panic!(rt; "readers share b")
-    };
-    match locks.try_take(&mut lanes[2], &both) {
-        Ok(held) => {
-            locks.give(&mut lanes[2], held);
-            panic!(rt; "a writer beside readers")
-        }
-        Err(refusal) => assert_eq!(rt; refusal, LockRefusal::Taken(2)),
-    }
-    let Ok(third) = locks.try_take(&mut lanes[2], &alone) else {
-        panic!(rt; "a was kept by a refused call")
-    };
-    assert_eq!(rt; third.set().get(0), Some((1, LockMode::ReadWrite)));
+    assert_eq!(rt; first.set().get(0), Some((2, LockMode::Read)));
+    assert_eq!(rt; take_and_give(&locks, &mut lanes[1], &reads), None);
+    assert_eq!(rt;
+        take_and_give(&locks, &mut lanes[2], &both),
+        Some(LockRefusal::Taken(2))
+    );
+    assert_eq!(rt; take_and_give(&locks, &mut lanes[2], &alone), None);
     locks.give(&mut lanes[0], first);
-    locks.give(&mut lanes[1], second);
-    locks.give(&mut lanes[2], third);
+    Ok(())
+}
+
+#[test]
+fn merged_set(rt: HostRuntime) -> Result<(), Fail> {
+    let (locks, _lanes) = Locks::open(rt.alloc(), &["b", "a"], 1, 8)?;
+    let merged = locks.merge(&[read("b"), write("a"), write("b"), global(LockMode::Read)])?;
+    assert_eq!(rt; merged.get(0), Some((0, LockMode::Read)));
+    assert_eq!(rt; merged.get(1), Some((1, LockMode::ReadWrite)));
+    assert_eq!(rt; merged.get(2), Some((2, LockMode::ReadWrite)));
+    assert_eq!(rt; merged.get(3), None);
     Ok(())
 }
 
@@ -104,18 +183,6 @@ fn refused_openings(rt: HostRuntime) {
     );
 }
 
-/// Where an allocation is refused, as `rt try --test --fail-alloc N` does, `open` answers `Memory` and nothing else.
-#[test]
-fn open_answers_memory_or_locks(rt: HostRuntime) {
-    match Locks::open(rt.alloc(), &["b", "a"], 2, 8) {
-        Ok((locks, lanes)) => {
-            assert_eq!(rt; lanes.len(), 2);
-            assert!(rt; locks.merge(&[read("b")]).is_ok());
-        }
-        Err(fault) => assert_eq!(rt; fault, LockFault::Memory),
-    }
-}
-
 #[test]
 fn opens_at_the_limits(rt: HostRuntime) -> Result<(), Fail> {
     let mut texts = Vec::new(rt.alloc());
@@ -159,11 +226,25 @@ fn refused_merges_and_the_empty_set(rt: HostRuntime) -> Result<(), Fail> {
     );
     let empty = locks.merge(&[])?;
     assert_eq!(rt; empty.get(0), None);
-    let Ok(held) = locks.try_take(&mut lanes[0], &empty) else {
-        panic!(rt; "there is nothing to refuse")
-    };
-    assert_eq!(rt; held.set().get(0), None);
-    locks.give(&mut lanes[0], held);
+    assert_eq!(rt; take_and_give(&locks, &mut lanes[0], &empty), None);
+    Ok(())
+}
+
+#[test]
+fn lane_alone_is_never_refused(rt: HostRuntime) -> Result<(), Fail> {
+    let (locks, mut lanes) = Locks::open(rt.alloc(), &["a"], 1, 1)?;
+    let set = locks.merge(&[write("a")])?;
+    assert!(rt; take_alone(&locks, &mut lanes[0], &set));
+    Ok(())
+}
+
+/// The code of docs/GUIDE.md.
+#[test]
+fn guide_to_locks(rt: HostRuntime) -> Result<(), Fail> {
+    let (locks, mut lanes) = Locks::open(rt.alloc(), &["db", "files"], 2, 64)?;
+    let (first, second) = lanes.as_mut_slice().split_at_mut(1);
+    assert!(rt; run_test(&locks, &mut first[0], &[write("db"), read("files")])?);
+    assert!(rt; show_apart(&locks, &mut first[0], &mut second[0]));
     Ok(())
 }
 
@@ -177,25 +258,19 @@ fn third_lane_takes_the_global_lock(rt: HostRuntime) -> Result<(), Fail> {
     let Ok(first) = locks.try_take(&mut lanes[0], &reads) else {
         panic!(rt; "nobody held a")
     };
-    match locks.try_take(&mut lanes[1], &writes) {
-        Ok(held) => {
-            locks.give(&mut lanes[1], held);
-            panic!(rt; "a writer beside a reader")
-        }
-        Err(refusal) => assert_eq!(rt; refusal, LockRefusal::Taken(1)),
-    }
+    assert_eq!(rt;
+        take_and_give(&locks, &mut lanes[1], &writes),
+        Some(LockRefusal::Taken(1))
+    );
     let Ok(third) = locks.try_take(&mut lanes[2], &whole) else {
         panic!(rt; "a refused call kept the global lock")
     };
-    match locks.try_take(&mut lanes[1], &shared) {
-        Ok(held) => {
-            locks.give(&mut lanes[1], held);
-            panic!(rt; "a reader beside a writer")
-        }
-        Err(refusal) => assert_eq!(rt; refusal, LockRefusal::Taken(0)),
-    }
+    assert_eq!(rt;
+        take_and_give(&locks, &mut lanes[1], &shared),
+        Some(LockRefusal::Taken(0))
+    );
     let (before, after) = lanes.as_mut_slice().split_at_mut(2);
-    locks.exclusive(&mut after[0], &mut before[1]);
+    assert!(rt; show_apart(&locks, &mut after[0], &mut before[1]));
     locks.give(&mut before[0], first);
     locks.give(&mut after[0], third);
     Ok(())

@@ -1,4 +1,6 @@
-use Rattle.ext_locks.proofs.Histories.{lawful, same_held, free_unwritten}
+use Rattle.ext_locks.proofs.Histories.{lawful, same_held, none_held, free_unwritten, unmade, nothing_yet, legal_before}
+use Rattle.ext_locks.proofs.Fronts.{calls_then, calls_none}
+use Rattle.ext_locks.proofs.OneSet.{one_merged}
 use Rattle.ext_locks.proofs.laws.lock_laws.Goals as goal
 
 pub returns-clause-lawful : goal.returns-clause-lawful
@@ -9,3 +11,21 @@ returns-clause-own c = λ h later key mode lane same. same_held later h key mode
 
 pub returns-clause-free : goal.returns-clause-free
 returns-clause-free c = free_unwritten
+
+pub returns-clause-fresh : goal.returns-clause-fresh
+returns-clause-fresh c = nothing_yet
+
+pub returns-clause-only_lanes : goal.returns-clause-only_lanes
+returns-clause-only_lanes c = λ lanes h legal lane many key mode. none_held h key mode lane (unmade lanes h legal lane many)
+
+pub returns-clause-beginnings : goal.returns-clause-beginnings
+returns-clause-beginnings c = legal_before
+
+pub returns-clause-compose : goal.returns-clause-compose
+returns-clause-compose c = calls_then
+
+pub returns-clause-none : goal.returns-clause-none
+returns-clause-none c = calls_none
+
+pub returns-clause-one_set : goal.returns-clause-one_set
+returns-clause-one_set c = λ names requests set other apart one two. one_merged names requests apart set other one two

@@ -4,4 +4,9 @@ use Rattle.ext_locks.proofs.locks.open_words.Given as goal
 
 abbrev pub invariant-loop-number : goal.invariant-loop-number
 invariant-loop-number l =
-    (l.dealer.table_id ≡ l.table.shared.table_id) × (l.dealer.me.0.next ≡ Some l.number) × (vec_len l.made ≡ l.number) × (vec_capacity l.made ≡ l.fn.lanes) × (l.made.items ≡ fresh_lanes l.table.shared.table_id l.number)
+    (l.dealer.table_id ≡ l.table.shared.table_id)
+    × (l.dealer.me.0.next ≡ Some l.number)
+    × (l.dealer.me.0.lanes ≡ l.lanes)
+    × (vec_len l.made ≡ l.number)
+    × (vec_capacity l.made ≡ l.lanes)
+    × (l.made.items ≡ fresh_lanes l.table.shared.table_id l.lanes l.number)

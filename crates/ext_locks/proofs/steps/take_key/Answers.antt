@@ -1,6 +1,6 @@
 use Rattle.std.proofs.Common.{eq-eqb, refl, arith}
 use Rattle.std.proofs.lemmas.Bool.{ne_eqb, both_ways}
-use Rattle.ext_locks.proofs.Trying.{all_makes, all_held, all_taken, all_contended, then_taken, tried_again}
+use Rattle.ext_locks.proofs.Trying.{all_makes, all_held, all_taken, all_contended, all_steps, then_taken, then_steps, tried_again}
 use Rattle.ext_locks.proofs.steps.take_key.Goals as goal
 
 pub returns-then-not-is_free-clause-missed : goal.returns-then-not-is_free-clause-missed
@@ -44,3 +44,15 @@ returns-then-is_free-clause-why c =
 pub returns-else-is_free-clause-why : goal.returns-else-is_free-clause-why
 returns-else-is_free-clause-why c =
     all_taken c.args.seat.now c.look-found.new.seat c.loop-attempt.seat _ _ _ _ _ c.look-found.ensures.table c.look-found.ensures.step c.loop-attempt.invariant c.args.mode c.args.tries (λ free. both_ways _ c.if-is_free.false (c.is_free-2.ensures.1 free)) c.requires.unheld
+
+pub returns-then-not-is_free-clause-steps : goal.returns-then-not-is_free-clause-steps
+returns-then-not-is_free-clause-steps c = all_steps c.args.seat.now c.look-found.new.seat c.loop-attempt.seat _ _ _ _ _ c.look-found.ensures.table c.look-found.ensures.step c.loop-attempt.invariant c.args.tries (omega arith)
+
+pub returns-then-next-found-clause-steps : goal.returns-then-next-found-clause-steps
+returns-then-next-found-clause-steps c = then_steps c.args.seat.now c.look-found.new.seat c.loop-attempt.seat _ _ _ _ _ c.look-found.ensures.table c.look-found.ensures.step c.loop-attempt.invariant c.take_if-next.new.seat _ _ _ _ c.take_if-next.ensures.step (omega arith)
+
+pub returns-then-is_free-clause-steps : goal.returns-then-is_free-clause-steps
+returns-then-is_free-clause-steps c = all_steps c.args.seat.now c.look-found.new.seat c.loop-attempt.seat _ _ _ _ _ c.look-found.ensures.table c.look-found.ensures.step c.loop-attempt.invariant c.args.tries (omega arith)
+
+pub returns-else-is_free-clause-steps : goal.returns-else-is_free-clause-steps
+returns-else-is_free-clause-steps c = all_steps c.args.seat.now c.look-found.new.seat c.loop-attempt.seat _ _ _ _ _ c.look-found.ensures.table c.look-found.ensures.step c.loop-attempt.invariant c.args.tries (omega arith)

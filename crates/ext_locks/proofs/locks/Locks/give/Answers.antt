@@ -12,7 +12,7 @@ give_keys-requires-clause-keys c =
 
 pub give_keys-requires-clause-held : goal.give_keys-requires-clause-held
 give_keys-requires-clause-held c =
-    still_held c.held.inside.taken.value c.args.lane.now c.args.held c.lane.inside.seat c.lane.inside.number c.set.inside.modes c.held.inside.set c.lane.view_is c.set.view_is c.held.view_is c.held.invariant.0 c.requires.held
+    still_held _ c.held.inside.taken.value c.args.lane.now c.args.held c.lane.inside.seat c.lane.inside.number c.set.inside.modes c.held.inside.set c.lane.view_is c.set.view_is c.held.view_is c.held.invariant.0 c.requires.held
 
 pub invariant_of-lane : goal.invariant_of-lane
 invariant_of-lane c = kept c.lane.inside.seat c.give_keys.new.seat c.lane.inside.number _ c.lane.invariant c.give_keys.ensures.events

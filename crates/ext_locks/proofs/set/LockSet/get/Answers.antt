@@ -1,4 +1,4 @@
-use Rattle.std.proofs.Common.{◌+◌, [], ◌∷◌, length, take, sym, ap, arith, length-append}
+use Rattle.std.proofs.Common.{[], ◌∷◌, length, take, sym, ap, arith, length-append}
 use Rattle.std.proofs.lemmas.List.{take_all}
 use Rattle.std.proofs.lemmas.Option.{slice_get_past}
 use Rattle.ext_locks.specs.Sets.{locks_of}
