@@ -1,5 +1,5 @@
 -- What holds of the shares that are cut off one after another.
-use Rattle.std.proofs.Common.{◌≡◌, ℕ, ◌+◌, ◌-◌, ◌*◌, ◌/◌, ◌%◌, ◌<◌, ◌≤◌, min, suc, List, [], ◌∷◌, length, map, ap, ap₂, ◌∙◌, sym, refl, subst, arith, length-drop}
+use Rattle.std.proofs.Common.{◌≡◌, ℕ, ◌+◌, ◌-◌, ◌*◌, ◌/◌, ◌%◌, ◌<◌, ◌≤◌, min, suc, List, [], ◌∷◌, length, map, ap, ap₂, ◌∙◌, sym, subst, arith, length-drop, length-take}
 use native.Mathlib.Nat.{suc-mul, zero-mul}
 use mathlib.Core.Logic.{⊎_elim}
 use Rattle.std.proofs.lemmas.Bool.{cases_lt}
@@ -9,7 +9,7 @@ use Rattle.std.proofs.lemmas.List.{drop-drop}
 use Rattle.ext_crew.specs.Dealing.{Share, front, back, InTurn, WorkedFrom}
 use Rattle.ext_crew.specs.Hands.{IsCut, EachShare, EachShareChanges, AllShares, AllSharesChange}
 use Rattle.ext_crew.specs.declared.done.Done.{Done}
-use Rattle.ext_crew.proofs.Turns.{all_head, all_tail}
+use Rattle.std.proofs.lemmas.List.Elements.{All-head, All-tail, All-cons}
 
 -- a part of what is left is a part of the whole
 pub back-back : {A B : Type 0} (n m : ℕ) (s : Share A B) → back n (back m s) ≡ back (m + n) s
@@ -29,6 +29,16 @@ cut-rest size longer count s cut =
 pub share_fits : {A B : Type 0} (size longer count : ℕ) (s : Share A B) → IsCut size longer (suc count) s → size + min 1 longer ≤ length s.first
 share_fits size longer count s cut = let k = suc-mul count size in omega arith
 
+-- a worker's share has so many elements of both slices
+pub share-length : {A B : Type 0} (size longer count : ℕ) (s : Share A B) → IsCut size longer (suc count) s
+    → (length (front (size + min 1 longer) s).first ≡ size + min 1 longer) × (length (front (size + min 1 longer) s).second ≡ size + min 1 longer)
+share-length size longer count s cut =
+    let fits = share_fits size longer count s cut in
+    let same = cut.1 in
+    let a = length-take (size + min 1 longer) s.first in
+    let b = length-take (size + min 1 longer) s.second in
+    (omega (arith, fits, a), omega (arith, fits, same, b))
+
 module _ {H A B : Type 0} (P : H → Share A B → Type 0) (Q : H → Type 0) (C : Share A B → Type 0) (size : ℕ) (some : 0 < size) (at : (h : H) (u : Share A B) → Q h → C u → P h u) where
   -- what holds of each hand at each part holds of each hand and its share
   pub each_from : (longer : ℕ) (hands : List H) (s : Share A B) → IsCut size longer (length hands) s → All Q hands
@@ -38,8 +48,8 @@ module _ {H A B : Type 0} (P : H → Share A B → Type 0) (Q : H → Type 0) (C
       let m = size + min 1 longer in
       let fits = share_fits size longer (length hs) s cut in
       let left = length-drop m s.first in (
-        at h (front m s) (all_head Q h hs all) (parts 0 m (omega arith) (omega arith)),
-        each_from (longer - 1) hs (back m s) (cut-rest size longer (length hs) s cut) (all_tail Q h hs all)
+        at h (front m s) (All-head Q h hs all) (parts 0 m (omega arith) (omega arith)),
+        each_from (longer - 1) hs (back m s) (cut-rest size longer (length hs) s cut) (All-tail Q h hs all)
             (λ from n p l. subst (λ (u : Share A B). C (front n u)) (sym (back-back from m s)) (parts (m + from) n p (omega arith))),
       )
 
@@ -61,17 +71,17 @@ module _ {H A B : Type 0} (R : H → Share A B → H → Share A B → Type 0) (
   worked_from runs Q done at longer (h ∷ hs) s [] t all changes = absurd changes
   worked_from runs Q done at longer (h ∷ hs) s (k ∷ ks) t all changes =
       let m = size + min 1 longer in
-      (at h (front m s) k (front m t) (all_head Q h hs all) changes.0, worked_from runs Q done at (longer - 1) hs (back m s) ks (back m t) (all_tail Q h hs all) changes.1)
+      (at h (front m s) k (front m t) (All-head Q h hs all) changes.0, worked_from runs Q done at (longer - 1) hs (back m s) ks (back m t) (All-tail Q h hs all) changes.1)
 
-  -- and each has done what it held
-  pub same_numbers : (held done : H → List ℕ) → ((h : H) (s : Share A B) (k : H) (t : Share A B) → R h s k t → done k ≡ held h)
-      → (longer : ℕ) (hs : List H) (s : Share A B) (ks : List H) (t : Share A B) → EachShareChanges R size longer hs s ks t → map done ks ≡ map held hs
-  same_numbers held done at longer [] s [] t changes = refl
-  same_numbers held done at longer [] s (k ∷ ks) t changes = absurd changes
-  same_numbers held done at longer (h ∷ hs) s [] t changes = absurd changes
-  same_numbers held done at longer (h ∷ hs) s (k ∷ ks) t changes =
+  -- and what such a call says of a hand holds of each
+  all_hands : (Q : H → Type 0) → ((h : H) (s : Share A B) (k : H) (t : Share A B) → R h s k t → Q k)
+      → (longer : ℕ) (hs : List H) (s : Share A B) (ks : List H) (t : Share A B) → EachShareChanges R size longer hs s ks t → All Q ks
+  all_hands Q at longer [] s [] t changes = λ k d l. absurd (omega arith)
+  all_hands Q at longer [] s (k ∷ ks) t changes = absurd changes
+  all_hands Q at longer (h ∷ hs) s [] t changes = absurd changes
+  all_hands Q at longer (h ∷ hs) s (k ∷ ks) t changes =
       let m = size + min 1 longer in
-      ap₂ ◌∷◌ (at h (front m s) k (front m t) changes.0) (same_numbers held done at (longer - 1) hs (back m s) ks (back m t) changes.1)
+      All-cons Q k ks (at h (front m s) k (front m t) changes.0) (all_hands Q at (longer - 1) hs (back m s) ks (back m t) changes.1)
 
   -- the same of the records
   pub worked-from : {O : Type 0} (runs : ℕ → Share A B → O → Share A B → Type 0) (Q : H → Type 0) (done : H → List (Done O)) {longer : ℕ} {hs : List H} {s : Share A B} {ks : List H} {t : Share A B}
@@ -79,9 +89,9 @@ module _ {H A B : Type 0} (R : H → Share A B → H → Share A B → Type 0) (
       → WorkedFrom runs size longer (map done ks) s t
   worked-from runs Q done {longer} {hs} {s} {ks} {t} all changes at = worked_from runs Q done at longer hs s ks t all changes.each
 
-  pub same-numbers : (held done : H → List ℕ) {longer : ℕ} {hs : List H} {s : Share A B} {ks : List H} {t : Share A B}
-      → AllSharesChange R size longer hs s ks t → ((h : H) (u : Share A B) (k : H) (v : Share A B) → R h u k v → done k ≡ held h) → map done ks ≡ map held hs
-  same-numbers held done {longer} {hs} {s} {ks} {t} changes at = same_numbers held done at longer hs s ks t changes.each
+  pub all-hands : (Q : H → Type 0) {longer : ℕ} {hs : List H} {s : Share A B} {ks : List H} {t : Share A B}
+      → AllSharesChange R size longer hs s ks t → ((h : H) (u : Share A B) (k : H) (v : Share A B) → R h u k v → Q k) → All Q ks
+  all-hands Q {longer} {hs} {s} {ks} {t} changes at = all_hands Q at longer hs s ks t changes.each
 
 -- what holds of a hand and a share holds of the same, as references show them
 pub moved_share : {H A B : Type 0} (X : H → Share A B → Type 0) {h k : H} {s t : Share A B} → k ≡ h → t.first ≡ s.first → t.second ≡ s.second → X h s → X k t

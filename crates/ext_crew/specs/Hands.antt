@@ -1,27 +1,8 @@
--- Words for the contracts within the crate: the jobs that a worker holds, its share, and the places of outcomes. No public call names them. Own rules.
-use Rattle.std.specs.Prelude.{◌≡◌, ℕ, ◌+◌, ◌-◌, ◌*◌, ◌≤◌, min, length, Option, Some, List, [], ◌∷◌, ⊤, map, All, slice_get, slice_set, vec_capacity}
-use Rattle.std.specs.VecDeque.{deque_len}
+-- Words for the contracts within the crate: the shares of the workers, and what holds of each of them. No public call names them. Own rules.
+use Rattle.std.specs.Prelude.{◌≡◌, ℕ, ◌+◌, ◌-◌, ◌*◌, ◌≤◌, min, length, List, [], ◌∷◌, ⊤}
 use denote.Ref.{MutBor}
 use denote.Param.Members.{Shared}
 use Rattle.ext_crew.specs.Dealing.{Share, front, back}
-use Rattle.ext_crew.specs.declared.done.Done.{Done}
-use Rattle.ext_crew.specs.declared.job.Job.{Job}
-use Rattle.ext_crew.specs.declared.hand.Hand.{Hand}
-
--- each job has the item of its place
-abbrev pub Fits : {T : Type 0} → List T → List (Job T) → Type 0
-Fits items jobs = All (λ j. slice_get items j.index ≡ Some j.item) jobs
-
-module _ {T O M : Type 0} where
-  -- nothing was run yet, and there is room for what the jobs give
-  abbrev pub IsReady : Hand T O M → Type 0
-  IsReady hand = (hand.done.items ≡ []) × (deque_len hand.jobs ≤ vec_capacity hand.done)
-
-  abbrev pub jobs_held : Hand T O M → List ℕ
-  jobs_held hand = map (λ j. j.index) hand.jobs.items
-
-  abbrev pub jobs_done : Hand T O M → List ℕ
-  jobs_done hand = map (λ d. d.job) hand.done.items
 
 -- both lists make so many shares of `size` elements, of which the first `longer` ones have one more
 abbrev pub IsCut : {A B : Type 0} → ℕ → ℕ → ℕ → Share A B → Type 0
@@ -63,8 +44,3 @@ module _ {F H A B : Type 0} (g : Shared F (MutBor H × (MutBor (List A) × (MutB
     pub second_left : MutBor (List B)
     pub call : g.post f (hand, (first, (second, tt))) (tt, (hand_left, (first_left, (second_left, tt))))
     pub left : (hand_left.now ≡ k) × (first_left.now ≡ t.first) × (second_left.now ≡ t.second)
-
--- the places, with each outcome at that of its job
-abbrev pub placed : {O : Type 0} → List (Option O) → List (Done O) → List (Option O)
-placed places [] = places
-placed places (d ∷ done) = placed (slice_set places d.job (Some d.outcome)) done

@@ -3,11 +3,12 @@ ghost use Rattle.std.specs.Prelude.{◌≡◌, ℕ, ◌+◌, ◌/◌, ◌%◌, �
 ghost use denote.Param.Send.{IsSync, IsSend, Frees};
 ghost use Rattle.ext_crew.specs.Dealing.{Share, RunByDealing, Runs, Accepts, AcceptsParts, InTurn, WorkedFrom};
 ghost use Rattle.ext_crew.specs.declared.fault.CrewFault.TheVariants.{Memory};
-ghost use Rattle.ext_crew.specs.Hands.{Fits, IsReady, IsCut, jobs_held, jobs_done};
+ghost use Rattle.ext_crew.specs.Counter.{given_of, IsCounter, IsReady, HasWorked};
+ghost use Rattle.ext_crew.specs.Hands.{IsCut};
 
-use crate::deal::deal;
-use crate::hand::{Hand, work};
-use crate::outcomes::{all_placed, empty_places, take_outcomes};
+use crate::counter::{open_counter, take_outcomes};
+use crate::hand::{join_hands, make_hands, work};
+use crate::rule::{Counter, Hand};
 use crate::workers::for_each_share;
 use crate::{CrewFault, Gate};
 use std::alloc::Allocator;
@@ -19,14 +20,16 @@ use std::thread::Threads;
 ///
 /// Both slices have the same length, 1 to 16, and there are at most 256 items, possibly none. There are as many
 /// workers as the smaller of that length and the number of items. Each is lent its own consecutive share of both
-/// slices; the lengths of the shares differ by at most one, and longer ones come first. A worker runs its jobs one
-/// after another, each by one call of `run` with the index of the item, from 0, the item, and the worker's share of
-/// both slices as its earlier jobs left it. `run` has to take each item at any part of the slices, as any jobs left
-/// it. `gate` is told round each job. The call returns when every job has ended and every thread is joined.
+/// slices; the lengths of the shares differ by at most one, and longer ones come first. Workers draw jobs in the order
+/// of the items, each the next one when it has ended one, so which worker runs which job is not fixed. A job is one call
+/// of `run` with the index of the item, from 0, the item, and the worker's share of both slices as its earlier jobs left
+/// it. `run` has to take each item at any part of the slices, as any jobs left it. `gate` is told round each job. The
+/// call returns when every job has ended and every thread is joined.
 ///
 /// `Memory` is the only refusal: all memory is taken before the first job, so no job was run, both slices are as
-/// they were, and the items are dropped. With no items it never comes. The jobs of a worker for which no thread can
-/// be made are run by the calling thread.
+/// they were, and the items are dropped. With no items it never comes. Room is taken for each outcome once. A worker for
+/// which no thread can be made works on a thread of another worker, when that one has ended; the jobs that it would have drawn
+/// before are drawn by the others.
 ///
 /// JUnit 5 User Guide, section "Parallel Execution". Shares, limits and refusals are own rules.
 pub fn run_children<
@@ -67,10 +70,12 @@ pub fn run_children<
     let size = first.len() / workers;
     let longer = first.len() % workers;
     let mut outcomes = Vec::with_capacity(alloc.clone()?, count)?;
-    let places = empty_places(&alloc, count)?;
-    let mut hands = deal(&alloc, items, workers)?;
+    let (table, mut seat) = open_counter(&alloc, items)?;
+    let mut hands = make_hands(&alloc, &table.shared, &mut seat, workers)?;
     run_hands(
         rt,
+        &table.shared,
+        count,
         run,
         gate,
         size,
@@ -79,13 +84,14 @@ pub fn run_children<
         first,
         second,
     );
-    take_outcomes(all_placed(hands, places), &mut outcomes);
+    join_hands(&table.shared, &mut seat, hands);
+    take_outcomes(table, seat, &mut outcomes);
     Ok(outcomes)
 }
 
 /// Runs the hands, each with a share of its own. Takes no memory.
 fn run_hands<
-    R: Threads + Sync,
+    R: Threads + Wait + Sync,
     M: Allocator + Send,
     A: Send,
     B: Send,
@@ -95,36 +101,38 @@ fn run_hands<
     G: Gate + Sync,
 >(
     rt: &R,
+    counter: &Counter<T, O, M>,
+    count: usize,
     run: &F,
     gate: &G,
     size: usize,
     longer: usize,
-    hands: &mut [Hand<T, O, M>],
+    hands: &mut [Hand<T, O>],
     first: &mut [A],
     second: &mut [B],
 )
     requires size { 0 < size }
     requires cut { IsCut size longer (length hands.old)
         (record { first = first.old; second = second.old }) }
-    requires ready { All IsReady hands.old }
-    requires accepts { (items : List T) × All (λ h. Fits items h.jobs.items) hands.old
-        × AcceptsParts F.Fn run.now items
+    requires counter { IsCounter counter.now.table_id counter.now.key.value.items count }
+    requires ready { All (λ h. IsReady counter.now.table_id counter.now.key.value.items h) hands.old }
+    requires accepts { AcceptsParts F.Fn run.now counter.now.key.value.items
         (record { first = first.old; second = second.old }) }
-    ensures jobs { map jobs_done hands.new ≡ map jobs_held hands.old }
-    ensures worked { (items : List T) → All (λ h. Fits items h.jobs.items) hands.old →
-        WorkedFrom (Runs F.Fn run.now items) size longer (map (λ h. h.done.items) hands.new)
+    ensures jobs { All (λ h. HasWorked counter.now.table_id counter.now.key.value.items h) hands.new }
+    ensures worked { WorkedFrom (Runs F.Fn run.now counter.now.key.value.items) size longer
+        (map given_of hands.new)
         (record { first = first.old; second = second.old })
         (record { first = first.new; second = second.new }) }
 {
-    let each = |hand: &mut Hand<T, O, M>, first: &mut [A], second: &mut [B]|
-        requires ready { IsReady hand.old }
-        requires accepts { (items : List T) × Fits items hand.old.jobs.items × Accepts F.Fn run.now items
+    let each = |hand: &mut Hand<T, O>, first: &mut [A], second: &mut [B]|
+        requires counter { IsCounter counter.now.table_id counter.now.key.value.items count }
+        requires ready { IsReady counter.now.table_id counter.now.key.value.items hand.old }
+        requires accepts { Accepts F.Fn run.now counter.now.key.value.items
             (record { first = first.old; second = second.old }) }
-        ensures jobs { jobs_done hand.new ≡ jobs_held hand.old }
-        ensures worked { (items : List T) → Fits items hand.old.jobs.items →
-            InTurn (Runs F.Fn run.entry.now items) hand.new.done.items
+        ensures jobs { HasWorked counter.entry.now.table_id counter.entry.now.key.value.items hand.new }
+        ensures worked { InTurn (Runs F.Fn run.entry.now counter.entry.now.key.value.items) hand.new.me.0.given
             (record { first = first.old; second = second.old })
             (record { first = first.new; second = second.new }) }
-    { work(run, gate, hand, first, second) };
+    { work(rt, counter, count, run, gate, hand, first, second) };
     for_each_share(rt, &each, size, longer, hands, first, second);
 }

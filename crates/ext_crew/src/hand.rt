@@ -1,36 +1,42 @@
-//! The jobs of one worker.
-ghost use Rattle.std.specs.Prelude.{◌≡◌, List, [], ◌∷◌, ◌++◌, OnOk};
+//! What the workers have in hand, and how they work with it.
+ghost use Rattle.std.specs.Prelude.{◌≡◌, ◌-◌, ◌≤◌, [], length, vec_len, All, IfOk, flat_map};
+ghost use Rattle.ext_crew.specs.Counter.{drawn, draws_of, given_of, IsCounter, IsReady, HasWorked, IsFirst};
 ghost use Rattle.ext_crew.specs.Dealing.{Share, Runs, Accepts, InTurn};
-ghost use Rattle.ext_crew.specs.Hands.{Fits, IsReady, jobs_held, jobs_done};
 
-use crate::job::{Job, run_job};
-use crate::{Done, Gate};
+use crate::Gate;
+use crate::counter::{draw, put_outcome};
+use crate::job::run_job;
+use crate::rule::{Counter, Hand, Hires};
 use std::alloc::{AllocError, Allocator};
-use std::collections::VecDeque;
+use std::sync::Wait;
 
-/// The jobs of one worker, in the order in which it runs them, and room for what they give.
-#[derive(Drop)]
-pub struct Hand<T, O, M: Allocator> {
-    pub jobs: VecDeque<Job<T>, M>,
-    pub done: Vec<Done<O>, M>,
-}
-
-impl<T: Drop, O: Drop, M: Allocator> Hand<T, O, M> {
-    /// Takes a job, and makes room for what it gives, so that the worker needs no memory.
-    pub fn add(&mut self, job: Job<T>) -> Result<(), AllocError>
-        requires { IsReady self.old }
-        ensures { OnOk result (IsReady self.new
-            × (self.new.jobs.items ≡ self.old.jobs.items ++ job ∷ [])) }
-    {
-        self.done.reserve(self.jobs.len() + 1)?;
-        self.jobs.reserve(1)?;
-        self.jobs.push_back_reserved(job);
-        Ok(())
+/// A hand for each worker, split off the first seat. No more memory is needed from here on.
+pub(crate) fn make_hands<T: Drop, O: Drop, M: Allocator + Clone>(
+    alloc: &M,
+    counter: &Counter<T, O, M>,
+    first: &mut Hand<T, O>,
+    workers: usize,
+) -> Result<Vec<Hand<T, O>, M>, AllocError>
+    requires counter { IsCounter counter.now.table_id counter.now.key.value.items (length counter.now.key.value.items) }
+    requires workers { workers ≤ 16 }
+    requires first { (first.old.table_id ≡ counter.now.table_id)
+        × (first.old.me ≡ (drawn 17 [] [] counter.now.key.value.items, [])) }
+    ensures count { IfOk result (λ v. vec_len v ≡ workers) }
+    ensures ready { IfOk result (λ v. All (λ h. IsReady counter.now.table_id counter.now.key.value.items h) v.items) }
+    ensures first { IfOk result (λ v. (first.new.table_id ≡ first.old.table_id)
+        × (first.new.me ≡ (drawn (17 - workers) [] [] counter.now.key.value.items, []))) }
+{
+    let mut hands = Vec::with_capacity(alloc.clone()?, workers)?;
+    for _ in 0..workers {
+        hands.push_reserved(counter.split_seat::<Hires>(first));
     }
+    Ok(hands)
 }
 
-/// Runs the jobs of one worker, one after another, and notes what they give. Takes no memory.
-pub fn work<
+/// Runs jobs as they are drawn, one after another, until there are no more, and puts each outcome into the slot of its job.
+/// Takes no memory.
+pub(crate) fn work<
+    R: Wait,
     M: Allocator,
     A,
     B,
@@ -38,18 +44,46 @@ pub fn work<
     O: Drop,
     F: Fn(usize, T, &mut [A], &mut [B]) -> O,
     G: Gate,
->(run: &F, gate: &G, hand: &mut Hand<T, O, M>, first: &mut [A], second: &mut [B])
-    requires ready { IsReady hand.old }
-    requires accepts { (items : List T) × Fits items hand.old.jobs.items × Accepts F.Fn run.now items
+>(
+    rt: &R,
+    counter: &Counter<T, O, M>,
+    count: usize,
+    run: &F,
+    gate: &G,
+    hand: &mut Hand<T, O>,
+    first: &mut [A],
+    second: &mut [B],
+)
+    requires counter { IsCounter counter.now.table_id counter.now.key.value.items count }
+    requires ready { IsReady counter.now.table_id counter.now.key.value.items hand.old }
+    requires accepts { Accepts F.Fn run.now counter.now.key.value.items
         (record { first = first.old; second = second.old }) }
-    ensures jobs { jobs_done hand.new ≡ jobs_held hand.old }
-    ensures worked { (items : List T) → Fits items hand.old.jobs.items →
-        InTurn (Runs F.Fn run.now items) hand.new.done.items
+    ensures jobs { HasWorked counter.now.table_id counter.now.key.value.items hand.new }
+    ensures worked { InTurn (Runs F.Fn run.now counter.now.key.value.items) hand.new.me.0.given
         (record { first = first.old; second = second.old })
         (record { first = first.new; second = second.new }) }
 {
-    while let Some(job) = hand.jobs.pop_front() {
-        hand.done
-            .push_reserved(run_job(run, gate, job, first, second));
+    while let Some(job) = draw(rt, counter, hand, count) {
+        let done = run_job(run, gate, job, first, second);
+        put_outcome(counter, hand, done);
+    }
+}
+
+/// Joins all hands into the first seat, which then has what they have drawn and given back. Takes no memory.
+pub(crate) fn join_hands<T: Drop, O: Drop, M: Allocator>(
+    counter: &Counter<T, O, M>,
+    first: &mut Hand<T, O>,
+    hands: Vec<Hand<T, O>, M>,
+)
+    requires counter { IsCounter counter.now.table_id counter.now.key.value.items (length counter.now.key.value.items) }
+    requires first { IsFirst counter.now.table_id first.old (length hands.items) }
+    requires none { (first.old.me.0.draws ≡ []) × (first.old.me.0.given ≡ []) }
+    requires worked { All (λ h. HasWorked counter.now.table_id counter.now.key.value.items h) hands.items }
+    ensures first { IsFirst counter.now.table_id first.new 0 }
+    ensures draws { first.new.me.0.draws ≡ flat_map draws_of hands.items }
+    ensures given { first.new.me.0.given ≡ flat_map given_of hands.items }
+{
+    for hand in hands {
+        counter.join_seat::<Hires>(first, hand);
     }
 }
