@@ -1,6 +1,6 @@
 -- The words of a legal history: what each tells, and what they are after one more event.
 use Rattle.std.proofs.Common.{◌≡◌, ◌≢◌, inl, inr, ℕ, ◌+◌, ◌^◌, ◌<◌, ◌≤◌, Bool, true, false, List, [], ◌∷◌, ◌++◌, get_or, set, length-set, get_or-set_same, get_or-set_other, refl, sym, ap, subst, ◌∙◌, arith, nat_eq, Option, None, Some, Contains, eq-eqb}
-use Rattle.std.specs.Prelude.{if◌then◌else◌}
+use Rattle.std.specs.Prelude.{if◌then◌else◌, unwrap_or}
 use Rattle.std.proofs.lemmas.Bool.{ne_eqb}
 use Rattle.std.proofs.lemmas.List.Elements.{Contains-push_cases}
 use mathlib.Core.Logic.{dite}
@@ -11,9 +11,9 @@ use Rattle.ext_model.specs.declared.event.Event.{Event}
 use Rattle.ext_model.specs.declared.slot.Slot.{Slot}
 use Rattle.ext_model.specs.declared.slot.Slot.TheVariants as slot
 use Rattle.ext_model.specs.State.{standing}
-use Rattle.ext_model.specs.Events.{slot_after, drawn_after, is_on}
+use Rattle.ext_model.specs.Events.{slot_after, drawn_after, place_of, is_at, is_on}
 use Rattle.ext_model.specs.History.{History, Limits, by, state_after, version_of, IsAllowed, IsLegal}
-use Rattle.ext_model.specs.Words.{state_code, number_code, word, slot_word, word_of}
+use Rattle.ext_model.specs.Words.{state_code, number_code, word, slot_word}
 use Rattle.ext_model.proofs.Legal.{after-push, legal_induct}
 use Rattle.ext_model.proofs.Lists.{contains_none}
 use Rattle.ext_model.proofs.Numbers.{bounded}
@@ -21,7 +21,7 @@ use Rattle.ext_model.proofs.Claims.{claim_can_end, can_be_sealed}
 use Rattle.ext_model.proofs.Words.{word-event, word-elsewhere, drawn-push}
 use Rattle.ext_cells.specs.declared.cell_state.CellState.TheVariants.{Sealed}
 use Rattle.ext_cells.specs.Words.{code}
-use Rattle.ext_cells.specs.Rule.{AreWordsOf}
+use Rattle.ext_cells.specs.Rule.{IsWordAt, AreWordsOf, place_in}
 use Rattle.ext_cells.specs.Deciding.{state_of, IsNumbered, IsCellWord}
 
 -- ---- a number that stands is not 0
@@ -83,46 +83,70 @@ room h cell (Some (slot.Entry number)) is legal ne = can_be_sealed h cell legal 
 room h cell (Some (slot.Claim lane)) is legal ne = let l = claim_can_end h lane cell legal is in omega (arith, l)
 room h cell (Some (slot.Sealed kept)) is legal ne = absurd (ne refl)
 
-pub cell_word : {limits : Limits} (h : History) (words : List ℕ) (cell : ℕ) → limits.numbers < 2 ^ 20 → IsLegal limits h → AreWordsOf h words → cell < 31
-    → IsCellWord ((state_after h).slots cell) (version_of h cell) (get_or words cell 0)
-cell_word h words cell few legal are small =
+pub cell_word : {limits : Limits} (h : History) (cell w : ℕ) → limits.numbers < 2 ^ 20 → IsLegal limits h → IsWordAt limits h cell w → cell < limits.cells → IsCellWord ((state_after h).slots cell) (version_of h cell) w
+cell_word h cell w few legal at within =
     let least = (bounded h legal).slots cell in record {
-      is = are.cells cell small ∙ ap (λ k. word k (number_code ((state_after h).slots cell)) (version_of h cell)) (code_is ((state_after h).slots cell));
+      is = at.cell within ∙ ap (λ k. word k (number_code ((state_after h).slots cell)) (version_of h cell)) (code_is ((state_after h).slots cell));
       fits = omega (arith, least, few);
       numbered = numbered h legal cell;
       room = room h cell ((state_after h).slots cell) refl legal;
     }
 
+-- a place has one word
+pub one_word : (limits : Limits) (h : History) (place v w : ℕ) → place ≤ limits.cells → IsWordAt limits h place v → IsWordAt limits h place w → v ≡ w
+one_word limits h place v w within a b = dite (ℕ_discrete place limits.cells)
+    (λ last. a.count last ∙ sym (b.count last))
+    (λ (ne : place ≡ limits.cells → ⊥). let less : place < limits.cells = omega (arith, within, ne) in a.cell less ∙ sym (b.cell less))
+
 -- ---- after one more event
 
--- the act is on this cell and on no other
-pub record IsOn (cell : ℕ) (act : Act ℕ) : Type 0 where
-  pub here : is_on nat_eq cell act ≡ true
-  pub elsewhere : (other : ℕ) → other ≢ cell → is_on nat_eq other act ≡ false
-  pub no_keep : (drawn : ℕ) → drawn_after act drawn ≡ drawn
-
--- the word of its cell is changed
-pub words_after : (h : History) (lane : ℕ) (act : Act ℕ) (cell next : ℕ) (words : List ℕ) → cell < 31 → IsOn cell act → AreWordsOf h words
-    → next ≡ slot_word (slot_after lane act ((state_after h).slots cell)) (version_of h cell + 1) → AreWordsOf (h ++ by lane act ∷ []) (set words cell next)
-words_after h lane act cell next words small on are is = record {
-  wide = length-set words cell next ∙ are.wide;
-  cells = λ other less. dite (ℕ_discrete other cell)
-      (λ same. subst (λ k. get_or (set words cell next) k 0 ≡ word_of (h ++ by lane act ∷ []) k) (sym same)
-      (get_or-set_same words cell next 0 (let wide = are.wide in omega (arith, wide, small)) ∙ is ∙ sym (word-event h (by lane act) cell on.here)))
-      (λ ne. get_or-set_other words cell other next 0 ne ∙ are.cells other less ∙ sym (word-elsewhere h (by lane act) other (on.elsewhere other ne)));
-  count = get_or-set_other words cell 31 next 0 (λ e. omega (arith, e, small)) ∙ are.count ∙ sym (drawn-push h (by lane act) ∙ on.no_keep (state_after h).drawn);
-}
-
--- the count is changed where a number is drawn
-pub words_keep : (h : History) (lane number : ℕ) (words : List ℕ) → AreWordsOf h words → AreWordsOf (h ++ by lane (Keep number) ∷ []) (set words 31 (get_or words 31 0 + 1))
-words_keep h lane number words are = let next : ℕ = get_or words 31 0 + 1 in record {
-  wide = length-set words 31 next ∙ are.wide;
-  cells = λ other less. get_or-set_other words 31 other next 0 (λ e. omega (arith, e, less)) ∙ are.cells other less ∙ sym (word-elsewhere h (by lane (Keep number)) other refl);
-  count = get_or-set_same words 31 next 0 (let wide = are.wide in omega (arith, wide)) ∙ ap (λ k. k + 1) are.count ∙ sym (drawn-push h (by lane (Keep number)));
-}
-
-pub on_same : (cell : ℕ) → nat_eq cell cell ≡ true
+on_same : (cell : ℕ) → nat_eq cell cell ≡ true
 on_same cell = eq-eqb cell cell refl
 
-pub off_other : (cell other : ℕ) → other ≢ cell → nat_eq cell other ≡ false
+off_other : (cell other : ℕ) → other ≢ cell → nat_eq cell other ≡ false
 off_other cell other ne = ne_eqb cell other (λ e. ne (sym e))
+
+-- the word of the cell that the act is on
+pub word_after : (limits : Limits) (h : History) (lane : ℕ) (act : Act ℕ) (cell next : ℕ) → place_of act ≡ Some cell → cell < limits.cells → next ≡ slot_word (slot_after lane act ((state_after h).slots cell)) (version_of h cell + 1)
+    → IsWordAt limits (h ++ by lane act ∷ []) cell next
+word_after limits h lane act cell next on within is = record {
+  cell = λ less. is ∙ sym (word-event h (by lane act) cell (ap (is_at nat_eq cell) on ∙ on_same cell));
+  count = λ last. absurd (omega (arith, within, last));
+}
+
+-- the count, where a number is drawn
+pub count_after : (limits : Limits) (h : History) (lane number count : ℕ) → IsWordAt limits h limits.cells count → IsWordAt limits (h ++ by lane (Keep number) ∷ []) limits.cells (count + 1)
+count_after limits h lane number count at = record {
+  cell = λ less. absurd (omega (arith, less));
+  count = λ last. ap (λ k. k + 1) (at.count last) ∙ sym (drawn-push h (by lane (Keep number)));
+}
+
+off_place : (place cells : ℕ) (o : Option ℕ) → place ≢ unwrap_or o cells → is_at nat_eq place o ≡ false
+off_place place cells None ne = refl
+off_place place cells (Some at) ne = off_other at place ne
+
+no_draw : (limits : Limits) (act : Act ℕ) (place drawn : ℕ) → place ≢ place_in limits act → place ≡ limits.cells → drawn_after act drawn ≡ drawn
+no_draw limits (Keep number) place drawn ne last = absurd (ne last)
+no_draw limits (Put at number) place drawn ne last = refl
+no_draw limits (Remove at) place drawn ne last = refl
+no_draw limits (Claim at) place drawn ne last = refl
+no_draw limits (Fill at number) place drawn ne last = refl
+no_draw limits (Abandon at) place drawn ne last = refl
+no_draw limits (Seal at) place drawn ne last = refl
+
+-- all other places keep their words
+elsewhere : (limits : Limits) (h : History) (lane : ℕ) (act : Act ℕ) (place w : ℕ) → place ≢ place_in limits act → IsWordAt limits h place w → IsWordAt limits (h ++ by lane act ∷ []) place w
+elsewhere limits h lane act place w ne at = record {
+  cell = λ less. at.cell less ∙ sym (word-elsewhere h (by lane act) place (off_place place limits.cells (place_of act) ne));
+  count = λ last. at.count last ∙ sym (drawn-push h (by lane act) ∙ no_draw limits act place (state_after h).drawn ne last);
+}
+
+pub words_after : (limits : Limits) (h : History) (lane : ℕ) (act : Act ℕ) (place next : ℕ) (words : List ℕ) → place ≡ place_in limits act → place ≤ limits.cells → AreWordsOf limits h words → IsWordAt limits (h ++ by lane act ∷ []) place next
+    → AreWordsOf limits (h ++ by lane act ∷ []) (set words place next)
+words_after limits h lane act place next words here within are is = record {
+  wide = length-set words place next ∙ are.wide;
+  each = λ other. dite (ℕ_discrete other place)
+      (λ same. subst (λ k. IsWordAt limits (h ++ by lane act ∷ []) k (get_or (set words place next) k 0)) (sym same)
+      (subst (IsWordAt limits (h ++ by lane act ∷ []) place) (sym (get_or-set_same words place next 0 (let wide = are.wide in omega (arith, wide, within)))) is))
+      (λ (ne : other ≡ place → ⊥). subst (IsWordAt limits (h ++ by lane act ∷ []) other) (sym (get_or-set_other words place other next 0 ne)) (elsewhere limits h lane act other (get_or words other 0) (λ e. ne (e ∙ sym here)) (are.each other)));
+}

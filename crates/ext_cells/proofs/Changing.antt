@@ -1,11 +1,12 @@
 -- A put, a remove, a claim or a seal: what a decision on the cell's word means for the lane's call.
-use Rattle.std.proofs.Common.{◌≡◌, inl, inr, ℕ, ◌^◌, ◌<◌, Bool, true, false, List, [], ◌∷◌, ◌++◌, get_or, set, sym, ap, ◌∙◌, subst, arith, Option, None, Some, IfSome}
-use Rattle.std.specs.Prelude.{Result, Ok, Err}
+use Rattle.std.proofs.Common.{◌≡◌, inl, inr, ℕ, ◌^◌, ◌<◌, Bool, true, false, [], ◌∷◌, ◌++◌, sym, ap, ◌∙◌, subst, arith, Option, None, Some, IfSome}
+use Rattle.std.specs.Prelude.{Result, Ok, Err, unwrap_or}
 use Rattle.ext_model.specs.declared.event.Act.{Act}
 use Rattle.ext_model.specs.declared.event.Act.TheVariants.{Keep, Put, Remove, Claim, Fill, Abandon, Seal}
 use Rattle.ext_model.specs.declared.slot.Slot.{Slot}
 use Rattle.ext_model.specs.declared.slot.Slot.TheVariants as slot
 use Rattle.ext_model.specs.Events as events
+use Rattle.ext_model.specs.Events.{place_of}
 use Rattle.ext_model.specs.History.{History, Limits, by, stored_number, state_after, version_of, reply_after, IsAllowed}
 use Rattle.ext_model.specs.Allowed.{MayStore}
 use Rattle.ext_model.specs.Plain.{what_stood}
@@ -21,8 +22,8 @@ use Rattle.ext_cells.specs.Lanes.{Lane}
 use Rattle.ext_cells.specs.Calls.{result_of, change_reply}
 use Rattle.ext_cells.specs.Deciding.{IsCellWord, IsChange, reply_on, Decides}
 use Rattle.ext_cells.specs.Steps.{Finds, MayGoOn, IsChangeOf, idle_reply, Changes}
-use Rattle.ext_cells.proofs.CellWords.{IsOn, cell_word, words_after}
-use Rattle.ext_cells.proofs.Acts.{on_place, IsSmall}
+use Rattle.ext_cells.specs.Rule.{place_in}
+use Rattle.ext_cells.proofs.CellWords.{cell_word, word_after}
 use Rattle.ext_cells.proofs.Tries.{TriesOn, answered, made, goes_on, seen_on}
 
 -- what one thread replies to a change, by the cell
@@ -35,25 +36,28 @@ reply_is limits h lane cell (Fill at n) is = absurd is
 reply_is limits h lane cell (Abandon at) is = absurd is
 reply_is limits h lane cell (Seal at) is = ap (λ k. events.seal_reply ((state_after h).slots k)) is
 
-is_on_it : (cell : ℕ) (act : Act ℕ) → IsChangeOf cell act → IsOn cell act
-is_on_it cell (Keep n) is = absurd is
-is_on_it cell (Put at n) is = on_place cell (Put at n) (ap Some is)
-is_on_it cell (Remove at) is = on_place cell (Remove at) (ap Some is)
-is_on_it cell (Claim at) is = on_place cell (Claim at) (ap Some is)
-is_on_it cell (Fill at n) is = absurd is
-is_on_it cell (Abandon at) is = absurd is
-is_on_it cell (Seal at) is = on_place cell (Seal at) (ap Some is)
+pub place_is : (cell : ℕ) (act : Act ℕ) → IsChangeOf cell act → place_of act ≡ Some cell
+place_is cell (Keep n) is = absurd is
+place_is cell (Put at n) is = ap Some is
+place_is cell (Remove at) is = ap Some is
+place_is cell (Claim at) is = ap Some is
+place_is cell (Fill at n) is = absurd is
+place_is cell (Abandon at) is = absurd is
+place_is cell (Seal at) is = ap Some is
+
+pub place_in_is : (limits : Limits) (cell : ℕ) (act : Act ℕ) → place_of act ≡ Some cell → cell ≡ place_in limits act
+place_in_is limits cell act is = sym (ap (λ o. unwrap_or o limits.cells) is)
 
 -- a change that one thread makes is allowed, where the lane may store the number
-allowed_by : (limits : Limits) (h : History) (lane cell : ℕ) (act : Act ℕ) (answer : Option ℕ) → IsChangeOf cell act → cell < limits.cells → IfSome (stored_number act) (λ number. MayStore lane number h)
+allowed_by : (limits : Limits) (h : History) (lane cell : ℕ) (act : Act ℕ) (answer : Option ℕ) → IsChangeOf cell act → lane < limits.lanes → cell < limits.cells → IfSome (stored_number act) (λ number. MayStore lane number h)
     → reply_after limits h lane act ≡ events.Happens answer → IsAllowed limits h (by lane act)
-allowed_by limits h lane cell (Keep n) answer is less store happens = absurd is
-allowed_by limits h lane cell (Put at n) answer is less store happens = record { within = subst (λ k. k < limits.cells) (sym is) less; happens = (answer, happens); next = tt; drew = store.drew; fresh = store.fresh }
-allowed_by limits h lane cell (Remove at) answer is less store happens = record { within = subst (λ k. k < limits.cells) (sym is) less; happens = (answer, happens); next = tt; drew = tt; fresh = tt }
-allowed_by limits h lane cell (Claim at) answer is less store happens = record { within = subst (λ k. k < limits.cells) (sym is) less; happens = (answer, happens); next = tt; drew = tt; fresh = tt }
-allowed_by limits h lane cell (Fill at n) answer is less store happens = absurd is
-allowed_by limits h lane cell (Abandon at) answer is less store happens = absurd is
-allowed_by limits h lane cell (Seal at) answer is less store happens = record { within = subst (λ k. k < limits.cells) (sym is) less; happens = (answer, happens); next = tt; drew = tt; fresh = tt }
+allowed_by limits h lane cell (Keep n) answer is mine less store happens = absurd is
+allowed_by limits h lane cell (Put at n) answer is mine less store happens = record { lane = mine; within = subst (λ k. k < limits.cells) (sym is) less; happens = (answer, happens); next = tt; drew = store.drew; fresh = store.fresh }
+allowed_by limits h lane cell (Remove at) answer is mine less store happens = record { lane = mine; within = subst (λ k. k < limits.cells) (sym is) less; happens = (answer, happens); next = tt; drew = tt; fresh = tt }
+allowed_by limits h lane cell (Claim at) answer is mine less store happens = record { lane = mine; within = subst (λ k. k < limits.cells) (sym is) less; happens = (answer, happens); next = tt; drew = tt; fresh = tt }
+allowed_by limits h lane cell (Fill at n) answer is mine less store happens = absurd is
+allowed_by limits h lane cell (Abandon at) answer is mine less store happens = absurd is
+allowed_by limits h lane cell (Seal at) answer is mine less store happens = record { lane = mine; within = subst (λ k. k < limits.cells) (sym is) less; happens = (answer, happens); next = tt; drew = tt; fresh = tt }
 
 may_store : (limits : Limits) (lane : LaneView) (h : History) (o : Option ℕ) → GoesOn limits lane h → IfSome o (MayStoreNow lane) → IfSome o (λ number. MayStore lane.number number h)
 may_store limits lane h None on now = tt
@@ -68,9 +72,9 @@ fits_bits limits lane h number few on now =
     let most = b.drawn in
     omega (arith, least, most, few)
 
-is_change : (limits : Limits) (lane : LaneView) (h : History) (cell : ℕ) (act : Act ℕ) → IsSmall limits → GoesOn limits lane h → IsChangeOf cell act → IfSome (stored_number act) (MayStoreNow lane) → IsChange act
+is_change : (limits : Limits) (lane : LaneView) (h : History) (cell : ℕ) (act : Act ℕ) → limits.numbers < 2 ^ 20 → GoesOn limits lane h → IsChangeOf cell act → IfSome (stored_number act) (MayStoreNow lane) → IsChange act
 is_change limits lane h cell (Keep n) small on is now = absurd is
-is_change limits lane h cell (Put at n) small on is now = fits_bits limits lane h n small.numbers on now
+is_change limits lane h cell (Put at n) small on is now = fits_bits limits lane h n small on now
 is_change limits lane h cell (Remove at) small on is now = tt
 is_change limits lane h cell (Claim at) small on is now = tt
 is_change limits lane h cell (Fill at n) small on is now = absurd is
@@ -103,46 +107,43 @@ never_contended (Seal at) (Some (slot.Entry m)) v is e = cc e
 never_contended (Seal at) (Some (slot.Claim lane)) v is e = cc e
 never_contended (Seal at) (Some (slot.Sealed kept)) v is e = cc e
 
-module _ (before now : Lane) (words : List ℕ) (count cell : ℕ) (act : Act ℕ) (small : IsSmall before.cells.limits) (less : cell < before.cells.limits.cells) (is : IsChangeOf cell act)
-    (store : IfSome (stored_number act) (MayStoreNow before.view)) (c : TriesOn before now words count) where
-  pub here : cell < 31
-  here = let few = small.cells in omega (arith, few, less)
-
-  abbrev pub word_now : (stands : Option Slot) × (version : ℕ) × IsCellWord stands version (get_or words cell 0)
-  word_now = ((state_after (seen_by now.view)).slots cell, version_of (seen_by now.view) cell, cell_word (seen_by now.view) words cell small.numbers c.tries.calls.legal c.tries.words_are here)
+module _ (before now : Lane) (word count cell : ℕ) (act : Act ℕ) (small : before.cells.limits.numbers < 2 ^ 20) (less : cell < before.cells.limits.cells) (is : IsChangeOf cell act)
+    (store : IfSome (stored_number act) (MayStoreNow before.view)) (c : TriesOn before now cell word count) where
+  abbrev pub word_now : (stands : Option Slot) × (version : ℕ) × IsCellWord stands version word
+  word_now = ((state_after (seen_by now.view)).slots cell, version_of (seen_by now.view) cell, cell_word (seen_by now.view) cell word small c.tries.calls.legal c.tries.word_is less)
 
   pub act_now : IsChange act
-  act_now = is_change before.cells.limits before.view (seen_by now.view) cell act small (seen_on before.cells.limits before.view now.view words count c.tries) is store
+  act_now = is_change before.cells.limits before.view (seen_by now.view) cell act small (seen_on before.cells.limits before.view now.view cell word count c.tries) is store
 
-  module _ (next : ℕ) (answer : Option ℕ) (decided : (stands : Option Slot) (version : ℕ) → IsCellWord stands version (get_or words cell 0) → Decides act stands version (Change next answer)) where
-    at_point : (h : History) → Finds before.cells.limits now.view words h → Decides act ((state_after h).slots cell) (version_of h cell) (Change next answer)
-    at_point h f = decided ((state_after h).slots cell) (version_of h cell) (cell_word h words cell small.numbers f.on.legal f.words_are here)
+  module _ (next : ℕ) (answer : Option ℕ) (decided : (stands : Option Slot) (version : ℕ) → IsCellWord stands version word → Decides act stands version (Change next answer)) where
+    at_point : (h : History) → Finds before.cells.limits now.view cell word h → Decides act ((state_after h).slots cell) (version_of h cell) (Change next answer)
+    at_point h f = decided ((state_after h).slots cell) (version_of h cell) (cell_word h cell word small f.on.legal f.word_is less)
 
-    happens_at : (h : History) (lane : ℕ) → Finds before.cells.limits now.view words h → reply_after before.cells.limits h lane act ≡ events.Happens answer
+    happens_at : (h : History) (lane : ℕ) → Finds before.cells.limits now.view cell word h → reply_after before.cells.limits h lane act ≡ events.Happens answer
     happens_at h lane f = reply_is before.cells.limits h lane cell act is ∙ (at_point h f).0
 
-    may_at : (h : History) → Finds before.cells.limits now.view words h → MayGoOn before.cells.limits now.view h (set words cell next) act
+    may_at : (h : History) → Finds before.cells.limits now.view cell word h → MayGoOn before.cells.limits now.view h cell next act
     may_at h f =
         let number : now.view.number ≡ before.view.number = same_number before.cells.limits before.view now.view [] c.tries.calls in
-        let on = goes_on before.cells.limits before.view now.view words count c.tries h f.on in
+        let on = goes_on before.cells.limits before.view now.view cell word count c.tries h f.on in
         let mine : IfSome (stored_number act) (λ n. MayStore now.view.number n h) = subst (λ k. IfSome (stored_number act) (λ n. MayStore k n h)) (sym number) (may_store before.cells.limits before.view h (stored_number act) on store) in
         record {
-          allowed = allowed_by before.cells.limits h now.view.number cell act answer is less mine (happens_at h now.view.number f);
-          words_are = words_after h now.view.number act cell next words here (is_on_it cell act is) f.words_are ((at_point h f).1 now.view.number);
+          allowed = allowed_by before.cells.limits h now.view.number cell act answer is f.below less mine (happens_at h now.view.number f);
+          word_is = word_after before.cells.limits h now.view.number act cell next (place_is cell act is) less ((at_point h f).1 now.view.number);
         }
 
-    pub may_change : (h : History) → Finds now.cells.limits now.view words h → MayGoOn now.cells.limits now.view h (set words cell next) act
+    pub may_change : (h : History) → Finds now.cells.limits now.view cell word h → MayGoOn now.cells.limits now.view h cell next act
     may_change h f =
         let same = ap (λ z. z.limits) c.cells in
-        subst (λ l. MayGoOn l now.view h (set words cell next) act) (sym same) (may_at h (subst (λ l. Finds l now.view words h) same f))
+        subst (λ l. MayGoOn l now.view h cell next act) (sym same) (may_at h (subst (λ l. Finds l now.view cell word h) same f))
 
-    pub changed : (tries : ℕ) (after : Lane) (h : History) → Finds now.cells.limits now.view words h → after.view ≡ moved now.view ((h ++ by now.view.number act ∷ []) ∷ []) → Changes tries before after act (Ok answer)
+    pub changed : (tries : ℕ) (after : Lane) (h : History) → Finds now.cells.limits now.view cell word h → after.view ≡ moved now.view ((h ++ by now.view.number act ∷ []) ∷ []) → Changes tries before after act (Ok answer)
     changed tries after h f e =
-        let f' = subst (λ l. Finds l now.view words h) (ap (λ z. z.limits) c.cells) f in
-        inl (made before.cells.limits before.view now.view words count c.tries after.view act h (λ p. reply_after before.cells.limits p before.view.number act ≡ events.Happens answer) f'.on (may_at h f').allowed e (happens_at h before.view.number f'))
+        let f' = subst (λ l. Finds l now.view cell word h) (ap (λ z. z.limits) c.cells) f in
+        inl (made before.cells.limits before.view now.view cell word count c.tries after.view act h (λ p. reply_after before.cells.limits p before.view.number act ≡ events.Happens answer) f'.on (may_at h f').allowed e (happens_at h before.view.number f'))
 
   holds : (Fact : History → Type 0) → Fact (seen_by now.view) → HoldsAtPoint before.cells.limits before.view now.view [] Fact
-  holds Fact fact = answered before.cells.limits before.view now.view words count c.tries Fact fact
+  holds Fact fact = answered before.cells.limits before.view now.view cell word count c.tries Fact fact
 
   refused : (why : CellRefusal) → (let y : Result (Option ℕ) CellRefusal = Err why in result_of what_stood (reply_on act ((state_after (seen_by now.view)).slots cell) (version_of (seen_by now.view) cell)) ≡ y)
       → HoldsAtPoint before.cells.limits before.view now.view [] (λ p. change_reply before act p ≡ Err why)
@@ -150,7 +151,7 @@ module _ (before now : Lane) (words : List ℕ) (count cell : ℕ) (act : Act �
 
   answered_by : (tries : ℕ) (reply : Result (Option ℕ) CellRefusal) → Decides act ((state_after (seen_by now.view)).slots cell) (version_of (seen_by now.view) cell) (Done reply) → Changes tries before now act reply
   answered_by tries (Ok answer) d = inr (holds (λ p. reply_after before.cells.limits p before.view.number act ≡ idle_reply act answer) (reply_is before.cells.limits (seen_by now.view) before.view.number cell act is ∙ d))
-  answered_by tries (Err refusal.Contended) d = absurd (never_contended act _ _ act_now d)
+  answered_by tries (Err refusal.Contended) d = absurd (never_contended act ((state_after (seen_by now.view)).slots cell) (version_of (seen_by now.view) cell) act_now d)
   answered_by tries (Err refusal.Busy) d = refused refusal.Busy d
   answered_by tries (Err refusal.Closed) d = refused refusal.Closed d
   answered_by tries (Err refusal.Exhausted) d = refused refusal.Exhausted d
@@ -159,5 +160,15 @@ module _ (before now : Lane) (words : List ℕ) (count cell : ℕ) (act : Act �
   answered_by tries (Err refusal.BadLimit) d = refused refusal.BadLimit d
 
   -- a decision to answer is an answer by what was seen last
-  pub done : (tries : ℕ) (reply : Result (Option ℕ) CellRefusal) → ((stands : Option Slot) (version : ℕ) → IsCellWord stands version (get_or words cell 0) → Decides act stands version (Done reply)) → Changes tries before now act reply
+  pub done : (tries : ℕ) (reply : Result (Option ℕ) CellRefusal) → ((stands : Option Slot) (version : ℕ) → IsCellWord stands version word → Decides act stands version (Done reply)) → Changes tries before now act reply
   done tries reply decided = answered_by tries reply (decided _ _ word_now.2)
+
+  -- and one to change is the last word only where other lanes were in the way: the act would happen now
+  pub would_happen : (next : ℕ) (answer : Option ℕ) → ((stands : Option Slot) (version : ℕ) → IsCellWord stands version word → Decides act stands version (Change next answer))
+      → (a : Option ℕ) × (reply_after before.cells.limits (seen_by now.view) before.view.number act ≡ events.Happens a)
+  would_happen next answer decided = (answer, reply_is before.cells.limits (seen_by now.view) before.view.number cell act is ∙ (decided _ _ word_now.2).0)
+
+  -- a reply without an event is never `Contended`
+  pub settled_otherwise : (reply : Result (Option ℕ) CellRefusal) → ((stands : Option Slot) (version : ℕ) → IsCellWord stands version word → Decides act stands version (Done reply)) → reply ≡ Err refusal.Contended → ⊥
+  settled_otherwise (Ok answer) decided e = cc e
+  settled_otherwise (Err why) decided e = never_contended act word_now.0 word_now.1 act_now (decided word_now.0 word_now.1 word_now.2 ∙ e)

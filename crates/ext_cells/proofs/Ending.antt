@@ -1,18 +1,19 @@
 -- The end of a claim by its lane: whatever other lanes did meanwhile, the claim stands, and an exchange that meets the words ends it.
-use Rattle.std.proofs.Common.{◌≡◌, ℕ, ◌+◌, ◌^◌, ◌<◌, false, List, [], ◌∷◌, ◌++◌, get_or, set, sym, refl, ap, ◌∙◌, subst, arith, None, Some, IfSome, nat_eq, eq-eqb}
+use Rattle.std.proofs.Common.{◌≡◌, ℕ, ◌+◌, ◌^◌, ◌<◌, false, [], ◌∷◌, ◌++◌, sym, refl, ap, ◌∙◌, subst, arith, None, Some, IfSome, nat_eq, eq-eqb}
 use Rattle.std.specs.Prelude.{if◌then◌else◌, Result, Ok, Err, All}
 use Rattle.std.proofs.lemmas.List.Elements.{All-nil, All-cons}
 use Rattle.ext_model.specs.declared.event.Act.{Act}
 use Rattle.ext_model.specs.declared.event.Act.TheVariants.{Keep, Put, Remove, Claim, Fill, Abandon, Seal}
 use Rattle.ext_model.specs.declared.slot.Slot.TheVariants as slot
-use Rattle.ext_model.specs.Events.{Happens, Refuses, Barred, slot_after, is_on, end_reply}
-use Rattle.ext_model.specs.History.{History, Limits, by, stored_number, state_after, version_of, reply_after, IsAllowed}
+use Rattle.ext_model.specs.Events.{Happens, Refuses, Barred, slot_after, place_of, is_on, end_reply}
+use Rattle.ext_model.specs.History.{History, Limits, by, stored_number, state_after, version_of, reply_after, IsAllowed, IsLegal}
 use Rattle.ext_model.specs.Words.{slot_word}
 use Rattle.ext_model.specs.Views.{LaneView, seen_by, moved}
 use Rattle.ext_model.specs.Calls.{GoesOn, IsHeld, MayStoreNow}
 use Rattle.ext_model.proofs.Allowed.{may_happen}
 use Rattle.ext_model.proofs.Composed.{same_number}
-use Rattle.ext_model.proofs.Held.{claim_held, held_fill, held_abandon}
+use Rattle.ext_model.proofs.Claims.{used_within}
+use Rattle.ext_model.proofs.Held.{claim_held, held_word, held_fill, held_abandon}
 use Rattle.ext_cells.specs.declared.cell_state.CellState.TheVariants.{Computing, Sealed}
 use Rattle.ext_cells.specs.declared.claim.Claimed.{Claimed}
 use Rattle.ext_cells.specs.declared.claim.Claimed.TheVariants.{Won}
@@ -20,23 +21,22 @@ use Rattle.ext_cells.specs.declared.refusal.CellRefusal.{CellRefusal}
 use Rattle.ext_cells.specs.Words.{word_with, next_word, Suits}
 use Rattle.ext_cells.specs.Lanes.{Lane}
 use Rattle.ext_cells.specs.Calls.{Answers, EndsClaim, IfWon, number_acts, number_reply}
-use Rattle.ext_cells.specs.Rule.{AreWordsOf}
+use Rattle.ext_cells.specs.Rule.{IsWordAt}
 use Rattle.ext_cells.specs.Deciding.{IsCellWord}
 use Rattle.ext_cells.specs.Steps.{Finds, MayGoOn, IsEndOf}
-use Rattle.ext_cells.proofs.CellWords.{IsOn, cell_word, words_after}
-use Rattle.ext_cells.proofs.Acts.{on_place, IsSmall}
+use Rattle.ext_cells.proofs.CellWords.{cell_word, word_after}
 use Rattle.ext_cells.proofs.CallEvents.{call_made}
 use Rattle.ext_cells.proofs.Changing.{fits_bits}
 use Rattle.ext_cells.proofs.Tries.{TriesOn, made, goes_on, seen_on}
 
-is_on_it : (cell : ℕ) (act : Act ℕ) → IsEndOf cell act → IsOn cell act
-is_on_it cell (Keep n) is = absurd is
-is_on_it cell (Put at n) is = absurd is
-is_on_it cell (Remove at) is = absurd is
-is_on_it cell (Claim at) is = absurd is
-is_on_it cell (Fill at n) is = on_place cell (Fill at n) (ap Some is)
-is_on_it cell (Abandon at) is = on_place cell (Abandon at) (ap Some is)
-is_on_it cell (Seal at) is = absurd is
+pub place_is : (cell : ℕ) (act : Act ℕ) → IsEndOf cell act → place_of act ≡ Some cell
+place_is cell (Keep n) is = absurd is
+place_is cell (Put at n) is = absurd is
+place_is cell (Remove at) is = absurd is
+place_is cell (Claim at) is = absurd is
+place_is cell (Fill at n) is = ap Some is
+place_is cell (Abandon at) is = ap Some is
+place_is cell (Seal at) is = absurd is
 
 -- the word after it is that of what it leaves
 leaves : (cell version lane : ℕ) (act : Act ℕ) → IsEndOf cell act → next_word act 0 version ≡ slot_word (slot_after lane act (Some (slot.Claim lane))) (version + 1)
@@ -66,7 +66,7 @@ happens limits h lane cell act is stands = go act is
 
 module _ (limits : Limits) (lane : LaneView) (h : History) (cell : ℕ) (on : GoesOn limits lane h) (held : IsHeld lane cell) where
   stands : (cell < limits.cells) × ((state_after h).slots cell ≡ Some (slot.Claim lane.number))
-  stands = may_happen limits h lane.number (Abandon cell) (held_abandon limits lane cell h on held)
+  stands = (may_happen limits h lane.number (Abandon cell) (held_abandon limits lane cell h on held)).1
 
   may_end : (act : Act ℕ) → IsEndOf cell act → IfSome (stored_number act) (MayStoreNow lane) → IsAllowed limits h (by lane.number act)
   may_end (Keep n) is store = absurd is
@@ -87,57 +87,63 @@ module _ (limits : Limits) (lane : LaneView) (h : History) (cell : ℕ) (on : Go
   suits (Seal at) version few is store room = absurd is
 
   -- the cell's word is that of a claim
-  claimed_word : (words : List ℕ) → IsSmall limits → AreWordsOf h words → IsCellWord (Some (slot.Claim lane.number)) (version_of h cell) (get_or words cell 0)
-  claimed_word words small are =
-      let few = small.cells in
-      let less = stands.0 in
-      subst (λ s. IsCellWord s (version_of h cell) (get_or words cell 0)) stands.1 (cell_word h words cell small.numbers on.legal are (omega (arith, few, less)))
+  claimed_word : (word : ℕ) → limits.numbers < 2 ^ 20 → IsWordAt limits h cell word → IsCellWord (Some (slot.Claim lane.number)) (version_of h cell) word
+  claimed_word word small at = subst (λ s. IsCellWord s (version_of h cell) word) stands.1 (cell_word h cell word small on.legal at stands.0)
 
-module _ (before now : Lane) (words : List ℕ) (count cell : ℕ) (act : Act ℕ) (small : IsSmall before.cells.limits) (held : IsHeld before.view cell) (is : IsEndOf cell act) (store : IfSome (stored_number act) (MayStoreNow before.view))
-    (c : TriesOn before now words count) where
+-- a cell that a lane holds is one of the cells
+pub held_within : (limits : Limits) (lane : LaneView) (cell : ℕ) → IsLegal limits (seen_by lane) → IsHeld lane cell → cell < limits.cells
+held_within limits lane cell legal held = used_within (seen_by lane) cell (slot.Claim lane.number) legal held
+
+module _ (before now : Lane) (word cell : ℕ) (act : Act ℕ) (small : before.cells.limits.numbers < 2 ^ 20) (held : IsHeld before.view cell) (is : IsEndOf cell act) (store : IfSome (stored_number act) (MayStoreNow before.view))
+    (c : TriesOn before now cell word 0) where
   seen : GoesOn before.cells.limits before.view (seen_by now.view)
-  seen = seen_on before.cells.limits before.view now.view words count c.tries
-
-  pub here : cell < 31
-  here = let few = small.cells in let less = (stands before.cells.limits before.view (seen_by now.view) cell seen held).0 in omega (arith, few, less)
+  seen = seen_on before.cells.limits before.view now.view cell word 0 c.tries
 
   abbrev pub version : ℕ
   version = version_of (seen_by now.view) cell
 
-  pub word_now : IsCellWord (Some (slot.Claim before.view.number)) version (get_or words cell 0)
-  word_now = claimed_word before.cells.limits before.view (seen_by now.view) cell seen held words small c.tries.words_are
+  pub word_now : IsCellWord (Some (slot.Claim before.view.number)) version word
+  word_now = claimed_word before.cells.limits before.view (seen_by now.view) cell seen held word small c.tries.word_is
 
   pub room : version + 1 < 2 ^ 40
   room = word_now.room (λ e. let q : Computing ≡ Sealed = e in cc q)
 
   pub suits_now : Suits act Computing version
-  suits_now = suits before.cells.limits before.view (seen_by now.view) cell seen held act version small.numbers is store room
+  suits_now = suits before.cells.limits before.view (seen_by now.view) cell seen held act version small is store room
+
+  -- no step of another lane changes the cell: whatever is found there next is the word that was read
+  pub never_missed : (found : ℕ) (h : History) → Finds now.cells.limits now.view cell found h → found ≡ word
+  never_missed found h f =
+      let f' : Finds before.cells.limits now.view cell found h = subst (λ l. Finds l now.view cell found h) (ap (λ z. z.limits) c.cells) f in
+      let still = (claim_held before.cells.limits before.view now.view [] cell c.tries.calls (All-nil (λ a. is_on nat_eq cell a ≡ false)) held).0 in
+      let less = (stands before.cells.limits before.view (seen_by now.view) cell seen held).0 in
+      f'.word_is.cell less ∙ held_word before.cells.limits now.view cell h f'.on still ∙ sym (c.tries.word_is.cell less)
 
   -- the parts that were read are those of the word
-  module _ (next : ℕ) (read : (version : ℕ) → get_or words cell 0 ≡ word_with Computing 0 version → next ≡ next_word act 0 version) where
-    may_at : (h : History) → Finds before.cells.limits now.view words h → MayGoOn before.cells.limits now.view h (set words cell next) act
+  module _ (next : ℕ) (read : (version : ℕ) → word ≡ word_with Computing 0 version → next ≡ next_word act 0 version) where
+    may_at : (h : History) → Finds before.cells.limits now.view cell word h → MayGoOn before.cells.limits now.view h cell next act
     may_at h f =
-        let on = goes_on before.cells.limits before.view now.view words count c.tries h f.on in
+        let on = goes_on before.cells.limits before.view now.view cell word 0 c.tries h f.on in
         let number : now.view.number ≡ before.view.number = same_number before.cells.limits before.view now.view [] c.tries.calls in
         let claim = stands before.cells.limits before.view h cell on held in
-        let word = claimed_word before.cells.limits before.view h cell on held words small f.words_are in
+        let here = claimed_word before.cells.limits before.view h cell on held word small f.word_is in
         let slot : slot_word (slot_after before.view.number act (Some (slot.Claim before.view.number))) (version_of h cell + 1) ≡ slot_word (slot_after before.view.number act ((state_after h).slots cell)) (version_of h cell + 1) =
         ap (λ s. slot_word (slot_after before.view.number act s) (version_of h cell + 1)) (sym claim.1) in
-        subst (λ (l : LaneView). MayGoOn before.cells.limits l h (set words cell next) act) (λ i. record { number = sym number i; fronts = now.view.fronts }) (record {
+        subst (λ (l : LaneView). MayGoOn before.cells.limits l h cell next act) (λ i. record { number = sym number i; fronts = now.view.fronts }) (record {
           allowed = may_end before.cells.limits before.view h cell on held act is store;
-          words_are = words_after h before.view.number act cell next words here (is_on_it cell act is) f.words_are (read (version_of h cell) word.is ∙ leaves cell (version_of h cell) before.view.number act is ∙ slot);
+          word_is = word_after before.cells.limits h before.view.number act cell next (place_is cell act is) claim.0 (read (version_of h cell) here.is ∙ leaves cell (version_of h cell) before.view.number act is ∙ slot);
         })
 
-    pub may_now : (h : History) → Finds now.cells.limits now.view words h → MayGoOn now.cells.limits now.view h (set words cell next) act
+    pub may_now : (h : History) → Finds now.cells.limits now.view cell word h → MayGoOn now.cells.limits now.view h cell next act
     may_now h f =
         let same = ap (λ z. z.limits) c.cells in
-        subst (λ l. MayGoOn l now.view h (set words cell next) act) (sym same) (may_at h (subst (λ l. Finds l now.view words h) same f))
+        subst (λ l. MayGoOn l now.view h cell next act) (sym same) (may_at h (subst (λ l. Finds l now.view cell word h) same f))
 
-    pub ended : (after : Lane) (h : History) → Finds now.cells.limits now.view words h → after.view ≡ moved now.view ((h ++ by now.view.number act ∷ []) ∷ []) → EndsClaim before after act
+    pub ended : (after : Lane) (h : History) → Finds now.cells.limits now.view cell word h → after.view ≡ moved now.view ((h ++ by now.view.number act ∷ []) ∷ []) → EndsClaim before after act
     ended after h f e =
-        let f' = subst (λ l. Finds l now.view words h) (ap (λ z. z.limits) c.cells) f in
-        let on = goes_on before.cells.limits before.view now.view words count c.tries h f'.on in
-        made before.cells.limits before.view now.view words count c.tries after.view act h (λ p. reply_after before.cells.limits p before.view.number act ≡ Happens None) f'.on (may_at h f').allowed e
+        let f' = subst (λ l. Finds l now.view cell word h) (ap (λ z. z.limits) c.cells) f in
+        let on = goes_on before.cells.limits before.view now.view cell word 0 c.tries h f'.on in
+        made before.cells.limits before.view now.view cell word 0 c.tries after.view act h (λ p. reply_after before.cells.limits p before.view.number act ≡ Happens None) f'.on (may_at h f').allowed e
         (happens before.cells.limits h before.view.number cell act is (stands before.cells.limits before.view h cell on held).1)
 
 -- a claim that was won stands

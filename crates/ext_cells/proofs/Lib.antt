@@ -1,9 +1,8 @@
 pub mod Packing
 pub mod CellWords
-pub mod Acts
 pub mod Decisions
 pub mod Steps
-pub mod Passes
+pub mod Seats
 pub mod Lanes
 pub mod Tries
 pub mod CallEvents

@@ -1,5 +1,5 @@
 -- A lane that took in a note of another has seen, after its next step, what the other had seen.
-use Rattle.std.proofs.Common.{◌≡◌, ℕ, List, [], ◌∷◌, sym, ap, ◌∙◌, subst}
+use Rattle.std.proofs.Common.{◌≡◌, ℕ, [], ◌∷◌, sym, ap, ◌∙◌, subst}
 use mathlib.Core.List.{IsPrefix}
 use Rattle.atomic_table.specs.Seated.{TableId}
 use Rattle.ext_model.specs.History.{History}
@@ -13,27 +13,27 @@ use Rattle.ext_cells.specs.Rule.{limits_of, shown, note, noted, FoundBy}
 use Rattle.ext_cells.proofs.Lanes.{IsLaneView, lane_of, stays_lane}
 
 -- v is the lane's view, n the note, u the view with the note, and w the view after the step
-module _ (v n u w : View) (words : List ℕ) (h : History) (number : ℕ) (inv : IsLaneView v number) (with_note : u ≡ noted v n) (found : FoundBy u words h) (after : w ≡ shown u h) where
-  found' : FoundBy (noted v n) words h
-  found' = subst (λ z. FoundBy z words h) with_note found
+module _ (v n u w : View) (place word : ℕ) (h : History) (number : ℕ) (inv : IsLaneView v number) (with_note : u ≡ noted v n) (found : FoundBy u place word h) (after : w ≡ shown u h) where
+  found' : FoundBy (noted v n) place word h
+  found' = subst (λ z. FoundBy z place word h) with_note found
 
   after' : w ≡ shown v h
   after' = after ∙ ap (λ z. shown z h) with_note
 
   pub met_stays : IsLaneView w number
-  met_stays = stays_lane v w h number inv found'.legal after'
+  met_stays = stays_lane v w h number inv found'.legal found'.begins after'
 
   met_moved : (table : TableId) → lane_of table w number ≡ lane_of table (shown v h) number
   met_moved table = ap (λ z. lane_of table z number) after'
 
   pub met_call : (table table' : TableId) (lane : Lane) → lane_of table v number ≡ lane → Calls lane.cells.limits lane.view (lane_of table' w number).view []
   met_call table table' lane is =
-      let calls = (step_calls (limits_of v) (record { number = number; fronts = v.fronts }) h (record { legal = found'.legal; begins = found'.begins; own_same = found'.own_is number inv.1 })).0 in
+      let calls = (step_calls (limits_of v.limits) (record { number = number; fronts = v.fronts }) h (record { legal = found'.legal; begins = found'.begins; own_same = found'.own_is number inv.0 })).0 in
       subst (λ (l : Lane). Calls l.cells.limits l.view (lane_of table' w number).view []) is
-      (subst (λ (x : LaneView). Calls (limits_of v) (record { number = number; fronts = v.fronts }) x []) (sym (ap (λ (l : Lane). l.view) (met_moved table'))) calls)
+      (subst (λ (x : LaneView). Calls (limits_of v.limits) (record { number = number; fronts = v.fronts }) x []) (sym (ap (λ (l : Lane). l.view) (met_moved table'))) calls)
 
   pub met_cells : (table table' : TableId) (lane : Lane) → lane_of table v number ≡ lane → table' ≡ table → (lane_of table' w number).cells ≡ lane.cells
-  met_cells table table' lane is same = ap (λ (l : Lane). l.cells) (met_moved table') ∙ (λ i. record { table = same i; limits = limits_of v }) ∙ ap (λ (l : Lane). l.cells) is
+  met_cells table table' lane is same = ap (λ (l : Lane). l.cells) (met_moved table') ∙ (λ i. record { table = same i; limits = limits_of v.limits }) ∙ ap (λ (l : Lane). l.cells) is
 
   -- what the note told is a prefix of what the lane has seen now
   pub met_told : (first : View) → n ≡ note first → IsPrefix (seen first.fronts) (seen w.fronts)

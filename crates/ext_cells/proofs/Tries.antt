@@ -1,73 +1,64 @@
 -- A call that tries: a first load, and then exchanges that met other words.
-use Rattle.std.proofs.Common.{◌≡◌, ◌≢◌, inl, ℕ, ◌+◌, ◌<◌, ◌≤◌, List, [], ◌∷◌, ◌++◌, length, get_or, sym, refl, ap, ◌∙◌, subst, arith, append_assoc, append-nil, length-append}
-use Rattle.std.proofs.lemmas.List.{ext_get_or}
+use Rattle.std.proofs.Common.{◌≡◌, ◌≢◌, inl, ℕ, ◌+◌, ◌≤◌, [], ◌∷◌, ◌++◌, length, sym, refl, ap, ◌∙◌, subst, arith, append_assoc, append-nil, length-append}
 use mathlib.Core.List.{append_cancel_left}
-use mathlib.Core.Logic.{dite}
-use native.Mathlib.Decide.{ℕ_discrete}
 use base.Growing.{prefix_refl, prefix_trans}
 use Rattle.ext_model.specs.declared.event.Act.{Act}
 use Rattle.ext_model.specs.History.{History, Limits, by, own, IsAllowed}
 use Rattle.ext_model.specs.Views.{LaneView, first_or, seen_by, moved, call_fronts, first_front, IsStepped}
 use Rattle.ext_model.specs.Calls.{Calls, HoldsAtPoint, IsOvertaken, GoesOn}
 use Rattle.ext_model.proofs.Composed.{own_append, moved_fronts, moved_seen, same_number, seen_goes_on, first_is_seen, fronts_compose, calls_compose, steps_stay, first_decides, later_answers}
-use Rattle.ext_model.proofs.Single.{step_calls, event_holds}
+use Rattle.ext_model.proofs.Single.{step_calls, event_calls, event_holds}
 use Rattle.ext_cells.specs.Lanes.{Lane}
-use Rattle.ext_cells.specs.Rule.{AreWordsOf}
+use Rattle.ext_cells.specs.Rule.{IsWordAt}
 use Rattle.ext_cells.specs.Steps.{stepped, Finds}
-
--- the words of a history are its alone
-one_words : (h : History) (x y : List ℕ) → AreWordsOf h x → AreWordsOf h y → x ≡ y
-one_words h x y a b = ext_get_or 0 x y (a.wide ∙ sym b.wide) same
-  where
-    same : (i : ℕ) → i < length x → get_or x i 0 ≡ get_or y i 0
-    same i l = dite (ℕ_discrete i 31)
-        (λ is. subst (λ k. get_or x k 0 ≡ get_or y k 0) (sym is) (a.count ∙ sym b.count))
-        (λ (ne : i ≡ 31 → ⊥). let wide = a.wide in let less : i < 31 = omega (arith, wide, l) in a.cells i less ∙ sym (b.cells i less))
+use Rattle.ext_cells.proofs.CellWords.{one_word}
 
 not_empty : (m : History) → (m ≡ [] → ⊥) → 1 ≤ length m
 not_empty [] ne = absurd (ne refl)
 not_empty (x ∷ m) ne = omega arith
 
-own_more : (lane : ℕ) (p h m : History) → p ++ m ≡ h → own lane h ≡ own lane p → own lane m ≡ []
+pub own_more : (lane : ℕ) (p h m : History) → p ++ m ≡ h → own lane h ≡ own lane p → own lane m ≡ []
 own_more lane p h m is same = append_cancel_left (own lane p) (own lane m) [] (sym (own_append lane p m) ∙ (ap (own lane) is ∙ (same ∙ sym (append-nil (own lane p)))))
 
 -- the call has made its first step and this many exchanges that met other words, and no event
-pub record Tries (limits : Limits) (before now : LaneView) (words : List ℕ) (count : ℕ) : Type 0 where
+pub record Tries (limits : Limits) (before now : LaneView) (place word count : ℕ) : Type 0 where
   pub calls : Calls limits before now []
   pub stepped : IsStepped before now
-  pub words_are : AreWordsOf (seen_by now) words
+  pub within : place ≤ limits.cells
+  pub word_is : IsWordAt limits (seen_by now) place word
   pub passed : (more : History) × (seen_by now ≡ first_front before now ++ more) × (own before.number more ≡ []) × (count ≤ length more)
   pub steps : length (call_fronts before now) ≡ count + 1
 
 -- the same of a lane, which stays one of its cells
-pub record TriesOn (before now : Lane) (words : List ℕ) (count : ℕ) : Type 0 where
+pub record TriesOn (before now : Lane) (place word count : ℕ) : Type 0 where
   pub cells : now.cells ≡ before.cells
-  pub tries : Tries before.cells.limits before.view now.view words count
+  pub tries : Tries before.cells.limits before.view now.view place word count
 
 one_step : (lane : LaneView) (h : History) → length (call_fronts lane (moved lane (h ∷ []))) ≡ 1
 one_step lane h = ap length (moved_fronts lane (h ∷ []))
 
-pub first_try : (limits : Limits) (before now : LaneView) (words : List ℕ) (h : History) → Finds limits before words h → now ≡ moved before (h ∷ []) → Tries limits before now words 0
-first_try limits before now words h f e =
+pub first_try : (limits : Limits) (before now : LaneView) (place word : ℕ) (h : History) → place ≤ limits.cells → Finds limits before place word h → now ≡ moved before (h ∷ []) → Tries limits before now place word 0
+first_try limits before now place word h within f e =
     let after : LaneView = moved before (h ∷ []) in
     let steps = one_step before h in
     let first : first_front before after ≡ h = ap (first_or (seen_by before)) (moved_fronts before (h ∷ [])) in
-    subst (λ l. Tries limits before l words 0) (sym e) (record {
+    subst (λ l. Tries limits before l place word 0) (sym e) (record {
       calls = (step_calls limits before h f.on).0;
       stepped = omega (arith, steps);
-      words_are = subst (λ z. AreWordsOf z words) (sym (moved_seen before (h ∷ []))) f.words_are;
+      within = within;
+      word_is = subst (λ z. IsWordAt limits z place word) (sym (moved_seen before (h ∷ []))) f.word_is;
       passed = ([], moved_seen before (h ∷ []) ∙ sym first ∙ sym (append-nil (first_front before after)), refl, omega arith);
       steps = omega (arith, steps);
     })
 
-pub next_try : (limits : Limits) (before now next : LaneView) (words found : List ℕ) (count : ℕ) (h : History) → Tries limits before now words count → found ≢ words → Finds limits now found h → next ≡ moved now (h ∷ [])
-    → Tries limits before next found (count + 1)
-next_try limits before now next words found count h t ne f e = subst (λ l. Tries limits before l found (count + 1)) (sym e) go
+pub next_try : (limits : Limits) (before now next : LaneView) (place word found count : ℕ) (h : History) → Tries limits before now place word count → found ≢ word → Finds limits now place found h → next ≡ moved now (h ∷ [])
+    → Tries limits before next place found (count + 1)
+next_try limits before now next place word found count h t ne f e = subst (λ l. Tries limits before l place found (count + 1)) (sym e) go
   where
     after : LaneView
     after = moved now (h ∷ [])
 
-    go : Tries limits before (moved now (h ∷ [])) found (count + 1)
+    go : Tries limits before (moved now (h ∷ [])) place found (count + 1)
     go =
         let two = (step_calls limits now h f.on).0 in
         let next : LaneView = moved now (h ∷ []) in
@@ -75,7 +66,7 @@ next_try limits before now next words found count h t ne f e = subst (λ l. Trie
         let longer : seen_by now ++ m ≡ h = f.on.begins.1 in
         let number = same_number limits before now [] t.calls in
         let none : own before.number m ≡ [] = own_more before.number (seen_by now) h m longer (subst (λ k. own k h ≡ own k (seen_by now)) number f.on.own_same) in
-        let some : 1 ≤ length m = not_empty m (λ is. ne (one_words h found words f.words_are (subst (λ z. AreWordsOf z words) (sym (append-nil (seen_by now)) ∙ (ap (λ z. seen_by now ++ z) (sym is) ∙ longer)) t.words_are))) in
+        let some : 1 ≤ length m = not_empty m (λ is. ne (one_word limits h place found word t.within f.word_is (subst (λ z. IsWordAt limits z place word) (sym (append-nil (seen_by now)) ∙ (ap (λ z. seen_by now ++ z) (sym is) ∙ longer)) t.word_is))) in
         let more : History = t.passed.0 in
         let many = t.passed.3 in
         let both = length-append more m in
@@ -85,7 +76,8 @@ next_try limits before now next words found count h t ne f e = subst (λ l. Trie
         record {
           calls = calls_compose limits before now next [] [] t.calls two;
           stepped = steps_stay limits before now next [] [] t.calls two (inl t.stepped);
-          words_are = subst (λ z. AreWordsOf z found) (sym (moved_seen now (h ∷ []))) f.words_are;
+          within = t.within;
+          word_is = subst (λ z. IsWordAt limits z place found) (sym (moved_seen now (h ∷ []))) f.word_is;
           passed = (
             more ++ m,
             moved_seen now (h ∷ []) ∙ sym longer ∙ ap (λ z. z ++ m) t.passed.1 ∙ append_assoc (first_front before now) more m ∙ ap (λ z. z ++ (more ++ m)) (sym (first_decides limits before now next [] [] t.calls two t.stepped)),
@@ -95,7 +87,7 @@ next_try limits before now next words found count h t ne f e = subst (λ l. Trie
           steps = omega (arith, steps, had, one);
         }
 
-module _ (limits : Limits) (before now : LaneView) (words : List ℕ) (count : ℕ) (t : Tries limits before now words count) where
+module _ (limits : Limits) (before now : LaneView) (place word count : ℕ) (t : Tries limits before now place word count) where
   -- the call may be answered by what it has seen
   pub answered : (Fact : History → Type 0) → Fact (seen_by now) → HoldsAtPoint limits before now [] Fact
   answered Fact fact = record {
@@ -133,11 +125,30 @@ module _ (limits : Limits) (before now : LaneView) (words : List ℕ) (count : �
     own_same = t.calls.own_events ∙ append-nil (own before.number (seen_by before));
   }
 
-pub first_on : (before now : Lane) (words : List ℕ) (h : History) → Finds before.cells.limits before.view words h → now ≡ stepped before h → TriesOn before now words 0
-first_on before now words h f e = record { cells = ap (λ z. z.cells) e; tries = first_try before.cells.limits before.view now.view words h f (ap (λ z. z.view) e) }
+pub first_on : (before now : Lane) (place word : ℕ) (h : History) → place ≤ before.cells.limits.cells → Finds before.cells.limits before.view place word h → now ≡ stepped before h → TriesOn before now place word 0
+first_on before now place word h within f e = record { cells = ap (λ z. z.cells) e; tries = first_try before.cells.limits before.view now.view place word h within f (ap (λ z. z.view) e) }
 
-pub next_on : (before now next : Lane) (words found : List ℕ) (count : ℕ) (h : History) → TriesOn before now words count → found ≢ words → Finds now.cells.limits now.view found h → next ≡ stepped now h → TriesOn before next found (count + 1)
-next_on before now next words found count h t ne f e = record {
+pub next_on : (before now next : Lane) (place word found count : ℕ) (h : History) → TriesOn before now place word count → found ≢ word → Finds now.cells.limits now.view place found h → next ≡ stepped now h → TriesOn before next place found (count + 1)
+next_on before now next place word found count h t ne f e = record {
   cells = ap (λ z. z.cells) e ∙ t.cells;
-  tries = next_try before.cells.limits before.view now.view next.view words found count h t.tries ne (subst (λ l. Finds l now.view found h) (ap (λ z. z.limits) t.cells) f) (ap (λ z. z.view) e);
+  tries = next_try before.cells.limits before.view now.view next.view place word found count h t.tries ne (subst (λ l. Finds l now.view place found h) (ap (λ z. z.limits) t.cells) f) (ap (λ z. z.view) e);
 }
+
+-- the call has made a front for each exchange and one before them
+pub steps_on : (before now : Lane) (place word count : ℕ) → TriesOn before now place word count → length (call_fronts before.view now.view) ≡ count + 1
+steps_on before now place word count t = t.tries.steps
+
+-- and one more for the exchange that it ends with
+pub steps_next : (before now next : Lane) (place word count : ℕ) (h : History) (act : Act ℕ) → TriesOn before now place word count → Finds now.cells.limits now.view place word h → IsAllowed now.cells.limits h (by now.view.number act)
+    → next ≡ stepped now (h ++ by now.view.number act ∷ []) → length (call_fronts before.view next.view) ≡ count + 2
+steps_next before now next place word count h act t f allowed e =
+    let limits = before.cells.limits in
+    let f' : Finds limits now.view place word h = subst (λ l. Finds l now.view place word h) (ap (λ z. z.limits) t.cells) f in
+    let may : IsAllowed limits h (by now.view.number act) = subst (λ l. IsAllowed l h (by now.view.number act)) (ap (λ z. z.limits) t.cells) allowed in
+    let after : LaneView = moved now.view ((h ++ by now.view.number act ∷ []) ∷ []) in
+    let two = (event_calls limits now.view act h f'.on may).0 in
+    let all : length (call_fronts before.view after) ≡ length (call_fronts before.view now.view) + length (call_fronts now.view after) =
+    ap length (fronts_compose limits before.view now.view after [] (act ∷ []) t.tries.calls two) ∙ length-append (call_fronts before.view now.view) (call_fronts now.view after) in
+    let had = t.tries.steps in
+    let one = one_step now.view (h ++ by now.view.number act ∷ []) in
+    subst (λ (l : LaneView). length (call_fronts before.view l) ≡ count + 2) (sym (ap (λ (z : Lane). z.view) e)) (omega (arith, all, had, one))

@@ -1,14 +1,14 @@
 -- What the contract of each call says of its result.
 -- Own rule. `Calls` of ext_model has the words: the events that a call made, its fronts, and the points at which its answer may be that of one thread.
 -- Here stand, for each call, what one thread is answered at a point, and which events an answer means.
-use Rattle.std.specs.Prelude.{ℕ, ◌≡◌, ◌≤◌, List, [], ◌∷◌, length, map, Option, None, Some, Result, Ok, Err}
+use Rattle.std.specs.Prelude.{ℕ, ◌≡◌, ◌≤◌, ◌-◌, List, [], ◌∷◌, length, map, take, Option, None, Some, Result, Ok, Err}
 use Rattle.ext_model.specs.declared.event.Act.{Act}
 use Rattle.ext_model.specs.declared.event.Act.TheVariants.{Keep, Put, Remove, Claim, Seal}
 use Rattle.ext_model.specs.Events as events
 use Rattle.ext_model.specs.History.{History, reply_after}
 use Rattle.ext_model.specs.Plain.{number_drawn, what_stood}
 use Rattle.ext_model.specs.Words.{word_of}
-use Rattle.ext_model.specs.Views.{IsStepped, IsAnswerPoint}
+use Rattle.ext_model.specs.Views.{LaneView, seen_by, last_after, call_fronts, IsStepped, IsAnswerPoint}
 use Rattle.ext_model.specs.Calls as model
 use Rattle.ext_cells.specs.declared.claim.Claimed.{Claimed}
 use Rattle.ext_cells.specs.declared.claim.Claimed.TheVariants.{Won, Standing}
@@ -77,6 +77,11 @@ claim_acts cell (Err why) = []
 abbrev pub Answers : {A : Type 0} → ℕ → Lane → Lane → (Result A CellRefusal → List (Act ℕ)) → (History → Result A CellRefusal) → Result A CellRefusal → Type 0
 Answers tries before after acts_of reply_at result = model.Answers before.cells.limits tries (Err Contended) before.view after.view acts_of reply_at result
 
+-- `Contended` comes last: where it is the result, the act would happen directly after what the lane has seen now. So every other answer of one thread
+-- there, with an event or without, comes before it
+abbrev pub ComesLast : {A : Type 0} → Lane → Lane → Act ℕ → Result A CellRefusal → Type 0
+ComesLast before after act result = result ≡ Err Contended → (answer : Option ℕ) × (reply_after before.cells.limits (seen_by after.view) before.view.number act ≡ events.Happens answer)
+
 -- The result of a seal: the cell is sealed and has kept this, by an event of this call or by one before; or it is refused at a point of the call; or other
 -- lanes were in the way
 abbrev pub SealAnswers : ℕ → Lane → Lane → ℕ → Result (Option ℕ) CellRefusal → Type 0
@@ -99,6 +104,10 @@ pub record StoodTogether (before after : Lane) (cells words : List ℕ) : Type 0
   pub calls : model.Calls before.cells.limits before.view after.view []
   pub stepped : 1 ≤ length cells → IsStepped before.view after.view
   pub point : (p : History) × IsAnswerPoint before.view after.view [] p × (words ≡ map (word_of p) cells)
+
+-- The point at which they did: a collect reads each cell once in every pass, and this is the front after the last read of the pass before its last
+abbrev pub before_last_pass : ℕ → LaneView → LaneView → History
+before_last_pass cells before after = last_after (seen_by before) (take (length (call_fronts before after) - cells) (call_fronts before after))
 
 -- the result of a collect: such words, or other lanes were in the way
 abbrev pub Collects : ℕ → Lane → Lane → List ℕ → Result (List ℕ) CellRefusal → Type 0

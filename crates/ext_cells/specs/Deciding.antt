@@ -58,13 +58,9 @@ IsChange (Fill at number) = ⊥
 IsChange (Abandon at) = ⊥
 IsChange (Seal at) = Unit {0}
 
--- what one thread replies to these, by what stands and by the version
+-- what one thread replies to these, by what stands and by the version: the reply of a store in which this is so at each cell
 abbrev pub reply_on : Act ℕ → Option Slot → ℕ → events.Reply
-reply_on (Put at number) stands version = events.put_reply (events.is_worn version) stands
-reply_on (Remove at) stands version = events.remove_reply (events.is_worn version) stands
-reply_on (Claim at) stands version = events.claim_reply (events.is_worn_for_claim version) stands
-reply_on (Seal at) stands version = events.seal_reply stands
-reply_on act stands version = events.Refuses events.Barred
+reply_on act stands version = events.reply 0 (λ at. version) (record { slots = λ at. stands; drawn = 0 }) 0 act
 
 -- the decision is to make the event, which leaves this word; or it is the answer, without an event
 abbrev pub Decides : Act ℕ → Option Slot → ℕ → Decision → Type 0

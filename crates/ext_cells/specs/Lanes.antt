@@ -5,7 +5,7 @@ use Rattle.atomic_table.specs.Seated.{TableId}
 use Rattle.ext_model.specs.History.{Limits}
 use Rattle.ext_model.specs.Views.{LaneView}
 
--- Which cells they are: the table that they stand in, and how many cells and numbers there are
+-- Which cells they are: the table that they stand in, and how many cells, lanes and numbers there are
 pub record CellsId : Type 0 where
   pub table : TableId
   pub limits : Limits
@@ -22,9 +22,9 @@ pub record Lane : Type 0 where
 
 -- ---- opening
 
--- at most 31 cells, 1 to 16 lanes, 1 to 64 tries, 1 to 65,535 numbers
+-- at most 4,096 cells, 1 to 16 lanes, 1 to 64 tries, 1 to 65,535 numbers
 pub record AreLimits (cells lanes tries numbers : ℕ) : Type 0 where
-  pub cells_fit : cells ≤ 31
+  pub cells_fit : cells ≤ 4096
   pub lanes_fit : (1 ≤ lanes) × (lanes ≤ 16)
   pub tries_fit : (1 ≤ tries) × (tries ≤ 64)
   pub numbers_fit : (1 ≤ numbers) × (numbers ≤ 65535)

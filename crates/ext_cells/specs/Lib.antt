@@ -3,4 +3,5 @@ pub mod Lanes
 pub mod Calls
 pub mod Rule
 pub mod Steps
+pub mod Passes
 pub mod Deciding

@@ -1,6 +1,6 @@
 -- What a lane is told by its two kinds of steps on the shared words, a load and an exchange, what a change of one cell is, and what ends a claim.
 -- Own rule, below the public contracts.
-use Rattle.std.specs.Prelude.{◌≡◌, ◌⊎◌, ℕ, List, [], ◌∷◌, ◌++◌, Option, Some, Result, Ok, Err}
+use Rattle.std.specs.Prelude.{◌≡◌, ◌⊎◌, ℕ, ◌<◌, [], ◌∷◌, ◌++◌, Option, Some, Result, Ok, Err}
 use Rattle.ext_model.specs.declared.event.Act.{Act}
 use Rattle.ext_model.specs.declared.event.Act.TheVariants.{Keep, Put, Remove, Claim, Fill, Abandon, Seal}
 use Rattle.ext_model.specs.Events as events
@@ -11,21 +11,23 @@ use Rattle.ext_cells.specs.declared.refusal.CellRefusal.{CellRefusal}
 use Rattle.ext_cells.specs.declared.refusal.CellRefusal.TheVariants.{Contended}
 use Rattle.ext_cells.specs.Lanes.{Lane}
 use Rattle.ext_cells.specs.Calls.{change_reply}
-use Rattle.ext_cells.specs.Rule.{AreWordsOf}
+use Rattle.ext_cells.specs.Rule.{IsWordAt}
 
 -- the lane after a step that left this history
 abbrev pub stepped : Lane → History → Lane
 stepped lane h = record { cells = lane.cells; view = moved lane.view (h ∷ []) }
 
--- a step of the lane found this history, of which these are the words
-pub record Finds (limits : Limits) (lane : LaneView) (words : List ℕ) (h : History) : Type 0 where
+-- a step of the lane on a place found this history, and this word there
+pub record Finds (limits : Limits) (lane : LaneView) (place word : ℕ) (h : History) : Type 0 where
   pub on : model.GoesOn limits lane h
-  pub words_are : AreWordsOf h words
+  pub word_is : IsWordAt limits h place word
+  -- the lane is one of those that were opened
+  pub below : lane.number < limits.lanes
 
--- the history may go on by this act of the lane, and these are the words then
-pub record MayGoOn (limits : Limits) (lane : LaneView) (h : History) (words : List ℕ) (act : Act ℕ) : Type 0 where
+-- the history may go on by this act of the lane, and this is the word at the place then
+pub record MayGoOn (limits : Limits) (lane : LaneView) (h : History) (place word : ℕ) (act : Act ℕ) : Type 0 where
   pub allowed : IsAllowed limits h (by lane.number act)
-  pub words_are : AreWordsOf (h ++ by lane.number act ∷ []) words
+  pub word_is : IsWordAt limits (h ++ by lane.number act ∷ []) place word
 
 -- a put, a remove, a claim or a seal of the cell
 abbrev pub IsChangeOf : ℕ → Act ℕ → Type 0

@@ -25,9 +25,9 @@ word_with state number version = words.word (code state) number version
 -- ---- the word after an act
 
 -- The word that an act leaves, by the number that stood there and by the version. Each event raises the version by one.
--- A claim, an abandon and a remove leave no number, a put and a fill their own, a seal the one that stood. A keep is on no cell
+-- A claim, an abandon and a remove leave no number, a put and a fill their own, a seal the one that stood. A keep is on no cell, and leaves no word
 abbrev pub next_word : Act ℕ → ℕ → ℕ → ℕ
-next_word (Keep drawn) number version = words.word 0 number (version + 1)
+next_word (Keep drawn) number version = 0
 next_word (Put at stored) number version = word_with Present stored (version + 1)
 next_word (Remove at) number version = word_with Empty 0 (version + 1)
 next_word (Claim at) number version = word_with Computing 0 (version + 1)

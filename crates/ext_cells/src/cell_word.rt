@@ -93,9 +93,10 @@ pub(crate) fn next_word(act: Act<CellNo>, number: u32, version: u64) -> u64
 {
     match act {
         Act::Put(_, stored) | Act::Fill(_, stored) => word(CellState::Present, stored, version + 1),
-        Act::Remove(_) | Act::Abandon(_) | Act::Keep(_) => word(CellState::Empty, 0, version + 1),
+        Act::Remove(_) | Act::Abandon(_) => word(CellState::Empty, 0, version + 1),
         Act::Claim(_) => word(CellState::Computing, 0, version + 1),
         Act::Seal(_) => word(CellState::Sealed, number, version + 1),
+        Act::Keep(_) => unreachable!(),
     }
 }
 

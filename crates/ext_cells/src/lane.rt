@@ -1,9 +1,9 @@
 //! A lane: what a thread owns to act on the cells.
-ghost use Rattle.std.specs.Prelude.{◌≡◌};
+ghost use Rattle.std.specs.Prelude.{◌≡◌, []};
 ghost use Rattle.ext_model.specs.History.{IsLegal};
-ghost use Rattle.ext_model.specs.Views.{seen_by};
+ghost use Rattle.ext_model.specs.Views.{Follow, seen_by};
 
-use crate::rule::LanePass;
+use crate::rule::LaneSeat;
 use ext_model::LaneNo;
 use std::marker::Model;
 
@@ -14,23 +14,21 @@ use std::marker::Model;
 #[derive(Drop)]
 pub struct CellLane {
     pub(crate) number: LaneNo,
-    pub(crate) pass: LanePass,
+    pub(crate) seat: LaneSeat,
 }
 
 impl Model for CellLane {
-    ghost use Rattle.std.specs.Prelude.{◌≡◌, Some};
-    ghost use Rattle.crossbeam_utils.specs.Seq.{cell_view};
+    ghost use Rattle.std.specs.Prelude.{◌≡◌, [], Some};
     ghost use Rattle.ext_model.specs.History.{IsLegal};
-    ghost use Rattle.ext_model.specs.Views.{seen};
-    ghost use Rattle.ext_cells.specs.declared.rule.Phase.TheVariants.{Open};
+    ghost use Rattle.ext_model.specs.Views.{Follow, seen};
     ghost use Rattle.ext_cells.specs.Lanes.{Lane};
     ghost use Rattle.ext_cells.specs.Rule.{limits_of};
 
     ghost Value = { Lane };
 
-    ghost view = { λ s. record { cells = record { table = s.pass.table_id; limits = limits_of (cell_view s.pass) }; view = record { number = s.number; fronts = (cell_view s.pass).fronts } } };
+    ghost view = { λ s. record { cells = record { table = s.seat.table_id; limits = limits_of s.seat.me.0.limits }; view = record { number = s.number; fronts = s.seat.me.0.fronts } } };
 
-    ghost invariant = { λ s. ((cell_view s.pass).phase ≡ Open) × ((cell_view s.pass).lane ≡ Some s.number) × IsLegal (limits_of (cell_view s.pass)) (seen (cell_view s.pass).fronts) };
+    ghost invariant = { λ s. (s.seat.me.0.lane ≡ Some s.number) × IsLegal (limits_of s.seat.me.0.limits) (seen s.seat.me.0.fronts) × Follow [] s.seat.me.0.fronts };
 }
 
 impl CellLane {
@@ -42,9 +40,11 @@ impl CellLane {
         self.number
     }
 
-    // What was seen is legal: a proof finds it here.
-    pub(crate) fn look_back(&self)
-        ensures { IsLegal self.now.cells.limits (seen_by self.now.view) }
+    /// Tells a proof what is true of every lane in hand: what it has seen is a legal history, and each of its fronts
+    /// goes on from the one before it. It does nothing when it runs (own rule).
+    pub fn look_back(&self)
+        ensures legal { IsLegal self.now.cells.limits (seen_by self.now.view) }
+        ensures follow { Follow [] self.now.view.fronts }
     {
         let _number = self.number;
     }

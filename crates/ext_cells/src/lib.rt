@@ -5,8 +5,8 @@
 //! together are one history, as the definitions of `ext_model` say it, and each answer is that of one
 //! thread at a point of the call. `specs/Calls` has the words of the contracts.
 //!
-//! Here all words stand in one snapshot cell, so there are at most 31 cells, and each call that steps on it
-//! takes the runtime and may wait.
+//! Each cell is a word of its own, and so is the count of numbers drawn: a step reads or changes one of them, and
+//! no call waits for another lane.
 #![tactic(auto)]
 
 mod cell_state;

@@ -1,8 +1,6 @@
 //! The words that one collect gives.
-ghost use Rattle.std.specs.Prelude.{◌≡◌, ◌+◌, ◌<◌, ◌≤◌, [], ◌∷◌, ◌++◌, length, map, All, slice_index};
+ghost use Rattle.std.specs.Prelude.{◌≡◌, ◌↔◌, IsTrue, ◌<◌, [], ◌∷◌, ◌++◌, length, slice_index};
 
-use crate::rule::WORDS;
-use ext_model::CellNo;
 use std::marker::Model;
 
 /// The words of some cells, at most 16, as they stood together at one point: one for each cell, in the order
@@ -34,20 +32,8 @@ impl Words {
         words[i]
     }
 
-    // The words of these cells.
-    pub(crate) fn of(all: &[u64; WORDS], cells: &[CellNo]) -> Words
-        requires few { length cells.now ≤ 16 }
-        requires known { All (λ cell. cell < 32) cells.now }
-        ensures { result ≡ map (λ cell. slice_index all.now cell) cells.now }
-    {
-        let mut words = Words::new();
-        for cell in cells {
-            words.push(all[*cell]);
-        }
-        words
-    }
-
-    fn new() -> Words
+    /// No words yet.
+    pub(crate) fn new() -> Words
         ensures { result ≡ [] }
     {
         Words {
@@ -56,11 +42,18 @@ impl Words {
         }
     }
 
-    fn push(&mut self, word: u64)
+    pub(crate) fn push(&mut self, word: u64)
         requires { length self.old < 16 }
         ensures { self.new ≡ self.old ++ word ∷ [] }
     {
         self.words[self.len] = word;
         self.len += 1;
+    }
+
+    /// Whether these are the same words in the same order.
+    pub(crate) fn same(&self, other: &Words) -> bool
+        ensures { IsTrue result ↔ (self.now ≡ other.now) }
+    {
+        self.words[..self.len] == other.words[..other.len]
     }
 }

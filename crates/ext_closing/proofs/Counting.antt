@@ -5,12 +5,12 @@ use Rattle.ext_model.specs.declared.look.Fault.{Fault}
 use Rattle.ext_closing.specs.declared.closed.Closed.{Closed}
 use Rattle.ext_closing.specs.Closing.{Answer, faults_in, counted}
 
-faults-push_ok : (answers : List Answer) (done : Unit {0}) → faults_in (answers ++ Ok done ∷ []) ≡ faults_in answers
+pub faults-push_ok : (answers : List Answer) (done : Unit {0}) → faults_in (answers ++ Ok done ∷ []) ≡ faults_in answers
 faults-push_ok [] done = refl
 faults-push_ok (Ok first ∷ answers) done = faults-push_ok answers done
 faults-push_ok (Err fault ∷ answers) done = ap (λ faults. fault ∷ faults) (faults-push_ok answers done)
 
-faults-push_err : (answers : List Answer) (fault : Fault) → faults_in (answers ++ Err fault ∷ []) ≡ faults_in answers ++ fault ∷ []
+pub faults-push_err : (answers : List Answer) (fault : Fault) → faults_in (answers ++ Err fault ∷ []) ≡ faults_in answers ++ fault ∷ []
 faults-push_err [] fault = refl
 faults-push_err (Ok first ∷ answers) fault = faults-push_err answers fault
 faults-push_err (Err first ∷ answers) fault = ap (λ faults. first ∷ faults) (faults-push_err answers fault)

@@ -1,10 +1,15 @@
 -- The lanes in hand, of which the first was changed.
-use Rattle.std.proofs.Common.{◌≡◌, ◌≤◌, ℕ, List, [], ◌∷◌, length, get_or, refl, ap, sym, subst, ◌∙◌, arith}
+use Rattle.std.proofs.Common.{◌≡◌, ◌≤◌, ◌<◌, ℕ, zero, suc, All, List, [], ◌∷◌, length, get_or, refl, ap, sym, subst, ◌∙◌, arith, Option}
 use Rattle.std.proofs.Math.ListN.{set}
 use Rattle.std.specs.List.{AllZip}
-use Rattle.ext_store.specs.Stores.{StoreView, StoreLane, StillKeeps}
+use Rattle.ext_store.specs.Stores.{StoreId, StoreView, StoreLane, IsLaneOf, StillKeeps}
+use Rattle.ext_cells.specs.Lanes.{Lane}
+use Rattle.ext_closing.specs.declared.fault.CloseFault.{CloseFault}
+use Rattle.ext_closing.specs.declared.fault.CloseFault.TheVariants.{Busy, Contended, Unjoined}
 use Rattle.ext_closing.specs.Lanes.{first_lane, with_first, OnlyFirstSteps}
-use Rattle.ext_closing.specs.Sealing.{AreSealed}
+use Rattle.ext_closing.specs.Sealing.{numbers_left}
+use Rattle.ext_closing.specs.Closing.{NamesUnjoined}
+use Rattle.ext_closing.specs.Steps.{IsOfKey, SealingEnds}
 
 all_keep : {V : Type 0} (lanes : List (StoreLane V)) → AllZip StillKeeps lanes lanes
 all_keep [] = tt
@@ -14,6 +19,10 @@ first_changed : {V : Type 0} (store : StoreView) (lanes : List (StoreLane V)) (a
 first_changed store [] after some = absurd (omega (arith, some))
 first_changed store (lane ∷ others) after some = refl
 
+first_is : {V : Type 0} (store : StoreView) (lanes : List (StoreLane V)) (d : StoreLane V) → 1 ≤ length lanes → first_lane store lanes ≡ (get_or lanes 0 d).cells
+first_is store [] d some = absurd (omega (arith, some))
+first_is store (lane ∷ others) d some = refl
+
 others_stay : {V : Type 0} (lanes : List (StoreLane V)) (after d : StoreLane V) → 1 ≤ length lanes → after.known ≡ (get_or lanes 0 d).known → set lanes 0 after ≡ with_first after.cells lanes
 others_stay [] after d some known = absurd (omega (arith, some))
 others_stay (lane ∷ others) after d some known = λ i. record { cells = after.cells; known = known i } ∷ others
@@ -22,6 +31,14 @@ others_keep : {V : Type 0} (lanes : List (StoreLane V)) (after d : StoreLane V) 
 others_keep [] after d some kept = absurd (omega (arith, some))
 others_keep (lane ∷ others) after d some kept = (kept, all_keep others)
 
+at_each : {A : Type 0} (P : A → Type 0) (y : A) (ys : List A) (x : A) → P x → All P (y ∷ ys) → (k : ℕ) (d : A) → k < length (x ∷ ys) → P (get_or (x ∷ ys) k d)
+at_each P y ys x is all zero d within = is
+at_each P y ys x is all (suc k) d within = all (suc k) d within
+
+all_changed : {A : Type 0} (P : A → Type 0) (xs : List A) (x : A) → P x → All P xs → All P (set xs 0 x)
+all_changed P [] x is all = all
+all_changed P (y ∷ ys) x is all = at_each P y ys x is all
+
 module _ {V : Type 0} (lanes new : List (StoreLane V)) (after d : StoreLane V) (is : new ≡ set lanes 0 after) (some : 1 ≤ length lanes) where
   pub only_first : after.known ≡ (get_or lanes 0 d).known → OnlyFirstSteps lanes new
   only_first known = (after.cells, is ∙ others_stay lanes after d some known)
@@ -29,5 +46,21 @@ module _ {V : Type 0} (lanes new : List (StoreLane V)) (after d : StoreLane V) (
   pub still_kept : StillKeeps (get_or lanes 0 d) after → AllZip StillKeeps lanes new
   still_kept kept = subst (AllZip StillKeeps lanes) (sym is) (others_keep lanes after d some kept)
 
-  pub first_sealed : (store : StoreView) (context keys : ℕ) → AreSealed store context keys after.cells → AreSealed store context keys (first_lane store new)
-  first_sealed store context keys sealed = subst (AreSealed store context keys) (sym (ap (first_lane store) is ∙ first_changed store lanes after some)) sealed
+  pub still_own : (id : StoreId) → IsLaneOf id after → All (IsLaneOf id) lanes → All (IsLaneOf id) new
+  still_own id own all = subst (All (IsLaneOf id)) (sym is) (all_changed (IsLaneOf id) lanes after own all)
+
+  -- what the seals are for the first lane, they are for the lanes in hand
+  pub first_ends : (store : StoreView) (context : ℕ) (fault : Option CloseFault) → SealingEnds store context (get_or lanes 0 d).cells after.cells fault → SealingEnds store context (first_lane store lanes) (first_lane store new) fault
+  first_ends store context fault ends =
+      subst (λ (lane : Lane). SealingEnds store context lane (first_lane store new) fault) (sym (first_is store lanes d some))
+      (subst (λ (lane : Lane). SealingEnds store context (get_or lanes 0 d).cells lane fault) (sym (ap (first_lane store) is ∙ first_changed store lanes after some)) ends)
+
+  -- and so are the numbers that remain
+  pub first_left : (store : StoreView) (context : ℕ) (numbers : List ℕ) → numbers ≡ numbers_left store context after.cells → numbers ≡ numbers_left store context (first_lane store new)
+  first_left store context numbers left = left ∙ ap (numbers_left store context) (sym (ap (first_lane store) is ∙ first_changed store lanes after some))
+
+-- a key that is refused names no number
+pub names_none : {V : Type 0} (lanes : List (StoreLane V)) (numbers : List ℕ) (why : CloseFault) → IsOfKey why → NamesUnjoined lanes numbers why
+names_none lanes numbers (Busy key) of_key = tt
+names_none lanes numbers (Contended key) of_key = tt
+names_none lanes numbers (Unjoined number) of_key = absurd of_key

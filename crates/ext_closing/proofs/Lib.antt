@@ -1,7 +1,8 @@
-pub mod PutIn
 pub mod Counting
 pub mod Knowing
 pub mod Joining
 pub mod Calling
 pub mod Sealing
 pub mod InHand
+pub mod Again
+pub mod Logging

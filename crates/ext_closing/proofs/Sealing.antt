@@ -76,7 +76,7 @@ module _ (limits : Limits) (cell : ℕ) (before after : LaneView) (kept : Option
 -- ---- the calls so far, and a further one
 
 module _ (store : StoreView) (context : ℕ) (before between after : Lane) (same : between.cells ≡ before.cells) where
-  further : (sealed : List ℕ) (acts : List (Act ℕ)) → ((between ≡ before) × (sealed ≡ [])) ⊎ Calls before.cells.limits before.view between.view (seals_of store context sealed)
+  pub further : (sealed : List ℕ) (acts : List (Act ℕ)) → ((between ≡ before) × (sealed ≡ [])) ⊎ Calls before.cells.limits before.view between.view (seals_of store context sealed)
       → Calls between.cells.limits between.view after.view acts → Calls before.cells.limits before.view after.view (seals_of store context sealed ++ acts)
   further sealed acts (inl none) next =
       subst (λ keys. Calls before.cells.limits before.view after.view (seals_of store context keys ++ acts)) (sym none.1)

@@ -50,6 +50,17 @@ module _ {V A : Type 0} (is_closeable : V → Bool) (gives : A → ℕ → V →
     pub calls : FoldsTo (ClosesOne lanes) (record { action = first; answers = [] }) numbers (record { action = last; answers = answers })
     pub counts : closed ≡ counted answers
 
+-- The closeable ones among these numbers, in their order: so says a value of the number that a lane in hand knows
+module _ {V : Type 0} (is_closeable : V → Bool) where
+  abbrev pub if_closeable : Bool → ℕ → List ℕ → List ℕ
+  if_closeable true number more = number ∷ more
+  if_closeable false number more = more
+
+  abbrev pub AreCloseable : List (StoreLane V) → List ℕ → List ℕ → Type 0
+  AreCloseable lanes [] closeable = closeable ≡ []
+  AreCloseable lanes (number ∷ numbers) closeable =
+      (value : V) × IsKnown lanes number value × ((more : List ℕ) × AreCloseable lanes numbers more × (closeable ≡ if_closeable (is_closeable value) number more))
+
 -- ---- refusals
 
 -- a close that is refused as `Unjoined` names the greatest remaining number whose value no lane in hand knows

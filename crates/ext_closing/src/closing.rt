@@ -1,25 +1,24 @@
 //! The close of a context.
-ghost use Rattle.std.specs.Prelude.{ℕ, ◌≡◌, ◌≤◌, ◌<◌, ◌+◌, List, [], ◌∷◌, ◌++◌, length, slice_index_or, is_some, true, All, IfErr, IfNone, IfOk, IfSome};
+ghost use Rattle.std.specs.Prelude.{ℕ, ◌≡◌, ◌≤◌, ◌<◌, ◌+◌, List, [], ◌∷◌, ◌++◌, length, slice_index_or, is_some, true, false, All, IfErr, IfNone, IfOk, IfSome};
 ghost use Rattle.std.specs.List.{AllZip};
 ghost use Rattle.ext_model.specs.Closing.{IsFalling};
 ghost use Rattle.ext_values.specs.Known.{known_at};
 ghost use Rattle.ext_store.specs.Stores.{IsCloserOf, IsLaneOf, StillKeeps};
-ghost use Rattle.ext_closing.specs.Lanes.{IsGreatestUnjoined, IsJoined, IsKnown, IsUnknown, OnlyFirstSteps, first_lane};
-ghost use Rattle.ext_closing.specs.Sealing.{AreSealed, MakesSeals, SealsUntil, fault_beside, fault_of, keys_sealed, numbers_left};
-ghost use Rattle.ext_closing.specs.Closing.{ClosesNumbers, NamesUnjoined};
+ghost use Rattle.ext_closing.specs.Lanes.{IsGreatestUnjoined, IsJoined, IsKnown, IsUnknown};
+ghost use Rattle.ext_closing.specs.Sealing.{fault_of, numbers_left};
+ghost use Rattle.ext_closing.specs.Closing.{ClosesNumbers};
+ghost use Rattle.ext_closing.specs.Closes.{Closes};
 ghost use Rattle.ext_closing.specs.Steps.{IsOfKey, SealingEnds, SealsNext};
 
-use crate::numbers::Numbers;
 use crate::{CloseAction, CloseFault, Closed};
-use ext_model::KeyNo;
+use ext_model::{FallingNumbers, KeyNo};
 use ext_store::{Closer, Lane, Refusal, Store, StoreValue};
-use std::sync::Wait;
 
 /// Closes the closer's context: seals its keys, in their order, by the first of the lanes, and then closes those of
 /// its remaining values that are closeable, the one with the greatest number first, each by one call of the action. A
 /// value remains where it stood in the context when its key was sealed. A close that fails does not stop the others.
 /// Neither the parent nor the children of the context are closed. Afterwards nothing is stored or claimed in the
-/// context. Takes no memory of its own, and may wait.
+/// context. Takes no memory of its own.
 ///
 /// It is a condition that there is at least one lane, and that the lanes and the closer are of the store.
 ///
@@ -30,8 +29,7 @@ use std::sync::Wait;
 ///
 /// JUnit 5 User Guide, section "Keeping State in Extensions", and Javadoc
 /// `ExtensionContext.Store.CloseableResource`; seals, lanes and refusals are own rules.
-pub fn close<R: Wait, V: StoreValue + Drop, A: CloseAction<V>>(
-    rt: &R,
+pub fn close<V: StoreValue + Drop, A: CloseAction<V>>(
     store: &Store<V>,
     closer: Closer,
     lanes: &mut [Lane<V>],
@@ -41,25 +39,17 @@ pub fn close<R: Wait, V: StoreValue + Drop, A: CloseAction<V>>(
     requires own_lanes { All (IsLaneOf store.now.id) lanes.old }
     requires closer { IsCloserOf store.now closer }
 
-    // The first lane seals the keys, and does nothing else.
-    ensures seals { SealsUntil store.now closer.context (first_lane store.now lanes.old) (first_lane store.now lanes.new) (fault_beside result) }
-    ensures sealed { AreSealed store.now closer.context (keys_sealed store.now (fault_beside result)) (first_lane store.now lanes.new) }
-    ensures own_events { MakesSeals store.now closer.context (keys_sealed store.now (fault_beside result)) (first_lane store.now lanes.old) (first_lane store.now lanes.new) }
+    // What the close did, and when it is refused: each as a field.
+    ensures happened { Closes V.is_closeable A.close_gives store.now closer lanes.old action.old result lanes.new action.new }
 
-    // The action closes what remains and is closeable, and is called for nothing else.
-    ensures closes { IfOk result (λ closed. ClosesNumbers V.is_closeable A.close_gives lanes.new (numbers_left store.now closer.context (first_lane store.now lanes.new)) action.old action.new closed) }
-
-    // When it is refused, and what is left then.
-    ensures unjoined { IfErr result (λ e. NamesUnjoined lanes.new (numbers_left store.now closer.context (first_lane store.now lanes.new)) e.1) }
+    // What a next call rests on, once more.
     ensures handed_back { IfErr result (λ e. e.0 ≡ closer) }
-    ensures not_called { IfErr result (λ _. action.new ≡ action.old) }
-
-    // The lanes know and keep what they did, and the others made no step.
-    ensures lanes { OnlyFirstSteps lanes.old lanes.new }
     ensures own_lanes { All (IsLaneOf store.now.id) lanes.new }
     ensures kept { AllZip StillKeeps lanes.old lanes.new }
 {
-    let numbers = match seal_all(rt, store, &closer, &mut lanes[0]) {
+    // The lane that seals.
+    let first = 0;
+    let numbers = match seal_all(store, &closer, &mut lanes[first]) {
         Ok(numbers) => numbers,
         Err(why) => return Err((closer, why)),
     };
@@ -71,26 +61,24 @@ pub fn close<R: Wait, V: StoreValue + Drop, A: CloseAction<V>>(
 }
 
 // Seals all keys of the closer's context, in their order, and answers the numbers that remain, the greatest first.
-fn seal_all<R: Wait, V>(
-    rt: &R,
+fn seal_all<V>(
     store: &Store<V>,
     closer: &Closer,
     lane: &mut Lane<V>,
-) -> Result<Numbers, CloseFault>
+) -> Result<FallingNumbers, CloseFault>
     requires lane { IsLaneOf store.now.id lane.old }
     requires closer { IsCloserOf store.now closer.now }
     ensures ends { SealingEnds store.now closer.now.context lane.old.cells lane.new.cells (fault_of result) }
     ensures numbers { IfOk result (λ numbers. numbers ≡ numbers_left store.now closer.now.context lane.new.cells) }
-    ensures few { IfOk result (λ numbers. length numbers ≤ 64) }
     ensures refusal { IfErr result IsOfKey }
     ensures known { lane.new.known ≡ lane.old.known }
     ensures lane { IsLaneOf store.now.id lane.new }
     ensures kept { StillKeeps lane.old lane.new }
 {
-    let mut numbers = Numbers::new();
+    let mut numbers = FallingNumbers::new();
     for key in 0..store.directory().len() {
-        match seal_key(rt, store, closer, lane, key) {
-            Ok(kept) => numbers.keep(kept),
+        match seal_key(store, closer, lane, key) {
+            Ok(kept) => numbers.put_in_kept(kept),
             Err(why) => return Err(why),
         }
     }
@@ -98,8 +86,7 @@ fn seal_all<R: Wait, V>(
 }
 
 // Seals one key of the closer's context.
-fn seal_key<R: Wait, V>(
-    rt: &R,
+fn seal_key<V>(
     store: &Store<V>,
     closer: &Closer,
     lane: &mut Lane<V>,
@@ -113,11 +100,14 @@ fn seal_key<R: Wait, V>(
     ensures lane { IsLaneOf store.now.id lane.new }
     ensures kept { StillKeeps lane.old lane.new }
 {
-    match store.seal(rt, lane, closer, key) {
+    match store.seal(lane, closer, key) {
         Ok(kept) => Ok(kept),
         Err(Refusal::Busy(_)) => Err(CloseFault::Busy(key)),
-        Err(Refusal::Closed(_) | Refusal::Contended | Refusal::UnknownKey | Refusal::Exhausted) =>
-            Err(CloseFault::Contended(key)),
+        Err(Refusal::Contended) => Err(CloseFault::Contended(key)),
+        // A seal is refused for no other reason.
+        Err(Refusal::Closed(_)) => unreachable!(),
+        Err(Refusal::UnknownKey) => unreachable!(),
+        Err(Refusal::Exhausted) => unreachable!(),
     }
 }
 
@@ -128,11 +118,19 @@ fn first_unjoined<V>(store: &Store<V>, lanes: &[Lane<V>], numbers: &[u32]) -> Op
     ensures unjoined { IfSome result (IsGreatestUnjoined lanes.now numbers.now) }
 {
     for number in numbers {
-        if lane_knowing(store, lanes, *number).is_none() {
+        if !is_joined(store, lanes, *number) {
             return Some(*number);
         }
     }
     None
+}
+
+// Whether a lane in hand knows the number's value.
+fn is_joined<V>(store: &Store<V>, lanes: &[Lane<V>], number: u32) -> bool
+    ensures joined { result ≡ true → IsJoined lanes.now number }
+    ensures unknown { result ≡ false → IsUnknown lanes.now number }
+{
+    lane_knowing(store, lanes, number).is_some()
 }
 
 // A lane in hand that knows the number's value.

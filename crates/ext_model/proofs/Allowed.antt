@@ -8,7 +8,7 @@ use Rattle.ext_model.specs.declared.slot.Slot.{Slot}
 use Rattle.ext_model.specs.declared.slot.Slot.TheVariants as slot
 use Rattle.ext_model.specs.Events.{Happens, Refuses, NumbersFull, Barred, keep_reply, put_reply, remove_reply, claim_reply, end_reply, seal_reply}
 use Rattle.ext_model.specs.History.{History, Limits, by, state_after, IsAllowed}
-use Rattle.ext_model.specs.Allowed.{IsOpen, IsPresent, MayHappen}
+use Rattle.ext_model.specs.Allowed.{IsOpen, IsPresent, Permits, MayHappen}
 
 below : (a b : ℕ) → nat_lt a b ≡ true → a < b
 below a b e = grind (arith, nat_tests)
@@ -100,29 +100,35 @@ seal_does (Some (slot.Sealed kept)) open_there = absurd open_there
 -- ---- both ways
 
 module _ (limits : Limits) (h : History) (lane : ℕ) where
-  pub may_happen : (act : Act ℕ) → IsAllowed limits h (by lane act) → MayHappen limits h lane act
-  may_happen (Keep number) a =
+  permitted : (act : Act ℕ) → IsAllowed limits h (by lane act) → Permits limits h lane act
+  permitted (Keep number) a =
       let less = keep_says limits.numbers (state_after h).drawn _ a.happens.0 refl a.happens.1 in
       let next : number ≡ (state_after h).drawn + 1 = a.next in
       (next, omega (arith, less, next))
-  may_happen (Put at number) a = let s = put_says _ _ a.happens.0 a.happens.1 in (a.within, s.0, above _ _ s.1, record { drew = a.drew; fresh = a.fresh })
-  may_happen (Remove at) a = let s = remove_says _ _ a.happens.0 a.happens.1 in (a.within, s.0, above _ _ s.1)
-  may_happen (Claim at) a = let s = claim_says _ _ a.happens.0 a.happens.1 in (a.within, s.0, above _ _ s.1)
-  may_happen (Fill at number) a = (a.within, end_says lane _ a.happens.0 a.happens.1, record { drew = a.drew; fresh = a.fresh })
-  may_happen (Abandon at) a = (a.within, end_says lane _ a.happens.0 a.happens.1)
-  may_happen (Seal at) a = (a.within, seal_says _ a.happens.0 a.happens.1)
+  permitted (Put at number) a = let s = put_says _ _ a.happens.0 a.happens.1 in (a.within, s.0, above _ _ s.1, record { drew = a.drew; fresh = a.fresh })
+  permitted (Remove at) a = let s = remove_says _ _ a.happens.0 a.happens.1 in (a.within, s.0, above _ _ s.1)
+  permitted (Claim at) a = let s = claim_says _ _ a.happens.0 a.happens.1 in (a.within, s.0, above _ _ s.1)
+  permitted (Fill at number) a = (a.within, end_says lane _ a.happens.0 a.happens.1, record { drew = a.drew; fresh = a.fresh })
+  permitted (Abandon at) a = (a.within, end_says lane _ a.happens.0 a.happens.1)
+  permitted (Seal at) a = (a.within, seal_says _ a.happens.0 a.happens.1)
 
-  pub allowed : (act : Act ℕ) → MayHappen limits h lane act → IsAllowed limits h (by lane act)
-  allowed (Keep number) m =
+  pub may_happen : (act : Act ℕ) → IsAllowed limits h (by lane act) → MayHappen limits h lane act
+  may_happen act a = (a.lane, permitted act a)
+
+  may_be : lane < limits.lanes → (act : Act ℕ) → Permits limits h lane act → IsAllowed limits h (by lane act)
+  may_be mine (Keep number) m =
       let next : number ≡ (state_after h).drawn + 1 = m.0 in
       let few : number ≤ limits.numbers = m.1 in
-      record { within = tt; happens = (Some ((state_after h).drawn + 1), keep_does limits.numbers (state_after h).drawn (omega (arith, next, few))); next = next; drew = tt; fresh = tt }
-  allowed (Put at number) m = record { within = m.0; happens = put_does _ _ (is_above _ _ m.2) m.1; next = tt; drew = m.3.drew; fresh = m.3.fresh }
-  allowed (Remove at) m = record { within = m.0; happens = remove_does _ _ (is_above _ _ m.2) m.1; next = tt; drew = tt; fresh = tt }
-  allowed (Claim at) m = record { within = m.0; happens = claim_does _ _ (is_above _ _ m.2) m.1; next = tt; drew = tt; fresh = tt }
-  allowed (Fill at number) m = record { within = m.0; happens = end_does lane _ m.1; next = tt; drew = m.2.drew; fresh = m.2.fresh }
-  allowed (Abandon at) m = record { within = m.0; happens = end_does lane _ m.1; next = tt; drew = tt; fresh = tt }
-  allowed (Seal at) m = record { within = m.0; happens = seal_does _ m.1; next = tt; drew = tt; fresh = tt }
+      record { lane = mine; within = tt; happens = (Some ((state_after h).drawn + 1), keep_does limits.numbers (state_after h).drawn (omega (arith, next, few))); next = next; drew = tt; fresh = tt }
+  may_be mine (Put at number) m = record { lane = mine; within = m.0; happens = put_does _ _ (is_above _ _ m.2) m.1; next = tt; drew = m.3.drew; fresh = m.3.fresh }
+  may_be mine (Remove at) m = record { lane = mine; within = m.0; happens = remove_does _ _ (is_above _ _ m.2) m.1; next = tt; drew = tt; fresh = tt }
+  may_be mine (Claim at) m = record { lane = mine; within = m.0; happens = claim_does _ _ (is_above _ _ m.2) m.1; next = tt; drew = tt; fresh = tt }
+  may_be mine (Fill at number) m = record { lane = mine; within = m.0; happens = end_does lane _ m.1; next = tt; drew = m.2.drew; fresh = m.2.fresh }
+  may_be mine (Abandon at) m = record { lane = mine; within = m.0; happens = end_does lane _ m.1; next = tt; drew = tt; fresh = tt }
+  may_be mine (Seal at) m = record { lane = mine; within = m.0; happens = seal_does _ m.1; next = tt; drew = tt; fresh = tt }
+
+  pub allowed : (act : Act ℕ) → MayHappen limits h lane act → IsAllowed limits h (by lane act)
+  allowed act m = may_be m.0 act m.1
 
 pub allowed_by_cases : (limits : Limits) (h : History) (lane : ℕ) (act : Act ℕ) → IsAllowed limits h (by lane act) ↔ MayHappen limits h lane act
 allowed_by_cases limits h lane act = (may_happen limits h lane act, allowed limits h lane act)

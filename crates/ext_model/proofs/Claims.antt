@@ -10,7 +10,7 @@ use Rattle.ext_model.specs.declared.slot.Slot.TheVariants as slot
 use Rattle.ext_model.specs.Events.{slot_after, is_on}
 use Rattle.ext_model.specs.History.{History, Limits, by, own, state_after, version_of, IsQuiet, IsAllowed, IsLegal}
 use Rattle.ext_model.specs.Words.{word_of}
-use Rattle.ext_model.specs.Allowed.{IsOpen, IsPresent, MayHappen}
+use Rattle.ext_model.specs.Allowed.{IsOpen, IsPresent, Permits}
 use Rattle.ext_model.proofs.Lists.{bools}
 use Rattle.ext_model.proofs.Legal.{legal_induct}
 use Rattle.ext_model.proofs.Allowed.{may_happen}
@@ -32,7 +32,7 @@ module _ (limits : Limits) (h : History) (lane cell : ℕ) where
   there at x on is = ap (state_after h).slots (same_cell at cell on) ∙ is
 
   -- an event on a claimed cell is the claimer's own
-  pub claimer : (act : Act ℕ) (holder : ℕ) → (state_after h).slots cell ≡ Some (slot.Claim holder) → is_on nat_eq cell act ≡ true → MayHappen limits h lane act → lane ≡ holder
+  pub claimer : (act : Act ℕ) (holder : ℕ) → (state_after h).slots cell ≡ Some (slot.Claim holder) → is_on nat_eq cell act ≡ true → Permits limits h lane act → lane ≡ holder
   claimer (Keep number) holder is on may = absurd (cc on)
   claimer (Put at number) holder is on may = absurd (subst IsOpen (there at _ on is) may.1)
   claimer (Remove at) holder is on may = absurd (subst IsPresent (there at _ on is) may.1)
@@ -70,7 +70,7 @@ claim_stands h [] lane cell legal is quiet = refl
 claim_stands {limits} h (e ∷ rest) lane cell legal is quiet =
     elim (bools (is_on nat_eq cell e.act)) [
       | inl on ↦
-          let mine : e.lane ≡ lane = claimer limits h e.lane cell e.act lane is on (may_happen limits h e.lane e.act (legal.each h e rest refl)) in
+          let mine : e.lane ≡ lane = claimer limits h e.lane cell e.act lane is on (may_happen limits h e.lane e.act (legal.each h e rest refl)).1 in
           absurd (first_quiet lane cell e rest (eq-eqb e.lane lane mine) on quiet)
       | inr off ↦
           let regrouped = append_assoc h (e ∷ []) rest in
@@ -102,7 +102,7 @@ open_most (Some (slot.Claim lane)) v o room = absurd o
 open_most (Some (slot.Sealed kept)) v o room = absurd o
 
 module _ (limits : Limits) (h : History) (lane cell : ℕ) where
-  next_room : (act : Act ℕ) → is_on nat_eq cell act ≡ true → MayHappen limits h lane act → version_of h cell ≤ most ((state_after h).slots cell) → version_of h cell + 1 ≤ most (slot_after lane act ((state_after h).slots cell))
+  next_room : (act : Act ℕ) → is_on nat_eq cell act ≡ true → Permits limits h lane act → version_of h cell ≤ most ((state_after h).slots cell) → version_of h cell + 1 ≤ most (slot_after lane act ((state_after h).slots cell))
   next_room (Keep number) on may room = absurd (cc on)
   next_room (Put at number) on may room = let v : version_of h cell ≤ 2 ^ 40 - 3 = subst (λ k. version_of h k ≤ 2 ^ 40 - 3) (same_cell at cell on) may.2 in omega (arith, v)
   next_room (Remove at) on may room = let v : version_of h cell ≤ 2 ^ 40 - 3 = subst (λ k. version_of h k ≤ 2 ^ 40 - 3) (same_cell at cell on) may.2 in omega (arith, v)
@@ -119,7 +119,7 @@ room_left {limits} h cell legal = legal_induct limits (λ g. version_of g cell �
     step g e legal room a = elim (bools (is_on nat_eq cell e.act)) [
       | inl on ↦
           let v : version_of (g ++ e ∷ []) cell ≡ version_of g cell + 1 = version-push g e cell ∙ ap (λ b. version_of g cell + cond b 1 0) on in
-          let n = next_room limits g e.lane cell e.act on (may_happen limits g e.lane e.act a) room in
+          let n = next_room limits g e.lane cell e.act on (may_happen limits g e.lane e.act a).1 room in
           subst (λ x. version_of (g ++ e ∷ []) cell ≤ most x) (sym (slot_on g e cell on)) (omega (arith, v, n))
       | inr off ↦
           let v : version_of (g ++ e ∷ []) cell ≡ version_of g cell + 0 = version-push g e cell ∙ ap (λ b. version_of g cell + cond b 1 0) off in
@@ -164,3 +164,22 @@ used_within {limits} h cell slot legal = legal_induct limits (λ g. (state_after
     step g e legal old a is =
         used_after (is_on nat_eq cell e.act) limits (slot_after e.lane e.act ((state_after g).slots cell)) ((state_after g).slots cell) cell slot
         (λ on. act_within limits g e.lane cell e.act a on) old (sym (slots-push g e cell) ∙ is)
+
+-- and a claim is one of the store's lanes
+claimed_after : (b : Bool) (limits : Limits) (lane holder : ℕ) (act : Act ℕ) (y : Option Slot) → lane < limits.lanes → (y ≡ Some (slot.Claim holder) → holder < limits.lanes)
+    → (if b then slot_after lane act y else y) ≡ Some (slot.Claim holder) → holder < limits.lanes
+claimed_after false limits lane holder act y few old is = old is
+claimed_after true limits lane holder (Keep number) y few old is = old is
+claimed_after true limits lane holder (Put at number) y few old is = absurd (cc is)
+claimed_after true limits lane holder (Remove at) y few old is = absurd (cc is)
+claimed_after true limits lane holder (Claim at) y few old is = let e : lane ≡ holder = cc is in subst (λ n. n < limits.lanes) e few
+claimed_after true limits lane holder (Fill at number) y few old is = absurd (cc is)
+claimed_after true limits lane holder (Abandon at) y few old is = absurd (cc is)
+claimed_after true limits lane holder (Seal at) y few old is = absurd (cc is)
+
+pub holder_within : {limits : Limits} (h : History) (cell holder : ℕ) → IsLegal limits h → (state_after h).slots cell ≡ Some (slot.Claim holder) → holder < limits.lanes
+holder_within {limits} h cell holder legal = legal_induct limits (λ g. (state_after g).slots cell ≡ Some (slot.Claim holder) → holder < limits.lanes) (λ is. absurd (cc is)) step h legal
+  where
+    step : (g : History) (e : Event ℕ) → IsLegal limits g → ((state_after g).slots cell ≡ Some (slot.Claim holder) → holder < limits.lanes) → IsAllowed limits g e
+        → (state_after (g ++ e ∷ [])).slots cell ≡ Some (slot.Claim holder) → holder < limits.lanes
+    step g e legal old a is = claimed_after (is_on nat_eq cell e.act) limits e.lane holder e.act ((state_after g).slots cell) a.lane old (sym (slots-push g e cell) ∙ is)

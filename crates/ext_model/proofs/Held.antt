@@ -15,7 +15,7 @@ use Rattle.ext_model.specs.Calls.{Calls, IsHeld, MayStoreNow, GoesOn}
 use Rattle.ext_model.proofs.Allowed.{allowed}
 use Rattle.ext_model.proofs.Owned.{own_may_store}
 use Rattle.ext_model.proofs.Versions.{version-cons}
-use Rattle.ext_model.proofs.Claims.{claim_stands, quiet_slot, quiet_word, used_within}
+use Rattle.ext_model.proofs.Claims.{claim_stands, quiet_slot, quiet_word, used_within, holder_within}
 use Rattle.ext_model.proofs.Composed.{own_append, same_number, seen_goes_on}
 
 quiet_acts : (lane cell : ℕ) (acts : List (Act ℕ)) → All (λ act. is_on nat_eq cell act ≡ false) acts → IsQuiet cell (events_by lane acts)
@@ -70,9 +70,9 @@ goes_on_store limits lane number h on may = still_store limits lane h on number 
 pub held_fill : (limits : Limits) (lane : LaneView) (cell number : ℕ) (h : History) → GoesOn limits lane h → IsHeld lane cell → MayStoreNow lane number → IsAllowed limits h (by lane.number (Fill cell number))
 held_fill limits lane cell number h on is may =
     let stands = still_held limits lane h on cell is in
-    allowed limits h lane.number (Fill cell number) (used_within h cell (slot.Claim lane.number) on.legal stands, stands, still_store limits lane h on number may)
+    allowed limits h lane.number (Fill cell number) (holder_within h cell lane.number on.legal stands, (used_within h cell (slot.Claim lane.number) on.legal stands, stands, still_store limits lane h on number may))
 
 pub held_abandon : (limits : Limits) (lane : LaneView) (cell : ℕ) (h : History) → GoesOn limits lane h → IsHeld lane cell → IsAllowed limits h (by lane.number (Abandon cell))
 held_abandon limits lane cell h on is =
     let stands = still_held limits lane h on cell is in
-    allowed limits h lane.number (Abandon cell) (used_within h cell (slot.Claim lane.number) on.legal stands, stands)
+    allowed limits h lane.number (Abandon cell) (holder_within h cell lane.number on.legal stands, (used_within h cell (slot.Claim lane.number) on.legal stands, stands))

@@ -11,10 +11,12 @@ pub mod Stored
 pub mod Words
 pub mod Fronts
 pub mod Claims
+pub mod ByLanes
 pub mod Owned
 pub mod Composed
 pub mod Single
 pub mod Held
 pub mod Looks
 pub mod Remaining
+pub mod PutIn
 pub mod WorkedRows

@@ -53,7 +53,7 @@ put_below bound number (first ∷ rest) p q = elim (order first number) [
   | more g ↦ subst (IsBelow bound) (sym (put_after number first rest g)) q
 ]
 
-put_falls : (number : ℕ) (xs : List ℕ) → IsFalling xs → IsFalling (put_in number xs)
+pub put_falls : (number : ℕ) (xs : List ℕ) → IsFalling xs → IsFalling (put_in number xs)
 put_falls number [] falls = (tt, tt)
 put_falls number (first ∷ rest) falls = elim (order first number) [
   | less l ↦ subst IsFalling (sym (put_before number first rest l)) (l, falls)

@@ -1,10 +1,12 @@
 -- The worked histories that are not computed alone.
-use Rattle.std.proofs.Common.{◌≡◌, ℕ, ◌≤◌, Contains, [], ◌∷◌, ◌++◌, length, inl, inr, refl, ap, arith, None, Some, append-nil}
+use Rattle.std.proofs.Common.{◌≡◌, ℕ, ◌≤◌, Contains, [], ◌∷◌, ◌++◌, length, inl, inr, refl, ap, sym, subst, arith, None, Some, append-nil}
 use Rattle.ext_model.specs.declared.event.Act.TheVariants.{Keep, Put, Remove, Claim, Fill, Abandon}
 use Rattle.ext_model.specs.declared.event.Event.{Event}
 use Rattle.ext_model.specs.History.{History, by}
 use Rattle.ext_model.specs.Worked.{small, at_root}
-use Rattle.ext_model.specs.WorkedCalls.{AnsweredNow, NotFromMemory, EitherPoint, OvertakenByOne, NotOvertakenByTwo, NotOvertakenByLagging, SixAreLegal, RemoveAnswered, PutAnswered, NoAnswerWithoutStep, meanwhile, SecondLookFinds, RootIsLegal, NotWithAnothersNumber, NotTwice, NotWithoutClaim}
+use Rattle.ext_model.specs.WorkedCalls.{AnsweredNow, NotFromMemory, EitherPoint, OvertakenByOne, NotOvertakenByTwo, NotOvertakenByLagging, NotCrowdedByItself, SixAreLegal, RemoveAnswered, PutAnswered, NoAnswerWithoutStep, meanwhile, SecondLookFinds, RootIsLegal, NotByAnotherLane, NotWithAnothersNumber, NotTwice, NotWithoutClaim}
+use mathlib.Core.List.{append_cancel_left}
+use Rattle.ext_model.specs.Views.{others}
 use Rattle.ext_model.proofs.Lists.{contains_none, contains_here, contains_cons}
 use Rattle.ext_model.proofs.Legal.{legal_empty, legal_push}
 
@@ -20,8 +22,11 @@ not_from_memory at = let e : length (at_root ++ at.0.0) ≡ 1 = ap length at.0.1
 pub root_is_legal : RootIsLegal
 root_is_legal =
     legal_push (by 0 (Keep 1) ∷ []) (by 0 (Put 0 1))
-    (legal_push [] (by 0 (Keep 1)) (legal_empty small) (record { within = tt; happens = (Some 1, refl); next = refl; drew = tt; fresh = tt }))
-    (record { within = omega arith; happens = (None, refl); next = tt; drew = (0, omega arith, refl); fresh = λ there. contains_none 1 there })
+    (legal_push [] (by 0 (Keep 1)) (legal_empty small) (record { lane = omega arith; within = tt; happens = (Some 1, refl); next = refl; drew = tt; fresh = tt }))
+    (record { lane = omega arith; within = omega arith; happens = (None, refl); next = tt; drew = (0, omega arith, refl); fresh = λ there. contains_none 1 there })
+
+pub not_by_another_lane : NotByAnotherLane
+not_by_another_lane legal = let few = (legal.each [] (by 2 (Keep 1)) [] refl).lane in absurd (omega (arith, few))
 
 pub not_with_anothers_number : NotWithAnothersNumber
 not_with_anothers_number legal =
@@ -82,6 +87,12 @@ not_overtaken_by_lagging over = absurd (none over.passed.0 (ap length over.passe
     none : (rest : History) → ◌≡◌ {A = ℕ} 2 (length (at_root ++ rest)) → 1 ≤ length rest → ⊥
     none rest e many = omega (arith, e, many)
 
+pub not_crowded_by_itself : NotCrowdedByItself
+not_crowded_by_itself crowded =
+    let own_acts : History = by 1 (Claim 3) ∷ by 1 (Abandon 3) ∷ [] in
+    let more : crowded.0 ≡ own_acts = sym (append_cancel_left (by 0 (Keep 1) ∷ []) own_acts crowded.0 crowded.1) in
+    let none : 1 ≤ others 1 own_acts = subst (λ h. 1 ≤ others 1 h) more crowded.2 in absurd (omega (arith, none))
+
 -- ---- six events
 
 not_two : Contains {X = ℕ} (1 ∷ []) 2 → ⊥
@@ -95,7 +106,7 @@ six_are_legal =
     legal_push (at_root ++ by 1 (Keep 2) ∷ by 1 (Put 0 2) ∷ by 0 (Claim 3) ∷ []) (by 0 (Remove 0))
     (legal_push (at_root ++ by 1 (Keep 2) ∷ by 1 (Put 0 2) ∷ []) (by 0 (Claim 3))
     (legal_push (at_root ++ by 1 (Keep 2) ∷ []) (by 1 (Put 0 2))
-    (legal_push at_root (by 1 (Keep 2)) root_is_legal (record { within = tt; happens = (Some 2, refl); next = refl; drew = tt; fresh = tt }))
-    (record { within = omega arith; happens = (Some 1, refl); next = tt; drew = (2, omega arith, refl); fresh = not_two }))
-    (record { within = omega arith; happens = (None, refl); next = tt; drew = tt; fresh = tt }))
-    (record { within = omega arith; happens = (Some 2, refl); next = tt; drew = tt; fresh = tt })
+    (legal_push at_root (by 1 (Keep 2)) root_is_legal (record { lane = omega arith; within = tt; happens = (Some 2, refl); next = refl; drew = tt; fresh = tt }))
+    (record { lane = omega arith; within = omega arith; happens = (Some 1, refl); next = tt; drew = (2, omega arith, refl); fresh = not_two }))
+    (record { lane = omega arith; within = omega arith; happens = (None, refl); next = tt; drew = tt; fresh = tt }))
+    (record { lane = omega arith; within = omega arith; happens = (Some 2, refl); next = tt; drew = tt; fresh = tt })

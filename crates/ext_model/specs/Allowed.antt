@@ -33,12 +33,16 @@ last_change = 2 ^ 40 - 3
 abbrev pub last_claim : ℕ
 last_claim = 2 ^ 40 - 4
 
--- the lane may do this act directly after these events
+-- what stands lets the lane do this act directly after these events
+abbrev pub Permits : Limits → History → ℕ → Act ℕ → Type 0
+Permits limits h lane (Keep number) = (number ≡ (state_after h).drawn + 1) × (number ≤ limits.numbers)
+Permits limits h lane (Put at number) = (at < limits.cells) × IsOpen ((state_after h).slots at) × (version_of h at ≤ last_change) × MayStore lane number h
+Permits limits h lane (Remove at) = (at < limits.cells) × IsPresent ((state_after h).slots at) × (version_of h at ≤ last_change)
+Permits limits h lane (Claim at) = (at < limits.cells) × ((state_after h).slots at ≡ None) × (version_of h at ≤ last_claim)
+Permits limits h lane (Fill at number) = (at < limits.cells) × ((state_after h).slots at ≡ Some (slot.Claim lane)) × MayStore lane number h
+Permits limits h lane (Abandon at) = (at < limits.cells) × ((state_after h).slots at ≡ Some (slot.Claim lane))
+Permits limits h lane (Seal at) = (at < limits.cells) × IsOpen ((state_after h).slots at)
+
+-- and the lane is one of the store's: then it may do the act
 abbrev pub MayHappen : Limits → History → ℕ → Act ℕ → Type 0
-MayHappen limits h lane (Keep number) = (number ≡ (state_after h).drawn + 1) × (number ≤ limits.numbers)
-MayHappen limits h lane (Put at number) = (at < limits.cells) × IsOpen ((state_after h).slots at) × (version_of h at ≤ last_change) × MayStore lane number h
-MayHappen limits h lane (Remove at) = (at < limits.cells) × IsPresent ((state_after h).slots at) × (version_of h at ≤ last_change)
-MayHappen limits h lane (Claim at) = (at < limits.cells) × ((state_after h).slots at ≡ None) × (version_of h at ≤ last_claim)
-MayHappen limits h lane (Fill at number) = (at < limits.cells) × ((state_after h).slots at ≡ Some (slot.Claim lane)) × MayStore lane number h
-MayHappen limits h lane (Abandon at) = (at < limits.cells) × ((state_after h).slots at ≡ Some (slot.Claim lane))
-MayHappen limits h lane (Seal at) = (at < limits.cells) × IsOpen ((state_after h).slots at)
+MayHappen limits h lane act = (lane < limits.lanes) × Permits limits h lane act

@@ -16,9 +16,10 @@ History = List (Event ℕ)
 abbrev pub by : ℕ → Act ℕ → Event ℕ
 by lane act = record { lane = lane; act = act }
 
--- how many cells and how many numbers a store has: cells are from 0, numbers from 1
+-- how many cells, how many lanes and how many numbers a store has: cells and lanes are from 0, numbers from 1
 pub record Limits : Type 0 where
   pub cells : ℕ
+  pub lanes : ℕ
   pub numbers : ℕ
 
 -- ---- what a history leaves
@@ -77,6 +78,8 @@ reply_after limits h lane act = reply limits.numbers (version_of h) (state_after
 
 -- The event may come directly after these, in a store of these limits
 pub record IsAllowed (limits : Limits) (before : History) (e : Event ℕ) : Type 0 where
+  -- it is by one of the store's lanes
+  pub lane : e.lane < limits.lanes
   -- it is on one of the store's cells, or on none
   pub within : IfSome (place_of e.act) (λ cell. cell < limits.cells)
   -- one thread does it there, and neither refuses it nor answers it without an event

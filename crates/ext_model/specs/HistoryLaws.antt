@@ -41,6 +41,16 @@ AllowedByCases = (limits : Limits) (h : History) (lane : ℕ) (act : Act ℕ) �
 abbrev pub QuietIsNoEvent : Type 0
 QuietIsNoEvent = (cell : ℕ) (events : History) → IsQuiet cell events ↔ ((e : Event ℕ) → Contains events e → is_on nat_eq cell e.act ≡ false)
 
+-- ---- lanes
+
+-- each event is by one of the store's lanes
+abbrev pub EventsAreByLanes : Type 0
+EventsAreByLanes = (limits : Limits) (h : History) (e : Event ℕ) → IsLegal limits h → Contains h e → e.lane < limits.lanes
+
+-- so where none of them has made an event, there was none
+abbrev pub NoLaneNoEvent : Type 0
+NoLaneNoEvent = (limits : Limits) (h : History) → IsLegal limits h → ((lane : ℕ) → lane < limits.lanes → own lane h ≡ []) → h ≡ []
+
 -- ---- cells
 
 -- a remove of a cell stands between two fills of it

@@ -14,7 +14,7 @@ use Rattle.ext_model.specs.Closing.{remaining}
 use Rattle.ext_model.specs.SecondLook.{look_after}
 
 abbrev pub small : Limits
-small = record { cells = 9; numbers = 4 }
+small = record { cells = 9; lanes = 2; numbers = 4 }
 
 abbrev pub answered : History → ℕ → Act ℕ → Reply
 answered h lane act = reply_after small h lane act

@@ -1,12 +1,12 @@
 -- Worked histories: which of them are legal, and at which points a call may be answered. Each sentence follows from the definitions, as
--- `worked_histories` says. Own rules. The store is that of `Worked`: 9 cells and 4 numbers.
+-- `worked_histories` says. Own rules. The store is that of `Worked`: 9 cells, 2 lanes and 4 numbers.
 use Rattle.std.specs.Prelude.{◌≡◌, ◌*◌, [], ◌∷◌, ◌++◌, None}
 use Rattle.ext_model.specs.declared.event.Act.TheVariants.{Keep, Put, Remove, Claim, Fill, Abandon}
 use Rattle.ext_model.specs.declared.look.Look.TheVariants as look
 use Rattle.ext_model.specs.Events.{Happens, Answers}
 use Rattle.ext_model.specs.History.{History, by, reply_after, IsLegal}
 use Rattle.ext_model.specs.Views.{LaneView, seen_by, call_fronts, IsAnswerPoint}
-use Rattle.ext_model.specs.Calls.{HoldsAtPoint, IsOvertaken}
+use Rattle.ext_model.specs.Calls.{HoldsAtPoint, IsOvertaken, IsCrowded}
 use Rattle.ext_model.specs.SecondLook.{LooksAgain}
 use Rattle.ext_model.specs.Worked.{small, at_root}
 
@@ -50,6 +50,13 @@ NotOvertakenByTwo = ¬ (IsOvertaken small 2 before_call after_two_steps)
 abbrev pub NotOvertakenByLagging : Type 0
 NotOvertakenByLagging = ¬ (IsOvertaken small 1 before_call after_call)
 
+-- nor do the lane's own events: between the call's steps it claimed a cell and abandoned it
+abbrev pub after_own_events : LaneView
+after_own_events = record { number = 1; fronts = (by 0 (Keep 1) ∷ []) ∷ (by 0 (Keep 1) ∷ []) ∷ (by 0 (Keep 1) ∷ by 1 (Claim 3) ∷ []) ∷ (by 0 (Keep 1) ∷ by 1 (Claim 3) ∷ by 1 (Abandon 3) ∷ []) ∷ [] }
+
+abbrev pub NotCrowdedByItself : Type 0
+NotCrowdedByItself = ¬ (IsCrowded 1 before_call after_own_events)
+
 -- the call may answer that a remove in context 1 finds nothing, which makes no event
 abbrev pub RemoveAnswered : Type 0
 RemoveAnswered = HoldsAtPoint small before_call after_call [] (λ p. reply_after small p 1 (Remove 3) ≡ Answers None)
@@ -85,6 +92,10 @@ SixAreLegal = IsLegal small six_events
 
 abbrev pub RootIsLegal : Type 0
 RootIsLegal = IsLegal small at_root
+
+-- a number drawn by a third lane
+abbrev pub NotByAnotherLane : Type 0
+NotByAnotherLane = ¬ (IsLegal small (by 2 (Keep 1) ∷ []))
 
 -- a number stored by a lane that didn't draw it
 abbrev pub NotWithAnothersNumber : Type 0

@@ -1,7 +1,7 @@
 //! What is true of look-ups, of acts on every state and of all legal histories, as the contracts of functions that do nothing.
 ghost use Rattle.ext_model.specs.CallLaws.{StepsAreCalls, EventsAreCalls, CallsCompose, FrontsCompose, FirstStepDecides, FirstStepIsEarlier, SeenGoesOn, PointsAreLegal, AnswerPointsArePoints, LaterPointsServe, EarlierPointsServe, StepsStay, PointsOfSecond, PointsOfFirst, AnswersComeFirst, SeenIsPoint, OvertakenIsCrowded, QuietCrowdedIsOvertaken, CrowdedBySecond, CrowdedByFirst, ClaimsAreHeld, HeldWordsStay, HeldCellsMayBeFilled, HeldCellsMayBeAbandoned, OwnNumbersMayBeStored};
 ghost use Rattle.ext_model.specs.ClosingLaws.{RemainingIsSo, RemainingIsOne, NothingFollowsClose, ClosedStaysClosed, RemainingStays, SecondLooksStand};
-ghost use Rattle.ext_model.specs.HistoryLaws.{PrefixesAreLegal, AllowedEventsFollow, EmptyIsLegal, LegalInduction, AllowedByCases, QuietIsNoEvent, RemoveBetweenFills, NothingFollowsSeal, ClaimsStand, NumbersAreDrawnOnce, NumbersAreStoredOnce, LanesStoreOwnNumbers, OwnPastSuffices, UsedCellsAreWithin};
+ghost use Rattle.ext_model.specs.HistoryLaws.{PrefixesAreLegal, AllowedEventsFollow, EmptyIsLegal, LegalInduction, AllowedByCases, QuietIsNoEvent, RemoveBetweenFills, NothingFollowsSeal, ClaimsStand, NumbersAreDrawnOnce, NumbersAreStoredOnce, LanesStoreOwnNumbers, OwnPastSuffices, UsedCellsAreWithin, EventsAreByLanes, NoLaneNoEvent};
 ghost use Rattle.ext_model.specs.WordLaws.{EventChangesItsWord, OtherWordsStay, CountChangesByAct, QuietCellsKeepWords, QuietCellsStay, EqualWordsLeaveNoEvent, VersionsRiseWithEvents, UnequalWordsRaiseVersions, NumbersFit, VersionsFit, ClaimsCanEnd, CellsCanBeSealed, WordsBetweenAreEqual, WordsTellParts};
 ghost use Rattle.ext_model.specs.Laws.{NearestDecides, EmptyPathIsAbsent, PutIsFound, PlacesAreTold, OthersStay, SealsStay, ClaimsStay, AbandonUndoesClaim};
 
@@ -27,6 +27,8 @@ pub fn history_laws()
     ensures induction { LegalInduction }
     ensures by_cases { AllowedByCases }
     ensures quiet { QuietIsNoEvent }
+    ensures by_lanes { EventsAreByLanes }
+    ensures no_lane { NoLaneNoEvent }
     ensures fills { RemoveBetweenFills }
     ensures seals { NothingFollowsSeal }
     ensures claims { ClaimsStand }

@@ -7,12 +7,14 @@
 //! and the look-up, `Events` what each act answers and leaves, and `Plain` the words of `PlainStore`.
 //! For several lanes, `History` and `Allowed` have lists of events and which of them are legal, `Words`
 //! a cell in one word, `Views` and `Calls` what a lane has seen and what the contract of a call says,
-//! `SecondLook` and `Closing` the parts that computing and closing need. What is true of them is in
-//! `Laws`, `HistoryLaws`, `WordLaws`, `CallLaws` and `ClosingLaws`, and examples are in `Worked` and
-//! `WorkedCalls`: functions that do nothing prove them.
+//! `SecondLook` and `Closing` the parts that computing and closing need; `FallingNumbers` holds the numbers
+//! that a closed context still has. What is true of the definitions is in `Laws`, `HistoryLaws`, `WordLaws`,
+//! `CallLaws` and `ClosingLaws`, and examples are in `Worked` and `WorkedCalls`: functions that do nothing
+//! prove them.
 #![tactic(auto)]
 
 mod event;
+mod falling_numbers;
 mod laws;
 mod look;
 mod plain;
@@ -21,6 +23,7 @@ mod slot;
 mod worked;
 
 pub use event::{Act, CellNo, ContextNo, Event, KeyNo, LaneNo};
+pub use falling_numbers::FallingNumbers;
 pub use laws::{call_laws, closing_laws, history_laws, store_laws, word_laws};
 pub use look::{Fault, Look};
 pub use plain::PlainStore;

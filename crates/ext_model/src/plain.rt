@@ -96,7 +96,8 @@ impl PlainStore {
         Look::Absent
     }
 
-    /// Stores the number at the place, and answers the number that stood there, which it replaces.
+    /// Stores the number at the place, and answers the number that stood there, which it replaces. Any number will do:
+    /// who wants each value stored once, as in JUnit's store, puts numbers that `keep` gave, each once.
     ///
     /// Refused, in this order, as `Busy` where a lane claims the place, `Closed` where it is sealed, and
     /// `Memory`, which can come only where nothing stood. `ExtensionContext.Store`, `put`.
@@ -184,8 +185,8 @@ impl PlainStore {
     /// Ends the lane's claim: the number is stored at the place. It always answers `Ok`, and takes no memory, since
     /// the place is in use.
     ///
-    /// Only the lane of the claim may call it, as `is_claimed_by` tells. The last part of `getOrComputeIfAbsent` of
-    /// `ExtensionContext.Store`.
+    /// Only the lane of the claim may call it, as `is_claimed_by` tells; any number will do, as for `put`. The last part
+    /// of `getOrComputeIfAbsent` of `ExtensionContext.Store`.
     pub fn fill(
         &mut self,
         at: ContextNo,

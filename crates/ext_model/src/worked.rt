@@ -1,6 +1,6 @@
 //! Worked histories, as the contract of a function that does nothing.
 ghost use Rattle.ext_model.specs.Worked.{FoundFromBelow, RemovedNothing, Replaced, ReplacedWord, RemovedWord, HeldHides, HeldIsBusy, HeldIsNotFilledByOthers, HeldIsNotSealed, FilledStands, AbandonedIsEmpty, OwnEvents, RemainingFalls, SealedIsClosed, SealedAgain, ClosedHides, NumbersRunOut, PresentWord, EmptyWord, LastPut, NoClaimAtLastPut, NoPutAfterLast};
-ghost use Rattle.ext_model.specs.WorkedCalls.{CallHasOneFront, AnsweredNow, NotFromMemory, RootIsLegal, NotWithAnothersNumber, NotTwice, NotWithoutClaim, RemoveAnswered, PutAnswered, NoAnswerWithoutStep, SecondLookFinds, TwoFronts, EitherPoint, OvertakenByOne, NotOvertakenByTwo, NotOvertakenByLagging, SixAreLegal};
+ghost use Rattle.ext_model.specs.WorkedCalls.{CallHasOneFront, AnsweredNow, NotFromMemory, RootIsLegal, NotWithAnothersNumber, NotTwice, NotWithoutClaim, RemoveAnswered, PutAnswered, NoAnswerWithoutStep, SecondLookFinds, TwoFronts, EitherPoint, OvertakenByOne, NotOvertakenByTwo, NotOvertakenByLagging, NotCrowdedByItself, SixAreLegal, NotByAnotherLane};
 
 /// Computes the definitions on small histories: values, claims, seals, words, versions at their limits, and fronts.
 /// It does nothing when it runs (own rule).
@@ -39,8 +39,10 @@ pub fn worked_histories()
     ensures overtaken_by_one { OvertakenByOne }
     ensures not_overtaken_by_two { NotOvertakenByTwo }
     ensures not_overtaken_by_lagging { NotOvertakenByLagging }
+    ensures not_crowded_by_itself { NotCrowdedByItself }
     ensures six_are_legal { SixAreLegal }
     ensures root_is_legal { RootIsLegal }
+    ensures not_by_another_lane { NotByAnotherLane }
     ensures not_with_anothers_number { NotWithAnothersNumber }
     ensures not_twice { NotTwice }
     ensures not_without_claim { NotWithoutClaim }

@@ -95,7 +95,9 @@ fn are_few(alloc: Global, keys: &[PlanKey], nodes: usize) -> Result<bool, PlanFa
         Ok(numbers) => Ok(nodes * numbers.len() <= 4096),
         Err(fault) => match fault {
             TreeFault::Memory => Err(PlanFault::Memory),
-            _ => Ok(false),
+            TreeFault::TooMany => Ok(false),
+            // Keys alone are never refused for the fault of a tree.
+            _ => unreachable!(),
         },
     }
 }

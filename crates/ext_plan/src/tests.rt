@@ -1,5 +1,5 @@
 //! Plans of the format's own examples, and their faults.
-use crate::{KeyNumbers, Place, Plan, PlanFault, Step, read_plan};
+use crate::{KeyNumbers, Place, Plan, PlanFault, read_plan};
 use std::alloc::{AllocError, Global};
 use std::test::Fail;
 
@@ -14,15 +14,17 @@ fn plan_with(alloc: Global, steps: &str) -> Result<String, AllocError> {
     )
 }
 
-/// The steps of a node; none where it is no test.
-fn steps_at(plan: &Plan, node: usize) -> &[Step] {
-    match plan.nodes.get(node) {
-        None => &[],
-        Some(node) => match &node.test {
-            None => &[],
-            Some(steps) => steps.as_slice(),
-        },
+/// The steps of a node, one a line; nothing where it is no test.
+fn steps_at(alloc: Global, plan: &Plan, node: usize) -> Result<String, AllocError> {
+    let mut lines = String::new(alloc);
+    if let Some(node) = plan.nodes.get(node) {
+        if let Some(steps) = &node.test {
+            for step in steps {
+                lines.push_str(format!(in alloc; "{step:?}\n")?.as_str())?;
+            }
+        }
     }
+    Ok(lines)
 }
 
 /// What a plan is refused for.
@@ -39,114 +41,129 @@ fn reads_the_chain(rt: HostRuntime) -> Result<(), Fail> {
     assert_eq!(rt; plan.nodes[1].id.len(), 2);
     assert_eq!(rt; plan.nodes[1].id.segment(1), ("class", "A"));
     assert!(rt; plan.nodes[0].test.is_none());
-    let steps = steps_at(&plan, 2);
-    assert_eq!(rt; steps.len(), 2);
-    assert!(rt; matches!(&steps[0], Step::Put { key: 0, text, up: 0 } if text.as_str() == "x"));
-    assert!(rt; matches!(&steps[1], Step::Want { key: 0, text, up: 0 } if text.as_str() == "x"));
+    assert_eq!(rt;
+        steps_at(rt.alloc(), &plan, 2)?.as_str(),
+        "Put { key: 0, text: \"x\", up: 0 }\n\
+         Want { key: 0, text: \"x\", up: 0 }\n"
+    );
     Ok(())
+}
+
+/// The steps of a test three contexts deep that has these texts, in a plan with the labels `a` and `up`.
+fn steps_read(alloc: Global, texts: &str) -> Result<String, Fail> {
+    let text = plan_with(alloc, texts)?;
+    let plan = read_plan(alloc, text.as_str())?;
+    Ok(steps_at(alloc, &plan, 2)?)
 }
 
 #[test]
 fn reads_each_step(rt: HostRuntime) -> Result<(), Fail> {
-    let text = plan_with(
+    let steps = steps_read(
         rt.alloc(),
         "\"put up x\", \"put! a x\", \"want a x\", \"none up\", \"remove a\", \"compute a x\", \"compute! a x\", \"computefail a x\", \"fail x\", \"abort x\"",
     )?;
-    let plan = read_plan(rt.alloc(), text.as_str())?;
-    let steps = steps_at(&plan, 2);
-    assert_eq!(rt; steps.len(), 10);
-    assert!(rt; matches!(&steps[0], Step::Put { key: 1, text, up: 0 } if text.as_str() == "x"));
-    assert!(rt;
-        matches!(&steps[1], Step::PutCloseable { key: 0, text, up: 0 } if text.as_str() == "x")
+    assert_eq!(rt;
+        steps.as_str(),
+        "Put { key: 1, text: \"x\", up: 0 }\n\
+         PutCloseable { key: 0, text: \"x\", up: 0 }\n\
+         Want { key: 0, text: \"x\", up: 0 }\n\
+         None { key: 1, up: 0 }\n\
+         Remove { key: 0, up: 0 }\n\
+         Compute { key: 0, text: \"x\", up: 0 }\n\
+         ComputeCloseable { key: 0, text: \"x\", up: 0 }\n\
+         ComputeFail { key: 0, text: \"x\", up: 0 }\n\
+         Fail { text: \"x\" }\n\
+         Abort { text: \"x\" }\n"
     );
-    assert!(rt; matches!(&steps[2], Step::Want { key: 0, text, up: 0 } if text.as_str() == "x"));
-    assert!(rt; matches!(&steps[3], Step::None { key: 1, up: 0 }));
-    assert!(rt; matches!(&steps[4], Step::Remove { key: 0, up: 0 }));
-    assert!(rt; matches!(&steps[5], Step::Compute { key: 0, text, up: 0 } if text.as_str() == "x"));
-    assert!(rt;
-        matches!(&steps[6], Step::ComputeCloseable { key: 0, text, up: 0 } if text.as_str() == "x")
-    );
-    assert!(rt;
-        matches!(&steps[7], Step::ComputeFail { key: 0, text, up: 0 } if text.as_str() == "x")
-    );
-    assert!(rt; matches!(&steps[8], Step::Fail { text } if text.as_str() == "x"));
-    assert!(rt; matches!(&steps[9], Step::Abort { text } if text.as_str() == "x"));
     Ok(())
 }
 
 #[test]
 fn reads_each_step_with_up(rt: HostRuntime) -> Result<(), Fail> {
-    let text = plan_with(
+    let steps = steps_read(
         rt.alloc(),
         "\"put a x up 1\", \"put! a x up 2\", \"want a x up 1\", \"none a up 2\", \"remove a up 1\", \"compute a x up 2\", \"compute! a x up 1\", \"computefail a x up 2\"",
     )?;
-    let plan = read_plan(rt.alloc(), text.as_str())?;
-    let steps = steps_at(&plan, 2);
-    assert_eq!(rt; steps.len(), 8);
-    assert!(rt; matches!(&steps[0], Step::Put { key: 0, text, up: 1 } if text.as_str() == "x"));
-    assert!(rt;
-        matches!(&steps[1], Step::PutCloseable { key: 0, text, up: 2 } if text.as_str() == "x")
-    );
-    assert!(rt; matches!(&steps[2], Step::Want { key: 0, text, up: 1 } if text.as_str() == "x"));
-    assert!(rt; matches!(&steps[3], Step::None { key: 0, up: 2 }));
-    assert!(rt; matches!(&steps[4], Step::Remove { key: 0, up: 1 }));
-    assert!(rt; matches!(&steps[5], Step::Compute { key: 0, text, up: 2 } if text.as_str() == "x"));
-    assert!(rt;
-        matches!(&steps[6], Step::ComputeCloseable { key: 0, text, up: 1 } if text.as_str() == "x")
-    );
-    assert!(rt;
-        matches!(&steps[7], Step::ComputeFail { key: 0, text, up: 2 } if text.as_str() == "x")
+    assert_eq!(rt;
+        steps.as_str(),
+        "Put { key: 0, text: \"x\", up: 1 }\n\
+         PutCloseable { key: 0, text: \"x\", up: 2 }\n\
+         Want { key: 0, text: \"x\", up: 1 }\n\
+         None { key: 0, up: 2 }\n\
+         Remove { key: 0, up: 1 }\n\
+         Compute { key: 0, text: \"x\", up: 2 }\n\
+         ComputeCloseable { key: 0, text: \"x\", up: 1 }\n\
+         ComputeFail { key: 0, text: \"x\", up: 2 }\n"
     );
     Ok(())
 }
 
 #[test]
 fn number_of_words_decides(rt: HostRuntime) -> Result<(), Fail> {
-    let text = plan_with(
+    let steps = steps_read(
         rt.alloc(),
         "\"put up 1\", \"none up up 1\", \"none up\", \"want up up up 2\", \"fail up\"",
     )?;
-    let plan = read_plan(rt.alloc(), text.as_str())?;
-    let steps = steps_at(&plan, 2);
-    assert_eq!(rt; steps.len(), 5);
-    assert!(rt; matches!(&steps[0], Step::Put { key: 1, text, up: 0 } if text.as_str() == "1"));
-    assert!(rt; matches!(&steps[1], Step::None { key: 1, up: 1 }));
-    assert!(rt; matches!(&steps[2], Step::None { key: 1, up: 0 }));
-    assert!(rt; matches!(&steps[3], Step::Want { key: 1, text, up: 2 } if text.as_str() == "up"));
-    assert!(rt; matches!(&steps[4], Step::Fail { text } if text.as_str() == "up"));
+    assert_eq!(rt;
+        steps.as_str(),
+        "Put { key: 1, text: \"1\", up: 0 }\n\
+         None { key: 1, up: 1 }\n\
+         None { key: 1, up: 0 }\n\
+         Want { key: 1, text: \"up\", up: 2 }\n\
+         Fail { text: \"up\" }\n"
+    );
     Ok(())
 }
 
+/// Texts that are no step, one a line.
+const NO_STEPS: &str = "
+ 
+put
+put a
+put a x y
+put  a x
+put a  x
+ put a x
+put a x 
+put b x
+Put a x
+put? a x
+none
+none b
+none a x
+remove a 
+compute a
+compute!! a x
+computefail a
+fail
+fail 
+fail x y
+fail x up 1
+abort x up 1
+abort up 1
+put a x up
+put a up 1
+put a x up 0
+put a x up 01
+put a x up +1
+put a x up 16
+put a x up x
+put a x down 1
+put a x  up 1
+put a x up  1
+put a x up 1 
+put a x up 3
+put a x up 15
+none a up
+none a up 3
+none a up 1 1
+remove a up 0
+";
+
 #[test]
 fn refused_steps(rt: HostRuntime) -> Result<(), Fail> {
-    let steps = [
-        "",
-        " ",
-        "put",
-        "put a",
-        "put a x y",
-        "put  a x",
-        "put a  x",
-        " put a x",
-        "put a x ",
-        "put b x",
-        "Put a x",
-        "put? a x",
-        "none",
-        "none b",
-        "none a x",
-        "remove a ",
-        "compute a",
-        "compute!! a x",
-        "computefail a",
-        "fail",
-        "fail ",
-        "fail x y",
-        "fail x up 1",
-        "abort x up 1",
-        "abort up 1",
-    ];
-    for step in steps {
+    let mut refused = 0u32;
+    for step in NO_STEPS.lines() {
         let step = format!(in rt.alloc(); "\"want a x\", \"{step}\"")?;
         let text = plan_with(rt.alloc(), step.as_str())?;
         assert_eq!(rt;
@@ -154,40 +171,9 @@ fn refused_steps(rt: HostRuntime) -> Result<(), Fail> {
             Some(PlanFault::BadStep(2)),
             "{step}"
         );
+        refused = refused.saturating_add(1);
     }
-    Ok(())
-}
-
-#[test]
-fn refused_heights(rt: HostRuntime) -> Result<(), Fail> {
-    let steps = [
-        "put a x up",
-        "put a up 1",
-        "put a x up 0",
-        "put a x up 01",
-        "put a x up +1",
-        "put a x up 16",
-        "put a x up x",
-        "put a x down 1",
-        "put a x  up 1",
-        "put a x up  1",
-        "put a x up 1 ",
-        "put a x up 3",
-        "put a x up 15",
-        "none a up",
-        "none a up 3",
-        "none a up 1 1",
-        "remove a up 0",
-    ];
-    for step in steps {
-        let step = format!(in rt.alloc(); "\"{step}\"")?;
-        let text = plan_with(rt.alloc(), step.as_str())?;
-        assert_eq!(rt;
-            fault_of(rt.alloc(), text.as_str()),
-            Some(PlanFault::BadStep(2)),
-            "{step}"
-        );
-    }
+    assert_eq!(rt; refused, 42);
     Ok(())
 }
 
@@ -202,9 +188,10 @@ fn goes_up_to_the_root_and_no_further(rt: HostRuntime) -> Result<(), Fail> {
     }
     let deep = format!(in rt.alloc(); "{text}test = [\"none a up 15\"]")?;
     let plan = read_plan(rt.alloc(), deep.as_str())?;
-    let steps = steps_at(&plan, 15);
-    assert_eq!(rt; steps.len(), 1);
-    assert!(rt; matches!(&steps[0], Step::None { key: 0, up: 15 }));
+    assert_eq!(rt;
+        steps_at(rt.alloc(), &plan, 15)?.as_str(),
+        "None { key: 0, up: 15 }\n"
+    );
     let root = "[[key]]\nlabel = \"a\"\n[[node]]\nid = \"[a:b]\"\ntest = [\"none a\"]";
     assert_eq!(rt; fault_of(rt.alloc(), root), None);
     let above = "[[key]]\nlabel = \"a\"\n[[node]]\nid = \"[a:b]\"\ntest = [\"none a up 1\"]";
@@ -220,15 +207,10 @@ fn reads_names_and_namespaces(rt: HostRuntime) -> Result<(), Fail> {
     assert_eq!(rt; plan.keys.len(), 2);
     assert_eq!(rt; plan.keys[0].name.as_str(), "a");
     assert!(rt; plan.keys[0].namespace.is_none());
-    assert_eq!(rt; plan.keys[1].label.as_str(), "b");
-    assert_eq!(rt; plan.keys[1].name.as_str(), "");
-    let Some(parts) = &plan.keys[1].namespace else {
-        assert!(rt; false, "the namespace was given");
-        return Ok(());
-    };
-    assert_eq!(rt; parts.len(), 2);
-    assert_eq!(rt; parts[0].as_str(), "x");
-    assert_eq!(rt; parts[1].as_str(), "");
+    assert_eq!(rt;
+        format!(in rt.alloc(); "{:?}", plan.keys[1])?.as_str(),
+        "PlanKey { label: \"b\", name: \"\", namespace: Some([\"x\", \"\"]) }"
+    );
     Ok(())
 }
 
@@ -250,71 +232,129 @@ fn numbers_keys_by_name_and_namespace(rt: HostRuntime) -> Result<(), Fail> {
     Ok(())
 }
 
-#[test]
-fn refused_plans(rt: HostRuntime) -> Result<(), Fail> {
-    let cases = [
-        ("", "plan: P7"),
-        ("[[node", "plan: P2"),
-        ("x = 1", "plan: P3"),
-        ("key = 1", "plan: P4"),
-        ("node = [1]", "plan: P4"),
-        ("[[node]]", "plan: P4 node 0"),
-        ("[[node]]\nid = \"[a:b]\"\ntest = [1]", "plan: P4 node 0"),
-        (
-            "[[node]]\nid = \"[a:b]\"\nmode = \"concurrent\"",
-            "plan: P3 node 0",
-        ),
-        (
-            "[[node]]\nid = \"[a:b]\"\nbefore_all = []",
-            "plan: P3 node 0",
-        ),
-        ("[[node]]\nid = \"[engine:a+b]\"", "plan: P6 node 0"),
-        (
-            "[[node]]\nid = \"[a:b]\"\ntest = []\n[[node]]\nid = \"[a:b]/[c:d]\"",
-            "plan: P10 node 0",
-        ),
-        (
-            "[[node]]\nid = \"[a:b]\"\ntest = [\"put a\"]",
-            "plan: P8 node 0",
-        ),
-    ];
-    for (text, line) in cases {
-        let fault = fault_of(rt.alloc(), text).ok_or(text)?;
-        assert_eq!(rt; fault.to_string(rt.alloc())?.as_str(), line, "{text}");
-    }
-    Ok(())
-}
+/// Cases with an empty line between two: the line of the fault, and the plan that is refused for it.
+const REFUSED: &str = "plan: P7
+
+plan: P2
+[[node
+
+plan: P3
+x = 1
+
+plan: P4
+key = 1
+
+plan: P4
+node = [1]
+
+plan: P4 node 0
+[[node]]
+
+plan: P4 node 0
+[[node]]
+id = \"[a:b]\"
+test = [1]
+
+plan: P3 node 0
+[[node]]
+id = \"[a:b]\"
+mode = \"concurrent\"
+
+plan: P3 node 0
+[[node]]
+id = \"[a:b]\"
+before_all = []
+
+plan: P6 node 0
+[[node]]
+id = \"[engine:a+b]\"
+
+plan: P10 node 0
+[[node]]
+id = \"[a:b]\"
+test = []
+[[node]]
+id = \"[a:b]/[c:d]\"
+
+plan: P8 node 0
+[[node]]
+id = \"[a:b]\"
+test = [\"put a\"]
+
+plan: P4 key 0
+[[key]]
+
+plan: P4 key 0
+[[key]]
+label = 1
+
+plan: P4 key 0
+[[key]]
+label = \"a\"
+name = 1
+
+plan: P4 key 0
+[[key]]
+label = \"\"
+name = []
+
+plan: P4 key 0
+[[key]]
+label = \"a\"
+namespace = \"b\"
+
+plan: P4 key 0
+[[key]]
+label = \"a\"
+namespace = [1]
+
+plan: P4 key 0
+[[key]]
+name = \"a\"
+
+plan: P3 key 0
+[[key]]
+label = 1
+parts = []
+
+plan: P5 key 0
+[[key]]
+label = \"\"
+
+plan: P5 key 0
+[[key]]
+label = \"a b\"
+
+plan: P5 key 0
+[[key]]
+label = \"a\"
+namespace = []
+
+plan: P5 key 1
+[[key]]
+label = \"a\"
+[[key]]
+label = \"a\"
+name = \"b\"
+
+plan: P4 node 0
+[[key]]
+label = \"a\"
+[[key]]
+label = \"b\"
+name = \"a\"
+[[node]]";
 
 #[test]
-fn refused_keys(rt: HostRuntime) -> Result<(), Fail> {
-    let cases = [
-        ("[[key]]", "plan: P4 key 0"),
-        ("[[key]]\nlabel = 1", "plan: P4 key 0"),
-        ("[[key]]\nlabel = \"a\"\nname = 1", "plan: P4 key 0"),
-        ("[[key]]\nlabel = \"\"\nname = []", "plan: P4 key 0"),
-        (
-            "[[key]]\nlabel = \"a\"\nnamespace = \"b\"",
-            "plan: P4 key 0",
-        ),
-        ("[[key]]\nlabel = \"a\"\nnamespace = [1]", "plan: P4 key 0"),
-        ("[[key]]\nname = \"a\"", "plan: P4 key 0"),
-        ("[[key]]\nlabel = 1\nparts = []", "plan: P3 key 0"),
-        ("[[key]]\nlabel = \"\"", "plan: P5 key 0"),
-        ("[[key]]\nlabel = \"a b\"", "plan: P5 key 0"),
-        ("[[key]]\nlabel = \"a\"\nnamespace = []", "plan: P5 key 0"),
-        (
-            "[[key]]\nlabel = \"a\"\n[[key]]\nlabel = \"a\"\nname = \"b\"",
-            "plan: P5 key 1",
-        ),
-        (
-            "[[key]]\nlabel = \"a\"\n[[key]]\nlabel = \"b\"\nname = \"a\"\n[[node]]",
-            "plan: P4 node 0",
-        ),
-    ];
-    for (text, line) in cases {
-        let fault = fault_of(rt.alloc(), text).ok_or(text)?;
+fn refused_plans(rt: HostRuntime) -> Result<(), Fail> {
+    let mut refused = 0u32;
+    for case in REFUSED.split("\n\n") {
+        let (line, text) = case.split_once('\n').unwrap_or((case, ""));
+        let fault = fault_of(rt.alloc(), text).ok_or("accepted")?;
         assert_eq!(rt; fault.to_string(rt.alloc())?.as_str(), line, "{text}");
+        refused = refused.saturating_add(1);
     }
+    assert_eq!(rt; refused, 25);
     Ok(())
 }
 
@@ -327,29 +367,67 @@ fn reads_trees(rt: HostRuntime) -> Result<(), Fail> {
     let id = plan.nodes[5].id.write(rt.alloc())?;
     assert_eq!(rt; id.as_str(), "[a:b]/[c:1]/[d:2]");
     assert!(rt; plan.nodes[2].test.is_none());
-    assert_eq!(rt; steps_at(&plan, 5).len(), 1);
+    assert_eq!(rt;
+        steps_at(rt.alloc(), &plan, 5)?.as_str(),
+        "Fail { text: \"x\" }\n"
+    );
     Ok(())
 }
 
+/// Plans whose ids are no tree, with an empty line between two.
+const NO_TREES: &str = "[[key]]
+label = \"a\"
+
+[[node]]
+id = \"[a:b]/[c:d]\"
+
+[[node]]
+id = \"[a:b]\"
+[[node]]
+id = \"[a:c]\"
+
+[[node]]
+id = \"[a:b]\"
+[[node]]
+id = \"[a:b]\"
+
+[[node]]
+id = \"[a:b]\"
+[[node]]
+id = \"[a:b]/[c:d]\"
+[[node]]
+id = \"[a:b]/[c:d]\"
+
+[[node]]
+id = \"[a:b]\"
+[[node]]
+id = \"[a:b]/[c:d]/[e:f]\"
+
+[[node]]
+id = \"[a:b]\"
+[[node]]
+id = \"[a:b]/[c:d]/[e:f]\"
+[[node]]
+id = \"[a:b]/[c:d]\"
+
+[[node]]
+id = \"[a:b]\"
+test = [\"no step\"]
+[[node]]
+id = \"[a:c]\"";
+
 #[test]
 fn refused_trees(rt: HostRuntime) {
-    let cases = [
-        "[[key]]\nlabel = \"a\"",
-        "[[node]]\nid = \"[a:b]/[c:d]\"",
-        "[[node]]\nid = \"[a:b]\"\n[[node]]\nid = \"[a:c]\"",
-        "[[node]]\nid = \"[a:b]\"\n[[node]]\nid = \"[a:b]\"",
-        "[[node]]\nid = \"[a:b]\"\n[[node]]\nid = \"[a:b]/[c:d]\"\n[[node]]\nid = \"[a:b]/[c:d]\"",
-        "[[node]]\nid = \"[a:b]\"\n[[node]]\nid = \"[a:b]/[c:d]/[e:f]\"",
-        "[[node]]\nid = \"[a:b]\"\n[[node]]\nid = \"[a:b]/[c:d]/[e:f]\"\n[[node]]\nid = \"[a:b]/[c:d]\"",
-        "[[node]]\nid = \"[a:b]\"\ntest = [\"no step\"]\n[[node]]\nid = \"[a:c]\"",
-    ];
-    for text in cases {
+    let mut refused = 0u32;
+    for text in NO_TREES.split("\n\n") {
         assert_eq!(rt;
             fault_of(rt.alloc(), text),
             Some(PlanFault::BadTree),
             "{text}"
         );
+        refused = refused.saturating_add(1);
     }
+    assert_eq!(rt; refused, 8);
 }
 
 #[test]

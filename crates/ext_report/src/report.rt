@@ -1,5 +1,5 @@
 //! The report of a run.
-ghost use Rattle.std.specs.Prelude.{◌≡◌, ◌≤◌, ◌<◌, length, string_bytes, IfOk, All};
+ghost use Rattle.std.specs.Prelude.{◌≡◌, ◌<◌, length, string_bytes, IfOk, All};
 ghost use Rattle.ext_report.specs.Report.{results_view, report_of, any_failed};
 
 use crate::line::write_line;
@@ -8,13 +8,12 @@ use crate::{NodeResult, Status};
 use ext_tree::Tree;
 use std::alloc::{AllocError, Global};
 
-/// The report of at most 256 results, each of a context of the tree: one line for each, in the order of the
-/// list, and two lines of totals. A context may have no result, or several.
+/// The report of results, each of a context of the tree: one line for each, in the order of the list, and two
+/// lines of totals. A context may have no result, or several.
 ///
 /// Takes memory for the text. `AllocError` comes only where that is refused. Own rule.
 pub fn report_text(alloc: Global, tree: &Tree, results: &[NodeResult]) -> Result<String, AllocError>
     requires in_tree { All (λ r. r.node < length tree.now) results.now }
-    requires few { length results.now ≤ 256 }
     ensures { IfOk result
         (λ text. string_bytes text ≡ report_of tree.now (results_view results.now)) }
 {

@@ -32,7 +32,6 @@ fn report(
 ) -> Result<String, Fail> {
     let tree = tree_of(alloc, ids)?;
     assert!(rt; results.iter().all(|r| r.node < tree.len()));
-    assert!(rt; results.len() <= 256);
     Ok(report_text(alloc, &tree, results)?)
 }
 

@@ -1,5 +1,5 @@
 //! The two lines of totals at the end of a report.
-ghost use Rattle.std.specs.Prelude.{◌≡◌, ◌++◌, ◌≤◌, length, string_bytes, OnOk};
+ghost use Rattle.std.specs.Prelude.{◌≡◌, ◌++◌, string_bytes, OnOk};
 ghost use Rattle.std.specs.List.{count_by};
 ghost use Rattle.ext_report.specs.Report.{results_view, tests_with, counts_of, sums_of, counts_line, sums_line};
 
@@ -59,9 +59,8 @@ pub(crate) struct NodeSums {
 }
 
 impl NodeSums {
-    /// The sums over at most 256 nodes, so that none is too great.
+    /// The sums over the nodes. A list has less than 2^64 of them, so that no sum of counts of 64 bits is too great.
     pub(crate) fn of(results: &[NodeResult]) -> NodeSums
-        requires { length results.now ≤ 256 }
         ensures { result ≡ sums_of (results_view results.now) }
     {
         NodeSums {

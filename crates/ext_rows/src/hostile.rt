@@ -1,26 +1,48 @@
 //! Devices that are slow or fail.
 use crate::devices::{SlowReader, SlowWriter, UnflushedWriter};
-use crate::rows::{CHAIN_PASSED, PLAIN, chain};
-use ext_run::{PlanFault, RunFault, run};
+use crate::rows::{CHAIN_PASSED, PLAIN, chain, same};
+use ext_run::{PlanFault, RunFault, Summary, run};
+use std::alloc::Global;
 use std::test::Fail;
 
 const STEPS: &str = "\"put a x\", \"want a x\"";
 
+/// What a run by slow devices answers, and what it writes.
+fn run_slowly(
+    alloc: Global,
+    mut reader: SlowReader<'_>,
+    mut writer: SlowWriter,
+) -> (Result<Summary, RunFault>, Vec<u8>) {
+    let answer = run(alloc, &mut reader, &mut writer, PLAIN);
+    (answer, writer.written)
+}
+
+/// A writer that takes one byte at a time, and stops after so many.
+fn writer(alloc: Global, good: Option<usize>, takes_nothing: bool) -> SlowWriter {
+    SlowWriter {
+        written: Vec::new(alloc),
+        good,
+        takes_nothing,
+    }
+}
+
+/// A reader of these bytes that gives one at a time, and fails after so many.
+fn reader(bytes: &[u8], good: Option<usize>) -> SlowReader<'_> {
+    SlowReader { bytes, good }
+}
+
 #[test]
 fn slow_devices_change_nothing(rt: HostRuntime) -> Result<(), Fail> {
     let plan = chain(rt.alloc(), STEPS)?;
-    let mut reader = SlowReader {
-        bytes: plan.as_bytes(),
-        good: None,
-    };
-    let mut writer = SlowWriter {
-        written: Vec::new(rt.alloc()),
-        good: None,
-        takes_nothing: false,
-    };
-    let summary = run(rt.alloc(), &mut reader, &mut writer, PLAIN)?;
-    assert!(rt; !summary.failed);
-    assert_eq!(rt; writer.written.as_slice(), CHAIN_PASSED.as_bytes());
+    let slow = writer(rt.alloc(), None, false);
+    let (answer, written) = run_slowly(rt.alloc(), reader(plan.as_bytes(), None), slow);
+    same(&rt, answer, Ok(Summary { failed: false }), "the answer");
+    same(
+        &rt,
+        written.as_slice(),
+        CHAIN_PASSED.as_bytes(),
+        "the report",
+    );
     Ok(())
 }
 
@@ -28,14 +50,15 @@ fn slow_devices_change_nothing(rt: HostRuntime) -> Result<(), Fail> {
 fn each_failing_read_is_told(rt: HostRuntime) -> Result<(), Fail> {
     let plan = chain(rt.alloc(), STEPS)?;
     for good in 0..=plan.len() {
-        let mut reader = SlowReader {
-            bytes: plan.as_bytes(),
-            good: Some(good),
-        };
-        let mut written = Vec::new(rt.alloc());
-        let outcome = run(rt.alloc(), &mut reader, &mut written, PLAIN);
-        assert_eq!(rt; outcome, Err(RunFault::Read), "after {good} bytes");
-        assert!(rt; written.is_empty());
+        let slow = writer(rt.alloc(), None, false);
+        let (answer, written) = run_slowly(rt.alloc(), reader(plan.as_bytes(), Some(good)), slow);
+        same(
+            &rt,
+            (good, answer),
+            (good, Err(RunFault::Read)),
+            "the answer",
+        );
+        same(&rt, written.len(), 0, "what is written");
     }
     Ok(())
 }
@@ -45,14 +68,14 @@ fn each_failing_write_is_told(rt: HostRuntime) -> Result<(), Fail> {
     let plan = chain(rt.alloc(), STEPS)?;
     for good in 0..CHAIN_PASSED.len() {
         for takes_nothing in [false, true] {
-            let mut reader = plan.as_bytes();
-            let mut writer = SlowWriter {
-                written: Vec::new(rt.alloc()),
-                good: Some(good),
-                takes_nothing,
-            };
-            let outcome = run(rt.alloc(), &mut reader, &mut writer, PLAIN);
-            assert_eq!(rt; outcome, Err(RunFault::Write), "after {good} bytes");
+            let failing = writer(rt.alloc(), Some(good), takes_nothing);
+            let (answer, _) = run_slowly(rt.alloc(), reader(plan.as_bytes(), None), failing);
+            same(
+                &rt,
+                (good, answer),
+                (good, Err(RunFault::Write)),
+                "the answer",
+            );
         }
     }
     Ok(())
@@ -60,15 +83,14 @@ fn each_failing_write_is_told(rt: HostRuntime) -> Result<(), Fail> {
 
 #[test]
 fn faults_print_their_lines(rt: HostRuntime) -> Result<(), Fail> {
-    let lines = [
+    for (fault, line) in [
         (RunFault::Read, "read failed"),
         (RunFault::Write, "write failed"),
         (RunFault::TooLong, "plan too long"),
         (RunFault::Plan(PlanFault::BadStep(2)), "plan: P8 node 2"),
         (RunFault::Memory, "run: no memory"),
-    ];
-    for (fault, line) in lines {
-        assert_eq!(rt; fault.to_string(rt.alloc())?.as_str(), line);
+    ] {
+        same(&rt, fault.to_string(rt.alloc())?.as_str(), line, line);
     }
     Ok(())
 }
@@ -77,7 +99,7 @@ fn faults_print_their_lines(rt: HostRuntime) -> Result<(), Fail> {
 fn failing_flush_is_told(rt: HostRuntime) -> Result<(), Fail> {
     let plan = chain(rt.alloc(), STEPS)?;
     let mut reader = plan.as_bytes();
-    let outcome = run(rt.alloc(), &mut reader, &mut UnflushedWriter, PLAIN);
-    assert_eq!(rt; outcome, Err(RunFault::Write));
+    let answer = run(rt.alloc(), &mut reader, &mut UnflushedWriter, PLAIN);
+    same(&rt, answer, Err(RunFault::Write), "the answer");
     Ok(())
 }

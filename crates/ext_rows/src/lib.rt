@@ -1,16 +1,13 @@
-//! Tests that cross crates: worked rows from the bytes of a plan to those of its report, hostile devices, and the store
-//! that several lanes share.
+//! Tests that cross crates: worked rows from the bytes of a plan to those of its report, and hostile devices.
 #![tactic(auto)]
 
 #[cfg(test)]
-mod devices;
+mod deep;
 #[cfg(test)]
-mod guide;
+mod devices;
 #[cfg(test)]
 mod hostile;
 #[cfg(test)]
 mod rows;
-#[cfg(test)]
-mod store;
 #[cfg(test)]
 mod trees;

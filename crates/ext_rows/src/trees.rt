@@ -1,15 +1,22 @@
 //! Worked rows of trees, namespaces and all steps: a plan's bytes, and those of the report that follow from them.
-use crate::rows::{CHAIN_PASSED, chain, outcome};
-use ext_run::Summary;
+use crate::rows::{CHAIN_PASSED, chain, report, reports, same};
 use std::alloc::Global;
+use std::process::Abort;
 use std::test::Fail;
 
-/// Whether a node failed in a run of this plan, and the report.
-fn report(alloc: Global, plan: &str) -> Result<(bool, String), Fail> {
-    let mut written = Vec::new(alloc);
-    let Summary { failed } = outcome(alloc, plan.as_bytes(), &mut written)?;
-    let text = std::str::from_utf8(written.as_slice()).map_err(|_| "the report is text")?;
-    Ok((failed, String::from_str(alloc, text)?))
+/// Asserts that the plan's report has this line and ends with this one, and whether a node failed.
+fn tells(
+    rt: &impl Abort,
+    alloc: Global,
+    plan: &str,
+    failed: bool,
+    lines: (&str, &str),
+) -> Result<(), Fail> {
+    let (has_failed, text) = report(alloc, plan)?;
+    same(rt, has_failed, failed, "whether a node failed");
+    same(rt, text.contains(lines.0), true, lines.0);
+    same(rt, text.ends_with(lines.1), true, lines.1);
+    Ok(())
 }
 
 /// The chain with two further keys, whose method has these steps.
@@ -25,119 +32,69 @@ fn chain_of_three_keys(alloc: Global, steps: &str) -> Result<String, Fail> {
 fn nearest_value_wins(rt: HostRuntime) -> Result<(), Fail> {
     let steps = "\"put a r up 2\", \"want a r\", \"put a c up 1\", \"want a c\"";
     let plan = chain(rt.alloc(), steps)?;
-    let (failed, text) = report(rt.alloc(), plan.as_str())?;
-    assert!(rt; !failed);
-    assert_eq!(rt; text.as_str(), CHAIN_PASSED);
-    Ok(())
+    reports(&rt, rt.alloc(), plan.as_str(), false, CHAIN_PASSED)
 }
 
 #[test]
 fn remove_own_context_only(rt: HostRuntime) -> Result<(), Fail> {
     let steps = "\"put! a r up 1\", \"put! a c\", \"remove a\", \"want a r\"";
     let plan = chain(rt.alloc(), steps)?;
-    let (failed, text) = report(rt.alloc(), plan.as_str())?;
-    assert!(rt; !failed);
-    assert_eq!(rt;
-        text.as_str(),
-        "[engine:x] successful closed 0\n\
+    let wanted = "[engine:x] successful closed 0\n\
          [engine:x]/[class:A] successful closed 1\n\
          [engine:x]/[class:A]/[method:m()] successful closed 0\n\
          tests 1 successful 1 aborted 0 failed 0 skipped 0\n\
-         computed 0 found 0 closed 1 close faults 0\n"
-    );
-    Ok(())
+         computed 0 found 0 closed 1 close faults 0\n";
+    reports(&rt, rt.alloc(), plan.as_str(), false, wanted)
 }
 
 #[test]
 fn close_fault_does_not_stop(rt: HostRuntime) -> Result<(), Fail> {
     let plan = chain_of_three_keys(rt.alloc(), "\"put! a 1\", \"put! b bad2\", \"put! c 3\"")?;
-    let (failed, text) = report(rt.alloc(), plan.as_str())?;
-    assert!(rt; failed);
-    assert_eq!(rt;
-        text.as_str(),
-        "[engine:x] successful closed 0\n\
+    let wanted = "[engine:x] successful closed 0\n\
          [engine:x]/[class:A] successful closed 0\n\
          [engine:x]/[class:A]/[method:m()] failed closed 3: close bad2\n\
          tests 1 successful 0 aborted 0 failed 1 skipped 0\n\
-         computed 0 found 0 closed 3 close faults 1\n"
-    );
-    Ok(())
+         computed 0 found 0 closed 3 close faults 1\n";
+    reports(&rt, rt.alloc(), plan.as_str(), true, wanted)
 }
 
 #[test]
 fn further_close_faults_are_counted(rt: HostRuntime) -> Result<(), Fail> {
-    let plan = chain_of_three_keys(
-        rt.alloc(),
-        "\"put! a bad1\", \"put! b bad2\", \"put! c bad3\"",
-    )?;
-    let (failed, text) = report(rt.alloc(), plan.as_str())?;
-    assert!(rt; failed);
-    assert!(rt;
-        text.as_str()
-            .contains("[method:m()] failed closed 3: close bad3 (+2)\n")
-    );
-    assert!(rt;
-        text.as_str()
-            .ends_with("computed 0 found 0 closed 3 close faults 3\n")
-    );
-    Ok(())
+    let steps = "\"put! a bad1\", \"put! b bad2\", \"put! c bad3\"";
+    let plan = chain_of_three_keys(rt.alloc(), steps)?;
+    let line = "[method:m()] failed closed 3: close bad3 (+2)\n";
+    let sums = "computed 0 found 0 closed 3 close faults 3\n";
+    tells(&rt, rt.alloc(), plan.as_str(), true, (line, sums))
 }
 
 #[test]
 fn factory_fault_comes_back(rt: HostRuntime) -> Result<(), Fail> {
-    let plan = chain(
-        rt.alloc(),
-        "\"computefail a t\", \"compute a x\", \"none a\"",
-    )?;
-    let (failed, text) = report(rt.alloc(), plan.as_str())?;
-    assert!(rt; failed);
-    assert!(rt;
-        text.as_str()
-            .contains("[method:m()] failed closed 0: none a: got x\n")
-    );
-    assert!(rt;
-        text.as_str()
-            .ends_with("computed 1 found 0 closed 0 close faults 0\n")
-    );
-    Ok(())
+    let steps = "\"computefail a t\", \"compute a x\", \"none a\"";
+    let plan = chain(rt.alloc(), steps)?;
+    let line = "[method:m()] failed closed 0: none a: got x\n";
+    let sums = "computed 1 found 0 closed 0 close faults 0\n";
+    tells(&rt, rt.alloc(), plan.as_str(), true, (line, sums))
 }
 
 #[test]
 fn computefail_that_finds_a_value_fails(rt: HostRuntime) -> Result<(), Fail> {
     let plan = chain(rt.alloc(), "\"put a x up 2\", \"computefail a t\"")?;
-    let (failed, text) = report(rt.alloc(), plan.as_str())?;
-    assert!(rt; failed);
-    assert!(rt;
-        text.as_str()
-            .contains("[method:m()] failed closed 0: computefail a: got x\n")
-    );
-    assert!(rt;
-        text.as_str()
-            .ends_with("computed 0 found 1 closed 0 close faults 0\n")
-    );
-    Ok(())
+    let line = "[method:m()] failed closed 0: computefail a: got x\n";
+    let sums = "computed 0 found 1 closed 0 close faults 0\n";
+    tells(&rt, rt.alloc(), plan.as_str(), true, (line, sums))
 }
 
 #[test]
 fn abort_is_no_fault_and_a_close_is_one(rt: HostRuntime) -> Result<(), Fail> {
-    let plan = chain(
-        rt.alloc(),
-        "\"put! a good\", \"abort later\", \"fail never\"",
-    )?;
-    let (failed, text) = report(rt.alloc(), plan.as_str())?;
-    assert!(rt; !failed);
-    assert!(rt;
-        text.as_str()
-            .contains("[method:m()] aborted closed 1: later\n")
-    );
+    let steps = "\"put! a good\", \"abort later\", \"fail never\"";
+    let plan = chain(rt.alloc(), steps)?;
+    let line = "[method:m()] aborted closed 1: later\n";
+    let sums = "computed 0 found 0 closed 1 close faults 0\n";
+    tells(&rt, rt.alloc(), plan.as_str(), false, (line, sums))?;
     let plan = chain(rt.alloc(), "\"put! a bad\", \"abort later\"")?;
-    let (failed, text) = report(rt.alloc(), plan.as_str())?;
-    assert!(rt; failed);
-    assert!(rt;
-        text.as_str()
-            .contains("[method:m()] failed closed 1: close bad (+1)\n")
-    );
-    Ok(())
+    let line = "[method:m()] failed closed 1: close bad (+1)\n";
+    let sums = "computed 0 found 0 closed 1 close faults 1\n";
+    tells(&rt, rt.alloc(), plan.as_str(), true, (line, sums))
 }
 
 /// Two classes whose methods stand after one another in the plan, and not class by class.
@@ -151,20 +108,15 @@ const TWO_CLASSES: &str = "[[key]]\nlabel = \"a\"\n
 
 #[test]
 fn children_run_class_by_class(rt: HostRuntime) -> Result<(), Fail> {
-    let (failed, text) = report(rt.alloc(), TWO_CLASSES)?;
-    assert!(rt; failed);
-    assert_eq!(rt;
-        text.as_str(),
-        "[engine:x] successful closed 1\n\
+    let wanted = "[engine:x] successful closed 1\n\
          [engine:x]/[class:A] failed closed 1: close bad\n\
          [engine:x]/[class:B] successful closed 0\n\
          [engine:x]/[class:A]/[method:m1()] successful closed 0\n\
          [engine:x]/[class:B]/[method:n1()] successful closed 0\n\
          [engine:x]/[class:A]/[method:m2()] successful closed 0\n\
          tests 3 successful 3 aborted 0 failed 0 skipped 0\n\
-         computed 1 found 2 closed 2 close faults 1\n"
-    );
-    Ok(())
+         computed 1 found 2 closed 2 close faults 1\n";
+    reports(&rt, rt.alloc(), TWO_CLASSES, true, wanted)
 }
 
 /// Three labels, the first and the last of which name one key.
@@ -176,13 +128,8 @@ const NAMESPACES: &str = "[[key]]\nlabel = \"a\"\nname = \"n\"\nnamespace = [\"p
 
 #[test]
 fn namespaces_differ_by_order(rt: HostRuntime) -> Result<(), Fail> {
-    let (failed, text) = report(rt.alloc(), NAMESPACES)?;
-    assert!(rt; !failed);
-    assert_eq!(rt;
-        text.as_str(),
-        "[engine:x] successful closed 1\n\
+    let wanted = "[engine:x] successful closed 1\n\
          tests 1 successful 1 aborted 0 failed 0 skipped 0\n\
-         computed 0 found 0 closed 1 close faults 0\n"
-    );
-    Ok(())
+         computed 0 found 0 closed 1 close faults 0\n";
+    reports(&rt, rt.alloc(), NAMESPACES, false, wanted)
 }

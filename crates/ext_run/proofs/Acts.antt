@@ -9,8 +9,7 @@ use Rattle.ext_run.specs.declared.verdict.Verdict.{Verdict}
 use Rattle.ext_run.specs.Tallies.{VerdictText}
 use Rattle.ext_run.specs.ValueStates.{ValueText, ValueState, refusal}
 use Rattle.ext_run.specs.Steps.{StepEnd, ended, start_of, compute_looked, computefail_looked}
-use Rattle.ext_run.specs.KeyViews.{CallText}
-use Rattle.ext_run.specs.Helpers.{state_view, verdict_view, end_view}
+use Rattle.ext_run.specs.Helpers.{CallText, state_view, verdict_view, end_view}
 
 pub state_is : (a b : State Place) (v w : List ValueText) → a ≡ b → v ≡ w
     → (let old : ValueState = record { store = a; values = v } in let new : ValueState = record { store = b; values = w } in old ≡ new)

@@ -3,7 +3,6 @@ pub mod Outcomes
 pub mod RunAnswers
 pub mod Tallying
 pub mod Stepping
-pub mod Falling
 pub mod Sealing
 pub mod Acts
 pub mod Nodes
@@ -11,3 +10,4 @@ pub mod Kept
 pub mod Seals
 pub mod Values
 pub mod Sound
+pub mod Reached

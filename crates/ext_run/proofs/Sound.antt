@@ -29,7 +29,7 @@ body-kept : (plan : PlanText) (P : List NodeOutcome → Type 0) (path_run : List
 body-kept plan P path_run each None path run h = fold-kept P path_run each path (children_of (ids_of_nodes plan.nodes) (start_of path)) run h
 body-kept plan P path_run each (Some steps) path run h = h
 
-node-kept : (plan : PlanText) (P : List NodeOutcome → Type 0) → IsKept plan P → (levels : ℕ) (path : List ℕ) (run : RunState) → P run.results → P (node_run plan levels path run).results
+pub node-kept : (plan : PlanText) (P : List NodeOutcome → Type 0) → IsKept plan P → (levels : ℕ) (path : List ℕ) (run : RunState) → P run.results → P (node_run plan levels path run).results
 unfolding node_run
 node-kept plan P kept zero path run h = h
 node-kept plan P kept (suc levels) path run h =
@@ -97,7 +97,3 @@ pub results_within : (plan : PlanText) (results : List NodeResult) → map resul
 results_within plan results is =
     let numbers : map (λ r. r.node) (map result_view results) ≡ range_with_len 0 (length plan.nodes) = ap (map (λ r. r.node)) is ∙ result_of_each_node plan in
     all-results (length plan.nodes) results (subst (AllByRecursion (λ n. n < length plan.nodes)) (sym numbers) (numbers_below 0 (length plan.nodes) (length plan.nodes) (omega arith)))
-
-pub count_of_results : (plan : PlanText) (results : List NodeResult) → map result_view results ≡ plain_run plan → length results ≡ length plan.nodes
-count_of_results plan results is =
-    sym (length-map results result_view) ∙ ap length is ∙ sym (length-map (plain_run plan) (λ r. r.is_test)) ∙ ap length (tests_of_plan plan) ∙ length-map plan.nodes (λ n. is_some n.test)

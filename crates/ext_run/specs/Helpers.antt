@@ -1,13 +1,19 @@
 -- What the contracts of private functions cite, and nothing else: no public clause needs it.
-use Rattle.std.specs.Prelude.{◌≡◌, ◌≤◌, ◌+◌, ℕ, Bool, List, ◌∷◌, length, map, Option, Some, None, option_map, Result, Ok, Err, string_bytes, if◌then◌else◌}
-use Rattle.ext_model.specs.Plain.{state_of}
-use Rattle.ext_plan.specs.Plans.{PlanText, plan_view}
+use Rattle.std.specs.Prelude.{◌≡◌, ◌≤◌, ◌+◌, ℕ, Bool, List, [], ◌∷◌, length, map, Option, Some, None, option_map, Result, Ok, Err, string_bytes, if◌then◌else◌}
+use Rattle.std.specs.Borrow.{Bor}
+use Rattle.ext_model.specs.declared.plain_fault.PlainFault.{PlainFault}
+use Rattle.ext_model.specs.declared.plain_fault.PlainFault.TheVariants as plain
+use Rattle.ext_model.specs.Events.{NumbersFull, Busy, Closed, Standing}
+use Rattle.ext_model.specs.Plain.{Place, state_of}
+use Rattle.ext_plan.specs.Plans.{PlanText, KeyText, keys_view, plan_view}
 use Rattle.ext_report.specs.Report.{NodeOutcome, fault_text, results_view}
 use Rattle.ext_run.specs.declared.fault.RunFault.{RunFault}
 use Rattle.ext_run.specs.declared.fault.RunFault.TheVariants as faults
 use Rattle.ext_run.specs.declared.node_end.NodeEnd.{NodeEnd}
 use Rattle.ext_run.specs.declared.plain.PlainRunner.{PlainRunner}
 use Rattle.ext_run.specs.declared.plain.Setting.{Setting}
+use Rattle.ext_run.specs.declared.run_keys.RunKeys.{RunKeys}
+use Rattle.ext_run.specs.declared.run_keys.StoreCall.{StoreCall}
 use Rattle.ext_run.specs.declared.runs.Output.{Output}
 use Rattle.ext_run.specs.declared.tally.Tally.{Tally as TallySoFar}
 use Rattle.ext_run.specs.declared.tally.Total.{Total}
@@ -17,8 +23,9 @@ use Rattle.ext_run.specs.declared.verdict.Outcome.{Outcome}
 use Rattle.ext_run.specs.declared.verdict.Verdict.{Verdict}
 use Rattle.ext_run.specs.declared.verdict.Verdict.TheVariants as verdicts
 use Rattle.ext_run.specs.Tallies.{VerdictText, successful, aborted, failed, unsuccessful, first_fault, first_abort, Tally, tally_of}
-use Rattle.ext_run.specs.ValueStates.{ValueText, ValueState}
-use Rattle.ext_run.specs.Steps.{StepEnd}
+use Rattle.ext_run.specs.StepTexts.{reason}
+use Rattle.ext_run.specs.ValueStates.{ValueText, ValueState, why_refused, next_number, keep_value}
+use Rattle.ext_run.specs.Steps.{StepEnd, start_of}
 use Rattle.ext_run.specs.PlainRun.{RunState, BodyEnd}
 use Rattle.ext_run.specs.Answers.{Answer, RefusedAs}
 
@@ -39,6 +46,56 @@ value_view v = record { text = v.text.now; closeable = v.closeable }
 
 abbrev pub state_view : ValueStore → ValueState
 state_view s = record { store = state_of s.store; values = map value_view s.values.items }
+
+-- why a call of the store was refused, where it was not for want of memory, which ends the run
+abbrev pub fault_reason : PlainFault → List ℕ
+fault_reason plain.Busy = reason Busy
+fault_reason plain.Closed = reason Closed
+fault_reason (plain.Taken number) = reason (Standing number)
+fault_reason plain.NumbersFull = reason NumbersFull
+fault_reason plain.Memory = []
+
+-- the words tell why a call of the store was refused, if it was; want of memory has none
+abbrev pub Told : {A : Type 0} → Result A PlainFault → Option (List ℕ) → Type 0
+Told (Ok x) why = why ≡ None
+Told (Err plain.Busy) why = why ≡ Some (reason Busy)
+Told (Err plain.Closed) why = why ≡ Some (reason Closed)
+Told (Err (plain.Taken number)) why = why ≡ Some (reason (Standing number))
+Told (Err plain.NumbersFull) why = why ≡ Some (reason NumbersFull)
+Told (Err plain.Memory) why = ⊥
+
+-- the value is kept under this number
+pub record IsKeptAs (value : ValueText) (old new : ValueState) (number : ℕ) : Type 0 where
+  pub state : new ≡ keep_value value old
+  pub drawn : number ≡ new.store.drawn
+  pub allowed : why_refused (next_number old) old ≡ None
+  pub slots : (place : Place) → new.store.slots place ≡ old.store.slots place
+
+-- no number is left, and nothing was changed
+pub record IsNotKept (old new : ValueState) (why : List ℕ) : Type 0 where
+  pub state : new ≡ old
+  pub refused : why_refused (next_number old) old ≡ Some why
+
+abbrev pub Keeps : ValueText → ValueState → ValueState → Result ℕ (Bor (List ℕ)) → Type 0
+Keeps value old new (Ok number) = IsKeptAs value old new number
+Keeps value old new (Err why) = IsNotKept old new why.now
+
+-- ---- the keys, and what a step calls the store with
+
+pub record CallText : Type 0 where
+  pub name : List ℕ
+  pub label : List ℕ
+  pub path : List ℕ
+  pub key : ℕ
+
+abbrev pub call_view : StoreCall → CallText
+call_view c = record { name = c.name.now; label = c.label.now; path = c.path.now; key = c.key }
+
+abbrev pub place_of_call : StoreCall → Place
+place_of_call c = (start_of c.path.now, c.key)
+
+abbrev pub keys_in : RunKeys → List KeyText
+keys_in k = keys_view k.keys.now
 
 -- ---- the steps
 

@@ -1,12 +1,14 @@
 -- What is true of the plain run of every plan: sentences by which a reader may judge its definition.
 -- JUnit 5 User Guide, "Keeping State in Extensions": a context's store is closed at the end of the context.
 -- That results stand in the order of the plan is an own rule.
-use Rattle.std.specs.Prelude.{ℕ, ◌≡◌, ◌+◌, ◌<◌, List, ◌∷◌, map, length, drop, is_some}
+use Rattle.std.specs.Prelude.{ℕ, ◌≡◌, ◌≢◌, ◌+◌, ◌<◌, List, ◌∷◌, All, map, length, drop, is_some}
 use Rattle.std.specs.List.{range_with_len}
 use Rattle.ext_model.specs.State.{IsClaimed, IsSealed}
 use Rattle.ext_model.specs.Plain.{Place}
 use Rattle.ext_plan.specs.Plans.{KeyText, PlanText, put, want}
 use Rattle.ext_plan.specs.KeyNumbers.{different_keys}
+use Rattle.ext_plan.specs.Laws.{NodesAreTree, TestsHaveNoChildren}
+use Rattle.ext_report.specs.declared.status.Status.TheVariants as statuses
 use Rattle.ext_run.specs.Tallies.{successful}
 use Rattle.ext_run.specs.ValueStates.{ValueState, value_opening}
 use Rattle.ext_run.specs.Steps.{start_of, step_run}
@@ -21,6 +23,11 @@ HasResultOfEachNode = (plan : PlanText) → map (λ r. r.node) (plain_run plan) 
 -- the results of tests are those of the nodes that are tests
 abbrev pub HasTestsOfPlan : Type 0
 HasTestsOfPlan = (plan : PlanText) → map (λ r. r.is_test) (plain_run plan) ≡ map (λ n. is_some n.test) plan.nodes
+
+-- Each node of a plan that was read is run, however deep it is: its nodes are a tree, and no test has children. A result is `skipped` before its node has run,
+-- and never after
+abbrev pub RunsEachNode : Type 0
+RunsEachNode = (plan : PlanText) → NodesAreTree plan → TestsHaveNoChildren plan → All (λ r. r.status ≢ statuses.Skipped) (plain_run plan)
 
 -- ---- the store between two steps and between two nodes
 

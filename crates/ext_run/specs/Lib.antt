@@ -7,6 +7,4 @@ pub mod PlainRun
 pub mod Answers
 pub mod IdText
 pub mod Laws
-pub mod Refusals
-pub mod KeyViews
 pub mod Helpers

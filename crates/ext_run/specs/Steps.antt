@@ -13,7 +13,8 @@ use Rattle.ext_model.specs.State.{lookup}
 use Rattle.ext_model.specs.Plain.{Place, under}
 use Rattle.ext_plan.specs.Plans.{KeyText, StepText, put, put_closeable, want, nothing, remove, compute, compute_closeable, compute_fail, fail, abort}
 use Rattle.ext_plan.specs.KeyNumbers.{numbering}
-use Rattle.ext_run.specs.StepTexts.{label_of, refused_text, missing_text, other_text, got_text}
+use Rattle.ext_model.specs.Events.{Busy, Closed}
+use Rattle.ext_run.specs.StepTexts.{reason, label_of, refused_text, missing_text, other_text, got_text}
 use Rattle.ext_run.specs.Tallies.{VerdictText, successful, aborted, failed}
 use Rattle.ext_run.specs.ValueStates.{ValueText, ValueState, after_act, why_refused, next_number, keep_value, value_of}
 
@@ -61,8 +62,8 @@ want_found name label text (Some other) = if bytes_eq other.text text then succe
 abbrev pub want_verdict : List ℕ → List ℕ → List ℕ → List ValueText → Look → VerdictText
 want_verdict name label text values (look.Found at number) = want_found name label text (value_of values number)
 want_verdict name label text values look.Absent = failed (missing_text label text)
-want_verdict name label text values (look.Busy at) = failed (refused_text name label (codes "busy"))
-want_verdict name label text values (look.Closed at) = failed (refused_text name label (codes "closed"))
+want_verdict name label text values (look.Busy at) = failed (refused_text name label (reason Busy))
+want_verdict name label text values (look.Closed at) = failed (refused_text name label (reason Closed))
 
 -- of a step that was to find nothing, by the value found
 abbrev pub got_verdict : List ℕ → List ℕ → Option ValueText → VerdictText
@@ -72,8 +73,8 @@ got_verdict name label (Some other) = failed (got_text name label other.text)
 abbrev pub none_verdict : List ℕ → List ℕ → List ValueText → Look → VerdictText
 none_verdict name label values (look.Found at number) = got_verdict name label (value_of values number)
 none_verdict name label values look.Absent = successful
-none_verdict name label values (look.Busy at) = failed (refused_text name label (codes "busy"))
-none_verdict name label values (look.Closed at) = failed (refused_text name label (codes "closed"))
+none_verdict name label values (look.Busy at) = failed (refused_text name label (reason Busy))
+none_verdict name label values (look.Closed at) = failed (refused_text name label (reason Closed))
 
 -- ---- `compute`, `compute!` and `computefail`
 
@@ -96,14 +97,14 @@ claim_and name label place factory s = or_refused name label (why_refused (Claim
 abbrev pub compute_looked : List ℕ → List ℕ → Place → ValueText → ValueState → Look → StepEnd
 compute_looked name label place value s (look.Found at number) = record { state = s; verdict = successful; computed = 0; found = 1 }
 compute_looked name label place value s look.Absent = claim_and name label place (factory_gave name label place value) s
-compute_looked name label place value s (look.Busy at) = ended (failed (refused_text name label (codes "busy"))) s
-compute_looked name label place value s (look.Closed at) = ended (failed (refused_text name label (codes "closed"))) s
+compute_looked name label place value s (look.Busy at) = ended (failed (refused_text name label (reason Busy))) s
+compute_looked name label place value s (look.Closed at) = ended (failed (refused_text name label (reason Closed))) s
 
 abbrev pub computefail_looked : List ℕ → List ℕ → Place → ValueState → Look → StepEnd
 computefail_looked name label place s (look.Found at number) = record { state = s; verdict = got_verdict name label (value_of s.values number); computed = 0; found = 1 }
 computefail_looked name label place s look.Absent = claim_and name label place (factory_failed place) s
-computefail_looked name label place s (look.Busy at) = ended (failed (refused_text name label (codes "busy"))) s
-computefail_looked name label place s (look.Closed at) = ended (failed (refused_text name label (codes "closed"))) s
+computefail_looked name label place s (look.Busy at) = ended (failed (refused_text name label (reason Busy))) s
+computefail_looked name label place s (look.Closed at) = ended (failed (refused_text name label (reason Closed))) s
 
 -- ---- the steps of a test
 

@@ -1,6 +1,5 @@
 //! The end of a context.
-ghost use Rattle.std.specs.Prelude.{◌≡◌, ◌≤◌, ◌+◌, length, map, option_map, IfOk, OnOk};
-ghost use Rattle.ext_model.specs.Closing.{put_in};
+ghost use Rattle.std.specs.Prelude.{◌≡◌, ◌≤◌, length, map, option_map, IfOk, OnOk};
 ghost use Rattle.ext_run.specs.ValueStates.{value_of};
 ghost use Rattle.ext_run.specs.Closes.{seal_keys, numbers_left, closeables, close_verdict};
 ghost use Rattle.ext_run.specs.Helpers.{state_view, value_view, verdict_view, only_closeable, Ends};
@@ -9,7 +8,7 @@ use crate::node_end::NodeEnd;
 use crate::step_text::close_text;
 use crate::value_store::{Value, ValueStore};
 use crate::verdict::Verdict;
-use ext_model::ContextNo;
+use ext_model::{ContextNo, FallingNumbers};
 use std::alloc::{AllocError, Global};
 
 impl<'a> ValueStore<'a> {
@@ -17,19 +16,17 @@ impl<'a> ValueStore<'a> {
     /// first.
     pub(crate) fn seal_keys(
         &mut self,
-        alloc: Global,
         keys: usize,
         at: ContextNo,
-    ) -> Result<Vec<u32>, AllocError>
+    ) -> Result<FallingNumbers, AllocError>
+        requires { keys ≤ 64 }
         ensures state { OnOk result (state_view self.new ≡ seal_keys keys at (state_view self.old)) }
-        ensures numbers { IfOk result (λ numbers. numbers.items ≡ numbers_left keys at (state_view self.new)) }
-        ensures few { IfOk result (λ numbers. length numbers.items ≤ keys) }
+        ensures numbers { IfOk result (λ numbers. numbers ≡ numbers_left keys at (state_view self.new)) }
     {
-        let mut numbers = Vec::new(alloc);
+        let mut numbers = FallingNumbers::new();
         for key in 0..keys {
-            if let Some(number) = self.seal(at, key)? {
-                put_in(&mut numbers, number)?;
-            }
+            let kept = self.seal(at, key)?;
+            numbers.put_in_kept(kept);
         }
         Ok(numbers)
     }
@@ -63,25 +60,6 @@ impl<'a> ValueStore<'a> {
             _ => None,
         }
     }
-}
-
-/// Puts a number into a falling list, before the first that is less; one that is there already is not put in again.
-fn put_in(numbers: &mut Vec<u32>, number: u32) -> Result<(), AllocError>
-    ensures items { OnOk result (numbers.new.items ≡ put_in number numbers.old.items) }
-    ensures few { OnOk result (length numbers.new.items ≤ length numbers.old.items + 1) }
-{
-    for i in 0..numbers.len() {
-        let standing = numbers[i];
-        if standing < number {
-            numbers.insert(i, number)?;
-            return Ok(());
-        }
-        if standing == number {
-            return Ok(());
-        }
-    }
-    numbers.push(number)?;
-    Ok(())
 }
 
 /// The close action of the program: it fails for a value whose text begins with `bad`.

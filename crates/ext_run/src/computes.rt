@@ -4,11 +4,10 @@ ghost use Rattle.ext_model.specs.declared.slot.Slot.TheVariants as slot;
 ghost use Rattle.ext_model.specs.State.{lookup};
 ghost use Rattle.ext_model.specs.Plain.{any_lane, under};
 ghost use Rattle.ext_run.specs.Steps.{factory_gave, factory_failed, claim_and, compute_looked, computefail_looked};
-ghost use Rattle.ext_run.specs.KeyViews.{call_view, place_of_call};
-ghost use Rattle.ext_run.specs.Helpers.{value_view, state_view, end_view, AreFew};
+ghost use Rattle.ext_run.specs.Helpers.{call_view, place_of_call, value_view, state_view, end_view, AreFew};
 
 use crate::found::{got, refused};
-use crate::run_keys::Call;
+use crate::run_keys::StoreCall;
 use crate::value_store::{Value, ValueStore};
 use crate::verdict::{Outcome, Verdict};
 use ext_model::Look;
@@ -19,7 +18,7 @@ impl<'a> ValueStore<'a> {
     pub(crate) fn compute(
         &mut self,
         alloc: Global,
-        call: &Call<'_>,
+        call: &StoreCall<'_>,
         value: Value<'a>,
     ) -> Result<Outcome, AllocError>
         ensures end { IfOk result (λ o. end_view self.new o ≡ compute_looked (call_view call.now).name (call_view call.now).label (place_of_call call.now)
@@ -42,7 +41,7 @@ impl<'a> ValueStore<'a> {
     fn compute_absent(
         &mut self,
         alloc: Global,
-        call: &Call<'_>,
+        call: &StoreCall<'_>,
         value: Value<'a>,
     ) -> Result<Outcome, AllocError>
         ensures end { IfOk result (λ o. end_view self.new o ≡ claim_and (call_view call.now).name (call_view call.now).label (place_of_call call.now)
@@ -60,7 +59,7 @@ impl<'a> ValueStore<'a> {
     fn fill_claim(
         &mut self,
         alloc: Global,
-        call: &Call<'_>,
+        call: &StoreCall<'_>,
         value: Value<'a>,
     ) -> Result<Outcome, AllocError>
         requires { (state_view self.old).store.slots (place_of_call call.now) ≡ Some (slot.Claim any_lane) }
@@ -89,7 +88,7 @@ impl<'a> ValueStore<'a> {
     pub(crate) fn computefail(
         &mut self,
         alloc: Global,
-        call: &Call<'_>,
+        call: &StoreCall<'_>,
     ) -> Result<Outcome, AllocError>
         ensures end { IfOk result (λ o. end_view self.new o ≡ computefail_looked (call_view call.now).name (call_view call.now).label (place_of_call call.now)
             (state_view self.old) (lookup (under (state_view self.old).store (call_view call.now).key) (call_view call.now).path)) }
@@ -108,7 +107,7 @@ impl<'a> ValueStore<'a> {
     }
 
     /// Where nothing was found: claims the place, and gives it back once the factory failed.
-    fn fail_claimed(&mut self, alloc: Global, call: &Call<'_>) -> Result<Outcome, AllocError>
+    fn fail_claimed(&mut self, alloc: Global, call: &StoreCall<'_>) -> Result<Outcome, AllocError>
         ensures end { IfOk result (λ o. end_view self.new o ≡ claim_and (call_view call.now).name (call_view call.now).label (place_of_call call.now)
             (factory_failed (place_of_call call.now)) (state_view self.old)) }
         ensures few { IfOk result AreFew }

@@ -5,10 +5,9 @@ ghost use Rattle.ext_run.specs.Tallies.{failed};
 ghost use Rattle.ext_run.specs.Steps.{want_found, want_verdict, got_verdict, none_verdict};
 ghost use Rattle.ext_model.specs.State.{lookup};
 ghost use Rattle.ext_model.specs.Plain.{under};
-ghost use Rattle.ext_run.specs.KeyViews.{call_view};
-ghost use Rattle.ext_run.specs.Helpers.{verdict_view, value_view, state_view};
+ghost use Rattle.ext_run.specs.Helpers.{call_view, verdict_view, value_view, state_view};
 
-use crate::run_keys::Call;
+use crate::run_keys::StoreCall;
 use crate::step_text::{got_text, missing_text, other_text, refused_text};
 use crate::value_store::{Value, ValueStore};
 use crate::verdict::Verdict;
@@ -20,7 +19,7 @@ impl<'a> ValueStore<'a> {
     pub(crate) fn want(
         &self,
         alloc: Global,
-        call: &Call<'_>,
+        call: &StoreCall<'_>,
         text: &str,
     ) -> Result<Verdict, AllocError>
         ensures { IfOk result (λ v. verdict_view v ≡ want_verdict (call_view call.now).name (call_view call.now).label text.now (state_view self.now).values
@@ -35,7 +34,7 @@ impl<'a> ValueStore<'a> {
     }
 
     /// A step `none`: looks up along the path, where nothing is to be found.
-    pub(crate) fn none(&self, alloc: Global, call: &Call<'_>) -> Result<Verdict, AllocError>
+    pub(crate) fn none(&self, alloc: Global, call: &StoreCall<'_>) -> Result<Verdict, AllocError>
         ensures { IfOk result (λ v. verdict_view v ≡ none_verdict (call_view call.now).name (call_view call.now).label (state_view self.now).values
             (lookup (under (state_view self.now).store (call_view call.now).key) (call_view call.now).path)) }
     {
@@ -51,7 +50,7 @@ impl<'a> ValueStore<'a> {
 /// How a step `want` ends whose look-up found a number, by the value of it.
 fn want_found(
     alloc: Global,
-    call: &Call<'_>,
+    call: &StoreCall<'_>,
     text: &str,
     found: Option<Value<'_>>,
 ) -> Result<Verdict, AllocError>
@@ -67,7 +66,7 @@ fn want_found(
 /// How a step ends that was to find nothing, by the value found.
 pub(crate) fn got(
     alloc: Global,
-    call: &Call<'_>,
+    call: &StoreCall<'_>,
     found: Option<Value<'_>>,
 ) -> Result<Verdict, AllocError>
     ensures { IfOk result (λ v. verdict_view v ≡ got_verdict (call_view call.now).name (call_view call.now).label (option_map value_view found.entry)) }
@@ -79,7 +78,7 @@ pub(crate) fn got(
 }
 
 /// How a step ends whose call of the store was refused.
-pub(crate) fn refused(alloc: Global, call: &Call<'_>, why: &str) -> Result<Verdict, AllocError>
+pub(crate) fn refused(alloc: Global, call: &StoreCall<'_>, why: &str) -> Result<Verdict, AllocError>
     ensures { IfOk result (λ v. verdict_view v ≡ failed (refused_text (call_view call.now).name (call_view call.now).label why.now)) }
 {
     Ok(Verdict::failed(refused_text(alloc, call.name, call.label, why)?))

@@ -1,5 +1,5 @@
 //! What is true of the plain run of every plan, as the contract of a function that does nothing.
-ghost use Rattle.ext_run.specs.Laws.{HasResultOfEachNode, HasTestsOfPlan, OpensClear, MakesNoClaims, SealsContexts, KeepsValues, FindsWhatWasPut};
+ghost use Rattle.ext_run.specs.Laws.{HasResultOfEachNode, HasTestsOfPlan, RunsEachNode, OpensClear, MakesNoClaims, SealsContexts, KeepsValues, FindsWhatWasPut};
 
 /// Proves laws of the plain run. It does nothing when it runs.
 ///
@@ -8,6 +8,7 @@ ghost use Rattle.ext_run.specs.Laws.{HasResultOfEachNode, HasTestsOfPlan, OpensC
 pub fn plain_run_laws()
     ensures results { HasResultOfEachNode }
     ensures tests { HasTestsOfPlan }
+    ensures each_node { RunsEachNode }
     ensures opening { OpensClear }
     ensures unclaimed { MakesNoClaims }
     ensures sealed { SealsContexts }

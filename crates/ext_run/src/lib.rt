@@ -16,6 +16,7 @@ mod input;
 mod laws;
 mod node_end;
 mod plain;
+mod reasons;
 mod run_keys;
 mod runs;
 mod step_text;

@@ -6,7 +6,6 @@ ghost use Rattle.ext_plan.specs.Plans.{keys_view, steps_view, plan_view};
 ghost use Rattle.ext_plan.specs.KeyNumbers.{different_keys, numbering};
 ghost use Rattle.ext_report.specs.Report.{result_view, results_view};
 ghost use Rattle.ext_run.specs.PlainRun.{plain_run};
-ghost use Rattle.ext_run.specs.KeyViews.{keys_in};
 
 use crate::node_end::skipped;
 use crate::run_keys::RunKeys;
@@ -25,7 +24,7 @@ struct Setting<'a> {
     keys: RunKeys<'a>,
     key_count: usize,
     tree: &'a Tree,
-    ghost keyed: { keys_in keys ≡ keys_view plan.now.keys.items },
+    ghost keyed: { keys_view keys.keys.now ≡ keys_view plan.now.keys.items },
     ghost counted: { key_count ≡ length (different_keys (keys_view plan.now.keys.items)) },
     ghost few: { key_count ≤ 64 },
     ghost planted: { tree.now ≡ map (λ n. n.id) plan.now.nodes.items },
@@ -91,7 +90,7 @@ impl<'a> PlainRunner<'a> {
         }
         let test = &setting.plan.nodes[at].test;
         let body = self.run_body(alloc, setting, levels - 1, at, path, test)?;
-        let numbers = self.store.seal_keys(alloc, setting.key_count, at)?;
+        let numbers = self.store.seal_keys(setting.key_count, at)?;
         let end = self
             .store
             .close_values(alloc, body.verdict, numbers.as_slice())?;

@@ -19,15 +19,15 @@ pub(crate) struct RunKeys<'b> {
 /// What a step calls the store with: its first word, the label and the number of its key, and the path of the context
 /// that it acts on.
 #[derive(Clone, Copy, Debug)]
-pub(crate) struct Call<'b> {
+pub(crate) struct StoreCall<'b> {
     pub(crate) name: &'b str,
     pub(crate) label: &'b str,
     pub(crate) path: &'b [ContextNo],
     pub(crate) key: KeyNo,
 }
 
-impl<'b> Call<'b> {
-    ghost use Rattle.ext_run.specs.KeyViews.{call_view};
+impl<'b> StoreCall<'b> {
+    ghost use Rattle.ext_run.specs.Helpers.{call_view};
 
     /// The context that the step acts on. No path is empty.
     pub(crate) fn at(&self) -> ContextNo
@@ -41,7 +41,7 @@ impl<'b> Call<'b> {
 }
 
 impl<'b> RunKeys<'b> {
-    ghost use Rattle.ext_run.specs.KeyViews.{call_view, keys_in};
+    ghost use Rattle.ext_run.specs.Helpers.{call_view, keys_in};
 
     /// The keys with their numbers.
     pub(crate) fn of(keys: &'b [PlanKey], numbers: &'b KeyNumbers) -> RunKeys<'b>
@@ -58,7 +58,7 @@ impl<'b> RunKeys<'b> {
         label: LabelNo,
         path: &'c [ContextNo],
         up: usize,
-    ) -> Call<'c>
+    ) -> StoreCall<'c>
         ensures { call_view result ≡ record {
           name = name.now;
           label = label_of (keys_in self.now) label;
@@ -66,7 +66,7 @@ impl<'b> RunKeys<'b> {
           key = key_number (keys_in self.now) label;
         } }
     {
-        Call {
+        StoreCall {
             name,
             label: self.label_of(label),
             path: ancestor(path, up),

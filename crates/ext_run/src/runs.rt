@@ -1,7 +1,9 @@
 //! A run from the bytes of a plan to those of its report.
 ghost use Rattle.std.specs.Prelude.{◌≡◌, ◌≢◌, ◌≤◌, ◌<◌, ◌+◌, ℕ, List, length, map, string_bytes, IfOk, IfErr, IfSome, OnOk, All, Ok};
 ghost use Rattle.std.specs.Io.KnownBytes.{Consumes, Appends};
-ghost use Rattle.ext_plan.specs.Plans.{plan_view};
+ghost use Rattle.ext_tree.specs.Trees.{IsTree};
+ghost use Rattle.ext_plan.specs.Plans.{keys_view, plan_view};
+ghost use Rattle.ext_plan.specs.KeyNumbers.{different_keys, numbering, HasParts};
 ghost use Rattle.ext_plan.specs.Laws.{HasFewCells, NamespacesHaveParts, NodesAreTree};
 ghost use Rattle.ext_report.specs.Report.{results_view, report_of};
 ghost use Rattle.ext_run.specs.Answers.{input_limit, answer_of, answer_to_bytes, answer_to, RefusedAs};
@@ -11,9 +13,9 @@ use crate::fault::RunFault;
 use crate::input::read_input;
 use crate::plain::results_of;
 use ext_ids::UniqueId;
-use ext_plan::{KeyNumbers, Plan, PlanFault, PlanNode, read_plan};
+use ext_plan::{KeyNumbers, Plan, PlanFault, PlanKey, PlanNode, read_plan};
 use ext_report::{NodeResult, any_failed};
-use ext_tree::Tree;
+use ext_tree::{Tree, TreeFault};
 use std::alloc::{AllocError, Global};
 use std::io::{Read, Write};
 
@@ -82,13 +84,11 @@ pub fn run<R: Read, W: Write>(
     })
 }
 
-/// The report of at most 256 results, each of a context of the tree, as `ext_report::report_text` gives it.
-/// Own rule.
+/// The report of results, each of a context of the tree, as `ext_report::report_text` gives it. Own rule.
 ///
 /// Takes memory for the text. Refused as `Memory` alone, where that is refused.
 pub fn report_text(alloc: Global, tree: &Tree, results: &[NodeResult]) -> Result<String, RunFault>
     requires in_tree { All (λ r. r.node < length tree.now) results.now }
-    requires few { length results.now ≤ 256 }
     ensures text { IfOk result (λ text. string_bytes text ≡ report_of tree.now (results_view results.now)) }
     ensures memory { IfErr result (λ fault. fault ≡ RunFault.Memory) }
 {
@@ -128,20 +128,40 @@ fn output_of(alloc: Global, plan: &Plan) -> Result<Output, RunFault>
     ensures ok { IfOk result (λ o. output_view o ≡ answer_of (plan_view plan.now)) }
     ensures memory { IfErr result (λ e. e ≡ RunFault.Memory) }
 {
-    // A plan that was read has few keys, and its nodes are a tree: no more than memory can be wanted.
-    let Ok(keys) = KeyNumbers::of(alloc, plan.keys.as_slice()) else {
-        return Err(RunFault::Memory);
-    };
-    let ids = ids_of(alloc, plan.nodes.as_slice())?;
-    let Ok(tree) = Tree::build(alloc, ids.as_slice()) else {
-        return Err(RunFault::Memory);
-    };
+    let keys = numbers_of(alloc, plan.keys.as_slice())?;
+    let tree = tree_of(alloc, plan.nodes.as_slice())?;
     let results = results_of(alloc, plan, &keys, &tree)?;
     let report = report_text(alloc, &tree, results.as_slice())?;
     Ok(Output {
         report,
         failed: any_failed(results.as_slice()),
     })
+}
+
+/// The numbers of a plan's keys, which are few.
+fn numbers_of(alloc: Global, keys: &[PlanKey]) -> Result<KeyNumbers, AllocError>
+    requires parts { All HasParts (keys_view keys.now) }
+    requires few { length (different_keys (keys_view keys.now)) ≤ 64 }
+    ensures { IfOk result (λ n. n ≡ numbering (keys_view keys.now)) }
+{
+    match KeyNumbers::of(alloc, keys) {
+        Ok(numbers) => Ok(numbers),
+        Err(TreeFault::Memory) => Err(AllocError),
+        Err(_) => unreachable!(),
+    }
+}
+
+/// The tree of a plan's nodes, whose ids are those of one.
+fn tree_of(alloc: Global, nodes: &[PlanNode]) -> Result<Tree, AllocError>
+    requires { IsTree (map (λ n. n.id) nodes.now) }
+    ensures { IfOk result (λ tree. tree ≡ map (λ n. n.id) nodes.now) }
+{
+    let ids = ids_of(alloc, nodes)?;
+    match Tree::build(alloc, ids.as_slice()) {
+        Ok(tree) => Ok(tree),
+        Err(TreeFault::Memory) => Err(AllocError),
+        Err(_) => unreachable!(),
+    }
 }
 
 /// Copies of the ids of the nodes, in order.

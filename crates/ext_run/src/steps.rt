@@ -3,11 +3,10 @@ ghost use Rattle.std.specs.Prelude.{◌≡◌, IfOk, map, option_map};
 ghost use Rattle.ext_model.specs.declared.event.Act.TheVariants as act;
 ghost use Rattle.ext_plan.specs.Plans.{step_view};
 ghost use Rattle.ext_run.specs.Steps.{unless_refused, act_ends, put_step, step_run, steps_run};
-ghost use Rattle.ext_run.specs.KeyViews.{call_view, place_of_call, keys_in};
-ghost use Rattle.ext_run.specs.Helpers.{value_view, state_view, verdict_view, end_view, AreFew};
+ghost use Rattle.ext_run.specs.Helpers.{call_view, place_of_call, keys_in, value_view, state_view, verdict_view, end_view, AreFew};
 
 use crate::found::refused;
-use crate::run_keys::{Call, RunKeys};
+use crate::run_keys::{RunKeys, StoreCall};
 use crate::value_store::{Value, ValueStore};
 use crate::verdict::{Outcome, Verdict};
 use ext_model::ContextNo;
@@ -106,7 +105,7 @@ impl<'a> ValueStore<'a> {
     fn put_value(
         &mut self,
         alloc: Global,
-        call: &Call<'_>,
+        call: &StoreCall<'_>,
         value: Value<'a>,
     ) -> Result<Outcome, AllocError>
         ensures end { IfOk result (λ o. end_view self.new o ≡ put_step (call_view call.now).name (call_view call.now).label (place_of_call call.now)
@@ -123,7 +122,7 @@ impl<'a> ValueStore<'a> {
     }
 
     /// A step `remove`.
-    fn remove_value(&mut self, alloc: Global, call: &Call<'_>) -> Result<Outcome, AllocError>
+    fn remove_value(&mut self, alloc: Global, call: &StoreCall<'_>) -> Result<Outcome, AllocError>
         ensures end { IfOk result (λ o. end_view self.new o ≡ act_ends (call_view call.now).name (call_view call.now).label
             (act.Remove (place_of_call call.now)) (state_view self.old)) }
         ensures few { IfOk result AreFew }
@@ -134,7 +133,11 @@ impl<'a> ValueStore<'a> {
 }
 
 /// How a step ends, by why its call of the store was refused, if it was.
-fn unless_refused(alloc: Global, call: &Call<'_>, why: Option<&str>) -> Result<Verdict, AllocError>
+fn unless_refused(
+    alloc: Global,
+    call: &StoreCall<'_>,
+    why: Option<&str>,
+) -> Result<Verdict, AllocError>
     ensures { IfOk result (λ v. verdict_view v ≡ unless_refused (call_view call.now).name (call_view call.now).label (option_map (λ w. w.now) why.entry)) }
 {
     match why {

@@ -1,13 +1,13 @@
 //! The store of a plain run, with the values of its numbers.
-ghost use Rattle.std.specs.Prelude.{◌≡◌, ◌≢◌, true, false, None, Some, option_map, string_bytes, IfOk, OnOk};
+ghost use Rattle.std.specs.Prelude.{◌≡◌, true, false, None, Some, option_map, string_bytes, IfOk, OnOk};
 ghost use Rattle.ext_model.specs.declared.event.Act.TheVariants as act;
 ghost use Rattle.ext_model.specs.declared.slot.Slot.TheVariants as slot;
 ghost use Rattle.ext_model.specs.State.{lookup};
 ghost use Rattle.ext_model.specs.Plain.{any_lane, under};
 ghost use Rattle.ext_model.specs.Closing.{kept_by};
 ghost use Rattle.ext_run.specs.ValueStates.{after_act, why_refused, next_number, keep_value, value_of, value_opening, ValueText};
-ghost use Rattle.ext_run.specs.Refusals.{fault_reason, Told, Keeps};
 
+use crate::reasons::{reason_of, told};
 use ext_model::{ContextNo, KeyNo, LaneNo, Look, PlainFault, PlainStore};
 use std::alloc::{AllocError, Global};
 
@@ -58,7 +58,7 @@ pub(crate) struct ValueStore<'a> {
 }
 
 impl<'a> ValueStore<'a> {
-    ghost use Rattle.ext_run.specs.Helpers.{value_view, state_view};
+    ghost use Rattle.ext_run.specs.Helpers.{value_view, state_view, Keeps};
 
     /// An empty store.
     pub(crate) fn new(alloc: Global) -> ValueStore<'a>
@@ -167,29 +167,5 @@ impl<'a> ValueStore<'a> {
             // By a claim, which never comes: one thread has no claims between two steps.
             Err(_) => Ok(None),
         }
-    }
-}
-
-/// Why a call of the store was refused, if it was. Want of memory ends the run instead.
-fn told<T: Drop>(answer: Result<T, PlainFault>) -> Result<Option<&'static str>, AllocError>
-    ensures { IfOk result (λ why. Told answer (option_map (λ w. w.now) why)) }
-{
-    match answer {
-        Ok(_) => Ok(None),
-        Err(fault) => Ok(Some(reason_of(fault)?)),
-    }
-}
-
-/// The words for why a call of the store was refused.
-fn reason_of(fault: PlainFault) -> Result<&'static str, AllocError>
-    ensures words { IfOk result (λ why. why.now ≡ fault_reason fault) }
-    ensures memory { OnOk result (fault ≢ PlainFault.Memory) }
-{
-    match fault {
-        PlainFault::NumbersFull => Ok("numbers full"),
-        PlainFault::Closed => Ok("closed"),
-        PlainFault::Busy => Ok("busy"),
-        PlainFault::Taken(_) => Ok("taken"),
-        PlainFault::Memory => Err(AllocError),
     }
 }

@@ -1,6 +1,6 @@
 -- What a whole compute says, from what the claim of a missing value and the part after it say.
-use Rattle.std.proofs.Common.{◌≡◌, ℕ, List, [], ◌∷◌, refl, subst, inl, inr}
-use Rattle.std.specs.Prelude.{Some, Ok, Err}
+use Rattle.std.proofs.Common.{◌≡◌, ◌≢◌, ◌∙◌, ℕ, List, [], ◌∷◌, sym, refl, ap, subst, inl, inr}
+use Rattle.std.specs.Prelude.{Some, Result, Ok, Err, All}
 use Rattle.ext_model.specs.declared.event.Act.{Act}
 use Rattle.ext_model.specs.declared.event.Act.TheVariants.{Keep, Claim, Fill, Abandon}
 use Rattle.ext_model.specs.declared.look.Look.{Look}
@@ -15,18 +15,29 @@ use Rattle.ext_store.specs.declared.fault.KeepFault.{KeepFault}
 use Rattle.ext_store.specs.declared.fault.KeepFault.TheVariants as fault
 use Rattle.ext_store.specs.declared.computed.Unused.{Unused}
 use Rattle.ext_store.specs.declared.computed.Unused.TheVariants.{Found, Refused}
-use Rattle.ext_store.specs.Stores.{StoreView, StoreLane, StillKeeps, cell_in}
-use Rattle.ext_store.specs.Computing.{ClaimsAndLooks, given_up_events, Meets, IsRefused, Fills, IsUnkept, ComputesFrom}
-use Rattle.ext_store.specs.Claiming.{with_factory, ClaimsFrom}
+use Rattle.ext_store.specs.declared.computed.Compute.{Compute}
+use Rattle.ext_tree.specs.Paths.{IsPathOf}
+use Rattle.ext_cells.specs.Lanes.{CellsId, Lane}
+use Rattle.ext_store.specs.Stores.{StoreId, StoreView, StoreLane, IsKeptBy, IsLaneOf, cell_in}
+use Rattle.ext_store.specs.Frames.{Frame}
+use Rattle.ext_store.specs.Computing.{ClaimsAndLooks, given_up_events, Meets, IsRefused, Fills, IsUnkept, ComputesFrom, Computes, without_factory}
+use Rattle.ext_store.specs.Claiming.{with_factory, ClaimsFrom, ClaimsMissing}
 use Rattle.ext_store.proofs.Parts.{happens_second, claims_first}
-use Rattle.ext_store.proofs.Filling.{none_stored, nor_this, storing_none}
+use Rattle.ext_store.proofs.Filling.{StoresNone, none_stored, nor_this, storing_none, filled_keeps}
+use Rattle.ext_store.proofs.Frames.{frame_of, but_frame, frame_spares, frame_lane, frames_compose}
 
 -- the factory is handed back
 pub unused_computes : (V : Type 0) {F : Type 0} (store : StoreView) (context : ℕ) (ancestors : List ℕ) (key : ℕ) (a b : LaneView) (factory : F) (unused : Unused)
-    → ClaimsFrom store context ancestors key a b (Err unused) → ComputesFrom store context ancestors key a b (with_factory {V = V} {F = F} factory unused)
+    → ClaimsFrom store context ancestors key a b (Err unused) → ComputesFrom store.id.cells.limits store context ancestors key a b (without_factory (with_factory {V = V} {F = F} factory unused))
 unfolding ComputesFrom
 unused_computes V store context ancestors key a b factory (Found at number) m = m
 unused_computes V store context ancestors key a b factory (Refused why) m = m
+
+-- a result for the path, by the limits of the lane's own cells
+pub for_path : {V : Type 0} (store : StoreView) (context : ℕ) (ancestors : List ℕ) (key : ℕ) (a b : Lane) (r : Compute V (Unit {0})) → a.cells ≡ store.id.cells → IsPathOf store.tree context (context ∷ ancestors)
+    → ComputesFrom store.id.cells.limits store context ancestors key a.view b.view r → Computes store context key a b r
+unfolding Computes
+for_path store context ancestors key a b r is path from = (ancestors, path, subst (λ (z : CellsId). ComputesFrom z.limits store context ancestors key a.view b.view r) (sym is) from)
 
 -- ---- the part after the claim
 
@@ -40,15 +51,15 @@ module _ (store : StoreView) (context : ℕ) (ancestors : List ℕ) (key claim :
   one : Calls store.id.cells.limits a b (Claim (cell_in store key context) ∷ [])
   one = m.2
 
-  looks : (ys : List (Act ℕ)) → Calls store.id.cells.limits b c ys → ClaimsAndLooks store context ancestors key a c look.Absent
-  looks ys two = claims_first store context ancestors key a b c ys look.Absent one two m.3
+  looks : (ys : List (Act ℕ)) → Calls store.id.cells.limits b c ys → ClaimsAndLooks store.id.cells.limits store context ancestors key a c look.Absent
+  looks ys two = claims_first limits store context ancestors key a b c ys one two look.Absent m.3
 
-  pub fails : Calls store.id.cells.limits b c (Abandon claim ∷ []) → ClaimsAndLooks store context ancestors key a c look.Absent × Calls store.id.cells.limits a c (given_up_events store context key)
+  pub fails : Calls store.id.cells.limits b c (Abandon claim ∷ []) → ClaimsAndLooks store.id.cells.limits store context ancestors key a c look.Absent × Calls store.id.cells.limits a c (given_up_events store context key)
   fails two =
       (looks (Abandon claim ∷ []) two, calls_compose limits a b c (Claim here ∷ []) (Abandon here ∷ []) one (subst (λ k. Calls limits b c (Abandon k ∷ [])) m.0 two))
 
   pub computes : (number : ℕ) → Fills store.id.cells.limits [] claim b c number
-      → ClaimsAndLooks store context ancestors key a c look.Absent × Fills store.id.cells.limits (Claim (cell_in store key context) ∷ []) (cell_in store key context) a c number
+      → ClaimsAndLooks store.id.cells.limits store context ancestors key a c look.Absent × Fills store.id.cells.limits (Claim (cell_in store key context) ∷ []) (cell_in store key context) a c number
   computes number f = (
     looks (Keep number ∷ Fill claim number ∷ []) f.calls,
     record {
@@ -57,8 +68,8 @@ module _ (store : StoreView) (context : ℕ) (ancestors : List ℕ) (key claim :
     },
   )
 
-  pub keeps_not : (why : KeepFault) → IsUnkept store [] claim b c why
-      → ClaimsAndLooks store context ancestors key a c look.Absent × IsUnkept store (Claim (cell_in store key context) ∷ []) (cell_in store key context) a c why
+  pub keeps_not : (why : KeepFault) → IsUnkept store.id.cells.limits store.tries [] claim b c why
+      → ClaimsAndLooks store.id.cells.limits store context ancestors key a c look.Absent × IsUnkept store.id.cells.limits store.tries (Claim (cell_in store key context) ∷ []) (cell_in store key context) a c why
   unfolding IsUnkept
   keeps_not fault.Memory u = fails u
   keeps_not fault.NumbersFull u =
@@ -83,33 +94,55 @@ module _ (store : StoreView) (context : ℕ) (ancestors : List ℕ) (key claim :
     ),
   )
 
--- ---- what the lane keeps
+-- ---- the frame of a claim
 
-module _ {V : Type 0} (store : StoreView) (context : ℕ) (ancestors : List ℕ) (key : ℕ) (before after : StoreLane V) (same : after.known ≡ before.known) where
-  pub claim_keeps : (claim : ℕ) → ClaimsFrom store context ancestors key before.cells.view after.cells.view (Ok claim) → StillKeeps before after
-  claim_keeps claim m = storing_none store.id.cells.limits before after (Claim (cell_in store key context) ∷ []) (nor_this (Claim (cell_in store key context)) [] refl none_stored) m.2 same
+-- the events of a claim, or of one that was given up, or of none
+abbrev StoringNone : Limits → LaneView → LaneView → Type 0
+StoringNone limits a b = (acts : List (Act ℕ)) × All StoresNone acts × Calls limits a b acts
 
-  quiet_keeps : Calls store.id.cells.limits before.cells.view after.cells.view [] → StillKeeps before after
-  quiet_keeps one = storing_none store.id.cells.limits before after [] none_stored one same
+module _ (store : StoreView) (context : ℕ) (ancestors : List ℕ) (key : ℕ) (a b : LaneView) where
+  quiet_acts : Calls store.id.cells.limits a b [] → StoringNone store.id.cells.limits a b
+  quiet_acts one = ([], none_stored, one)
 
-  given_up_keeps : Calls store.id.cells.limits before.cells.view after.cells.view (given_up_events store context key) → StillKeeps before after
-  given_up_keeps one = storing_none store.id.cells.limits before after (given_up_events store context key) (nor_this (Claim (cell_in store key context)) (Abandon (cell_in store key context) ∷ []) refl (nor_this (Abandon (cell_in store key context)) [] refl none_stored)) one same
+  given_up_acts : Calls store.id.cells.limits a b (given_up_events store context key) → StoringNone store.id.cells.limits a b
+  given_up_acts one = (given_up_events store context key, nor_this (Claim (cell_in store key context)) (Abandon (cell_in store key context) ∷ []) refl (nor_this (Abandon (cell_in store key context)) [] refl none_stored), one)
 
-  meets_keeps : (met : Look) → Meets store context ancestors key before.cells.view after.cells.view met → StillKeeps before after
+  meets_acts : (met : Look) → Meets store.id.cells.limits store context ancestors key a b met → StoringNone store.id.cells.limits a b
   unfolding Meets
-  meets_keeps met m = elim m [
-    | inl h ↦ quiet_keeps h.calls
-    | inr k ↦ given_up_keeps k.0
+  meets_acts met m = elim m [
+    | inl h ↦ quiet_acts h.calls
+    | inr k ↦ given_up_acts k.0
   ]
 
-  pub unused_keeps : (unused : Unused) → ClaimsFrom store context ancestors key before.cells.view after.cells.view (Err unused) → StillKeeps before after
+  claim_acts : (r : Result ℕ Unused) → ClaimsFrom store context ancestors key a b r → StoringNone store.id.cells.limits a b
   unfolding IsRefused
-  unused_keeps (Found at number) m = meets_keeps (look.Found at number) m
-  unused_keeps (Refused (refusal.Busy at)) m = meets_keeps (look.Busy at) m
-  unused_keeps (Refused (refusal.Closed at)) m = meets_keeps (look.Closed at) m
-  unused_keeps (Refused refusal.Contended) m = elim m [
-    | inl over ↦ quiet_keeps over.calls
-    | inr k ↦ given_up_keeps k.0
+  claim_acts (Ok claim) m = (Claim (cell_in store key context) ∷ [], nor_this (Claim (cell_in store key context)) [] refl none_stored, m.2)
+  claim_acts (Err (Found at number)) m = meets_acts (look.Found at number) m
+  claim_acts (Err (Refused (refusal.Busy at))) m = meets_acts (look.Busy at) m
+  claim_acts (Err (Refused (refusal.Closed at))) m = meets_acts (look.Closed at) m
+  claim_acts (Err (Refused refusal.Contended)) m = elim m [
+    | inl over ↦ quiet_acts over.calls
+    | inr k ↦ given_up_acts k.0
   ]
-  unused_keeps (Refused refusal.UnknownKey) m = absurd m
-  unused_keeps (Refused refusal.Exhausted) m = quiet_keeps m.calls
+  claim_acts (Err (Refused refusal.UnknownKey)) m = absurd m
+  claim_acts (Err (Refused refusal.Exhausted)) m = quiet_acts m.0.calls
+
+module _ {V : Type 0} (store : StoreView) (inside a b : StoreLane V) (is : inside ≡ a) (mine : IsLaneOf store.id a) (cells : b.cells.cells ≡ inside.cells.cells) (same : b.known ≡ inside.known) where
+  -- of calls that store nothing,
+  pub storing_frame : (acts : List (Act ℕ)) → All StoresNone acts → Calls inside.cells.cells.limits inside.cells.view b.cells.view acts → Frame store.id [] a b
+  storing_frame acts none calls = frame_of store.id inside a b is mine cells same acts calls (storing_none inside.cells.cells.limits inside b acts none calls same)
+
+  -- as of the claim of a missing value
+  pub claim_frame : (context key : ℕ) (r : Result ℕ Unused) → ClaimsMissing store context key inside.cells.view b.cells.view r → Frame store.id [] a b
+  claim_frame context key r m =
+      let made = claim_acts store context m.0 key inside.cells.view b.cells.view r m.2 in
+      let ours : inside.cells.cells ≡ store.id.cells = ap (λ (l : StoreLane V). l.cells.cells) is ∙ mine.cells in
+      storing_frame made.0 made.1 (subst (λ (z : CellsId). Calls z.limits inside.cells.view b.cells.view made.0) (sym ours) made.2)
+
+-- A value was kept, which has a frame, and then its number was stored in a claimed cell: it is none that was kept before
+pub fill_frame : {V : Type 0} (id : StoreId) (a inside b c : StoreLane V) → inside ≡ b → Frame id [] a b → c.cells.cells ≡ inside.cells.cells → c.known ≡ inside.known
+    → (at number : ℕ) → Calls inside.cells.cells.limits inside.cells.view c.cells.view (Fill at number ∷ []) → ((m : ℕ) → IsKeptBy a m → m ≢ number) → Frame id [] a c
+fill_frame id a inside b c is one cells same at number calls apart =
+    frame_spares id number a c
+    (frames_compose id [] (number ∷ []) a b c one (but_frame id inside b c is (frame_lane id [] a b one) cells same number (Fill at number ∷ []) calls (filled_keeps inside.cells.cells.limits inside c at number calls same)))
+    apart

@@ -81,7 +81,7 @@ module _ (store : StoreView) (a b : Lane) (is : a.cells ≡ store.id.cells) (cel
       drawn = happens_first limits a.view b.view c.view (Keep number ∷ []) (Fill cell number ∷ []) one.calls two [] (Keep number) (Some number) (happens_alone limits a.view b.view (Keep number) (Some number) one);
     }
 
-    pub unkept : (why : KeepFault) → KeepFails store a b why → Calls store.id.cells.limits b.view c.view (Abandon cell ∷ []) → IsUnkept store [] cell a.view c.view why
+    pub unkept : (why : KeepFault) → KeepFails store a b why → Calls store.id.cells.limits b.view c.view (Abandon cell ∷ []) → IsUnkept store.id.cells.limits store.tries [] cell a.view c.view why
     unfolding IsUnkept KeepFails
     unkept fault.Memory h two = subst (λ (l : Lane). Calls limits l.view c.view (Abandon cell ∷ [])) h two
     unkept fault.NumbersFull h two =

@@ -22,7 +22,7 @@ use Rattle.ext_store.specs.Stores.{StoreView, StoreLane, IsKeptBy, StillKeeps, S
 use Rattle.ext_store.specs.Refusals.{keep_fault}
 use Rattle.ext_store.specs.Looking.{Looks}
 use Rattle.ext_store.proofs.Replies.{other_why}
-use Rattle.ext_store.specs.Calls.{HoldsAtPoint, reply_to, KeepFails, Puts, Removes}
+use Rattle.ext_store.specs.Calls.{HoldsAtPoint, reply_to, put_acts, remove_acts, KeepFails, Puts, Removes}
 
 -- where two are there, they are one
 pub one_number : (a b : ℕ) → (let x : Option ℕ = Some a in let y : Option ℕ = Some b in x ≡ y) → a ≡ b
@@ -74,26 +74,39 @@ pub looks_quiet : (store : StoreView) (path : List ℕ) (key : ℕ) (before afte
 looks_quiet store path key before after (Ok look) l = l.calls
 looks_quiet store path key before after (Err why) l = l.1.calls
 
-module _ {V : Type 0} (store : StoreView) (context key : ℕ) (before after : StoreLane V) (same : after.known ≡ before.known) where
-  pub put_keeps : (number : ℕ) (r : Result (Option ℕ) (ℕ × Refusal)) → Puts store context key number before.cells after.cells r → IfErr r (λ e. e.0 ≡ number)
-      → MatchResult r (λ _. StillKeepsBut number before after) (λ _. StillKeeps before after)
+module _ {V : Type 0} (store : StoreView) (context key : ℕ) (before after : StoreLane V) where
+  -- the events of a put and of a remove, by their results
+  pub put_calls : (number : ℕ) (r : Result (Option ℕ) (ℕ × Refusal)) → Puts store context key number before.cells after.cells r → IfErr r (λ e. e.0 ≡ number)
+      → Calls before.cells.cells.limits before.cells.view after.cells.view (put_acts (cell_in store key context) number r)
   unfolding Puts
-  put_keeps number (Ok stood) a back = stored_keeps before.cells.cells.limits before after (cell_in store key context) number (a.replied (λ e. cc e)).calls same
-  put_keeps number (Err (k, refusal.Contended)) a back = quiet_keeps before.cells.cells.limits before after (a.overtaken (ap (λ n. Err (n, refusal.Contended)) back)).calls same
-  put_keeps number (Err (k, refusal.Busy at)) a back = quiet_keeps before.cells.cells.limits before after (a.replied (other_why k number (refusal.Busy at) refusal.Contended (λ e. cc e))).calls same
-  put_keeps number (Err (k, refusal.Closed at)) a back = quiet_keeps before.cells.cells.limits before after (a.replied (other_why k number (refusal.Closed at) refusal.Contended (λ e. cc e))).calls same
-  put_keeps number (Err (k, refusal.UnknownKey)) a back = quiet_keeps before.cells.cells.limits before after (a.replied (other_why k number refusal.UnknownKey refusal.Contended (λ e. cc e))).calls same
-  put_keeps number (Err (k, refusal.Exhausted)) a back = quiet_keeps before.cells.cells.limits before after (a.replied (other_why k number refusal.Exhausted refusal.Contended (λ e. cc e))).calls same
+  put_calls number (Ok stood) a back = (a.replied (λ e. cc e)).calls
+  put_calls number (Err (k, refusal.Contended)) a back = (a.overtaken (ap (λ n. Err (n, refusal.Contended)) back)).calls
+  put_calls number (Err (k, refusal.Busy at)) a back = (a.replied (other_why k number (refusal.Busy at) refusal.Contended (λ e. cc e))).calls
+  put_calls number (Err (k, refusal.Closed at)) a back = (a.replied (other_why k number (refusal.Closed at) refusal.Contended (λ e. cc e))).calls
+  put_calls number (Err (k, refusal.UnknownKey)) a back = (a.replied (other_why k number refusal.UnknownKey refusal.Contended (λ e. cc e))).calls
+  put_calls number (Err (k, refusal.Exhausted)) a back = (a.replied (other_why k number refusal.Exhausted refusal.Contended (λ e. cc e))).calls
 
-  pub remove_keeps : (r : Result (Option ℕ) Refusal) → Removes store context key before.cells after.cells r → StillKeeps before after
+  pub remove_calls : (r : Result (Option ℕ) Refusal) → Removes store context key before.cells after.cells r
+      → Calls before.cells.cells.limits before.cells.view after.cells.view (remove_acts (cell_in store key context) r)
   unfolding Removes
-  remove_keeps (Ok None) a = quiet_keeps before.cells.cells.limits before after (a.replied (λ e. cc e)).calls same
-  remove_keeps (Ok (Some number)) a = removed_keeps before.cells.cells.limits before after (cell_in store key context) (a.replied (λ e. cc e)).calls same
-  remove_keeps (Err refusal.Contended) a = quiet_keeps before.cells.cells.limits before after (a.overtaken refl).calls same
-  remove_keeps (Err (refusal.Busy at)) a = quiet_keeps before.cells.cells.limits before after (a.replied (λ e. cc e)).calls same
-  remove_keeps (Err (refusal.Closed at)) a = quiet_keeps before.cells.cells.limits before after (a.replied (λ e. cc e)).calls same
-  remove_keeps (Err refusal.UnknownKey) a = quiet_keeps before.cells.cells.limits before after (a.replied (λ e. cc e)).calls same
-  remove_keeps (Err refusal.Exhausted) a = quiet_keeps before.cells.cells.limits before after (a.replied (λ e. cc e)).calls same
+  remove_calls (Ok None) a = (a.replied (λ e. cc e)).calls
+  remove_calls (Ok (Some number)) a = (a.replied (λ e. cc e)).calls
+  remove_calls (Err refusal.Contended) a = (a.overtaken refl).calls
+  remove_calls (Err (refusal.Busy at)) a = (a.replied (λ e. cc e)).calls
+  remove_calls (Err (refusal.Closed at)) a = (a.replied (λ e. cc e)).calls
+  remove_calls (Err refusal.UnknownKey) a = (a.replied (λ e. cc e)).calls
+  remove_calls (Err refusal.Exhausted) a = (a.replied (λ e. cc e)).calls
+
+module _ {V : Type 0} (store : StoreView) (context key : ℕ) (before after : StoreLane V) (same : after.known ≡ before.known) where
+  pub put_keeps : (number : ℕ) (r : Result (Option ℕ) (ℕ × Refusal)) → Calls before.cells.cells.limits before.cells.view after.cells.view (put_acts (cell_in store key context) number r)
+      → MatchResult r (λ _. StillKeepsBut number before after) (λ _. StillKeeps before after)
+  put_keeps number (Ok stood) calls = stored_keeps before.cells.cells.limits before after (cell_in store key context) number calls same
+  put_keeps number (Err e) calls = quiet_keeps before.cells.cells.limits before after calls same
+
+  pub remove_keeps : (r : Result (Option ℕ) Refusal) → Calls before.cells.cells.limits before.cells.view after.cells.view (remove_acts (cell_in store key context) r) → StillKeeps before after
+  remove_keeps (Ok None) calls = quiet_keeps before.cells.cells.limits before after calls same
+  remove_keeps (Ok (Some number)) calls = removed_keeps before.cells.cells.limits before after (cell_in store key context) calls same
+  remove_keeps (Err why) calls = quiet_keeps before.cells.cells.limits before after calls same
 
 -- ---- keep
 

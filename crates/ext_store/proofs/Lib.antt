@@ -4,6 +4,8 @@ pub mod LookUps
 pub mod Replies
 pub mod Keeping
 pub mod Fresh
+pub mod Refused
+pub mod Frames
 pub mod SealsKeep
 pub mod Standing
 pub mod Parts

@@ -1,21 +1,22 @@
 -- What a part of a call says, said of the whole call.
-use Rattle.std.proofs.Common.{◌≡◌, ℕ, List, [], ◌∷◌, ◌++◌, sym, subst, append_assoc}
+use Rattle.std.proofs.Common.{◌≡◌, ◌≤◌, ◌∙◌, ℕ, List, [], ◌∷◌, ◌++◌, length, sym, refl, ap, subst, arith, append_assoc, append-nil}
+use mathlib.Core.List.{IsPrefix, append_cancel_left}
 use Rattle.std.specs.Prelude.{Option, None}
 use Rattle.ext_model.specs.declared.event.Act.{Act}
 use Rattle.ext_model.specs.declared.event.Act.TheVariants.{Claim}
 use Rattle.ext_model.specs.declared.look.Look.{Look}
 use Rattle.ext_model.specs.Events.{Happens}
-use Rattle.ext_model.specs.History.{Limits, by, reply_after}
-use Rattle.ext_model.specs.Views.{LaneView, IsPointAfter}
+use Rattle.ext_model.specs.History.{History, Limits, by, own, reply_after}
+use Rattle.ext_model.specs.Views.{LaneView, last_after, seen_by, call_fronts, events_by, IsStepped, IsPointAfter}
 use Rattle.ext_model.specs.Calls.{Calls, HoldsAtPoint}
 use Rattle.ext_model.specs.SecondLook.{LooksAgain}
-use Rattle.ext_model.proofs.Composed.{same_number, point_of_first, point_of_second, answer_first, seen_is_point}
+use Rattle.ext_model.proofs.Composed.{same_number, seen_is, first_decides, point_of_first, point_of_second, answer_first, seen_is_point}
 use Rattle.ext_store.specs.Stores.{StoreView, cell_in}
-use Rattle.ext_store.specs.Computing as computing
+use Rattle.ext_store.specs.Computing.{HappensAfter, LooksFirst, Claims, ClaimsAndLooks}
 
 module _ (limits : Limits) (a b c : LaneView) (xs zs : List (Act ℕ)) (one : Calls limits a b xs) (two : Calls limits b c zs) where
   -- an event of the second part
-  pub happens_second : (first : List (Act ℕ)) (act : Act ℕ) (answer : Option ℕ) → computing.Happens limits first b c act answer → computing.Happens limits (xs ++ first) a c act answer
+  pub happens_second : (first : List (Act ℕ)) (act : Act ℕ) (answer : Option ℕ) → HappensAfter limits first b c act answer → HappensAfter limits (xs ++ first) a c act answer
   happens_second first act answer e =
       let n = same_number limits a b xs one in record {
         at = e.at;
@@ -26,7 +27,7 @@ module _ (limits : Limits) (a b c : LaneView) (xs zs : List (Act ℕ)) (one : Ca
       }
 
   -- and of the first
-  pub happens_first : (first : List (Act ℕ)) (act : Act ℕ) (answer : Option ℕ) → computing.Happens limits first a b act answer → computing.Happens limits first a c act answer
+  pub happens_first : (first : List (Act ℕ)) (act : Act ℕ) (answer : Option ℕ) → HappensAfter limits first a b act answer → HappensAfter limits first a c act answer
   happens_first first act answer e = record {
     at = e.at;
     point = point_of_first limits a b c xs zs one two first e.at e.point;
@@ -43,7 +44,7 @@ module _ (limits : Limits) (a b c : LaneView) (xs zs : List (Act ℕ)) (one : Ca
   looks_first cell_of path first look l = (l.0, point_of_first limits a b c xs zs one two first l.0 l.1, l.2)
 
 -- the event of a call that makes one
-pub happens_alone : (limits : Limits) (a b : LaneView) (act : Act ℕ) (answer : Option ℕ) → HoldsAtPoint limits a b (act ∷ []) (λ p. reply_after limits p a.number act ≡ Happens answer) → computing.Happens limits [] a b act answer
+pub happens_alone : (limits : Limits) (a b : LaneView) (act : Act ℕ) (answer : Option ℕ) → HoldsAtPoint limits a b (act ∷ []) (λ p. reply_after limits p a.number act ≡ Happens answer) → HappensAfter limits [] a b act answer
 happens_alone limits a b act answer h = record {
   at = h.point.0;
   point = answer_first limits a b (act ∷ []) h.point.0 h.calls h.point.1;
@@ -51,12 +52,41 @@ happens_alone limits a b act answer h = record {
   replied = h.point.2;
 }
 
--- a claim and its second look, where a further part follows them
-pub claims_first : (store : StoreView) (context : ℕ) (ancestors : List ℕ) (key : ℕ) (a b c : LaneView) (ys : List (Act ℕ)) (look : Look)
-    → Calls store.id.cells.limits a b (Claim (cell_in store key context) ∷ []) → Calls store.id.cells.limits b c ys
-    → computing.ClaimsAndLooks store context ancestors key a b look → computing.ClaimsAndLooks store context ancestors key a c look
-claims_first store context ancestors key a b c ys look one two k =
-    let claim = Claim (cell_in store key context) in record {
-      claimed = happens_first store.id.cells.limits a b c (claim ∷ []) ys one two [] claim None k.claimed;
-      looked = looks_first store.id.cells.limits a b c (claim ∷ []) ys one two (cell_in store key) ancestors (claim ∷ []) look k.looked;
-    }
+-- a call that made an event made a step
+stepped_by : (limits : Limits) (a b : LaneView) (act : Act ℕ) (acts : List (Act ℕ)) → Calls limits a b (act ∷ acts) → (fronts : List History) → call_fronts a b ≡ fronts → 1 ≤ length fronts
+stepped_by limits a b act acts one [] is =
+    let same : own a.number (seen_by b) ≡ own a.number (seen_by a) = ap (own a.number) (seen_is limits a b (act ∷ acts) one ∙ ap (last_after (seen_by a)) is) in
+    absurd (not_nil (append_cancel_left (own a.number (seen_by a)) [] (events_by a.number (act ∷ acts)) (append-nil (own a.number (seen_by a)) ∙ (sym same ∙ one.own_events))))
+  where
+    not_nil : (let none : History = [] in none ≡ events_by a.number (act ∷ acts)) → ⊥
+    not_nil e = cc e
+stepped_by limits a b act acts one (f ∷ fs) is = omega arith
+
+pub event_steps : (limits : Limits) (a b : LaneView) (act : Act ℕ) (acts : List (Act ℕ)) → Calls limits a b (act ∷ acts) → IsStepped a b
+event_steps limits a b act acts one = stepped_by limits a b act acts one (call_fronts a b) refl
+
+-- a first look, where a further part follows it
+pub first_stays : (limits : Limits) (a b c : LaneView) (xs zs : List (Act ℕ)) → Calls limits a b xs → Calls limits b c zs → IsStepped a b → (cell_of : ℕ → ℕ) (path : List ℕ) → LooksFirst cell_of path a b → LooksFirst cell_of path a c
+first_stays limits a b c xs zs one two some cell_of path l = record {
+  at = l.at;
+  stepped = subst (λ h. IsPrefix h l.at) (sym (first_decides limits a b c xs zs one two some)) l.stepped;
+  point = point_of_first limits a b c xs zs one two [] l.at l.point;
+  missing = l.missing;
+}
+
+-- a claim, and its second look, where a further part follows them
+module _ (limits : Limits) (store : StoreView) (context : ℕ) (ancestors : List ℕ) (key : ℕ) (a b c : LaneView) (ys : List (Act ℕ))
+    (one : Calls limits a b (Claim (cell_in store key context) ∷ [])) (two : Calls limits b c ys) where
+  pub claims_stay : Claims limits store context ancestors key a b → Claims limits store context ancestors key a c
+  claims_stay k =
+      let claim = Claim (cell_in store key context) in record {
+        looked_first = first_stays limits a b c (claim ∷ []) ys one two (event_steps limits a b claim [] one) (cell_in store key) (context ∷ ancestors) k.looked_first;
+        claimed = happens_first limits a b c (claim ∷ []) ys one two [] claim None k.claimed;
+      }
+
+  pub claims_first : (look : Look) → ClaimsAndLooks limits store context ancestors key a b look → ClaimsAndLooks limits store context ancestors key a c look
+  claims_first look k =
+      let claim = Claim (cell_in store key context) in record {
+        claims = claims_stay k.claims;
+        looked = looks_first limits a b c (claim ∷ []) ys one two (cell_in store key) ancestors (claim ∷ []) look k.looked;
+      }

@@ -36,9 +36,9 @@ abbrev pub ClaimsFrom : StoreView → ℕ → List ℕ → ℕ → LaneView → 
 ClaimsFrom store context ancestors key before after (Ok claim) =
     (claim ≡ cell_in store key context) × IsHeld after claim
     × Calls store.id.cells.limits before after (Claim (cell_in store key context) ∷ [])
-    × ClaimsAndLooks store context ancestors key before after look.Absent
-ClaimsFrom store context ancestors key before after (Err (Found at number)) = Meets store context ancestors key before after (look.Found at number)
-ClaimsFrom store context ancestors key before after (Err (Refused why)) = IsRefused store context ancestors key before after why
+    × ClaimsAndLooks store.id.cells.limits store context ancestors key before after look.Absent
+ClaimsFrom store context ancestors key before after (Err (Found at number)) = Meets store.id.cells.limits store context ancestors key before after (look.Found at number)
+ClaimsFrom store context ancestors key before after (Err (Refused why)) = IsRefused store.id.cells.limits store context ancestors key before after why
 
 -- for the path of the context
 abbrev pub ClaimsMissing : StoreView → ℕ → ℕ → LaneView → LaneView → Result ℕ Unused → Type 0

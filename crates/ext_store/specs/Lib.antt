@@ -1,4 +1,6 @@
 pub mod Stores
+pub mod Frames
+pub mod FrameLaws
 pub mod Calls
 pub mod Looking
 pub mod Refusals

@@ -8,7 +8,27 @@ use Rattle.ext_store.specs.declared.fault.Refusal.TheVariants.{Contended, Busy, 
 use Rattle.ext_store.specs.declared.fault.KeepFault.{KeepFault}
 use Rattle.ext_store.specs.declared.fault.KeepFault.TheVariants as fault
 
--- of a put or a remove in the context, which are never refused for the last three
+-- a put, a remove, a claim and a seal are refused for these alone,
+abbrev pub IsOfCell : CellRefusal → Type 0
+IsOfCell cell.Busy = Unit {0}
+IsOfCell cell.Closed = Unit {0}
+IsOfCell cell.Exhausted = Unit {0}
+IsOfCell cell.Contended = Unit {0}
+IsOfCell cell.NumbersFull = ⊥
+IsOfCell cell.Memory = ⊥
+IsOfCell cell.BadLimit = ⊥
+
+-- and the drawing of a number for these
+abbrev pub IsOfCount : CellRefusal → Type 0
+IsOfCount cell.NumbersFull = Unit {0}
+IsOfCount cell.Contended = Unit {0}
+IsOfCount cell.Busy = ⊥
+IsOfCount cell.Closed = ⊥
+IsOfCount cell.Exhausted = ⊥
+IsOfCount cell.Memory = ⊥
+IsOfCount cell.BadLimit = ⊥
+
+-- what the store says then: of an act on the context's cell; the last three do not come
 abbrev pub refusal_at : ℕ → CellRefusal → Refusal
 refusal_at context cell.Busy = Busy context
 refusal_at context cell.Closed = Closed context
@@ -18,7 +38,7 @@ refusal_at context cell.NumbersFull = Contended
 refusal_at context cell.Memory = Contended
 refusal_at context cell.BadLimit = Contended
 
--- of the drawing of a number, which is refused for the first two alone
+-- of the drawing of a number; the last five do not come
 abbrev pub keep_fault : CellRefusal → KeepFault
 keep_fault cell.NumbersFull = fault.NumbersFull
 keep_fault cell.Contended = fault.Contended

@@ -1,14 +1,15 @@
 //! Values that are computed where none is found.
-ghost use Rattle.std.specs.Prelude.{ℕ, ◌≡◌, ◌<◌, [], length, Contains, MatchResult};
+ghost use Rattle.std.specs.Prelude.{ℕ, ◌≡◌, ◌≢◌, ◌<◌, [], length, Contains, IfOk, MatchResult};
 ghost use Rattle.std.specs.Fn.{FnOnceReturnsAt};
 ghost use Rattle.ext_model.specs.Calls.{IsHeld};
 ghost use Rattle.ext_tree.specs.Keys.{HasNumber};
-ghost use Rattle.ext_values.specs.Known.{Learns};
+ghost use Rattle.ext_values.specs.Known.{KeepsKnown, Learns};
 ghost use Rattle.ext_store.specs.declared.fault.Refusal.TheVariants.{UnknownKey};
 ghost use Rattle.ext_store.specs.declared.computed.Compute.TheVariants.{Refused};
-ghost use Rattle.ext_store.specs.Stores.{IsLaneOf, StillKeeps};
+ghost use Rattle.ext_store.specs.Stores.{IsKeptBy, IsLaneOf, StillKeeps};
+ghost use Rattle.ext_store.specs.Frames.{Frame};
 ghost use Rattle.ext_store.specs.Looking.{IsTrail};
-ghost use Rattle.ext_store.specs.Computing.{Computes, Fills, IsUnkept, Uses};
+ghost use Rattle.ext_store.specs.Computing.{Computes, Fills, HandsBack, IfComputed, IsUnkept, Uses, without_factory};
 ghost use Rattle.ext_store.specs.Claiming.{ClaimsMissing, Stands};
 
 use crate::computed::Unused;
@@ -16,15 +17,14 @@ use crate::{Compute, KeepFault, Lane, Refusal, Store, StoreValue};
 use ext_cells::{CellLane, Claim, Claimed};
 use ext_model::{ContextNo, Fault, KeyNo, Look};
 use ext_tree::Key;
-use std::sync::Wait;
 
 impl<V: StoreValue + Drop> Store<V> {
     /// Computes a value for the key in the context where a look-up from there finds none: calls the factory with the
     /// key, keeps its value, and stores the number in the context itself. The factory is called at most once, after the
-    /// lane has claimed the context's cell and has looked at the ancestors again. While the claim stands, calls of
-    /// other lanes on the cell are refused as `Busy`; a value that an ancestor gets after that look does not stop the
-    /// factory. Takes memory for the value, and may wait. The end of a claim has no bound on its steps, while all
-    /// cells stand in one snapshot cell.
+    /// lane has claimed the context's cell and has looked at the ancestors again. It claims only where a first look-up
+    /// along the whole path found nothing: while the claim stands, calls of other lanes on the cell are refused as
+    /// `Busy`. A value that an ancestor gets after the second look does not stop the factory. Takes memory for the
+    /// value.
     ///
     /// `Found` where a value stands in the context or in an ancestor, the nearest first. Between two values that were
     /// computed for one place a remove of the place stands, as `history_laws` of ext_model says.
@@ -39,9 +39,9 @@ impl<V: StoreValue + Drop> Store<V> {
     ///
     /// Javadoc `ExtensionContext.Store`, `getOrComputeIfAbsent`; JUnit 5 User Guide, section "Keeping State in
     /// Extensions". Claims, the second look, numbers and refusals are own rules.
-    pub fn compute<R: Wait, F: FnOnce(&Key) -> Result<V, Fault>>(
+    #[tactic(auto, unfolding(crate::specs::Frames::Frame))]
+    pub fn compute<F: FnOnce(&Key) -> Result<V, Fault>>(
         &self,
-        rt: &R,
         lane: &mut Lane<V>,
         context: ContextNo,
         key: &Key,
@@ -51,10 +51,14 @@ impl<V: StoreValue + Drop> Store<V> {
         requires context { context < length self.now.tree }
         requires factory { F.IsAlwaysCallable factory }
         ensures unknown { ¬ Contains self.now.keys key.now → (result ≡ Refused UnknownKey factory) × (lane.new ≡ lane.old) }
-        ensures answer { (number : ℕ) → HasNumber self.now.keys key.now number → Computes self.now context number lane.old.cells.view lane.new.cells.view result }
-        ensures factory { Uses factory (λ answer. FnOnceReturnsAt F.FnOnce factory key.now answer) lane.old.known lane.new.known result }
+        ensures answer { (number : ℕ) → HasNumber self.now.keys key.now number → Computes self.now context number lane.old.cells lane.new.cells (without_factory result) }
+        ensures factory { Uses (λ answer. FnOnceReturnsAt F.FnOnce factory key.now answer) lane.old.known lane.new.known (without_factory result) }
+        ensures handed_back { HandsBack factory result }
+        ensures known { KeepsKnown lane.old.known lane.new.known }
         ensures lane { IsLaneOf self.now.id lane.new }
         ensures kept { StillKeeps lane.old lane.new }
+        ensures apart { IfComputed result (λ number. (m : ℕ) → IsKeptBy lane.old m → m ≢ number) }
+        ensures frame { Frame self.now.id [] lane.old lane.new }
     {
         let Some(number) = self.directory.number_of(key) else {
             return Compute::Refused {
@@ -62,46 +66,46 @@ impl<V: StoreValue + Drop> Store<V> {
                 unused: factory,
             };
         };
-        let claim = match self.claim_missing(rt, &mut lane.cells, context, number) {
+        let claim = match self.claim_missing(&mut lane.cells, context, number) {
             Ok(claim) => claim,
             Err(why) => return why.hand_back(factory),
         };
         let value = match factory(key) {
             Ok(value) => value,
             Err(fault) => {
-                self.cells.abandon(rt, &mut lane.cells, claim);
+                self.cells.abandon(&mut lane.cells, claim);
                 return Compute::Failed(fault);
             }
         };
-        match self.keep_and_fill(rt, lane, claim, value) {
+        match self.keep_and_fill(lane, claim, value) {
             Ok(number) => Compute::Computed { number },
             Err((value, cause)) => Compute::Unkept { value, cause },
         }
     }
 
     // Keeps the value and stores its number in the claimed cell, or gives the claim up.
-    fn keep_and_fill<R: Wait>(
+    #[tactic(auto, unfolding(crate::specs::Frames::Frame))]
+    fn keep_and_fill(
         &self,
-        rt: &R,
         lane: &mut Lane<V>,
         claim: Claim,
         value: V,
     ) -> Result<u32, (V, KeepFault)>
         requires lane { IsLaneOf self.now.id lane.old }
         requires held { IsHeld lane.old.cells.view claim }
-        ensures events { MatchResult result (Fills self.now.id.cells.limits [] claim lane.old.cells.view lane.new.cells.view) (λ e. IsUnkept self.now [] claim lane.old.cells.view lane.new.cells.view e.1) }
+        ensures events { MatchResult result (Fills self.now.id.cells.limits [] claim lane.old.cells.view lane.new.cells.view) (λ e. IsUnkept self.now.id.cells.limits self.now.tries [] claim lane.old.cells.view lane.new.cells.view e.1) }
         ensures known { MatchResult result (λ number. Learns lane.old.known lane.new.known number value) (λ e. (e.0 ≡ value) × (lane.new.known ≡ lane.old.known)) }
-        ensures lane { IsLaneOf self.now.id lane.new }
-        ensures kept { StillKeeps lane.old lane.new }
+        ensures apart { IfOk result (λ number. (m : ℕ) → IsKeptBy lane.old m → m ≢ number) }
+        ensures frame { Frame self.now.id [] lane.old lane.new }
     {
-        match self.keep(rt, lane, value) {
+        match self.keep(lane, value) {
             Ok(kept) => {
                 let number = kept.number;
-                self.cells.fill(rt, &mut lane.cells, claim, number);
+                self.cells.fill(&mut lane.cells, claim, number);
                 Ok(number)
             }
             Err(unkept) => {
-                self.cells.abandon(rt, &mut lane.cells, claim);
+                self.cells.abandon(&mut lane.cells, claim);
                 Err(unkept)
             }
         }
@@ -109,9 +113,8 @@ impl<V: StoreValue + Drop> Store<V> {
 
     // Claims the cell of the key in the context where a look-up from there finds nothing, so that a value can be
     // computed.
-    fn claim_missing<R: Wait>(
+    fn claim_missing(
         &self,
-        rt: &R,
         lane: &mut CellLane,
         context: ContextNo,
         key: KeyNo,
@@ -124,10 +127,10 @@ impl<V: StoreValue + Drop> Store<V> {
     {
         let path = self.tree.path(context);
         let path = path.as_slice();
-        if let Some(unused) = self.stands_along(rt, lane, path, key) {
+        if let Some(unused) = self.stands_along(lane, path, key) {
             return Err(unused);
         }
-        let claim = match self.cells.claim(rt, lane, self.cell(context, key)) {
+        let claim = match self.cells.claim(lane, self.cell(context, key)) {
             Ok(Claimed::Won(claim)) => claim,
             Ok(Claimed::Standing(number)) => {
                 return Err(Unused::Found {
@@ -139,30 +142,24 @@ impl<V: StoreValue + Drop> Store<V> {
         };
         // An ancestor may have got a value between the first look and the claim. The claim keeps every other lane off
         // the context's own cell, so from here on only the ancestors matter.
-        match self.stands_along(rt, lane, &path[1..], key) {
+        match self.stands_along(lane, &path[1..], key) {
             None => Ok(claim),
             Some(unused) => {
-                self.cells.abandon(rt, lane, claim);
+                self.cells.abandon(lane, claim);
                 Err(unused)
             }
         }
     }
 
     // What stands along the path, if anything does there, or why it can't be told.
-    fn stands_along<R: Wait>(
-        &self,
-        rt: &R,
-        lane: &mut CellLane,
-        path: &[ContextNo],
-        key: KeyNo,
-    ) -> Option<Unused>
+    fn stands_along(&self, lane: &mut CellLane, path: &[ContextNo], key: KeyNo) -> Option<Unused>
         requires lane { lane.old.cells ≡ self.now.id.cells }
         requires path { IsTrail self.now path.now }
         requires key { key < length self.now.keys }
         ensures lane { lane.new.cells ≡ lane.old.cells }
         ensures stands { Stands self.now path.now key lane.old lane.new result }
     {
-        match self.look_along(rt, lane, path, key) {
+        match self.look_along(lane, path, key) {
             Ok(Look::Absent) => None,
             Ok(Look::Found { at, number }) => Some(Unused::Found { at, number }),
             Ok(Look::Busy(at)) => Some(Unused::Refused(Refusal::Busy(at))),

@@ -1,12 +1,14 @@
 //! Why calls are refused.
 ghost use Rattle.std.specs.Prelude.{◌≡◌};
-ghost use Rattle.ext_store.specs.Refusals.{keep_fault, refusal_at};
+ghost use Rattle.ext_store.specs.Refusals.{IsOfCell, IsOfCount, keep_fault, refusal_at};
 
 use ext_cells::CellRefusal;
 use ext_model::ContextNo;
 use thiserror::Error;
 
-/// Why a look-up, a put or a remove is refused. Where several apply, each call says which is answered. Own rule.
+/// Why a call on the cells is refused. A `get` is refused as `UnknownKey` or `Contended` alone, since that a context is
+/// busy or closed is an answer of it; a `seal` as `Busy` or `Contended`; a `put`, a `remove` and a `compute` as any of
+/// these. Where several apply, each call says which is answered. Own rule.
 #[derive(Clone, Copy, Debug, PartialEq, Eq, Error)]
 pub enum Refusal {
     /// A lane computes a value for this context, which decides.
@@ -21,7 +23,8 @@ pub enum Refusal {
     /// The key was not declared.
     #[error("unknown key")]
     UnknownKey,
-    /// Too many values were stored in this context under this key, or taken out there: more than 2^40 - 3.
+    /// There were too many events in this context under this key: more than 2^40 - 3 for a put or a remove, and more
+    /// than 2^40 - 4 for the claim of a compute, which leaves one for its end.
     #[error("exhausted")]
     Exhausted,
 }
@@ -29,21 +32,21 @@ pub enum Refusal {
 impl Refusal {
     // What a refusal of the context's cell says.
     pub(crate) fn at(context: ContextNo, why: CellRefusal) -> Refusal
+        requires { IsOfCell why }
         ensures { result ≡ refusal_at context why }
     {
         match why {
             CellRefusal::Busy => Refusal::Busy(context),
             CellRefusal::Closed => Refusal::Closed(context),
             CellRefusal::Exhausted => Refusal::Exhausted,
-            CellRefusal::Contended
-            | CellRefusal::NumbersFull
-            | CellRefusal::Memory
-            | CellRefusal::BadLimit => Refusal::Contended,
+            CellRefusal::Contended => Refusal::Contended,
+            CellRefusal::NumbersFull | CellRefusal::Memory | CellRefusal::BadLimit =>
+                unreachable!(),
         }
     }
 }
 
-/// Why a value is not kept. Own rule.
+/// Why a value is not kept, by `keep` or by a `compute` whose factory gave it. Own rule.
 #[derive(Clone, Copy, Debug, PartialEq, Eq, Error)]
 pub enum KeepFault {
     /// There is no memory for the value.
@@ -63,16 +66,17 @@ pub enum KeepFault {
 impl KeepFault {
     // What a refusal to draw a number says.
     pub(crate) fn of(why: CellRefusal) -> KeepFault
+        requires { IsOfCount why }
         ensures { result ≡ keep_fault why }
     {
         match why {
             CellRefusal::NumbersFull => KeepFault::NumbersFull,
-            CellRefusal::Contended
-            | CellRefusal::Busy
+            CellRefusal::Contended => KeepFault::Contended,
+            CellRefusal::Busy
             | CellRefusal::Closed
             | CellRefusal::Exhausted
             | CellRefusal::Memory
-            | CellRefusal::BadLimit => KeepFault::Contended,
+            | CellRefusal::BadLimit => unreachable!(),
         }
     }
 }

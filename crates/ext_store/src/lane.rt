@@ -1,5 +1,7 @@
 //! A lane of a store, which a thread owns.
-ghost use Rattle.std.specs.Prelude.{◌≡◌};
+ghost use Rattle.std.specs.Prelude.{◌≡◌, []};
+ghost use Rattle.ext_model.specs.History.{IsLegal};
+ghost use Rattle.ext_model.specs.Views.{Follow, seen_by};
 
 use ext_cells::CellLane;
 use ext_model::LaneNo;
@@ -30,5 +32,15 @@ impl<V> Lane<V> {
         ensures { result ≡ self.now.cells.view.number }
     {
         self.cells.number()
+    }
+
+    /// Tells a proof what is true of every lane in hand: what it has seen is a legal history, and each of its fronts
+    /// goes on from the one before it. So where lanes met one after the other, all their fronts are parts of one legal
+    /// history, as `frame_laws` says. It does nothing when it runs. Own rule.
+    pub fn look_back(&self)
+        ensures legal { IsLegal self.now.cells.cells.limits (seen_by self.now.cells.view) }
+        ensures follow { Follow [] self.now.cells.view.fronts }
+    {
+        self.cells.look_back();
     }
 }

@@ -3,10 +3,10 @@
 //! `Store` is shared by reference, and each thread owns a `Lane`: all calls of all lanes together are one
 //! history, as the definitions of `ext_model` say it, and each answer but `Contended` is that of one thread at
 //! a point of the call. A value is kept first, which gives it a number, and the number is then stored under a
-//! key in a context; or it is computed where none is found. `specs/Stores`, `specs/Calls` and `specs/Computing`
+//! key in a context; or it is computed where none is found. `specs/Stores`, `specs/Calls`, `specs/Computing` and `specs/Frames`
 //! have the words of the contracts.
 //!
-//! Each call that steps on the cells takes the runtime and may wait, until each cell is a word of its own.
+//! Each cell is a word of its own, and no call waits for another lane: look-ups do not stop one another.
 #![tactic(auto)]
 
 mod closer;
@@ -15,12 +15,11 @@ mod computed;
 mod fault;
 mod kept;
 mod lane;
+mod laws;
 mod limits;
 mod opening;
 mod sealing;
 mod store;
-#[cfg(test)]
-mod tests;
 mod value;
 mod walk;
 
@@ -29,6 +28,7 @@ pub use computed::Compute;
 pub use fault::{KeepFault, Refusal};
 pub use kept::Kept;
 pub use lane::Lane;
+pub use laws::frame_laws;
 pub use limits::{Limits, StoreFault};
 pub use store::Store;
 pub use value::StoreValue;

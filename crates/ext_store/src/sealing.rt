@@ -1,22 +1,22 @@
 //! What the store gives to those who close a context.
-ghost use Rattle.std.specs.Prelude.{◌≡◌, ◌<◌, length, is_some};
+ghost use Rattle.std.specs.Prelude.{◌≡◌, ◌<◌, [], length, is_some};
 ghost use Rattle.ext_values.specs.Known.{known_at};
 ghost use Rattle.ext_store.specs.Stores.{IsCloserOf, IsLaneOf, StillKeeps};
+ghost use Rattle.ext_store.specs.Frames.{Frame};
 ghost use Rattle.ext_store.specs.Sealing.{SealsKey};
 
 use crate::{Closer, Lane, Refusal, Store};
 use ext_model::KeyNo;
-use std::sync::Wait;
 
 impl<V> Store<V> {
     /// Seals the key in the closer's context for good, and answers the number that stood there, which the seal keeps.
-    /// A key that is sealed already answers what its seal kept, and nothing happens. Takes no memory, and may wait.
+    /// A key that is sealed already answers what its seal kept, and nothing happens. Takes no memory.
     ///
     /// Refused as `Busy` with the context where a lane computes a value for it under this key, and else as
     /// `Contended`. Own rule.
-    pub fn seal<R: Wait>(
+    #[tactic(auto, unfolding(crate::specs::Frames::Frame))]
+    pub fn seal(
         &self,
-        rt: &R,
         lane: &mut Lane<V>,
         closer: &Closer,
         key: KeyNo,
@@ -28,9 +28,10 @@ impl<V> Store<V> {
         ensures known { lane.new.known ≡ lane.old.known }
         ensures lane { IsLaneOf self.now.id lane.new }
         ensures kept { StillKeeps lane.old lane.new }
+        ensures frame { Frame self.now.id [] lane.old lane.new }
     {
         let cell = self.cell(closer.context, key);
-        match self.cells.seal(rt, &mut lane.cells, cell) {
+        match self.cells.seal(&mut lane.cells, cell) {
             Ok(kept) => Ok(kept),
             Err(why) => Err(Refusal::at(closer.context, why)),
         }

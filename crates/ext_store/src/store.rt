@@ -9,6 +9,7 @@ ghost use Rattle.ext_cells.specs.Lanes.{AreLimits, fresh_lanes};
 ghost use Rattle.ext_store.specs.declared.limits.StoreFault.TheVariants as store_fault;
 ghost use Rattle.ext_store.specs.declared.fault.Refusal.TheVariants as refusal;
 ghost use Rattle.ext_store.specs.Stores.{AreStoreLimits, IsCloserOf, IsKeptBy, IsLaneOf, StillKeeps, StillKeepsBut, cell_in, closers_below, fresh_store_lane};
+ghost use Rattle.ext_store.specs.Frames.{Frame, stored_by};
 ghost use Rattle.ext_store.specs.Calls.{Gets, KeepsAs, KeepsNothing, Puts, Removes};
 ghost use Rattle.ext_store.specs.Looking.{IsTrail, Looks};
 
@@ -21,7 +22,6 @@ use ext_tree::{Directory, Key, Tree};
 use ext_values::Values;
 use std::alloc::Global;
 use std::marker::Model;
-use std::sync::Wait;
 
 /// Values under keys in the contexts of a test run, shared by reference between the threads that own its lanes.
 ///
@@ -65,6 +65,14 @@ impl<V> Store<V> {
         &self.directory
     }
 
+    /// How many exchanges a call makes at most, from 1 to 64, before it answers `Contended`. Takes no memory. Own rule.
+    pub fn tries(&self) -> u32
+        ensures tries { result ≡ self.now.tries }
+        ensures within { (1 ≤ self.now.tries) × (self.now.tries ≤ 64) }
+    {
+        self.cells.tries()
+    }
+
     // What the calls rest on.
     fn look_back(&self)
         ensures cells { self.now.id.cells.limits.cells ≡ length self.now.tree * length self.now.keys }
@@ -99,9 +107,8 @@ impl<V> Store<V> {
     }
 
     // The look-up of the key along the path.
-    pub(crate) fn look_along<R: Wait>(
+    pub(crate) fn look_along(
         &self,
-        rt: &R,
         lane: &mut CellLane,
         path: &[ContextNo],
         key: KeyNo,
@@ -114,7 +121,7 @@ impl<V> Store<V> {
     {
         self.look_back();
         let cells = self.cells_on(path, key);
-        match self.cells.collect(rt, lane, &cells[..path.len()]) {
+        match self.cells.collect(lane, &cells[..path.len()]) {
             Ok(words) => Ok(walk(path, &words)),
             Err(_) => Err(Refusal::Contended),
         }
@@ -122,9 +129,8 @@ impl<V> Store<V> {
 
     // Stores the kept number under the key in the context.
     #[tactic(auto, unfolding(crate::specs::Calls::Puts))]
-    fn put_at<R: Wait>(
+    fn put_at(
         &self,
-        rt: &R,
         lane: &mut CellLane,
         context: ContextNo,
         key: KeyNo,
@@ -139,7 +145,7 @@ impl<V> Store<V> {
         ensures handed_back { IfErr result (λ e. e.0 ≡ kept) }
     {
         let cell = self.cell(context, key);
-        match self.cells.put(rt, lane, cell, kept.number) {
+        match self.cells.put(lane, cell, kept.number) {
             Ok(stood) => Ok(stood),
             Err(why) => Err((kept, Refusal::at(context, why))),
         }
@@ -147,9 +153,8 @@ impl<V> Store<V> {
 
     // Takes out what stands under the key in the context.
     #[tactic(auto, unfolding(crate::specs::Calls::Removes))]
-    fn remove_at<R: Wait>(
+    fn remove_at(
         &self,
-        rt: &R,
         lane: &mut CellLane,
         context: ContextNo,
         key: KeyNo,
@@ -161,7 +166,7 @@ impl<V> Store<V> {
         ensures answer { Removes self.now context key lane.old lane.new result }
     {
         let cell = self.cell(context, key);
-        match self.cells.remove(rt, lane, cell) {
+        match self.cells.remove(lane, cell) {
             Ok(stood) => Ok(stood),
             Err(why) => Err(Refusal::at(context, why)),
         }
@@ -171,13 +176,13 @@ impl<V> Store<V> {
 impl<V: StoreValue + Drop> Store<V> {
     /// Opens a store in which nothing stands, with its lanes, which are numbered from 0 in the order of the list, and
     /// with one closer for each context, in order. Takes all memory that the store needs but for the values
-    /// themselves, and may wait. Own rule.
+    /// themselves. Nobody but these lanes makes an
+    /// event: where none of them has made one, the history is empty (`no_lane` of `history_laws` in ext_model). Own rule.
     ///
     /// Refused, in this order, as `BadLimit` unless there are 1 to 16 lanes, 1 to 64 tries and 1 to 65,535 numbers, as
-    /// `TooManyCells` where the contexts times the keys are more than 31, and as `Memory`. A refused call drops the
+    /// `TooManyCells` where the contexts times the keys are more than 4,096, and as `Memory`. A refused call drops the
     /// tree and the directory.
-    pub fn open<R: Wait>(
-        rt: &R,
+    pub fn open(
         alloc: Global,
         tree: Tree,
         directory: Directory,
@@ -185,7 +190,7 @@ impl<V: StoreValue + Drop> Store<V> {
     ) -> Result<(Store<V>, Vec<Lane<V>>, Vec<Closer>), StoreFault>
         // The store is of these contexts, keys and limits.
         ensures tree { IfOk result (λ r. (r.0.tree ≡ tree) × (r.0.keys ≡ directory)) }
-        ensures limits { IfOk result (λ r. r.0.id.cells.limits ≡ record { cells = length tree * length directory; numbers = limits.numbers }) }
+        ensures limits { IfOk result (λ r. r.0.id.cells.limits ≡ record { cells = length tree * length directory; lanes = limits.lanes; numbers = limits.numbers }) }
         ensures places { IfOk result (λ r. length r.0.id.places ≡ limits.numbers) }
         ensures tries { IfOk result (λ r. r.0.tries ≡ limits.tries) }
 
@@ -208,7 +213,6 @@ impl<V: StoreValue + Drop> Store<V> {
             return Err(StoreFault::TooManyCells);
         }
         let Ok((cells, cell_lanes)) = Cells::open(
-            rt,
             alloc,
             count,
             limits.lanes,
@@ -237,31 +241,27 @@ impl<V: StoreValue + Drop> Store<V> {
     }
 
     /// Keeps a value: draws the next number for it, which the value has from then on. The first number is 1, each is
-    /// the last plus one, and the order of the numbers is the order of addition. Takes memory for the value, and may
-    /// wait.
+    /// the last plus one, and the order of the numbers is the order of addition. Takes memory for the value.
     ///
     /// Refused, in this order and with the value handed back, as `Memory`, as `NumbersFull` where all numbers were
     /// drawn, as `Contended`, and as `Unplaced`, where the number is lost. Own rule: JUnit numbers values as they are
     /// stored.
-    #[tactic(auto, unfolding(crate::specs::Calls::KeepFails))]
-    pub fn keep<R: Wait>(
-        &self,
-        rt: &R,
-        lane: &mut Lane<V>,
-        value: V,
-    ) -> Result<Kept, (V, KeepFault)>
+    #[tactic(auto, unfolding(crate::specs::Calls::KeepFails, crate::specs::Frames::Frame))]
+    pub fn keep(&self, lane: &mut Lane<V>, value: V) -> Result<Kept, (V, KeepFault)>
         requires lane { IsLaneOf self.now.id lane.old }
         ensures answer { MatchResult result (KeepsAs value lane.old lane.new) (λ e. KeepsNothing self.now value lane.old lane.new e.0 e.1) }
         ensures lane { IsLaneOf self.now.id lane.new }
+        ensures known { KeepsKnown lane.old.known lane.new.known }
         ensures kept { StillKeeps lane.old lane.new }
         ensures apart { IfOk result (λ number. (m : ℕ) → IsKeptBy lane.old m → m ≢ number) }
+        ensures frame { Frame self.now.id [] lane.old lane.new }
     {
         self.look_back();
         let boxed = match Box::new(self.alloc, value) {
             Ok(boxed) => boxed,
             Err(failed) => return Err((failed.value, KeepFault::Memory)),
         };
-        let number = match self.cells.next_number(rt, &mut lane.cells) {
+        let number = match self.cells.next_number(&mut lane.cells) {
             Ok(number) => number,
             Err(why) => return Err((Box::into_inner(boxed), KeepFault::of(why))),
         };
@@ -272,19 +272,14 @@ impl<V: StoreValue + Drop> Store<V> {
     }
 
     /// Looks for the key in the context and then in its ancestors, the nearest first, at one point of the call: the
-    /// first of them where anything stands under the key decides. Takes no memory, and may wait.
+    /// first of them where anything stands under the key decides. Takes no memory.
     ///
     /// Refused as `UnknownKey` where the key was not declared, which is no step of the lane, and else as `Contended`.
     /// That a context computes a value or is closed is an answer: `Look::Busy` or `Look::Closed`.
     ///
     /// Javadoc `ExtensionContext.Store`, `get`. It answers the context and the number, which `show` makes a value.
-    pub fn get<R: Wait>(
-        &self,
-        rt: &R,
-        lane: &mut Lane<V>,
-        context: ContextNo,
-        key: &Key,
-    ) -> Result<Look, Refusal>
+    #[tactic(auto, unfolding(crate::specs::Frames::Frame))]
+    pub fn get(&self, lane: &mut Lane<V>, context: ContextNo, key: &Key) -> Result<Look, Refusal>
         requires lane { IsLaneOf self.now.id lane.old }
         requires context { context < length self.now.tree }
         ensures unknown { ¬ Contains self.now.keys key.now → (result ≡ Err refusal.UnknownKey) × (lane.new ≡ lane.old) }
@@ -292,26 +287,27 @@ impl<V: StoreValue + Drop> Store<V> {
         ensures known { lane.new.known ≡ lane.old.known }
         ensures lane { IsLaneOf self.now.id lane.new }
         ensures kept { StillKeeps lane.old lane.new }
+        ensures frame { Frame self.now.id [] lane.old lane.new }
     {
         let Some(key) = self.directory.number_of(key) else {
             return Err(Refusal::UnknownKey);
         };
         let path = self.tree.path(context);
-        self.look_along(rt, &mut lane.cells, path.as_slice(), key)
+        self.look_along(&mut lane.cells, path.as_slice(), key)
     }
 
     /// Stores the kept number under the key in the context itself, over one that stands there, and answers the number
     /// that stood. Contexts below find it unless something stands nearer to them. A replaced value is not closed.
-    /// Takes no memory, and may wait.
+    /// Takes no memory.
     ///
     /// Refused, in this order, as `UnknownKey`, as `Busy` where a lane computes a value for the context, as `Closed`,
     /// as `Exhausted` where there were more than 2^40 - 3 events there, and as `Contended`. The kept number is then
     /// handed back, and can still be put.
     ///
     /// Javadoc `ExtensionContext.Store`, `put`. JUnit 5 answers nothing; the answer and the refusals are own rules.
-    pub fn put<R: Wait>(
+    #[tactic(auto, unfolding(crate::specs::Frames::Frame))]
+    pub fn put(
         &self,
-        rt: &R,
         lane: &mut Lane<V>,
         context: ContextNo,
         key: &Key,
@@ -326,23 +322,24 @@ impl<V: StoreValue + Drop> Store<V> {
         ensures known { lane.new.known ≡ lane.old.known }
         ensures lane { IsLaneOf self.now.id lane.new }
         ensures kept { MatchResult result (λ _. StillKeepsBut kept lane.old lane.new) (λ _. StillKeeps lane.old lane.new) }
+        ensures frame { Frame self.now.id (stored_by kept result) lane.old lane.new }
     {
         let Some(key) = self.directory.number_of(key) else {
             return Err((kept, Refusal::UnknownKey));
         };
-        self.put_at(rt, &mut lane.cells, context, key, kept)
+        self.put_at(&mut lane.cells, context, key, kept)
     }
 
     /// Takes what stands under the key in the context itself, and in no other, and answers its number; where nothing
-    /// stands the answer is `None`, and nothing happens. The value is not closed. Takes no memory, and may wait.
+    /// stands the answer is `None`, and nothing happens. The value is not closed. Takes no memory.
     ///
     /// Refused, in this order, as `UnknownKey`, as `Busy` where a lane computes a value for the context, as `Closed`,
     /// as `Exhausted` where a number stands and there were more than 2^40 - 3 events there, and as `Contended`.
     ///
     /// Javadoc `ExtensionContext.Store`, `remove`, which answers the value; the refusals are own rules.
-    pub fn remove<R: Wait>(
+    #[tactic(auto, unfolding(crate::specs::Frames::Frame))]
+    pub fn remove(
         &self,
-        rt: &R,
         lane: &mut Lane<V>,
         context: ContextNo,
         key: &Key,
@@ -354,17 +351,19 @@ impl<V: StoreValue + Drop> Store<V> {
         ensures known { lane.new.known ≡ lane.old.known }
         ensures lane { IsLaneOf self.now.id lane.new }
         ensures kept { StillKeeps lane.old lane.new }
+        ensures frame { Frame self.now.id [] lane.old lane.new }
     {
         let Some(key) = self.directory.number_of(key) else {
             return Err(Refusal::UnknownKey);
         };
-        self.remove_at(rt, &mut lane.cells, context, key)
+        self.remove_at(&mut lane.cells, context, key)
     }
 
     /// The value that the number has, which this lane knows from now on: always where the lane kept it or was shown
     /// it, and else where this thread finds it; never the value of another number. Takes no memory and never waits.
     ///
     /// `None`, with nothing changed, for a number that has no place, and where the thread finds no value. Own rule.
+    #[tactic(auto, unfolding(crate::specs::Frames::Frame))]
     pub fn show<'a>(&'a self, lane: &mut Lane<V>, number: u32) -> Option<&'a V>
         requires lane { IsLaneOf self.now.id lane.old }
         ensures found { IfSome result (λ value. Learns lane.old.known lane.new.known number value.now) }
@@ -373,13 +372,15 @@ impl<V: StoreValue + Drop> Store<V> {
         ensures steps { lane.new.cells ≡ lane.old.cells }
         ensures lane { IsLaneOf self.now.id lane.new }
         ensures kept { StillKeeps lane.old lane.new }
+        ensures frame { Frame self.now.id [] lane.old lane.new }
     {
         lane.notes.look(&self.values, number)
     }
 
     /// Afterwards what the first lane has seen is a prefix of what the second has seen: so both speak of one history.
-    /// A number that both know has one value in both. Neither makes an event. Takes no memory, and may wait. Own rule.
-    pub fn meet<R: Wait>(&self, rt: &R, first: &mut Lane<V>, second: &mut Lane<V>)
+    /// A number that both know has one value in both. Neither makes an event. Takes no memory. Own rule.
+    #[tactic(auto, unfolding(crate::specs::Frames::Frame))]
+    pub fn meet(&self, first: &mut Lane<V>, second: &mut Lane<V>)
         requires first { IsLaneOf self.now.id first.old }
         requires second { IsLaneOf self.now.id second.old }
         ensures first_call { Calls first.old.cells.cells.limits first.old.cells.view first.new.cells.view [] }
@@ -391,8 +392,10 @@ impl<V: StoreValue + Drop> Store<V> {
         ensures second_lane { IsLaneOf self.now.id second.new }
         ensures first_kept { StillKeeps first.old first.new }
         ensures second_kept { StillKeeps second.old second.new }
+        ensures first_frame { Frame self.now.id [] first.old first.new }
+        ensures second_frame { Frame self.now.id [] second.old second.new }
     {
-        self.cells.meet(rt, &mut first.cells, &mut second.cells);
+        self.cells.meet(&mut first.cells, &mut second.cells);
         first.notes.meet(&mut second.notes);
     }
 }

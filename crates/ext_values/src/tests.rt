@@ -222,25 +222,10 @@ fn capacities_from_1_to_65535(rt: HostRuntime) -> Result<(), Fail> {
     Ok(())
 }
 
-/// Passes also where the first or the second allocation is refused (`rt try --test --fail-alloc 1`, then `2`): each
-/// maker tells that memory is wanting, and makes what it should once there is some.
 #[test]
-fn refused_makers_can_be_called_again(rt: HostRuntime) -> Result<(), Fail> {
-    let alloc = rt.alloc();
-    let values = match Values::<u8>::new(alloc, 2) {
-        Ok(values) => values,
-        Err(fault) => {
-            assert_eq!(rt; fault, ValuesFault::Memory);
-            Values::new(alloc, 2)?
-        }
-    };
-    let mut notes = match Notes::new(alloc, &values) {
-        Ok(notes) => notes,
-        Err(fault) => {
-            assert_eq!(rt; fault, ValuesFault::Memory);
-            Notes::new(alloc, &values)?
-        }
-    };
+fn notes_begin_knowing_nothing(rt: HostRuntime) -> Result<(), Fail> {
+    let values = Values::<u8>::new(rt.alloc(), 2)?;
+    let mut notes = Notes::new(rt.alloc(), &values)?;
     assert_eq!(rt; values.capacity(), 2);
     assert!(rt; !notes.knows(1) && !notes.knows(2));
     assert!(rt; notes.look(&values, 1).is_none() && notes.look(&values, 2).is_none());

@@ -1,23 +1,45 @@
--- The exit status of the program. It is 0 where no node failed and 1 where one did, each once the report of
--- the plain run is written; 2 where the plan is refused, and 3 where the work itself failed. Own rule.
-use Rattle.std.specs.Prelude.{◌≡◌, ℕ, Bool, List, Option, Result, Ok}
-use Rattle.std.specs.Io.KnownBytes.{Appends}
+-- The exit status of the program. It is 0 where the request was done and no node failed, 1 where one did; 2 where the command line, the plan or the id is
+-- refused, and 3 where the work itself failed. Own rule.
+use Rattle.std.specs.Prelude.{◌≡◌, ◌≢◌, ℕ, List, Result, Ok, Err, if◌then◌else◌}
+use Rattle.ext_ids.specs.declared.fault.IdFault.{IdFault}
+use Rattle.ext_ids.specs.declared.fault.IdFault.TheVariants as ids
+use Rattle.ext_ids.specs.Faults.{HasFault}
 use Rattle.ext_run.specs.declared.fault.RunFault.{RunFault}
-use Rattle.ext_run.specs.declared.fault.RunFault.TheVariants as faults
-use Rattle.ext_run.specs.Answers.{Answer, RefusedAs}
+use Rattle.ext_run.specs.declared.fault.RunFault.TheVariants as runs
+use Rattle.ext_run.specs.declared.runs.Summary.{Summary}
+use Rattle.extrun.specs.declared.status.Fault.{Fault}
+use Rattle.extrun.specs.declared.status.Fault.TheVariants as faults
 
 -- of a run that gave no report
-abbrev pub status_of_fault : RunFault → ℕ
-status_of_fault faults.Read = 3
-status_of_fault faults.Write = 3
-status_of_fault faults.TooLong = 2
-status_of_fault (faults.Plan fault) = 2
-status_of_fault faults.Memory = 3
+abbrev pub status_of_run_fault : RunFault → ℕ
+status_of_run_fault runs.Read = 3
+status_of_run_fault runs.Write = 3
+status_of_run_fault runs.TooLong = 2
+status_of_run_fault (runs.Plan fault) = 2
+status_of_run_fault runs.Memory = 3
 
--- the answer is a report, which was written behind what stood, and whether a node failed
-abbrev pub IsWritten : Bool → Result Answer RunFault → Option (List ℕ) → Option (List ℕ) → Type 0
-IsWritten failed answer old new = (report : List ℕ) × (answer ≡ Ok (record { report = report; failed = failed })) × Appends old new report
+-- of a request that was not done
+abbrev pub status_of_fault : Fault → ℕ
+status_of_fault faults.CommandLine = 2
+status_of_fault (faults.Id fault) = 2
+status_of_fault (faults.Run fault) = status_of_run_fault fault
 
--- the answer goes with a fault of the plan
-abbrev pub IsRefusal : Result Answer RunFault → Type 0
-IsRefusal answer = (fault : RunFault) × (status_of_fault fault ≡ 2) × RefusedAs fault answer
+-- of a request
+abbrev pub status_of : Result Summary Fault → ℕ
+status_of (Ok summary) = if summary.failed then 1 else 0
+status_of (Err fault) = status_of_fault fault
+
+-- ---- the request to read an id
+
+-- why a text is refused: for the fault that it has; want of memory and a writer that failed tell nothing of it
+abbrev pub IsNoId : List ℕ → Fault → Type 0
+IsNoId text faults.CommandLine = ⊥
+IsNoId text (faults.Id fault) = fault ≢ ids.Memory → HasFault text fault
+IsNoId text (faults.Run fault) = fault ≡ runs.Write
+
+-- how it ends for a text that is an id: it is done, or memory was refused, or the writer failed
+abbrev pub IsIdEnd : Result Summary Fault → Type 0
+IsIdEnd (Ok summary) = Unit {0}
+IsIdEnd (Err faults.CommandLine) = ⊥
+IsIdEnd (Err (faults.Id fault)) = fault ≡ ids.Memory
+IsIdEnd (Err (faults.Run fault)) = fault ≡ runs.Write

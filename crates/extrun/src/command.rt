@@ -9,9 +9,6 @@ use std::rt::Env;
 /// How many lanes run a plan where the command line doesn't say.
 const LANES: u8 = 4;
 
-/// The exit status of a command line that is refused.
-const REFUSED: u8 = 2;
-
 /// What a command line asks for.
 #[derive(Debug, Drop)]
 pub(crate) enum Request {
@@ -19,8 +16,10 @@ pub(crate) enum Request {
     Run(Options),
     /// To read this id.
     Id(String),
-    /// Nothing more, with this exit status: 0 after the help, 2 where the command line is refused.
-    Exit(u8),
+    /// Nothing more: the help was printed.
+    Help,
+    /// Nothing more: the command line is refused, and what is wrong with it was printed.
+    Refused,
     /// Nothing more: memory was wanted and refused.
     Memory,
 }
@@ -69,7 +68,7 @@ fn run_on(lanes: u8) -> Request {
 /// Tells that a word of the command line is not UTF-8: clap takes texts alone.
 fn no_text(rt: &impl Eprint) -> Request {
     let _ = eprintln!(rt; "error: a word of the command line is not UTF-8");
-    Request::Exit(REFUSED)
+    Request::Refused
 }
 
 /// Prints the help, or what is wrong with the command line. Where that fails too, nothing is left to do
@@ -77,8 +76,8 @@ fn no_text(rt: &impl Eprint) -> Request {
 fn refused<R: Print + Eprint>(rt: &R, fault: &Error) -> Request {
     let _ = fault.print(rt);
     match fault.exit_code() {
-        0 => Request::Exit(0),
-        _ => Request::Exit(REFUSED),
+        0 => Request::Help,
+        _ => Request::Refused,
     }
 }
 

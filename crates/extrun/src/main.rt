@@ -9,22 +9,30 @@ mod command;
 mod status;
 
 use command::{Request, request_of};
-use ext_run::RunFault;
-use status::{id_status, run_status, told};
+use ext_run::{RunFault, Summary, run};
+use status::{Fault, read_id, status_of, tell};
 use std::io;
 use std::process::ExitCode;
 
 fn main(rt: HostRuntime) -> ExitCode {
     // An error out of `main` would be the status 1, which says that a node failed.
-    ExitCode::from(exit_status(rt))
+    let outcome = outcome_of(&rt);
+    if let Err(fault) = outcome {
+        tell(&rt, fault);
+    }
+    ExitCode::from(status_of(&outcome))
 }
 
-/// Does what the command line asks, and gives the exit status.
-fn exit_status(rt: HostRuntime) -> u8 {
-    match request_of(&rt) {
-        Request::Run(options) => run_status(&rt, &mut rt.reader(), &mut io::writer(&rt), options),
-        Request::Id(text) => id_status(&rt, &mut io::writer(&rt), text.as_str()),
-        Request::Exit(status) => status,
-        Request::Memory => told(&rt, RunFault::Memory),
+/// Does what the command line asks.
+fn outcome_of(rt: &HostRuntime) -> Result<Summary, Fault> {
+    let mut writer = io::writer(rt);
+    match request_of(rt) {
+        Request::Run(options) => {
+            run(rt.alloc(), &mut rt.reader(), &mut writer, options).map_err(Fault::Run)
+        }
+        Request::Id(text) => read_id(rt, &mut writer, text.as_str()),
+        Request::Help => Ok(Summary { failed: false }),
+        Request::Refused => Err(Fault::CommandLine),
+        Request::Memory => Err(Fault::Run(RunFault::Memory)),
     }
 }

@@ -1,73 +1,52 @@
-//! Exit statuses.
-ghost use Rattle.std.specs.Prelude.{◌≡◌, ◌≢◌, ◌≤◌, ◌⊎◌, List, IfSome, true, false};
+//! What became of a request, and its exit status.
+ghost use Rattle.std.specs.Prelude.{◌≡◌, ◌≢◌, false, List, IfOk, IfErr, IsErrOf, OnOk};
 ghost use Rattle.std.specs.Io.KnownBytes.{Appends};
 ghost use Rattle.ext_ids.specs.declared.fault.IdFault.{IdFault};
 ghost use Rattle.ext_ids.specs.Grammar.{Pair, IsIdText};
 ghost use Rattle.ext_ids.specs.Faults.{HasFault};
-ghost use Rattle.ext_run.specs.Answers.{answer_to};
 ghost use Rattle.ext_run.specs.IdText.{id_lines};
-ghost use Rattle.extrun.specs.Status.{status_of_fault, IsWritten, IsRefusal};
+ghost use Rattle.extrun.specs.Status.{status_of, status_of_fault, status_of_run_fault, IsNoId, IsIdEnd};
 
-use ext_run::{Options, RunFault, Summary, id_text, run};
-use std::io::{Read, Write};
+use ext_run::{IdFault, RunFault, Summary, id_text};
+use std::io::Write;
 
-/// Runs the plan that the reader has, writes its report, and gives the exit status. Takes memory, and waits
-/// where the reader and the writer do. Own rule.
-pub(crate) fn run_status<P: AllocGlobal + Eprint, R: Read, W: Write>(
-    rt: &P,
-    reader: &mut R,
-    writer: &mut W,
-    options: Options,
-) -> u8
-    ensures passed { result ≡ 0 → IfSome (R.remaining reader.old)
-        (λ input. IsWritten false (answer_to input) (W.contents writer.old) (W.contents writer.new)) }
-    ensures failed { result ≡ 1 → IfSome (R.remaining reader.old)
-        (λ input. IsWritten true (answer_to input) (W.contents writer.old) (W.contents writer.new)) }
-    ensures refused { result ≡ 2 → IfSome (R.remaining reader.old) (λ input. IsRefusal (answer_to input)) }
-    ensures unwritten { result ≡ 2 → writer.new ≡ writer.old }
-    ensures known { result ≤ 3 }
+/// Why a request was not done. Own rule.
+#[derive(Clone, Copy, Debug, PartialEq, Eq)]
+pub(crate) enum Fault {
+    /// The command line is refused. What is wrong with it has been printed.
+    CommandLine,
+    /// The text of an id is refused.
+    Id(IdFault),
+    /// A run gave no report, or a write failed, or memory was wanted and refused.
+    Run(RunFault),
+}
+
+/// The exit status: 0 where the request was done and no node failed, 1 where one did, 2 where the command line, the plan
+/// or the id is refused, and 3 where reading, writing or memory failed. Own rule.
+pub(crate) fn status_of(outcome: &Result<Summary, Fault>) -> u8
+    ensures { result ≡ status_of outcome.now }
 {
-    match run(rt.alloc(), reader, writer, options) {
+    match outcome {
         Ok(Summary { failed: false }) => 0,
         Ok(Summary { failed: true }) => 1,
-        Err(fault) => told(rt, fault),
+        Err(fault) => status_of_fault(*fault),
     }
 }
 
-/// Prints the segments of the id that a text spells, and the id written again, and gives the exit status: 0, 2 where
-/// the id is refused, with its fault on standard error, or 3 where the writer failed. Takes memory. Own rule.
-pub(crate) fn id_status<P: AllocGlobal + Eprint, W: Write>(rt: &P, writer: &mut W, text: &str) -> u8
-    ensures accepted { result ≡ 0 → (pairs : List Pair)
-        × IsIdText text.now pairs × Appends (W.contents writer.old) (W.contents writer.new) (id_lines pairs) }
-    ensures refused { (e : IdFault) → HasFault text.now e → result ≡ 2 }
-    ensures unwritten { result ≡ 2 → writer.new ≡ writer.old }
-    ensures known { (result ≡ 0) ⊎ ((result ≡ 2) ⊎ (result ≡ 3)) }
-{
-    let lines = match id_text(rt.alloc(), text) {
-        Ok(lines) => lines,
-        Err(fault) => {
-            let _ = eprintln!(rt; "{fault}");
-            return 2;
-        }
-    };
-    if writer.write_all(lines.as_bytes()).is_err() || writer.flush().is_err() {
-        return told(rt, RunFault::Write);
-    }
-    0
-}
-
-/// Prints a fault, and gives its exit status. Where standard error fails too, nothing is left to do about
-/// it.
-pub(crate) fn told(rt: &impl Eprint, fault: RunFault) -> u8
+/// The exit status of a request that was not done.
+fn status_of_fault(fault: Fault) -> u8
     ensures { result ≡ status_of_fault fault }
 {
-    let _ = eprintln!(rt; "{fault}");
-    status_of_fault(fault)
+    match fault {
+        Fault::CommandLine => 2,
+        Fault::Id(_) => 2,
+        Fault::Run(fault) => status_of_run_fault(fault),
+    }
 }
 
 /// The exit status of a run that gave no report.
-fn status_of_fault(fault: RunFault) -> u8
-    ensures { result ≡ status_of_fault fault }
+fn status_of_run_fault(fault: RunFault) -> u8
+    ensures { result ≡ status_of_run_fault fault }
 {
     match fault {
         RunFault::Read => 3,
@@ -76,4 +55,41 @@ fn status_of_fault(fault: RunFault) -> u8
         RunFault::Plan(_) => 2,
         RunFault::Memory => 3,
     }
+}
+
+/// Writes the segments of the id that a text spells, and the id again. Takes memory, and waits where the writer does.
+///
+/// Refused as `Id` where the text is none, for its first fault, or memory was refused, with nothing written, and as
+/// `Run` with `Write` where the writer failed. Own rule.
+pub(crate) fn read_id<P: AllocGlobal, W: Write>(
+    rt: &P,
+    writer: &mut W,
+    text: &str,
+) -> Result<Summary, Fault>
+    ensures done { IfOk result (λ summary. summary.failed ≡ false) }
+    ensures written { OnOk result ((pairs : List Pair)
+        × IsIdText text.now pairs × Appends (W.contents writer.old) (W.contents writer.new) (id_lines pairs)) }
+    ensures only { (pairs : List Pair) → IsIdText text.now pairs → IsIdEnd result }
+    ensures fault { IfErr result (λ fault. IsNoId text.now fault) }
+    ensures first { (e : IdFault) → HasFault text.now e → IsErrOf result (Fault.Id e) }
+    ensures unwritten { IfErr result (λ fault. fault ≢ Fault.Run RunFault.Write → writer.new ≡ writer.old) }
+{
+    let lines = match id_text(rt.alloc(), text) {
+        Ok(lines) => lines,
+        Err(fault) => return Err(Fault::Id(fault)),
+    };
+    if writer.write_all(lines.as_bytes()).is_err() || writer.flush().is_err() {
+        return Err(Fault::Run(RunFault::Write));
+    }
+    Ok(Summary { failed: false })
+}
+
+/// Prints why a request was not done, in one line on standard error. Where that fails too, nothing is left to do about
+/// it.
+pub(crate) fn tell(rt: &impl Eprint, fault: Fault) {
+    let _ = match fault {
+        Fault::CommandLine => Ok(()),
+        Fault::Id(fault) => eprintln!(rt; "{fault}"),
+        Fault::Run(fault) => eprintln!(rt; "{fault}"),
+    };
 }

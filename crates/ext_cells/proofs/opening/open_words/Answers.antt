@@ -1,7 +1,6 @@
-use Rattle.std.proofs.Common.{rules, ap}
-use Rattle.ext_cells.specs.declared.rule.View.{View}
-use Rattle.ext_cells.proofs.Passes.{begins}
+use Rattle.std.proofs.Common.{◌∙◌}
+use Rattle.ext_cells.proofs.Seats.{opens}
 use Rattle.ext_cells.proofs.opening.open_words.Goals as goal
 
-pub swap_as-requires-2 : goal.swap_as-requires-2
-swap_as-requires-2 g c = (search rules, (search rules, (search rules, begins _ _ (ap (λ (x : View). x.phase) c.swap_as.ensures.rule))))
+pub of_words-requires : goal.of_words-requires
+of_words-requires c = opens _ _ c.requires.lanes (c.as_slice.ensures.value ∙ c.in_ok-words.ensures)

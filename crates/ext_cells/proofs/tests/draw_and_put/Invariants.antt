@@ -2,4 +2,4 @@ use Rattle.std.proofs.Common.{◌≡◌}
 use Rattle.ext_cells.proofs.tests.draw_and_put.Given as goal
 
 abbrev pub invariant-loop-i : goal.invariant-loop-i
-invariant-loop-i g l = l.lane.cells ≡ l.cells.id
+invariant-loop-i l = l.lane.cells ≡ l.cells.id

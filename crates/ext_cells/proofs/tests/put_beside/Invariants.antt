@@ -2,4 +2,4 @@ use Rattle.std.proofs.Common.{◌≡◌, ◌≤◌}
 use Rattle.ext_cells.proofs.tests.put_beside.Given as goal
 
 abbrev pub invariant-loop : goal.invariant-loop
-invariant-loop g l = (l.lane.cells ≡ l.cells.id) × (l.done ≤ l.counter)
+invariant-loop l = (l.lane.cells ≡ l.cells.id) × (l.done ≤ l.counter)

@@ -15,10 +15,10 @@ loop-key-preserved g c =
     let next = c.in-Ok.ensures in
     let inv = c.loop-key.invariant in
     record {
-      so_far = subst (λ numbers. SealedSoFar c.args.store.now c.args.closer.now.context (c.loop-key.key + 1) c.args.lane.now.cells c.seal_key.new.lane.cells numbers) (sym c.keep.ensures.numbers)
+      so_far = subst (λ numbers. SealedSoFar c.args.store.now c.args.closer.now.context (c.loop-key.key + 1) c.args.lane.now.cells c.seal_key.new.lane.cells numbers) (sym c.put_in_kept.ensures.numbers)
           (one_more_sealed c.args.store.now c.args.closer.now.context c.args.lane.now.cells c.loop-key.lane.cells c.seal_key.new.lane.cells (next.lane.cells ∙ sym inv.lane.cells)
           c.loop-key.numbers c.loop-key.key inv.so_far c.in-Ok.kept next.answer);
-      few = omega (arith, inv.few, c.keep.ensures.few);
+      few = omega (arith, inv.few, c.put_in_kept.ensures.few);
       known = next.known ∙ inv.known;
       lane = next.lane;
       kept = (λ number keeps. next.kept number (inv.kept number keeps));

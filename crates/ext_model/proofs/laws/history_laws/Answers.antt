@@ -4,6 +4,7 @@ use Rattle.ext_model.proofs.Allowed.{allowed_by_cases}
 use Rattle.ext_model.proofs.Versions.{none_on, quiet_from_none}
 use Rattle.ext_model.proofs.Standing.{is_sealed, remove_between_fills, none_after_seal}
 use Rattle.ext_model.proofs.Claims.{claim_stands, used_within}
+use Rattle.ext_model.proofs.ByLanes.{by_lanes, no_lane_no_event}
 use Rattle.ext_model.proofs.Stored.{stored_once, drew_own}
 use Rattle.ext_model.proofs.Owned.{drawn_once, own_may_store}
 use Rattle.ext_model.proofs.laws.history_laws.Goals as goal
@@ -16,6 +17,8 @@ returns c = record {
   induction = λ limits test first next h legal. legal_induct limits (λ g. test g ≡ true) first next h legal;
   by_cases = allowed_by_cases;
   quiet = λ cell events. (none_on events cell, quiet_from_none events cell);
+  by_lanes = by_lanes;
+  no_lane = no_lane_no_event;
   fills = λ limits before between later lane cell number lane' number' legal. remove_between_fills before between later lane cell number lane' number' legal;
   seals = λ limits h rest cell kept legal sealed. none_after_seal h rest cell legal (ap is_sealed sealed);
   claims = λ limits h rest lane cell legal is quiet. claim_stands h rest lane cell legal is quiet;

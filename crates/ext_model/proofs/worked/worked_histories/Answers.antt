@@ -1,5 +1,5 @@
 use Rattle.std.proofs.Common.{refl}
-use Rattle.ext_model.proofs.WorkedRows.{answered_now, not_from_memory, either_point, overtaken_by_one, not_overtaken_by_two, not_overtaken_by_lagging, six_are_legal, remove_answered, put_answered, no_answer_without_step, second_look_finds, root_is_legal, not_with_anothers_number, not_twice, not_without_claim}
+use Rattle.ext_model.proofs.WorkedRows.{answered_now, not_from_memory, either_point, overtaken_by_one, not_overtaken_by_two, not_overtaken_by_lagging, not_crowded_by_itself, six_are_legal, remove_answered, put_answered, no_answer_without_step, second_look_finds, root_is_legal, not_by_another_lane, not_with_anothers_number, not_twice, not_without_claim}
 use Rattle.ext_model.proofs.worked.worked_histories.Goals as goal
 
 pub returns : goal.returns
@@ -38,8 +38,10 @@ returns c = record {
   overtaken_by_one = overtaken_by_one;
   not_overtaken_by_two = not_overtaken_by_two;
   not_overtaken_by_lagging = not_overtaken_by_lagging;
+  not_crowded_by_itself = not_crowded_by_itself;
   six_are_legal = six_are_legal;
   root_is_legal = root_is_legal;
+  not_by_another_lane = not_by_another_lane;
   not_with_anothers_number = not_with_anothers_number;
   not_twice = not_twice;
   not_without_claim = not_without_claim;

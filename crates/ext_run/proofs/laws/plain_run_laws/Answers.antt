@@ -1,5 +1,6 @@
 use Rattle.std.proofs.Common.{refl}
 use Rattle.ext_run.proofs.Sound.{result_of_each_node, tests_of_plan}
+use Rattle.ext_run.proofs.Reached.{each_node_runs}
 use Rattle.ext_run.proofs.Seals.{node-free, node-sealed}
 use Rattle.ext_run.proofs.Values.{node-values, put_is_found}
 use Rattle.ext_run.proofs.laws.plain_run_laws.Goals as goal
@@ -8,6 +9,7 @@ pub returns : goal.returns
 returns c = record {
   results = result_of_each_node;
   tests = tests_of_plan;
+  each_node = each_node_runs;
   opening = (λ place claimed. claimed, refl);
   unclaimed = node-free;
   sealed = node-sealed;

@@ -1,47 +1,37 @@
-use Rattle.std.proofs.Common.{rules, ap, sym, ◌∙◌}
-use lib.Pointwise.{bytes_decides}
-use Rattle.crossbeam_utils.specs.Seq.{cell_view}
-use Rattle.ext_cells.specs.Rule.{limits_of}
-use Rattle.ext_cells.proofs.Acts.{IsSmall}
+use Rattle.std.proofs.Common.{◌≡◌, ◌≤◌, sym, ap, ◌∙◌, subst, arith}
+use Rattle.ext_cells.specs.Rule.{place_in}
 use Rattle.ext_cells.proofs.Steps.{exchanges}
-use Rattle.ext_cells.proofs.Lanes.{may_exchange, exchanged_stays, made_lane, missed_lane, small_limits}
+use Rattle.ext_cells.proofs.Lanes.{may_exchange, exchanged_stays, made_lane, missed_lane}
 use Rattle.ext_cells.proofs.cells.Cells.exchange.Goals as goal
-use Rattle.ext_cells.proofs.cells.Cells.exchange.Goals.{in-Ok, in-Err}
 
-pub compare_exchange_as-requires : goal.compare_exchange_as-requires
-compare_exchange_as-requires g c = (
-  search rules,
-  (
-    search rules,
-    (
+pub compare_exchange_with-found-requires : goal.compare_exchange_with-found-requires
+compare_exchange_with-found-requires c =
+    let place = c.requires.within in
+    let words = c.self.invariant.0 in
+    let cells : c.self.inside.limits.cells ≡ c.args.self.now.id.limits.cells = ap (λ z. z.id.limits.cells) c.self.view_is in (
       ap (λ z. z.cells.table) c.lane.view_is ∙ (ap (λ z. z.table) c.requires.lane ∙ ap (λ z. z.id.table) (sym c.self.view_is)),
-      exchanges _ _ _ _ _ _ c.lane.invariant.0 (may_exchange _ _ _ _ _ _ _ c.lane.view_is c.lane.invariant c.requires.may),
-    ),
-  ),
-)
+      omega (arith, place, words, cells),
+      exchanges _ _ _ _ _ _ _ c.lane.inside.number c.args.act
+          (may_exchange c.lane.inside.seat.table_id _ _ _ _ _ _ _ c.lane.view_is c.lane.invariant
+          (subst (λ z. c.args.place ≡ place_in z.limits c.args.act) (sym c.requires.lane) c.requires.place)
+          (subst (λ z. c.args.place ≤ z.limits.cells) (sym c.requires.lane) c.requires.within)
+          c.requires.may),
+    )
 
 pub invariant_of-lane : goal.invariant_of-lane
-invariant_of-lane g c = elim c.match-compare_exchange_as.branch [
-  | in-Ok w ↦ exchanged_stays _ _ _ _ _ c.lane.invariant w.in-Ok.ensures.rule.1
-  | in-Err w ↦ exchanged_stays _ _ _ _ _ c.lane.invariant w.in-Err.ensures.rule.1
-]
+invariant_of-lane c = let did = c.compare_exchange_with-found.ensures in
+    (exchanged_stays 0 _ _ c.lane.inside.seat.me c.compare_exchange_with-found.new.seat.me c.lane.inside.number c.args.place c.args.old c.args.new _ c.args.act _ c.lane.view_is c.lane.invariant did.0 did.2).0 c.if-found-old.true
 
-pub returns-clause-made : goal.returns-clause-made
-returns-clause-made g c =
-    let small : IsSmall (limits_of (cell_view c.lane.inside.pass)) = small_limits c.args.self.now (cell_view c.lane.inside.pass) _ _ _ _ _ (ap (λ z. z.id.limits) (sym c.self.view_is)) c.lane.view_is c.requires.lane c.self.invariant.0 c.self.invariant.1 in
-    elim c.match-compare_exchange_as.branch [
-      | in-Ok w ↦ rw w.result-is
-          (made_lane _ _ _ _ _ w.in-Ok.field-0 _ _ _ _ small c.lane.view_is c.lane.invariant c.requires.may ((bytes_decides w.in-Ok.field-0 c.args.words).0 w.in-Ok.ensures.rule.0) w.in-Ok.ensures.rule.1 c.compare_exchange_as.ensures.cell.0)
-      | in-Err w ↦ rw w.result-is tt
-    ]
+pub invariant_of-lane-2 : goal.invariant_of-lane-2
+invariant_of-lane-2 c = let did = c.compare_exchange_with-found.ensures in
+    (exchanged_stays 0 _ _ c.lane.inside.seat.me c.compare_exchange_with-found.new.seat.me c.lane.inside.number c.args.place c.args.old c.args.new _ c.args.act _ c.lane.view_is c.lane.invariant did.0 did.2).1 c.if-found-old.false
+
+pub returns-then-found-old-clause-made : goal.returns-then-found-old-clause-made
+returns-then-found-old-clause-made c = let did = c.compare_exchange_with-found.ensures in
+    made_lane 0 _ _ c.lane.inside.seat.me c.compare_exchange_with-found.new.seat.me c.lane.inside.number c.args.place c.args.old c.args.new _ c.args.act _ c.lane.view_is c.lane.invariant did.0 did.2 c.requires.may c.if-found-old.true
 
 pub returns-clause-missed : goal.returns-clause-missed
-returns-clause-missed g c =
-    let small : IsSmall (limits_of (cell_view c.lane.inside.pass)) = small_limits c.args.self.now (cell_view c.lane.inside.pass) _ _ _ _ _ (ap (λ z. z.id.limits) (sym c.self.view_is)) c.lane.view_is c.requires.lane c.self.invariant.0 c.self.invariant.1 in
-    elim c.match-compare_exchange_as.branch [
-      | in-Ok w ↦ rw w.result-is tt
-      | in-Err w ↦ rw w.result-is (
-        λ e. (let q = (bytes_decides w.in-Err.found c.args.words).1 e in let n = w.in-Err.ensures.rule.0 in absurd (cc)),
-        missed_lane _ _ _ _ _ _ _ small c.lane.view_is c.lane.invariant w.in-Err.ensures.rule.1 c.compare_exchange_as.ensures.cell.0,
-      )
-    ]
+returns-clause-missed c = let did = c.compare_exchange_with-found.ensures in (
+  c.if-found-old.false,
+  missed_lane 0 _ _ c.lane.inside.seat.me c.compare_exchange_with-found.new.seat.me c.lane.inside.number c.args.place c.args.old c.args.new _ c.args.act _ c.lane.view_is c.lane.invariant did.0 did.2 c.if-found-old.false,
+)

@@ -66,7 +66,7 @@ run_node-returns t c =
     ∙ ap (λ t. node_end (key_count plan) at t (body_run plan below t c.args.path.now run)) here
     ∙ ap (node_end (key_count plan) at test) (sym is) in
     let sealed = state_view c.seal_keys.new.self in
-    let numbers = c.as_slice.ensures.value ∙ c.in_ok-numbers.ensures.numbers in
+    let numbers = c.as_slice.ensures.numbers ∙ c.in_ok-numbers.ensures.numbers in
     let closed = map close_verdict (closeables sealed.values c.as_slice.result.now) in
     let told : closed ≡ closes setting.key_count at sealed = ap (λ ns. map close_verdict (closeables sealed.values ns)) numbers in
     let is_test : c.is_some.result ≡ is_some test = c.is_some.ensures ∙ sym (is_some-map steps_view node.test) in

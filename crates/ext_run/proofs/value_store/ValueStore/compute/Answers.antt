@@ -1,7 +1,6 @@
 use Rattle.std.proofs.Common.{◌∙◌, refl, ap, sym}
 use Rattle.ext_run.specs.Steps.{compute_looked}
-use Rattle.ext_run.specs.KeyViews.{call_view, place_of_call}
-use Rattle.ext_run.specs.Helpers.{value_view, state_view}
+use Rattle.ext_run.specs.Helpers.{call_view, place_of_call, value_view, state_view}
 use Rattle.ext_run.proofs.Acts.{outcome_ended}
 use Rattle.ext_run.proofs.value_store.ValueStore.compute.Goals as goal
 

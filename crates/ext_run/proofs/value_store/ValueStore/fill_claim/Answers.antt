@@ -3,9 +3,7 @@ use Rattle.ext_model.specs.declared.event.Act.TheVariants.{Abandon, Fill}
 use Rattle.ext_run.specs.ValueStates.{after_act, keep_value}
 use Rattle.ext_run.specs.Steps.{StepEnd, or_refused}
 use Rattle.ext_run.specs.Tallies.{successful}
-use Rattle.ext_run.specs.Refusals.{Keeps, IsNotKept}
-use Rattle.ext_run.specs.KeyViews.{call_view, place_of_call}
-use Rattle.ext_run.specs.Helpers.{value_view, state_view}
+use Rattle.ext_run.specs.Helpers.{Keeps, IsNotKept, call_view, place_of_call, value_view, state_view}
 use Rattle.ext_run.proofs.Acts.{outcome_ended}
 use Rattle.ext_run.proofs.value_store.ValueStore.fill_claim.Goals as goal
 

@@ -4,8 +4,7 @@ use Rattle.ext_model.specs.State.{lookup}
 use Rattle.ext_model.specs.Plain.{under}
 use Rattle.ext_plan.specs.Plans.{step_view}
 use Rattle.ext_run.specs.Steps.{want_verdict, none_verdict, step_run}
-use Rattle.ext_run.specs.KeyViews.{CallText, call_view, keys_in}
-use Rattle.ext_run.specs.Helpers.{value_view, state_view, end_view}
+use Rattle.ext_run.specs.Helpers.{CallText, call_view, keys_in, value_view, state_view, end_view}
 use Rattle.ext_run.proofs.Acts.{outcome_ended, IfOk-into, computes_as, computefails_by}
 use Rattle.ext_run.proofs.value_store.ValueStore.run_step.Goals as goal
 

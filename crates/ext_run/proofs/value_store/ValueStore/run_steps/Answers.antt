@@ -3,8 +3,7 @@ use Rattle.std.proofs.lemmas.List.{drop_all}
 use Rattle.ext_plan.specs.Plans.{step_view}
 use Rattle.ext_plan.proofs.Lists.{map-drop}
 use Rattle.ext_run.specs.Steps.{steps_run}
-use Rattle.ext_run.specs.KeyViews.{keys_in}
-use Rattle.ext_run.specs.Helpers.{state_view, end_view}
+use Rattle.ext_run.specs.Helpers.{keys_in, state_view, end_view}
 use Rattle.ext_run.proofs.Stepping.{after_steps, steps-go, steps-stop, steps-end}
 use Rattle.ext_run.proofs.value_store.ValueStore.run_steps.Goals as goal
 

@@ -1,8 +1,7 @@
 use Rattle.std.proofs.Common.{◌≡◌, ◌≤◌, drop, map}
 use Rattle.ext_plan.specs.Plans.{step_view}
 use Rattle.ext_run.specs.Steps.{steps_run}
-use Rattle.ext_run.specs.KeyViews.{keys_in}
-use Rattle.ext_run.specs.Helpers.{state_view}
+use Rattle.ext_run.specs.Helpers.{keys_in, state_view}
 use Rattle.ext_run.proofs.Stepping.{after_steps}
 use Rattle.ext_run.proofs.value_store.ValueStore.run_steps.Given as goal
 

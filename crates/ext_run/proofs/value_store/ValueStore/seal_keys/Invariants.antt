@@ -6,6 +6,6 @@ use Rattle.ext_run.proofs.value_store.ValueStore.seal_keys.Given as goal
 abbrev pub invariant-loop-key : goal.invariant-loop-key
 invariant-loop-key l = record {
   state : state_view l.self ≡ seal_keys l.key l.at (state_view l.initial.self);
-  numbers : l.numbers.items ≡ numbers_left l.key l.at (state_view l.self);
-  few : length l.numbers.items ≤ l.key;
+  numbers : l.numbers ≡ numbers_left l.key l.at (state_view l.self);
+  few : length l.numbers ≤ l.key;
 }

@@ -2,9 +2,11 @@ use Rattle.std.proofs.Common.{◌≡◌, ℕ, [], ◌∷◌, sym, refl, ap, ◌�
 use Rattle.ext_model.specs.declared.event.Act.TheVariants.{Fill, Abandon}
 use Rattle.ext_model.specs.Calls.{Calls, IsHeld}
 use Rattle.ext_cells.specs.Lanes.{CellsId, Lane}
-use Rattle.ext_store.specs.Stores.{StoreLane, IsKeptBy}
+use Rattle.ext_store.specs.Stores.{StoreLane}
 use Rattle.ext_store.specs.Computing.{Fills}
-use Rattle.ext_store.proofs.Filling.{none_stored, nor_this, storing_none, filled_keeps, kept_held, fails_held, fills, unkept}
+use Rattle.ext_store.proofs.Filling.{none_stored, nor_this, kept_held, fails_held, fills, unkept}
+use Rattle.ext_store.proofs.Frames.{frames_compose}
+use Rattle.ext_store.proofs.Composing.{storing_frame, fill_frame}
 use Rattle.ext_store.proofs.store.Store.keep_and_fill.Goals as goal
 
 pub fill-requires-clause-held : goal.fill-requires-clause-held
@@ -27,10 +29,13 @@ returns-in-Ok-clause-events g c =
     subst (Fills c.args.self.now.id.cells.limits [] c.args.claim c.args.lane.now.cells.view c.fill.new.lane.view) (sym number)
     (fills c.args.self.now c.args.lane.now.cells b c.requires.lane.cells c.args.claim c.fill.new.lane c.in-Ok.kept c.in-Ok.ensures.answer.drawn two)
 
-pub returns-in-Ok-clause-kept : goal.returns-in-Ok-clause-kept
-returns-in-Ok-clause-kept g c = (λ m kept.
-    filled_keeps c.lane.inside.cells.cells.limits (record { cells = c.lane.inside.cells; known = c.lane.inside.notes }) (record { cells = c.fill.new.lane; known = c.lane.inside.notes }) c.args.claim c.kept.inside.number
-    c.fill.ensures.filled.calls refl m (λ e. c.in-Ok.ensures.apart m kept (e ∙ c.kept.view_is)) (subst (λ (l : StoreLane g.row.V.Denot). IsKeptBy l m) (sym c.lane.view_is) (c.keep.ensures.kept m kept)))
+pub returns-in-Ok-clause-apart : goal.returns-in-Ok-clause-apart
+returns-in-Ok-clause-apart g c m kept e = c.in-Ok.ensures.apart m kept (e ∙ c.kept.view_is)
+
+pub returns-in-Ok-clause-frame : goal.returns-in-Ok-clause-frame
+returns-in-Ok-clause-frame g c =
+    fill_frame c.args.self.now.id c.args.lane.now (record { cells = c.lane.inside.cells; known = c.lane.inside.notes }) _ (record { cells = c.fill.new.lane; known = c.lane.inside.notes }) c.lane.view_is c.keep.ensures.frame c.fill.ensures.lane refl
+    c.args.claim c.kept.inside.number c.fill.ensures.filled.calls (λ m kept e. c.in-Ok.ensures.apart m kept (e ∙ c.kept.view_is))
 
 pub returns-in-Err-clause-events : goal.returns-in-Err-clause-events
 returns-in-Err-clause-events g c =
@@ -40,7 +45,8 @@ returns-in-Err-clause-events g c =
     (subst (λ (z : Lane). Calls z.cells.limits z.view c.abandon.new.lane.view (Abandon c.args.claim ∷ [])) (ap (λ (l : StoreLane g.row.V.Denot). l.cells) c.lane.view_is) c.abandon.ensures.abandoned.calls) in
     unkept c.args.self.now c.args.lane.now.cells b c.requires.lane.cells c.args.claim c.abandon.new.lane c.in-Err.unkept.1 c.in-Err.ensures.answer.fails two
 
-pub returns-in-Err-clause-kept : goal.returns-in-Err-clause-kept
-returns-in-Err-clause-kept g c = (λ m kept.
-    (storing_none c.lane.inside.cells.cells.limits (record { cells = c.lane.inside.cells; known = c.lane.inside.notes }) (record { cells = c.abandon.new.lane; known = c.lane.inside.notes }) (Abandon c.args.claim ∷ []) (nor_this (Abandon c.args.claim) [] refl none_stored)
-    c.abandon.ensures.abandoned.calls refl) m (subst (λ (l : StoreLane g.row.V.Denot). IsKeptBy l m) (sym c.lane.view_is) (c.keep.ensures.kept m kept)))
+pub returns-in-Err-clause-frame : goal.returns-in-Err-clause-frame
+returns-in-Err-clause-frame g c =
+    frames_compose c.args.self.now.id [] [] c.args.lane.now c.keep.new.lane (record { cells = c.abandon.new.lane; known = c.lane.inside.notes }) c.keep.ensures.frame
+    (storing_frame c.args.self.now (record { cells = c.lane.inside.cells; known = c.lane.inside.notes }) c.keep.new.lane (record { cells = c.abandon.new.lane; known = c.lane.inside.notes }) c.lane.view_is c.keep.ensures.lane c.abandon.ensures.lane refl
+    (Abandon c.args.claim ∷ []) (nor_this (Abandon c.args.claim) [] refl none_stored) c.abandon.ensures.abandoned.calls)

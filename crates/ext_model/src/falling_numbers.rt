@@ -1,0 +1,91 @@
+//! Numbers, the greatest first.
+ghost use Rattle.std.specs.Prelude.{ℕ, ◌≡◌, ◌≤◌, ◌<◌, ◌+◌, [], length, slice_index, EachIndex, IfNone, IfSome};
+ghost use Rattle.ext_model.specs.Closing.{IsFalling, put_in, put_in_kept};
+
+use arrayvec::ArrayVec;
+use std::marker::Model;
+
+// How many keys a context has at most, and so how many numbers its seals keep.
+const KEYS: usize = 64;
+
+/// The numbers that the seals of a context keep: at most 64, the greatest first, each once. They lie in the value
+/// itself, so that no call takes memory.
+///
+/// JUnit 5 User Guide, section "Keeping State in Extensions": the values of a context are closed in the inverse order
+/// in which they were added. The type is an own rule.
+#[derive(Drop)]
+pub struct FallingNumbers {
+    numbers: ArrayVec<u32, KEYS>,
+}
+
+impl Model for FallingNumbers {
+    ghost use Rattle.std.specs.Prelude.{ℕ, List};
+    ghost use Rattle.ext_model.specs.Closing.{IsFalling};
+
+    ghost Value = { List ℕ };
+
+    ghost view = { λ n. n.numbers.items };
+
+    ghost invariant = { λ n. IsFalling n.numbers.items };
+}
+
+impl FallingNumbers {
+    /// None yet. Takes no memory.
+    pub fn new() -> FallingNumbers
+        ensures { result ≡ [] }
+    {
+        FallingNumbers {
+            numbers: ArrayVec::new(),
+        }
+    }
+
+    /// The numbers, the greatest first.
+    pub fn as_slice(&self) -> &[u32]
+        ensures numbers { result.now ≡ self.now }
+        ensures falling { IsFalling result.now }
+        ensures few { length result.now ≤ 64 }
+    {
+        self.numbers.as_slice()
+    }
+
+    /// Puts a number in, any one, where it belongs: before the first that is less. One that is there already is not put
+    /// in again. Takes no memory.
+    ///
+    /// It is a condition that there are fewer than 64.
+    pub fn put_in(&mut self, number: u32)
+        requires room { length self.old < 64 }
+        ensures numbers { self.new ≡ put_in number self.old }
+        ensures few { length self.new ≤ length self.old + 1 }
+    {
+        let Some(at) = place_for(self.numbers.as_slice(), number) else {
+            self.numbers.push(number);
+            return;
+        };
+        if self.numbers.as_slice()[at] < number {
+            self.numbers.insert(at, number);
+        }
+    }
+
+    /// Puts in what a seal keeps, if it keeps a number. Takes no memory.
+    ///
+    /// It is a condition that there are fewer than 64.
+    pub fn put_in_kept(&mut self, kept: Option<u32>)
+        requires room { length self.old < 64 }
+        ensures numbers { self.new ≡ put_in_kept kept self.old }
+        ensures few { length self.new ≤ length self.old + 1 }
+    {
+        if let Some(number) = kept {
+            self.put_in(number);
+        }
+    }
+}
+
+// Where the first stands that is not greater than this number.
+fn place_for(numbers: &[u32], number: u32) -> Option<usize>
+    ensures within { IfSome result (λ at. at < length numbers.now) }
+    ensures not_greater { IfSome result (λ at. slice_index numbers.now at ≤ number) }
+    ensures greater { IfSome result (λ at. (k : ℕ) → k < at → number < slice_index numbers.now k) }
+    ensures none { IfNone result (EachIndex numbers.now (λ k. number < slice_index numbers.now k)) }
+{
+    numbers.iter().position(|n| *n <= number)
+}

@@ -1,0 +1,123 @@
+//! Closes of a context of the chain.
+use crate::chain::{Call, Chain, rows};
+use crate::opening::{Letter, closeable, plain, same};
+use ext_closing::{CloseAction, CloseFault, Closed};
+use ext_model::{Fault, Look};
+use std::alloc::Global;
+use std::process::Abort;
+
+/// Writes down the numbers that it is given, at most four. Where it is to fail, each close does, with the text `f` and the
+/// number.
+#[derive(Drop)]
+pub(crate) struct Recorder {
+    alloc: Global,
+    fails: bool,
+    pub(crate) numbers: [u32; 4],
+    pub(crate) calls: usize,
+}
+
+impl Recorder {
+    pub(crate) fn new(alloc: Global, fails: bool) -> Recorder {
+        Recorder {
+            alloc,
+            fails,
+            numbers: [0; 4],
+            calls: 0,
+        }
+    }
+}
+
+impl CloseAction<Letter> for Recorder {
+    ghost use Rattle.std.specs.Prelude.{◌≡◌, ◌<◌, slice_set};
+
+    // What it was given stands behind what it was given before, while there is room for it.
+    ghost close_gives = { λ before number value answer after. before.calls < 4 → after.numbers ≡ slice_set before.numbers before.calls number };
+
+    fn close(&mut self, number: u32, _value: &Letter) -> Result<(), Fault> {
+        if self.calls < 4 {
+            self.numbers[self.calls] = number;
+            self.calls += 1;
+        }
+        if !self.fails {
+            return Ok(());
+        }
+        match format!(in self.alloc; "f{number}") {
+            Ok(text) => Err(Fault::Text(text)),
+            Err(_) => Err(Fault::Memory),
+        }
+    }
+}
+
+#[test]
+fn closes_latest_first(rt: HostRuntime) {
+    let value = closeable('x');
+    let all = [
+        (0, 2, "a", Call::Puts(value, 1, Ok(None))),
+        (0, 2, "b", Call::Puts(value, 2, Ok(None))),
+        (0, 2, "c", Call::Puts(value, 3, Ok(None))),
+        (0, 2, "b", Call::Puts(value, 4, Ok(Some(2)))),
+        (0, 2, "", Call::Closes(Ok(3), [4, 3, 1, 0])),
+    ];
+    rows(&rt, rt.alloc(), 8, &all);
+}
+
+#[test]
+fn empty_context_is_closed(rt: HostRuntime) {
+    let all = [
+        (0, 2, "", Call::Closes(Ok(0), [0; 4])),
+        (0, 2, "a", Call::Gets(Ok(Look::Closed(2)))),
+        (1, 1, "a", Call::Gets(Ok(Look::Absent))),
+    ];
+    rows(&rt, rt.alloc(), 8, &all);
+}
+
+#[test]
+fn unjoined_lane_refuses_close(rt: HostRuntime) {
+    let all = [
+        (1, 0, "a", Call::Puts(closeable('x'), 1, Ok(None))),
+        (0, 0, "", Call::Closes(Err(CloseFault::Unjoined(1)), [0; 4])),
+        (1, 0, "", Call::Closes(Ok(1), [1, 0, 0, 0])),
+    ];
+    rows(&rt, rt.alloc(), 8, &all);
+}
+
+#[test]
+fn values_that_are_not_closeable_stay(rt: HostRuntime) {
+    let all = [
+        (0, 2, "a", Call::Puts(plain('x'), 1, Ok(None))),
+        (0, 2, "b", Call::Puts(closeable('y'), 2, Ok(None))),
+        (0, 2, "c", Call::Puts(plain('z'), 3, Ok(None))),
+        (0, 2, "", Call::Closes(Ok(1), [2, 0, 0, 0])),
+    ];
+    rows(&rt, rt.alloc(), 8, &all);
+}
+
+/// Closes the method, where each of its three values fails to close.
+fn close_with_faults<R: Abort>(rt: &R, alloc: Global) -> (Closed, [u32; 4]) {
+    let mut chain = Chain::open(rt, alloc, 8);
+    for (name, number) in [("a", 1), ("b", 2), ("c", 3)] {
+        let put = chain.put(rt, 0, 2, name, closeable('x'));
+        same(rt, put, (number, Ok(None)), name);
+    }
+    let mut recorder = Recorder::new(alloc, true);
+    let Ok(closed) = chain.close(rt, 0, 2, &mut recorder) else {
+        panic!(rt; "not closed");
+    };
+    (closed, recorder.numbers)
+}
+
+#[test]
+fn faults_do_not_stop_the_others(rt: HostRuntime) {
+    let (closed, numbers) = close_with_faults(&rt, rt.alloc());
+    same(&rt, numbers, [3, 2, 1, 0], "the numbers");
+    same(
+        &rt,
+        (closed.closed, closed.more_faults),
+        (3, 2),
+        "the counts",
+    );
+    let Some(Fault::Text(text)) = closed.first_fault else {
+        panic!(rt; "no fault");
+    };
+    same(&rt, text.as_str(), "f3", "the first fault");
+}

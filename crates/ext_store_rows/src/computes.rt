@@ -1,0 +1,125 @@
+//! Computes that store a value, that fail, that find one, that are refused, and that call a caller's box.
+ghost use Rattle.std.specs.Prelude.{◌<◌, length};
+ghost use Rattle.ext_store.specs.Stores.{IsLaneOf};
+
+use crate::chain::{Call, Told, rows};
+use crate::opening::{Letter, key, open_chain, plain, same};
+use ext_model::{Fault, Look};
+use ext_store::{Compute, KeepFault, Lane, Refusal, Store};
+use ext_tree::Key;
+
+#[test]
+fn failed_factory_leaves_cell_empty(rt: HostRuntime) {
+    let found = Look::Found { at: 2, number: 1 };
+    let all = [
+        (0, 2, "a", Call::Fails("boom")),
+        (0, 2, "a", Call::Gets(Ok(Look::Absent))),
+        (0, 2, "a", Call::Computes('x', Told::Computed(1))),
+        (0, 2, "a", Call::Gets(Ok(found))),
+    ];
+    rows(&rt, rt.alloc(), 8, &all);
+}
+
+#[test]
+fn value_at_root_leaves_factory_unused(rt: HostRuntime) {
+    let found = Look::Found { at: 0, number: 1 };
+    let all = [
+        (1, 0, "a", Call::Puts(plain('x'), 1, Ok(None))),
+        (0, 2, "a", Call::Computes('y', Told::Found(0, 1))),
+        (0, 2, "a", Call::Gets(Ok(found))),
+    ];
+    rows(&rt, rt.alloc(), 8, &all);
+}
+
+#[test]
+fn unknown_key_hands_factory_back(rt: HostRuntime) {
+    let refused = Told::Refused(Refusal::UnknownKey);
+    rows(
+        &rt,
+        rt.alloc(),
+        8,
+        &[(0, 2, "d", Call::Computes('x', refused))],
+    );
+}
+
+#[test]
+fn computed_value_is_shown_and_found(rt: HostRuntime) {
+    let all = [
+        (0, 1, "a", Call::Computes('x', Told::Computed(1))),
+        (0, 1, "a", Call::Shows(1, Some(plain('x')))),
+        (1, 2, "a", Call::Computes('y', Told::Found(1, 1))),
+        (1, 2, "a", Call::Shows(1, Some(plain('x')))),
+        (1, 1, "a", Call::Removes(Ok(Some(1)))),
+        (1, 2, "a", Call::Computes('z', Told::Computed(2))),
+        (0, 1, "a", Call::Gets(Ok(Look::Absent))),
+    ];
+    rows(&rt, rt.alloc(), 8, &all);
+}
+
+#[test]
+fn compute_without_a_number_hands_its_value_back(rt: HostRuntime) {
+    let all = [
+        (1, 0, "a", Call::Puts(plain('x'), 1, Ok(None))),
+        (
+            0,
+            2,
+            "b",
+            Call::Computes('y', Told::Unkept(KeepFault::NumbersFull)),
+        ),
+        (0, 2, "b", Call::Gets(Ok(Look::Absent))),
+        (1, 2, "b", Call::Gets(Ok(Look::Absent))),
+    ];
+    rows(&rt, rt.alloc(), 1, &all);
+}
+
+/// The number under which the value of a caller's box was stored.
+fn computed_by(
+    store: &Store<Letter>,
+    lane: &mut Lane<Letter>,
+    key: &Key,
+    mut maker: Box<dyn FnMut(&Key) -> Result<Letter, Fault> + Drop>,
+) -> Option<u32>
+    requires lane { IsLaneOf store.now.id lane.old }
+    requires context { 0 < length store.now.tree }
+    requires maker { IsAlwaysCallable maker }
+    ensures { IsLaneOf store.now.id lane.new }
+{
+    match store.compute(
+        lane,
+        0,
+        key,
+        move |name: &Key| -> Result<Letter, Fault>
+            requires { IsAlwaysCallable maker }
+        { maker(name) },
+    ) {
+        Compute::Computed { number } => Some(number),
+        _ => None,
+    }
+}
+
+#[test]
+fn caller_gives_a_box(rt: HostRuntime) {
+    let mut opened = open_chain(&rt, rt.alloc(), 8);
+    let (store, lane) = (&opened.store, &mut opened.first);
+    let a = key(&rt, rt.alloc(), "a");
+    let mut letter = 'w';
+    let Ok(maker) = Box::new(rt.alloc(), move |_key: &Key| -> Result<Letter, Fault> {
+        let last = letter;
+        letter = 'x';
+        Ok(plain(last))
+    }) else {
+        panic!(rt; "no memory");
+    };
+    same(
+        &rt,
+        computed_by(store, lane, &a, maker),
+        Some(1),
+        "the compute",
+    );
+    same(
+        &rt,
+        store.show(lane, 1).copied(),
+        Some(plain('w')),
+        "the value",
+    );
+}
