@@ -6,19 +6,15 @@ use Rattle.ext_model.specs.declared.event.Act.TheVariants.{Put, Remove, Seal}
 use Rattle.ext_model.specs.declared.slot.Slot.{Slot}
 use Rattle.ext_model.specs.declared.slot.Slot.TheVariants as slot
 use Rattle.ext_model.specs.Events as events
-use Rattle.ext_model.specs.History.{History, Limits, reply_after}
+use Rattle.ext_model.specs.History.{reply_after}
 use Rattle.ext_model.specs.Plain.{what_stood}
-use Rattle.ext_model.specs.Views.{LaneView}
 use Rattle.ext_model.specs.Calls.{HoldsAtPoint}
+use Rattle.ext_history.proofs.Answered.{holds_too}
 use Rattle.ext_cells.specs.declared.refusal.CellRefusal.{CellRefusal}
 use Rattle.ext_cells.specs.declared.refusal.CellRefusal.TheVariants as refusal
 use Rattle.ext_cells.specs.Lanes.{Lane}
 use Rattle.ext_cells.specs.Calls.{result_of, change_reply, put_acts, remove_acts, Answers, SealAnswers}
 use Rattle.ext_cells.specs.Steps.{Changes}
-
--- what follows from a fact that holds at a point holds there
-holds_too : (limits : Limits) (before after : LaneView) (acts : List (Act ℕ)) (F G : History → Type 0) → ((p : History) → F p → G p) → HoldsAtPoint limits before after acts F → HoldsAtPoint limits before after acts G
-holds_too limits before after acts F G follows h = record { calls = h.calls; stepped = h.stepped; point = (h.point.0, h.point.1, follows h.point.0 h.point.2) }
 
 -- two results of a call, one of them a refusal
 differ : {A : Type 0} (x : A) (why : CellRefusal) → (let r : Result A CellRefusal = Ok x in let s : Result A CellRefusal = Err why in r ≡ s) → ⊥
@@ -60,7 +56,7 @@ module _ (tries : ℕ) (before after : Lane) (act : Act ℕ) where
     overtaken = λ e. absurd (ne (same_why why refusal.Contended e));
     replied = λ other.
         let r : Result (Option ℕ) CellRefusal = Err why in
-        rw none (holds_too before.cells.limits before.view after.view [] (λ p. change_reply before act p ≡ r) (λ p. r ≡ change_reply before act p) (λ p e. sym e) h);
+        rw none (holds_too (λ p. r ≡ change_reply before act p) (λ p e. sym e) h);
   }
 
   -- an answer at a point, with these events
@@ -70,7 +66,7 @@ module _ (tries : ℕ) (before after : Lane) (act : Act ℕ) where
     overtaken = λ e. absurd (differ answer refusal.Contended e);
     replied = λ other.
         let r : Result (Option ℕ) CellRefusal = Ok answer in
-        holds_too before.cells.limits before.view after.view (acts_of r) (λ p. reply_after before.cells.limits p before.view.number act ≡ reply) (λ p. r ≡ change_reply before act p) (λ p e. sym (ap (result_of what_stood) e ∙ is)) h;
+        holds_too (λ p. r ≡ change_reply before act p) (λ p e. sym (ap (result_of what_stood) e ∙ is)) h;
   }
 
 module _ (tries : ℕ) (before after : Lane) (cell number : ℕ) where

@@ -14,11 +14,11 @@ use Rattle.ext_model.specs.State.{standing}
 use Rattle.ext_model.specs.Events.{slot_after, drawn_after, place_of, is_at, is_on}
 use Rattle.ext_model.specs.History.{History, Limits, by, state_after, version_of, IsAllowed, IsLegal}
 use Rattle.ext_model.specs.Words.{state_code, number_code, word, slot_word}
-use Rattle.ext_model.proofs.Legal.{after-push, legal_induct}
-use Rattle.ext_model.proofs.Lists.{contains_none}
+use Rattle.ext_history.proofs.Legal.{legal_induct}
+use Rattle.ext_history.proofs.Lists.{contains_none}
 use Rattle.ext_model.proofs.Numbers.{bounded}
 use Rattle.ext_model.proofs.Claims.{claim_can_end, can_be_sealed}
-use Rattle.ext_model.proofs.Words.{word-event, word-elsewhere, drawn-push}
+use Rattle.ext_model.proofs.Words.{after-push, word-event, word-elsewhere, drawn-push}
 use Rattle.ext_cells.specs.declared.cell_state.CellState.TheVariants.{Sealed}
 use Rattle.ext_cells.specs.Words.{code}
 use Rattle.ext_cells.specs.Rule.{IsWordAt, AreWordsOf, place_in}
@@ -27,7 +27,7 @@ use Rattle.ext_cells.specs.Deciding.{state_of, IsNumbered, IsCellWord}
 -- ---- a number that stands is not 0
 
 kept_least : {limits : Limits} (h : History) → IsLegal limits h → (lane number : ℕ) → Contains h (by lane (Keep number)) → 1 ≤ number
-kept_least {limits} h legal = legal_induct limits Fact (λ lane number there. absurd (contains_none _ there)) step h legal
+kept_least {limits} h legal = legal_induct (IsAllowed limits) Fact (λ lane number there. absurd (contains_none _ there)) step h legal
   where
     Fact : History → Type 0
     Fact g = (lane number : ℕ) → Contains g (by lane (Keep number)) → 1 ≤ number
@@ -64,7 +64,7 @@ left_numbered h lane (Abandon at) s legal a is = tt
 left_numbered h lane (Seal at) s legal a is = sealed_numbered s is
 
 pub numbered : {limits : Limits} (h : History) → IsLegal limits h → (cell : ℕ) → IsNumbered ((state_after h).slots cell)
-numbered {limits} h legal = legal_induct limits (λ g. (cell : ℕ) → IsNumbered ((state_after g).slots cell)) (λ cell. tt) step h legal
+numbered {limits} h legal = legal_induct (IsAllowed limits) (λ g. (cell : ℕ) → IsNumbered ((state_after g).slots cell)) (λ cell. tt) step h legal
   where
     step : (g : History) (e : Event ℕ) → IsLegal limits g → ((cell : ℕ) → IsNumbered ((state_after g).slots cell)) → IsAllowed limits g e → (cell : ℕ) → IsNumbered ((state_after (g ++ e ∷ [])).slots cell)
     step g e legal is allowed cell = subst (λ s. IsNumbered (s.slots cell)) (sym (after-push g e)) (either_numbered (is_on nat_eq cell e.act) _ _ (left_numbered g e.lane e.act _ legal allowed (is cell)) (is cell))

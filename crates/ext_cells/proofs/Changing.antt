@@ -10,9 +10,10 @@ use Rattle.ext_model.specs.Events.{place_of}
 use Rattle.ext_model.specs.History.{History, Limits, by, stored_number, state_after, version_of, reply_after, IsAllowed}
 use Rattle.ext_model.specs.Allowed.{MayStore}
 use Rattle.ext_model.specs.Plain.{what_stood}
-use Rattle.ext_model.specs.Views.{LaneView, seen_by, moved}
+use Rattle.ext_history.specs.Views.{seen_by, moved}
+use Rattle.ext_model.specs.Views.{LaneView}
 use Rattle.ext_model.specs.Calls.{HoldsAtPoint, GoesOn, MayStoreNow}
-use Rattle.ext_model.proofs.Composed.{same_number}
+use Rattle.ext_history.proofs.Composed.{same_number}
 use Rattle.ext_model.proofs.Held.{goes_on_store}
 use Rattle.ext_model.proofs.Numbers.{bounded}
 use Rattle.ext_cells.specs.declared.refusal.CellRefusal.{CellRefusal}
@@ -124,7 +125,7 @@ module _ (before now : Lane) (word count cell : ℕ) (act : Act ℕ) (small : be
 
     may_at : (h : History) → Finds before.cells.limits now.view cell word h → MayGoOn before.cells.limits now.view h cell next act
     may_at h f =
-        let number : now.view.number ≡ before.view.number = same_number before.cells.limits before.view now.view [] c.tries.calls in
+        let number : now.view.number ≡ before.view.number = same_number c.tries.calls in
         let on = goes_on before.cells.limits before.view now.view cell word count c.tries h f.on in
         let mine : IfSome (stored_number act) (λ n. MayStore now.view.number n h) = subst (λ k. IfSome (stored_number act) (λ n. MayStore k n h)) (sym number) (may_store before.cells.limits before.view h (stored_number act) on store) in
         record {

@@ -7,19 +7,20 @@ use mathlib.Core.List.{IsPrefix}
 use mathlib.Core.Logic.{dite}
 use native.Mathlib.Decide.{ℕ_discrete}
 use base.Growing.{prefix_refl, prefix_trans}
-use Rattle.ext_model.specs.History.{History, Limits, version_of, own, IsLegal}
+use Rattle.ext_model.specs.History.{History, Limits, version_of, lane_of, own, IsLegal}
 use Rattle.ext_model.specs.Words.{word_of}
-use Rattle.ext_model.specs.Views.{LaneView, last_after, first_or, seen_by, Follow, moved, call_fronts, first_front, IsStepped, IsAnswerPoint}
+use Rattle.ext_history.specs.Views.{last_after, first_or, seen_by, Follow, moved, call_fronts, first_front, IsStepped}
+use Rattle.ext_model.specs.Views.{LaneView, IsAnswerPoint}
 use Rattle.ext_model.specs.Calls.{Calls, IsOvertaken}
-use Rattle.ext_model.proofs.Legal.{legal_prefix}
-use Rattle.ext_model.proofs.Fronts.{last_append, follow_last, follow_append, first_follows, first_to_last, first_append}
-use Rattle.ext_model.proofs.Composed.{own_append, moved_fronts, moved_seen, calls_moved}
+use Rattle.ext_history.proofs.Legal.{legal_begun}
+use Rattle.ext_history.proofs.Fronts.{moved_fronts, moved_seen, moved_none, moved_again, last_append, follow_last, follow_append, first_follows, first_to_last, first_append}
+use Rattle.ext_history.proofs.Lanes.{own_append, own_past}
+use Rattle.ext_history.proofs.Composed.{calls_moved}
 use Rattle.ext_model.proofs.Versions.{versions, version-append, versions-append, versions_within, same_word, same_word_between}
 use Rattle.ext_cells.specs.Lanes.{Lane}
 use Rattle.ext_cells.specs.Calls.{StoodTogether, before_last_pass}
 use Rattle.ext_cells.specs.Steps.{Finds}
 use Rattle.ext_cells.specs.Passes.{EachRead, ReadPass}
-use Rattle.ext_cells.proofs.Tries.{own_more}
 
 -- ---- the words that one pass reads
 
@@ -53,9 +54,6 @@ follow_begin : (h : History) (fs : List History) → Follow h fs → AllBegin fs
 follow_begin h [] all = tt
 follow_begin h (f ∷ fs) all = (follow_last f fs all.1, follow_begin f fs all.1)
 
-begun_legal : (limits : Limits) (p h : History) → IsPrefix p h → IsLegal limits h → IsLegal limits p
-begun_legal limits p h begins legal = legal_prefix p begins.0 (subst (IsLegal limits) (sym begins.1) legal)
-
 go_on_from : (limits : Limits) (q p : History) (fs : List History) → IsPrefix q p → AllGoOn limits p fs → AllGoOn limits q fs
 go_on_from limits q p [] less all = tt
 go_on_from limits q p (f ∷ fs) less all = (prefix_trans q p f less all.0, all.1, go_on_from limits q p fs less all.2)
@@ -64,14 +62,14 @@ follow_go_on : (limits : Limits) (h : History) (fs : List History) → Follow h 
 follow_go_on limits h [] all legal = tt
 follow_go_on limits h (f ∷ fs) all legal = (
   all.0,
-  begun_legal limits f (last_after f fs) (follow_last f fs all.1) legal,
+  legal_begun f (last_after f fs) (follow_last f fs all.1) legal,
   go_on_from limits h f fs all.0 (follow_go_on limits f fs all.1 legal),
 )
 
 -- the first front begins each of them
 first_go_on : (limits : Limits) (h : History) (fs : List History) → Follow h fs → IsLegal limits (last_after h fs) → AllGoOn limits (first_or h fs) fs
 first_go_on limits h [] all legal = tt
-first_go_on limits h (f ∷ fs) all legal = (prefix_refl f, begun_legal limits f (last_after f fs) (follow_last f fs all.1) legal, follow_go_on limits f fs all.1 legal)
+first_go_on limits h (f ∷ fs) all legal = (prefix_refl f, legal_begun f (last_after f fs) (follow_last f fs all.1) legal, follow_go_on limits f fs all.1 legal)
 
 -- ---- two equal passes
 
@@ -145,12 +143,6 @@ unequal_passes limits (c ∷ cs) (w ∷ ws) (v ∷ vs) (f ∷ fs) (g ∷ gs) p a
     let low = versions_to cs ws fs p a.1 before.1 in let high = versions_from limits cs vs gs p b.1 after.2 in omega (arith, k, low, high))
 
 -- ---- one pass, read by read
-
-moved_none : (lane : LaneView) → moved lane [] ≡ lane
-moved_none lane = λ i. record { number = lane.number; fronts = append-nil lane.fronts i }
-
-moved_again : (before : LaneView) (fs gs : List History) → moved (moved before fs) gs ≡ moved before (fs ++ gs)
-moved_again before fs gs = λ i. record { number = before.number; fronts = append_assoc before.fronts fs gs i }
 
 pub pass_none : (limits : Limits) (lane : LaneView) → IsLegal limits (seen_by lane) → ReadPass limits lane lane [] []
 pass_none limits lane legal = record { fronts = []; is = sym (moved_none lane); follow = tt; legal = legal; own_same = refl; read = tt }
@@ -275,7 +267,7 @@ module _ (limits : Limits) (before now next : LaneView) (cells words again : Lis
 
   calls : Calls limits before next []
   calls = subst (λ z. Calls limits before z []) (sym next_latest.is)
-      (calls_moved limits before (both ++ pass.fronts) [] (follow_append (seen_by before) both pass.fronts follow_both next_latest.follow) next_latest.legal
+      (calls_moved lane_of before (both ++ pass.fronts) [] (follow_append (seen_by before) both pass.fronts follow_both next_latest.follow) next_latest.legal
       ((next_latest.own_same ∙ (t.latest.own_same ∙ t.own_same)) ∙ sym (append-nil (own before.number (seen_by before)))))
 
   -- two equal passes are of one point
@@ -348,7 +340,7 @@ module _ (limits : Limits) (before now : LaneView) (cells words : List ℕ) (cou
       let start = first_follows (seen_by before) added follow_all in
       let none : own before.number m ≡ [] = own_rest start.0 m last (sym (append_assoc (seen_by before) start.0 m) ∙ (ap (λ z. z ++ m) start.1 ∙ begins.1)) own_is in
       record {
-        calls = subst (λ z. Calls limits before z []) (sym t.latest.is) (calls_moved limits before added [] follow_all t.latest.legal (own_is ∙ sym (append-nil (own before.number (seen_by before)))));
+        calls = subst (λ z. Calls limits before z []) (sym t.latest.is) (calls_moved lane_of before added [] follow_all t.latest.legal (own_is ∙ sym (append-nil (own before.number (seen_by before)))));
         passed = (
           m,
           subst (λ z. seen_by z ≡ first_front before z ++ m) (sym t.latest.is) (moved_seen before added ∙ (sym begins.1 ∙ ap (λ fs. first_or (seen_by before) fs ++ m) (sym (moved_fronts before added)))),
@@ -362,7 +354,7 @@ module _ (limits : Limits) (before now : LaneView) (cells words : List ℕ) (cou
       nil_right (x ∷ xs) ys e = absurd (cc e)
 
       own_rest : (x m last : History) → seen_by before ++ (x ++ m) ≡ last → own before.number last ≡ own before.number (seen_by before) → own before.number m ≡ []
-      own_rest x m last is same = nil_right (own before.number x) (own before.number m) (sym (own_append before.number x m) ∙ own_more before.number (seen_by before) last (x ++ m) is same)
+      own_rest x m last is same = nil_right (own before.number x) (own before.number m) (sym (own_append lane_of before.number x m) ∙ own_past lane_of before.number (seen_by before) (x ++ m) (ap (own before.number) is ∙ same))
 
   pub steps_all : (tries : ℕ) → count ≤ tries → length (call_fronts before now) ≤ length cells * (tries + 1)
   steps_all tries within =

@@ -1,12 +1,12 @@
 -- Drawing a number: what the count of numbers means for the lane's call.
-use Rattle.std.proofs.Common.{◌≡◌, ℕ, ◌+◌, ◌<◌, ◌≤◌, true, false, [], ◌∷◌, ◌++◌, sym, refl, ap, ◌∙◌, subst, arith, Option, Some}
-use Rattle.std.specs.Prelude.{Result, Ok, Err, nat_lt, if◌then◌else◌}
-use Rattle.std.proofs.lemmas.Bool.Decides.{nat_tests}
+use Rattle.std.proofs.Common.{◌≡◌, ℕ, ◌+◌, ◌<◌, ◌≤◌, [], ◌∷◌, ◌++◌, sym, refl, ap, ◌∙◌, subst, arith, Option, Some}
+use Rattle.std.specs.Prelude.{Result, Ok, Err, if◌then◌else◌}
+use Rattle.std.proofs.lemmas.Bool.{lt-ltb, le-ltb}
 use Rattle.ext_model.specs.declared.event.Act.TheVariants.{Keep}
 use Rattle.ext_model.specs.Events.{Happens, Refuses, NumbersFull, keep_reply}
 use Rattle.ext_model.specs.History.{History, by, state_after, reply_after}
 use Rattle.ext_model.specs.Plain.{number_drawn}
-use Rattle.ext_model.specs.Views.{moved, seen_by}
+use Rattle.ext_history.specs.Views.{moved, seen_by}
 use Rattle.ext_cells.specs.declared.refusal.CellRefusal.{CellRefusal}
 use Rattle.ext_cells.specs.declared.refusal.CellRefusal.TheVariants as refusal
 use Rattle.ext_cells.specs.Lanes.{Lane}
@@ -15,17 +15,11 @@ use Rattle.ext_cells.specs.Steps.{Finds, MayGoOn}
 use Rattle.ext_cells.proofs.CellWords.{count_after}
 use Rattle.ext_cells.proofs.Tries.{TriesOn, answered, overtaken, made}
 
-is_below : (a b : ℕ) → a < b → nat_lt a b ≡ true
-is_below a b e = grind (arith, nat_tests)
-
-is_above : (a b : ℕ) → b ≤ a → nat_lt a b ≡ false
-is_above a b e = grind (arith, nat_tests)
-
 keeps : (numbers drawn : ℕ) → drawn < numbers → keep_reply numbers drawn ≡ Happens (Some (drawn + 1))
-keeps numbers drawn less = ap (λ b. if b then Happens (Some (drawn + 1)) else Refuses NumbersFull) (is_below drawn numbers less)
+keeps numbers drawn less = ap (λ b. if b then Happens (Some (drawn + 1)) else Refuses NumbersFull) (lt-ltb drawn numbers less)
 
 full : (numbers drawn : ℕ) → numbers ≤ drawn → keep_reply numbers drawn ≡ Refuses NumbersFull
-full numbers drawn most = ap (λ b. if b then Happens (Some (drawn + 1)) else Refuses NumbersFull) (is_above drawn numbers most)
+full numbers drawn most = ap (λ b. if b then Happens (Some (drawn + 1)) else Refuses NumbersFull) (le-ltb drawn numbers most)
 
 not_contended : (why : CellRefusal) → (why ≡ refusal.Contended → ⊥) → (let x : Result ℕ CellRefusal = Err why in let y : Result ℕ CellRefusal = Err refusal.Contended in x ≡ y) → ⊥
 not_contended why ne e = ne (cc e)

@@ -8,10 +8,11 @@ use Rattle.ext_model.specs.declared.slot.Slot.TheVariants as slot
 use Rattle.ext_model.specs.Events.{Happens, Refuses, Barred, slot_after, place_of, is_on, end_reply}
 use Rattle.ext_model.specs.History.{History, Limits, by, stored_number, state_after, version_of, reply_after, IsAllowed, IsLegal}
 use Rattle.ext_model.specs.Words.{slot_word}
-use Rattle.ext_model.specs.Views.{LaneView, seen_by, moved}
+use Rattle.ext_history.specs.Views.{seen_by, moved}
+use Rattle.ext_model.specs.Views.{LaneView}
 use Rattle.ext_model.specs.Calls.{GoesOn, IsHeld, MayStoreNow}
 use Rattle.ext_model.proofs.Allowed.{may_happen}
-use Rattle.ext_model.proofs.Composed.{same_number}
+use Rattle.ext_history.proofs.Composed.{same_number}
 use Rattle.ext_model.proofs.Claims.{used_within}
 use Rattle.ext_model.proofs.Held.{claim_held, held_word, held_fill, held_abandon}
 use Rattle.ext_cells.specs.declared.cell_state.CellState.TheVariants.{Computing, Sealed}
@@ -124,7 +125,7 @@ module _ (before now : Lane) (word cell : ℕ) (act : Act ℕ) (small : before.c
     may_at : (h : History) → Finds before.cells.limits now.view cell word h → MayGoOn before.cells.limits now.view h cell next act
     may_at h f =
         let on = goes_on before.cells.limits before.view now.view cell word 0 c.tries h f.on in
-        let number : now.view.number ≡ before.view.number = same_number before.cells.limits before.view now.view [] c.tries.calls in
+        let number : now.view.number ≡ before.view.number = same_number c.tries.calls in
         let claim = stands before.cells.limits before.view h cell on held in
         let here = claimed_word before.cells.limits before.view h cell on held word small f.word_is in
         let slot : slot_word (slot_after before.view.number act (Some (slot.Claim before.view.number))) (version_of h cell + 1) ≡ slot_word (slot_after before.view.number act ((state_after h).slots cell)) (version_of h cell + 1) =

@@ -1,7 +1,8 @@
 -- The lanes that opening gives out.
 use Rattle.std.proofs.Common.{◌≡◌, ℕ, zero, suc, ◌+◌, List, [], ◌∷◌, ◌++◌, arith, refl, sym, ap, subst, ◌∙◌, Some}
 use Rattle.atomic_table.specs.Seated.{TableId}
-use Rattle.ext_model.proofs.Legal.{legal_empty}
+use Rattle.ext_model.specs.History.{IsAllowed}
+use Rattle.ext_history.proofs.Legal.{legal_empty}
 use Rattle.ext_cells.specs.declared.rule.CellLimits.{CellLimits}
 use Rattle.ext_cells.specs.declared.rule.View.{View}
 use Rattle.ext_cells.specs.Lanes.{CellsId, Lane, fresh_lane, fresh_lanes}
@@ -28,7 +29,7 @@ given_one table table' limits number k v old new same is counts olds news =
     news ∙ (λ i. olds i ++ lane i ∷ []) ∙ sym (lanes_next id 1 k)
 
 pub born_lane : (v w : View) (limits : CellLimits) (k : ℕ) → v ≡ born w → w ≡ giver limits k → IsLaneView v k
-born_lane v w limits k is gives = subst (λ u. IsLaneView u k) (sym (is ∙ ap born gives)) (refl, legal_empty (limits_of limits), tt)
+born_lane v w limits k is gives = subst (λ u. IsLaneView u k) (sym (is ∙ ap born gives)) (refl, legal_empty (IsAllowed (limits_of limits)), tt)
 
 pub giver_lane : (v : View) (limits : CellLimits) (k : ℕ) → v ≡ giver limits k → IsLaneView v 0
-giver_lane v limits k is = subst (λ u. IsLaneView u 0) (sym is) (refl, legal_empty (limits_of limits), tt)
+giver_lane v limits k is = subst (λ u. IsLaneView u 0) (sym is) (refl, legal_empty (IsAllowed (limits_of limits)), tt)

@@ -6,9 +6,9 @@ use Rattle.atomic_table.specs.Table.{Me, step}
 use Rattle.atomic_table.specs.Seated.{TableId}
 use Rattle.ext_model.specs.declared.event.Act.{Act}
 use Rattle.ext_model.specs.History.{History, by, IsLegal}
-use Rattle.ext_model.specs.Views.{seen, Follow}
-use Rattle.ext_model.proofs.Legal.{legal_push}
-use Rattle.ext_model.proofs.Fronts.{last_append, follow_append}
+use Rattle.ext_history.specs.Views.{seen, Follow}
+use Rattle.ext_history.proofs.Legal.{legal_push}
+use Rattle.ext_history.proofs.Fronts.{last_append, follow_append}
 use base.Growing.{prefix_trans}
 use Rattle.ext_cells.specs.declared.rule.View.{View}
 use Rattle.ext_cells.specs.Lanes.{Lane}

@@ -1,12 +1,13 @@
 -- A lane that took in a note of another has seen, after its next step, what the other had seen.
-use Rattle.std.proofs.Common.{◌≡◌, ℕ, [], ◌∷◌, sym, ap, ◌∙◌, subst}
+use Rattle.std.proofs.Common.{◌≡◌, ℕ, [], ◌∷◌, length, sym, ap, ◌∙◌, subst}
 use mathlib.Core.List.{IsPrefix}
 use Rattle.atomic_table.specs.Seated.{TableId}
 use Rattle.ext_model.specs.History.{History}
-use Rattle.ext_model.specs.Views.{LaneView, seen}
+use Rattle.ext_history.specs.Views.{seen, call_fronts}
+use Rattle.ext_model.specs.Views.{LaneView}
 use Rattle.ext_model.specs.Calls.{Calls}
-use Rattle.ext_model.proofs.Fronts.{last_append}
-use Rattle.ext_model.proofs.Single.{step_calls}
+use Rattle.ext_history.proofs.Fronts.{last_append, moved_once}
+use Rattle.ext_history.proofs.Single.{step_calls}
 use Rattle.ext_cells.specs.declared.rule.View.{View}
 use Rattle.ext_cells.specs.Lanes.{Lane}
 use Rattle.ext_cells.specs.Rule.{limits_of, shown, note, noted, FoundBy}
@@ -28,9 +29,16 @@ module _ (v n u w : View) (place word : ℕ) (h : History) (number : ℕ) (inv :
 
   pub met_call : (table table' : TableId) (lane : Lane) → lane_of table v number ≡ lane → Calls lane.cells.limits lane.view (lane_of table' w number).view []
   met_call table table' lane is =
-      let calls = (step_calls (limits_of v.limits) (record { number = number; fronts = v.fronts }) h (record { legal = found'.legal; begins = found'.begins; own_same = found'.own_is number inv.0 })).0 in
+      let calls = (step_calls {lane = record { number = number; fronts = v.fronts }} {h = h} (record { legal = found'.legal; begins = found'.begins; own_same = found'.own_is number inv.0 })).0 in
       subst (λ (l : Lane). Calls l.cells.limits l.view (lane_of table' w number).view []) is
       (subst (λ (x : LaneView). Calls (limits_of v.limits) (record { number = number; fronts = v.fronts }) x []) (sym (ap (λ (l : Lane). l.view) (met_moved table'))) calls)
+
+  -- the lane made one step
+  pub met_step : (table table' : TableId) (lane : Lane) → lane_of table v number ≡ lane → length (call_fronts lane.view (lane_of table' w number).view) ≡ 1
+  met_step table table' lane is =
+      let at : LaneView = record { number = number; fronts = v.fronts } in
+      subst (λ (l : Lane). length (call_fronts l.view (lane_of table' w number).view) ≡ 1) is
+      (subst (λ (x : LaneView). length (call_fronts at x) ≡ 1) (sym (ap (λ (l : Lane). l.view) (met_moved table'))) (moved_once at h))
 
   pub met_cells : (table table' : TableId) (lane : Lane) → lane_of table v number ≡ lane → table' ≡ table → (lane_of table' w number).cells ≡ lane.cells
   met_cells table table' lane is same = ap (λ (l : Lane). l.cells) (met_moved table') ∙ (λ i. record { table = same i; limits = limits_of v.limits }) ∙ ap (λ (l : Lane). l.cells) is

@@ -1,16 +1,16 @@
 -- Making the table, splitting off lanes and notes, and taking in a note keep the rule.
-use Rattle.std.proofs.Common.{◌≡◌, ◌≢◌, ◌⊎◌, inl, inr, ⊎_elim, ℕ, zero, suc, ◌+◌, ◌<◌, ◌≤◌, List, [], ◌∷◌, ◌++◌, length, set, get_or, arith, refl, sym, ap, ◌∙◌, subst, length-set, Option, Some, None}
+use Rattle.std.proofs.Common.{◌≡◌, ◌≢◌, ◌⊎◌, inl, inr, ⊎_elim, ℕ, zero, suc, ◌+◌, ◌<◌, ◌≤◌, List, [], ◌∷◌, ◌++◌, length, set, arith, refl, sym, ap, ◌∙◌, subst, length-set, Option, Some, None}
 use Rattle.std.specs.Prelude.{replicate}
-use Rattle.std.proofs.lemmas.List.{get_or_past, get_or-replicate, length-replicate}
-use Rattle.std.proofs.lemmas.Bool.{cases_lt}
+use Rattle.std.proofs.lemmas.List.{length-replicate}
 use mathlib.Core.Option.{some, some-ne-none, some-injective}
 use base.Growing.{prefix_refl}
 use lib.ListN.{get_elem?}
 use Rattle.atomic_table.specs.Table.{State, opening, Splits, Joins}
 use Rattle.atomic_table.proofs.Lists.{at_set}
 use Rattle.ext_model.specs.declared.event.Act.{Act}
-use Rattle.ext_model.specs.History.{History}
-use Rattle.ext_model.proofs.Legal.{legal_empty}
+use Rattle.ext_model.specs.History.{History, IsAllowed}
+use Rattle.ext_history.proofs.Lists.{at_push, at_zeros}
+use Rattle.ext_history.proofs.Legal.{legal_empty}
 use Rattle.ext_cells.specs.declared.rule.CellLimits.{CellLimits}
 use Rattle.ext_cells.specs.declared.rule.View.{View}
 use Rattle.ext_cells.specs.Rule.{AreWordsOf, limits_of, first_lane, one_more, giving, born, note, noted, spent, Fits, Kept}
@@ -27,14 +27,11 @@ no_number e = cc
 
 -- ---- making the table
 
-zeros : (n k : ℕ) → get_or {A = ℕ} (replicate n 0) k 0 ≡ 0
-zeros n k = ⊎_elim (λ few. get_or-replicate {A = ℕ} n k 0 0 few) (λ many. get_or_past {X = ℕ} (replicate n 0) k 0 (let l = length-replicate {A = ℕ} n 0 in omega arith)) (cases_lt k n)
-
 pub opens : (limits : CellLimits) (words : List ℕ) → 1 ≤ limits.lanes → words ≡ replicate (limits.cells + 1) 0 → Kept limits (opening words [] (first_lane limits))
 opens limits words one are = record {
   history = [];
-  legal = legal_empty (limits_of limits);
-  words_are = subst (AreWordsOf (limits_of limits) []) (sym are) (record { wide = length-replicate (limits.cells + 1) 0; each = λ place. record { cell = λ _. zeros (limits.cells + 1) place; count = λ _. zeros (limits.cells + 1) place } });
+  legal = legal_empty (IsAllowed (limits_of limits));
+  words_are = subst (AreWordsOf (limits_of limits) []) (sym are) (record { wide = length-replicate (limits.cells + 1) 0; each = λ place. record { cell = λ _. at_zeros (limits.cells + 1) place; count = λ _. at_zeros (limits.cells + 1) place } });
   fits = λ i v at. subst (Fits limits []) (only_one (first_lane limits) v i at).1 (record {
     seen_is = prefix_refl [];
     told_is = prefix_refl [];
@@ -54,12 +51,6 @@ opens limits words one are = record {
 
 -- ---- where a view of a split table stood
 
-at_end : (l : List View) (a b : View) (j : ℕ) → get_elem? (l ++ a ∷ []) j ≡ some b → (get_elem? l j ≡ some b) ⊎ ((j ≡ length l) × (a ≡ b))
-at_end [] a b zero e = inr (refl, some-injective a b e)
-at_end [] a b (suc j) e = absurd (some-ne-none b (sym e))
-at_end (x ∷ xs) a b zero e = inl e
-at_end (x ∷ xs) a b (suc j) e = ⊎_elim (λ t. inl t) (λ t. inr (ap suc t.0, t.1)) (at_end xs a b j e)
-
 data Stood (views : List View) (id : ℕ) (left right : View) (j : ℕ) (u : View) : Type 0 where
   cut : j ≡ id → left ≡ u → Stood views id left right j u
   beside : j ≢ id → get_elem? views j ≡ some u → Stood views id left right j u
@@ -67,7 +58,7 @@ data Stood (views : List View) (id : ℕ) (left right : View) (j : ℕ) (u : Vie
 
 stood : (views : List View) (id : ℕ) (left right : View) (j : ℕ) (u : View) → get_elem? (set views id left ++ right ∷ []) j ≡ some u → Stood views id left right j u
 stood views id left right j u e =
-    ⊎_elim (λ old. ⊎_elim (λ t. cut t.0 t.1) (λ t. beside t.0 t.1) (at_set views id j left u old)) (λ t. behind (t.0 ∙ length-set views id left) t.1) (at_end (set views id left) right u j e)
+    ⊎_elim (λ old. ⊎_elim (λ t. cut t.0 t.1) (λ t. beside t.0 t.1) (at_set views id j left u old)) (λ t. behind (t.0 ∙ length-set views id left) t.1) (at_push (set views id left) right u j e)
 
 -- ---- a further lane
 

@@ -1,7 +1,6 @@
 -- Each step of a lane keeps the rule, and tells what it found.
-use Rattle.std.proofs.Common.{◌≡◌, ⊎_elim, ℕ, ◌<◌, ◌≤◌, eqb, List, [], ◌∷◌, ◌++◌, get_or, set, arith, refl, sym, ap, ◌∙◌, subst, append-nil}
+use Rattle.std.proofs.Common.{◌≡◌, ⊎_elim, ℕ, ◌<◌, ◌≤◌, eqb, List, [], ◌∷◌, ◌++◌, get_or, set, arith, refl, sym, ap, ◌∙◌, subst}
 use Rattle.std.specs.Prelude.{Some, Option}
-use Rattle.std.proofs.lemmas.Bool.{ne_eqb}
 use Rattle.std.proofs.lemmas.List.{set-get_or}
 use mathlib.Core.Option.{some, none, some-injective}
 use mathlib.Core.List.{IsPrefix}
@@ -11,19 +10,15 @@ use lib.ListN.{get_elem?}
 use Rattle.atomic_table.specs.Table.{State, Me, step, keeps, stepped, Allows, Valid, carried_after, Act as TableAct}
 use Rattle.atomic_table.proofs.Lists.{at_set, exchanged}
 use Rattle.ext_model.specs.declared.event.Act.{Act}
-use Rattle.ext_model.specs.History.{History, by, own, IsAllowed, IsLegal}
-use Rattle.ext_model.specs.Views.{seen}
-use Rattle.ext_model.proofs.Legal.{legal_push}
-use Rattle.ext_model.proofs.Fronts.{last_append}
-use Rattle.ext_model.proofs.Composed.{own_append}
-use Rattle.ext_model.proofs.Claims.{own_not}
+use Rattle.ext_model.specs.History.{History, by, lane_of, own, IsAllowed, IsLegal}
+use Rattle.ext_history.specs.Views.{seen}
+use Rattle.ext_history.proofs.Legal.{legal_push}
+use Rattle.ext_history.proofs.Fronts.{last_append}
+use Rattle.ext_history.proofs.Lanes.{own_push_other}
 use Rattle.ext_cells.specs.declared.rule.CellLimits.{CellLimits}
 use Rattle.ext_cells.specs.declared.rule.View.{View}
 use Rattle.ext_cells.specs.Rule.{IsWordAt, AreWordsOf, place_in, limits_of, shown, Fits, Kept, FoundBy, Looked, Exchanged}
 use Rattle.ext_cells.proofs.CellWords.{words_after}
-
-own_other : (lane n : ℕ) (act : Act ℕ) (h : History) → (lane ≡ n → ⊥) → own n (h ++ by lane act ∷ []) ≡ own n h
-own_other lane n act h ne = own_append n h (by lane act ∷ []) ∙ ap (λ (z : History). own n h ++ z) (own_not n (by lane act) [] (ne_eqb lane n ne)) ∙ append-nil (own n h)
 
 -- a view that stands after a step of one seat had the same number and count before it
 was : (views : List View) (id j : ℕ) (v u : View) (h : History) → get_elem? views id ≡ some v → get_elem? (set views id (shown v h)) j ≡ some u
@@ -118,7 +113,7 @@ exchanges limits slots id me place old new lane act may s k _ at _ =
       keeps,
       tt,
       goes_on limits s k id v at (k.history ++ e ∷ []) (e ∷ [], refl) (legal_push k.history e k.legal (subst (λ l. IsAllowed (limits_of l) k.history e) same can))
-          (λ j other. own_other lane j act k.history (λ is. other (may.lane_is ∙ ap Some is)))
+          (λ j other. own_push_other lane_of j k.history (by lane act) (λ is. other (may.lane_is ∙ ap Some is)))
           (set s.words place new)
           (words_after (limits_of limits) k.history lane act place new s.words
           (subst (λ l. place ≡ place_in (limits_of l) act) same may.here)

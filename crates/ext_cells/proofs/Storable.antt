@@ -6,13 +6,14 @@ use Rattle.ext_model.specs.declared.event.Act.{Act}
 use Rattle.ext_model.specs.declared.event.Act.TheVariants.{Keep, Put}
 use Rattle.ext_model.specs.declared.event.Event.{Event}
 use Rattle.ext_model.specs.History.{History, Limits, by, own, stored, stored_number, state_after, IsLegal}
-use Rattle.ext_model.specs.Views.{LaneView, seen_by, events_by}
+use Rattle.ext_history.specs.Views.{seen_by}
+use Rattle.ext_model.specs.Views.{LaneView, events_by}
 use Rattle.ext_model.specs.Calls.{Calls, MayStoreNow}
-use Rattle.ext_model.proofs.Legal.{legal_prefix}
-use Rattle.ext_model.proofs.Lists.{contains_none, contains_cons, contains_filter_map, contains_from_filter, contains_from_filter_map}
+use Rattle.ext_history.proofs.Legal.{legal_prefix}
+use Rattle.ext_history.proofs.Lists.{contains_none, contains_cons, contains_filter_map, contains_from_filter, contains_from_filter_map}
 use Rattle.ext_model.proofs.Numbers.{bounded}
 use Rattle.ext_model.proofs.Stored.{drew_own}
-use Rattle.ext_model.proofs.Composed.{same_number}
+use Rattle.ext_history.proofs.Composed.{same_number}
 use Rattle.ext_cells.specs.declared.refusal.CellRefusal.{CellRefusal}
 use Rattle.ext_cells.specs.Lanes.{Lane}
 use Rattle.ext_cells.proofs.CallEvents.{call_made}
@@ -30,7 +31,7 @@ no_event lane number (act ∷ acts) none x there is = elim (contains_cons (by la
 pub stays_storable : (limits : Limits) (a b : LaneView) (acts : List (Act ℕ)) (number : ℕ) → Calls limits a b acts → All (λ act. stored_number act ≡ Some number → ⊥) acts → MayStoreNow a number → MayStoreNow b number
 stays_storable limits a b acts number calls none now =
     let mine : History = own a.number (seen_by a) in
-    let lane : b.number ≡ a.number = same_number limits a b acts calls in record {
+    let lane : b.number ≡ a.number = same_number calls in record {
       drew = subst (λ k. Contains (own k (seen_by b)) (by k (Keep number))) (sym lane)
           (subst (λ z. Contains z (by a.number (Keep number))) (sym calls.own_events) (Contains-append_left mine (events_by a.number acts) (by a.number (Keep number)) now.drew));
       fresh = subst (λ k. ¬ (Contains (stored (own k (seen_by b))) number)) (sym lane) (λ there.
@@ -59,7 +60,7 @@ stores_none lane number x same is = let q : None ≡ Some number = ap (λ (e : E
 -- a number that was just drawn may be stored
 drawn_storable : (limits : Limits) (a b : LaneView) (number : ℕ) (p : History) → Calls limits a b (Keep number ∷ []) → seen_by b ≡ p ++ by a.number (Keep number) ∷ [] → MayStoreNow b number
 drawn_storable limits a b number p calls is =
-    let lane : b.number ≡ a.number = same_number limits a b (Keep number ∷ []) calls in
+    let lane : b.number ≡ a.number = same_number calls in
     let legal : IsLegal limits (p ++ by a.number (Keep number) ∷ []) = subst (IsLegal limits) is calls.legal in
     record {
       drew = subst (λ k. Contains (own k (seen_by b)) (by k (Keep number))) (sym lane)

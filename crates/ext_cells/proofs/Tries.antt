@@ -1,13 +1,16 @@
 -- A call that tries: a first load, and then exchanges that met other words.
 use Rattle.std.proofs.Common.{◌≡◌, ◌≢◌, inl, ℕ, ◌+◌, ◌≤◌, [], ◌∷◌, ◌++◌, length, sym, refl, ap, ◌∙◌, subst, arith, append_assoc, append-nil, length-append}
-use mathlib.Core.List.{append_cancel_left}
 use base.Growing.{prefix_refl, prefix_trans}
 use Rattle.ext_model.specs.declared.event.Act.{Act}
-use Rattle.ext_model.specs.History.{History, Limits, by, own, IsAllowed}
-use Rattle.ext_model.specs.Views.{LaneView, first_or, seen_by, moved, call_fronts, first_front, IsStepped}
+use Rattle.ext_model.specs.History.{History, Limits, by, lane_of, own, IsAllowed}
+use Rattle.ext_history.specs.Views.{first_or, seen_by, moved, call_fronts, first_front, IsStepped}
+use Rattle.ext_model.specs.Views.{LaneView}
 use Rattle.ext_model.specs.Calls.{Calls, HoldsAtPoint, IsOvertaken, GoesOn}
-use Rattle.ext_model.proofs.Composed.{own_append, moved_fronts, moved_seen, same_number, seen_goes_on, first_is_seen, fronts_compose, calls_compose, steps_stay, first_decides, later_answers}
-use Rattle.ext_model.proofs.Single.{step_calls, event_calls, event_holds}
+use Rattle.ext_history.proofs.Fronts.{moved_fronts, moved_once, moved_seen}
+use Rattle.ext_history.proofs.Lanes.{own_append, own_past}
+use Rattle.ext_history.proofs.Composed.{same_number, seen_goes_on, first_is_seen, steps_compose, steps_stay, first_decides}
+use Rattle.ext_model.proofs.Composed.{calls_compose, later_answers}
+use Rattle.ext_history.proofs.Single.{step_calls, event_calls, event_holds}
 use Rattle.ext_cells.specs.Lanes.{Lane}
 use Rattle.ext_cells.specs.Rule.{IsWordAt}
 use Rattle.ext_cells.specs.Steps.{stepped, Finds}
@@ -16,9 +19,6 @@ use Rattle.ext_cells.proofs.CellWords.{one_word}
 not_empty : (m : History) → (m ≡ [] → ⊥) → 1 ≤ length m
 not_empty [] ne = absurd (ne refl)
 not_empty (x ∷ m) ne = omega arith
-
-pub own_more : (lane : ℕ) (p h m : History) → p ++ m ≡ h → own lane h ≡ own lane p → own lane m ≡ []
-own_more lane p h m is same = append_cancel_left (own lane p) (own lane m) [] (sym (own_append lane p m) ∙ (ap (own lane) is ∙ (same ∙ sym (append-nil (own lane p)))))
 
 -- the call has made its first step and this many exchanges that met other words, and no event
 pub record Tries (limits : Limits) (before now : LaneView) (place word count : ℕ) : Type 0 where
@@ -34,16 +34,13 @@ pub record TriesOn (before now : Lane) (place word count : ℕ) : Type 0 where
   pub cells : now.cells ≡ before.cells
   pub tries : Tries before.cells.limits before.view now.view place word count
 
-one_step : (lane : LaneView) (h : History) → length (call_fronts lane (moved lane (h ∷ []))) ≡ 1
-one_step lane h = ap length (moved_fronts lane (h ∷ []))
-
 pub first_try : (limits : Limits) (before now : LaneView) (place word : ℕ) (h : History) → place ≤ limits.cells → Finds limits before place word h → now ≡ moved before (h ∷ []) → Tries limits before now place word 0
 first_try limits before now place word h within f e =
     let after : LaneView = moved before (h ∷ []) in
-    let steps = one_step before h in
+    let steps = moved_once before h in
     let first : first_front before after ≡ h = ap (first_or (seen_by before)) (moved_fronts before (h ∷ [])) in
     subst (λ l. Tries limits before l place word 0) (sym e) (record {
-      calls = (step_calls limits before h f.on).0;
+      calls = (step_calls f.on).0;
       stepped = omega (arith, steps);
       within = within;
       word_is = subst (λ z. IsWordAt limits z place word) (sym (moved_seen before (h ∷ []))) f.word_is;
@@ -60,28 +57,28 @@ next_try limits before now next place word found count h t ne f e = subst (λ l.
 
     go : Tries limits before (moved now (h ∷ [])) place found (count + 1)
     go =
-        let two = (step_calls limits now h f.on).0 in
+        let two = (step_calls f.on).0 in
         let next : LaneView = moved now (h ∷ []) in
         let m : History = f.on.begins.0 in
         let longer : seen_by now ++ m ≡ h = f.on.begins.1 in
-        let number = same_number limits before now [] t.calls in
-        let none : own before.number m ≡ [] = own_more before.number (seen_by now) h m longer (subst (λ k. own k h ≡ own k (seen_by now)) number f.on.own_same) in
+        let number = same_number t.calls in
+        let none : own before.number m ≡ [] = own_past lane_of before.number (seen_by now) m (ap (own before.number) longer ∙ subst (λ k. own k h ≡ own k (seen_by now)) number f.on.own_same) in
         let some : 1 ≤ length m = not_empty m (λ is. ne (one_word limits h place found word t.within f.word_is (subst (λ z. IsWordAt limits z place word) (sym (append-nil (seen_by now)) ∙ (ap (λ z. seen_by now ++ z) (sym is) ∙ longer)) t.word_is))) in
         let more : History = t.passed.0 in
         let many = t.passed.3 in
         let both = length-append more m in
-        let steps : length (call_fronts before next) ≡ length (call_fronts before now) + length (call_fronts now next) = ap length (fronts_compose limits before now next [] [] t.calls two) ∙ length-append (call_fronts before now) (call_fronts now next) in
+        let steps : length (call_fronts before next) ≡ length (call_fronts before now) + length (call_fronts now next) = steps_compose t.calls two in
         let had = t.steps in
-        let one = one_step now h in
+        let one = moved_once now h in
         record {
           calls = calls_compose limits before now next [] [] t.calls two;
-          stepped = steps_stay limits before now next [] [] t.calls two (inl t.stepped);
+          stepped = steps_stay t.calls two (inl t.stepped);
           within = t.within;
           word_is = subst (λ z. IsWordAt limits z place found) (sym (moved_seen now (h ∷ []))) f.word_is;
           passed = (
             more ++ m,
-            moved_seen now (h ∷ []) ∙ sym longer ∙ ap (λ z. z ++ m) t.passed.1 ∙ append_assoc (first_front before now) more m ∙ ap (λ z. z ++ (more ++ m)) (sym (first_decides limits before now next [] [] t.calls two t.stepped)),
-            own_append before.number more m ∙ (λ i. t.passed.2 i ++ none i),
+            moved_seen now (h ∷ []) ∙ sym longer ∙ ap (λ z. z ++ m) t.passed.1 ∙ append_assoc (first_front before now) more m ∙ ap (λ z. z ++ (more ++ m)) (sym (first_decides t.calls two t.stepped)),
+            own_append lane_of before.number more m ∙ (λ i. t.passed.2 i ++ none i),
             omega (arith, many, both, some),
           );
           steps = omega (arith, steps, had, one);
@@ -93,7 +90,7 @@ module _ (limits : Limits) (before now : LaneView) (place word count : ℕ) (t :
   answered Fact fact = record {
     calls = t.calls;
     stepped = t.stepped;
-    point = (seen_by now, (first_is_seen limits before now [] t.calls, prefix_refl (seen_by now)), fact);
+    point = (seen_by now, (first_is_seen t.calls, prefix_refl (seen_by now)), fact);
   }
 
   -- other lanes were in the way of each exchange
@@ -107,21 +104,21 @@ module _ (limits : Limits) (before now : LaneView) (place word count : ℕ) (t :
   pub made : (next : LaneView) (act : Act ℕ) (h : History) (Fact : History → Type 0) → GoesOn limits now h → IsAllowed limits h (by now.number act) → next ≡ moved now ((h ++ by now.number act ∷ []) ∷ []) → Fact h
       → HoldsAtPoint limits before next (act ∷ []) Fact
   made next act h Fact on allowed e fact =
-      later_answers limits before now next (act ∷ []) Fact t.calls (subst (λ l. HoldsAtPoint limits now l (act ∷ []) Fact) (sym e) (event_holds limits now act h Fact on allowed fact))
+      later_answers limits before now next (act ∷ []) Fact t.calls (subst (λ l. HoldsAtPoint limits now l (act ∷ []) Fact) (sym e) (event_holds on (by now.number act) Fact refl allowed fact))
 
   -- a history that the lane finds next goes on from what it had seen before the call
   pub goes_on : (h : History) → GoesOn limits now h → GoesOn limits before h
   goes_on h on = record {
     legal = on.legal;
-    begins = prefix_trans (seen_by before) (seen_by now) h (seen_goes_on limits before now [] t.calls) on.begins;
-    own_same = subst (λ k. own k h ≡ own k (seen_by now)) (same_number limits before now [] t.calls) on.own_same ∙ (t.calls.own_events ∙ append-nil (own before.number (seen_by before)));
+    begins = prefix_trans (seen_by before) (seen_by now) h (seen_goes_on t.calls) on.begins;
+    own_same = subst (λ k. own k h ≡ own k (seen_by now)) (same_number t.calls) on.own_same ∙ (t.calls.own_events ∙ append-nil (own before.number (seen_by before)));
   }
 
   -- as does what it has seen
   pub seen_on : GoesOn limits before (seen_by now)
   seen_on = record {
     legal = t.calls.legal;
-    begins = seen_goes_on limits before now [] t.calls;
+    begins = seen_goes_on t.calls;
     own_same = t.calls.own_events ∙ append-nil (own before.number (seen_by before));
   }
 
@@ -146,9 +143,8 @@ steps_next before now next place word count h act t f allowed e =
     let f' : Finds limits now.view place word h = subst (λ l. Finds l now.view place word h) (ap (λ z. z.limits) t.cells) f in
     let may : IsAllowed limits h (by now.view.number act) = subst (λ l. IsAllowed l h (by now.view.number act)) (ap (λ z. z.limits) t.cells) allowed in
     let after : LaneView = moved now.view ((h ++ by now.view.number act ∷ []) ∷ []) in
-    let two = (event_calls limits now.view act h f'.on may).0 in
-    let all : length (call_fronts before.view after) ≡ length (call_fronts before.view now.view) + length (call_fronts now.view after) =
-    ap length (fronts_compose limits before.view now.view after [] (act ∷ []) t.tries.calls two) ∙ length-append (call_fronts before.view now.view) (call_fronts now.view after) in
+    let two = (event_calls f'.on (by now.view.number act) refl may).0 in
+    let all : length (call_fronts before.view after) ≡ length (call_fronts before.view now.view) + length (call_fronts now.view after) = steps_compose t.tries.calls two in
     let had = t.tries.steps in
-    let one = one_step now.view (h ++ by now.view.number act ∷ []) in
+    let one = moved_once now.view (h ++ by now.view.number act ∷ []) in
     subst (λ (l : LaneView). length (call_fronts before.view l) ≡ count + 2) (sym (ap (λ (z : Lane). z.view) e)) (omega (arith, all, had, one))

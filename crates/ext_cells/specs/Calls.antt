@@ -8,7 +8,8 @@ use Rattle.ext_model.specs.Events as events
 use Rattle.ext_model.specs.History.{History, reply_after}
 use Rattle.ext_model.specs.Plain.{number_drawn, what_stood}
 use Rattle.ext_model.specs.Words.{word_of}
-use Rattle.ext_model.specs.Views.{LaneView, seen_by, last_after, call_fronts, IsStepped, IsAnswerPoint}
+use Rattle.ext_history.specs.Views.{seen_by, last_after, call_fronts, IsStepped}
+use Rattle.ext_model.specs.Views.{LaneView, IsAnswerPoint}
 use Rattle.ext_model.specs.Calls as model
 use Rattle.ext_cells.specs.declared.claim.Claimed.{Claimed}
 use Rattle.ext_cells.specs.declared.claim.Claimed.TheVariants.{Won, Standing}

@@ -3,7 +3,8 @@
 use Rattle.std.specs.Prelude.{◌≡◌, ℕ, List, [], ◌∷◌}
 use Rattle.ext_model.specs.History.{History, Limits, own, IsLegal}
 use Rattle.ext_model.specs.Words.{word_of}
-use Rattle.ext_model.specs.Views.{LaneView, last_after, seen_by, Follow, moved}
+use Rattle.ext_history.specs.Views.{last_after, seen_by, Follow, moved}
+use Rattle.ext_model.specs.Views.{LaneView}
 
 -- each word is its cell's at the front with which it was read
 abbrev pub EachRead : List ℕ → List ℕ → List History → Type 0

@@ -9,7 +9,7 @@ use Rattle.atomic_table.specs.Table.{State, Me, Step}
 use Rattle.ext_model.specs.declared.event.Act.{Act}
 use Rattle.ext_model.specs.Events.{place_of}
 use Rattle.ext_model.specs.History.{History, Limits, by, own, state_after, IsAllowed, IsLegal}
-use Rattle.ext_model.specs.Views.{seen}
+use Rattle.ext_history.specs.Views.{seen}
 use Rattle.ext_model.specs.Words.{word_of}
 use Rattle.ext_cells.specs.declared.rule.CellLimits.{CellLimits}
 use Rattle.ext_cells.specs.declared.rule.View.{View}

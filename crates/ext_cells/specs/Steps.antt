@@ -5,7 +5,8 @@ use Rattle.ext_model.specs.declared.event.Act.{Act}
 use Rattle.ext_model.specs.declared.event.Act.TheVariants.{Keep, Put, Remove, Claim, Fill, Abandon, Seal}
 use Rattle.ext_model.specs.Events as events
 use Rattle.ext_model.specs.History.{History, Limits, by, reply_after, IsAllowed}
-use Rattle.ext_model.specs.Views.{LaneView, moved}
+use Rattle.ext_history.specs.Views.{moved}
+use Rattle.ext_model.specs.Views.{LaneView}
 use Rattle.ext_model.specs.Calls as model
 use Rattle.ext_cells.specs.declared.refusal.CellRefusal.{CellRefusal}
 use Rattle.ext_cells.specs.declared.refusal.CellRefusal.TheVariants.{Contended}

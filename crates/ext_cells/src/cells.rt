@@ -4,7 +4,7 @@ ghost use Rattle.std.specs.List.{IsDistinct};
 ghost use mathlib.Core.List.{IsPrefix};
 ghost use Rattle.ext_model.specs.History.{History, by, stored_number, IsLegal};
 ghost use Rattle.ext_model.specs.Words.{word_of};
-ghost use Rattle.ext_model.specs.Views.{seen_by, call_fronts};
+ghost use Rattle.ext_history.specs.Views.{seen_by, call_fronts};
 ghost use Rattle.ext_model.specs.Calls.{Calls, IsHeld, MayStoreNow};
 ghost use Rattle.ext_model.specs.declared.event.Act.TheVariants as act_is;
 ghost use Rattle.ext_cells.specs.Lanes.{AreLimits, fresh_lanes};
@@ -274,7 +274,7 @@ impl Cells {
     }
 
     /// Afterwards what the first lane has seen is a prefix of what the second has seen: so both speak of one
-    /// history. Neither makes an event. Takes no memory (own rule).
+    /// history. Neither makes an event; the first makes no step, and the second one. Takes no memory (own rule).
     pub fn meet(&self, first: &mut CellLane, second: &mut CellLane)
         requires first { first.old.cells ≡ self.now.id }
         requires second { second.old.cells ≡ self.now.id }
@@ -283,6 +283,8 @@ impl Cells {
         ensures first_call { Calls first.old.cells.limits first.old.view first.new.view [] }
         ensures second_call { Calls second.old.cells.limits second.old.view second.new.view [] }
         ensures met { IsPrefix (seen_by first.new.view) (seen_by second.new.view) }
+        ensures first_steps { length (call_fronts first.old.view first.new.view) ≡ 0 }
+        ensures second_steps { length (call_fronts second.old.view second.new.view) ≡ 1 }
     {
         let note = self.table.shared.split_seat::<Note>(&mut first.seat);
         self.table.shared.join_seat::<Note>(&mut second.seat, note);

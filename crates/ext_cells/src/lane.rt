@@ -1,7 +1,7 @@
 //! A lane: what a thread owns to act on the cells.
 ghost use Rattle.std.specs.Prelude.{◌≡◌, []};
 ghost use Rattle.ext_model.specs.History.{IsLegal};
-ghost use Rattle.ext_model.specs.Views.{Follow, seen_by};
+ghost use Rattle.ext_history.specs.Views.{Follow, seen_by};
 
 use crate::rule::LaneSeat;
 use ext_model::LaneNo;
@@ -20,7 +20,7 @@ pub struct CellLane {
 impl Model for CellLane {
     ghost use Rattle.std.specs.Prelude.{◌≡◌, [], Some};
     ghost use Rattle.ext_model.specs.History.{IsLegal};
-    ghost use Rattle.ext_model.specs.Views.{Follow, seen};
+    ghost use Rattle.ext_history.specs.Views.{Follow, seen};
     ghost use Rattle.ext_cells.specs.Lanes.{Lane};
     ghost use Rattle.ext_cells.specs.Rule.{limits_of};
 

@@ -7,12 +7,12 @@ use Rattle.std.proofs.lemmas.List.{map-append}
 use Rattle.ext_model.specs.declared.event.Act.TheVariants.{Seal}
 use Rattle.ext_model.specs.Events.{is_on}
 use Rattle.ext_model.specs.History.{Limits, by, own, IsLegal}
-use Rattle.ext_model.specs.Views.{seen_by, events_by}
+use Rattle.ext_history.specs.Views.{seen_by}
+use Rattle.ext_model.specs.Views.{events_by}
 use Rattle.ext_model.specs.Calls.{Calls}
-use Rattle.ext_model.proofs.Lists.{bools, contains_none, contains_here, contains_later, contains_cons, contains_from_filter}
+use Rattle.ext_history.proofs.Lists.{bools, contains_none, contains_here, contains_later, contains_cons, contains_from_filter}
 use Rattle.ext_model.proofs.Standing.{is_sealed, nothing_after_seal}
-use Rattle.ext_model.proofs.Composed.{seen_goes_on}
-use Rattle.ext_model.proofs.Held.{own_past}
+use Rattle.ext_history.proofs.Composed.{seen_goes_on, events_past}
 use Rattle.ext_cells.specs.Lanes.{Lane}
 use Rattle.ext_store.specs.Stores.{StoreView, StoreLane, CloserView, IsLaneOf, StillKeeps, cell_in}
 use Rattle.ext_closing.specs.declared.closed.Closed.{Closed}
@@ -78,14 +78,14 @@ some_then keys (suc n) first second some more below none = elim (bools (nat_lt n
 module _ (store : StoreView) (context keys : ℕ) (limits : Limits) (between after : Lane) (sealed : List ℕ) (calls : Calls limits between.view after.view (seals_of store context sealed)) (closed : AreSealed store context keys between) where
   none_again : NoneBelow keys sealed
   none_again key below there =
-      let on = seen_goes_on limits between.view after.view (seals_of store context sealed) calls in
+      let on = seen_goes_on calls in
       let cell = cell_in store key context in
       let lane = between.view.number in
       let is = closed key below in
       let legal : IsLegal limits (seen_by between.view ++ on.0) = subst (IsLegal limits) (sym on.1) calls.legal in
       let made : Contains (events_by lane (seals_of store context sealed)) (by lane (Seal cell)) =
       contains_map (by lane) (seals_of store context sealed) (Seal cell) (contains_map (λ k. Seal (cell_in store k context)) sealed key there) in
-      let own_made : Contains (own lane on.0) (by lane (Seal cell)) = subst (λ h. Contains h (by lane (Seal cell))) (sym (own_past limits between.view after.view (seals_of store context sealed) calls)) made in
+      let own_made : Contains (own lane on.0) (by lane (Seal cell)) = subst (λ h. Contains h (by lane (Seal cell))) (sym (events_past calls)) made in
       let happened : Contains on.0 (by lane (Seal cell)) = contains_from_filter _ on.0 (by lane (Seal cell)) own_made in
       let off : is_on nat_eq cell (Seal cell) ≡ false = nothing_after_seal (seen_by between.view) on.0 cell legal (ap is_sealed is.1) (by lane (Seal cell)) happened in
       let here : nat_eq cell cell ≡ true = grind (arith, nat_tests) in

@@ -12,13 +12,15 @@ use Rattle.ext_model.specs.declared.slot.Slot.TheVariants as slot
 use Rattle.ext_model.specs.State.{standing}
 use Rattle.ext_model.specs.Events.{Happens, Answers, seal_reply, apply}
 use Rattle.ext_model.specs.History.{History, Limits, by, state_after, slots_in, IsLegal}
-use Rattle.ext_model.specs.Views.{LaneView, seen_by}
+use Rattle.ext_history.specs.Views.{seen_by}
+use Rattle.ext_model.specs.Views.{LaneView}
 use Rattle.ext_model.specs.Calls.{Calls, Seals}
 use Rattle.ext_model.specs.Closing.{IsClosed, kept_by, put_in_kept, remaining}
-use Rattle.ext_model.proofs.Legal.{after-push}
+use Rattle.ext_model.proofs.Words.{after-push}
 use Rattle.ext_model.proofs.Standing.{is_sealed, none_after_seal}
 use Rattle.ext_model.proofs.Claims.{quiet_slot}
-use Rattle.ext_model.proofs.Composed.{calls_compose, seen_goes_on}
+use Rattle.ext_history.proofs.Composed.{seen_goes_on}
+use Rattle.ext_model.proofs.Composed.{calls_compose}
 use Rattle.ext_model.proofs.Remaining.{stays_closed, remaining_stays}
 use Rattle.ext_cells.specs.Lanes.{CellsId, Lane}
 use Rattle.ext_store.specs.Stores.{StoreView, cell_in}
@@ -66,8 +68,8 @@ module _ (limits : Limits) (cell : ℕ) (before after : LaneView) (kept : Option
 
   -- which goes on from what it had seen
   seals_go_on : Seals limits cell before after kept → IsPrefix (seen_by before) (seen_by after)
-  seals_go_on (inl made) = seen_goes_on limits before after _ made.calls
-  seals_go_on (inr found) = seen_goes_on limits before after _ found.calls
+  seals_go_on (inl made) = seen_goes_on made.calls
+  seals_go_on (inr found) = seen_goes_on found.calls
 
   seals_legal : Seals limits cell before after kept → IsLegal limits (seen_by after)
   seals_legal (inl made) = made.calls.legal
@@ -155,7 +157,7 @@ module _ (store : StoreView) (context : ℕ) (before between after : Lane) (same
   module _ (below : key < length store.keys) where
     quiet_end : (calls : Calls between.cells.limits between.view after.view []) → AreSealed store context key after × MakesSeals store context key before after
     quiet_end calls =
-        let on = seen_goes_on between.cells.limits between.view after.view [] calls in
+        let on = seen_goes_on calls in
         (still_sealed store context between.cells.limits between after on calls.legal key so_far.sealed, further_quiet store context before between after so_far.same key so_far.made calls)
 
     busy_end : IsBusyThere store context key between after → SealingEnds store context before after (Some (Busy key))

@@ -5,7 +5,7 @@ use Rattle.ext_model.specs.declared.event.Act.{Act}
 use Rattle.ext_model.specs.declared.event.Act.TheVariants.{Seal}
 use Rattle.ext_model.specs.declared.slot.Slot.{Slot}
 use Rattle.ext_model.specs.History.{slots_in}
-use Rattle.ext_model.specs.Views.{seen_by}
+use Rattle.ext_history.specs.Views.{seen_by}
 use Rattle.ext_model.specs.Calls.{Calls}
 use Rattle.ext_model.specs.Closing.{IsClosed, remaining}
 use Rattle.ext_cells.specs.Lanes.{Lane}

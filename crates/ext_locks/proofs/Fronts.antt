@@ -1,162 +1,103 @@
--- How a lane's fronts go on, and the events that it makes.
-use Rattle.std.proofs.Common.{◌≡◌, ℕ, ◌+◌, ◌-◌, Bool, List, [], ◌∷◌, ◌++◌, length, take, refl, sym, ap, ◌∙◌, subst, arith, append_assoc, append-nil, length-append}
-use Rattle.std.proofs.Math.Seq.{take-append_seam}
+-- What the steps of a lane add to its fronts, and the calls that they make.
+use Rattle.std.proofs.Common.{◌≡◌, ℕ, Bool, List, [], ◌∷◌, ◌++◌, refl, sym, ap, ◌∙◌, subst, append-nil}
 use Rattle.atomic_table.specs.Seated.{TableId}
 use Rattle.atomic_table.specs.declared.shared.Seat.{Seat}
+use Rattle.ext_history.specs.Views.{seen, seen_by, IsStepped}
+use Rattle.ext_history.proofs.Fronts.{last_append}
+use Rattle.ext_history.proofs.Single as single
+use Rattle.ext_history.proofs.Composed as composed
 use Rattle.ext_locks.specs.declared.event.LockMode.{LockMode}
 use Rattle.ext_locks.specs.declared.event.LockEvent.{LockEvent}
 use Rattle.ext_locks.specs.declared.seat.SeatView.{SeatView}
-use Rattle.ext_locks.specs.History.{LockHistory, event, own, IsLegal, IsBefore, AllBefore, then_events}
-use Rattle.ext_locks.specs.Views.{LaneView, seen, seen_by, Follow, GoesOn, Calls}
-use Rattle.ext_locks.specs.Rule.{Looked, Stepped, told_of}
+use Rattle.ext_locks.specs.History.{LockHistory, event, lane_of, IsLegal}
+use Rattle.ext_locks.specs.Views.{Lane, Calls, LaneCalls}
+use Rattle.ext_locks.specs.Rule.{lane_view, seeing, Looked, Stepped, told_of}
 use Rattle.ext_locks.specs.Steps.{lane_at, IsLane, Makes}
-use Rattle.ext_locks.proofs.Histories.{before_self, before_more, before_then, own_self}
 
-pub goes_self : (lanes : ℕ) (fs : List LockHistory) → GoesOn lanes fs fs
-goes_self lanes fs = record { added = []; all = refl; follow = tt }
+-- what is seen last is what the last step showed
+pub seen_now : (v w : SeatView) (h : LockHistory) → w ≡ seeing v h → seen w.fronts ≡ h
+seen_now v w h is = ap (λ x. seen x.fronts) is ∙ last_append [] v.fronts (h ∷ [])
 
-follow_more : (lanes : ℕ) (fs x y : List LockHistory) → Follow lanes x fs → Follow lanes y (x ++ fs) → Follow lanes (y ++ x) fs
-follow_more lanes fs x [] a b = a
-follow_more lanes fs x (f ∷ y) a b = (b.0, subst (λ g. IsBefore (seen g) f) (sym (append_assoc y x fs)) b.1, follow_more lanes fs x y a b.2)
+-- a step that showed a history is a call without an event,
+looked_calls : (v w : SeatView) (l k n : ℕ) → Looked v l k n w → Calls v.lanes (lane_view v l) (lane_view w l) []
+looked_calls v w l k n it =
+    subst (λ x. Calls v.lanes (lane_view v l) (lane_view x l) []) (sym it.view)
+    (single.step_calls it.meets.on).0
 
-pub goes_then : (lanes : ℕ) (fs gs hs : List LockHistory) → GoesOn lanes fs gs → GoesOn lanes gs hs → GoesOn lanes fs hs
-goes_then lanes fs gs hs a b = record {
-  added = b.added ++ a.added;
-  all = b.all ∙ (ap (λ g. b.added ++ g) a.all ∙ sym (append_assoc b.added a.added fs));
-  follow = follow_more lanes fs a.added b.added a.follow (subst (λ g. Follow lanes b.added g) a.all b.follow);
+-- and an event is a call of that event
+stepped_calls : (v w : SeatView) (l k : ℕ) (m : LockMode) (t : Bool) → Stepped v l k m t w → Calls v.lanes (lane_view v l) (lane_view w l) (event l k m t ∷ [])
+stepped_calls v w l k m t it =
+    subst (λ x. Calls v.lanes (lane_view v l) (lane_view x l) (event l k m t ∷ [])) (sym it.view)
+    (single.event_calls it.meets.on (event l k m t) refl it.allowed).0
+
+pub looked_stepped : (v w : SeatView) (l k n : ℕ) → Looked v l k n w → IsStepped (lane_view v l) (lane_view w l)
+looked_stepped v w l k n it = subst (λ x. IsStepped (lane_view v l) (lane_view x l)) (sym it.view) (single.stepped (lane_view v l) it.history)
+
+-- ---- calls on lanes
+
+-- two calls one after the other
+pub calls_then : (a b c : Lane) (xs ys : List LockEvent) → LaneCalls a b xs → LaneCalls b c ys → LaneCalls a c (xs ++ ys)
+calls_then a b c xs ys one two = record {
+  table = two.table ∙ one.table;
+  lanes = two.lanes ∙ one.lanes;
+  calls = composed.calls_compose one.calls (subst (λ n. Calls n b.view c.view ys) one.lanes two.calls);
 }
 
-pub seen_before : (fs : List LockHistory) (h : LockHistory) → AllBefore fs h → IsBefore (seen fs) h
-seen_before [] h all = (h, sym (append-nil h))
-seen_before (f ∷ fs) h all = all.0
+-- a lane that was not called
+pub calls_none : (a : Lane) → IsLegal a.lanes (seen_by a.view) → LaneCalls a a []
+calls_none a legal = record { table = refl; lanes = refl; calls = composed.calls_none lane_of a.view legal }
 
-pub looked_goes : (v w : SeatView) (l k n : ℕ) → Looked v l k n w → GoesOn v.lanes v.fronts w.fronts
-looked_goes v w l k n it = record { added = it.history ∷ []; all = ap (λ x. x.fronts) it.view; follow = (it.meets.legal, seen_before v.fronts it.history it.meets.fronts, tt) }
+-- ---- what a seat makes
 
-pub stepped_goes : (v w : SeatView) (l k : ℕ) (m : LockMode) (t : Bool) → Stepped v l k m t w → GoesOn v.lanes v.fronts w.fronts
-stepped_goes v w l k m t it = record {
-  added = (event l k m t ∷ it.history) ∷ [];
-  all = ap (λ x. x.fronts) it.view;
-  follow = ((it.allowed, it.meets.legal), before_more (seen v.fronts) it.history (event l k m t) (seen_before v.fronts it.history it.meets.fronts), tt);
-}
-
--- ---- what is seen goes on
-
-follow_seen : (lanes : ℕ) (added fs : List LockHistory) → Follow lanes added fs → IsBefore (seen fs) (seen (added ++ fs))
-follow_seen lanes [] fs follow = before_self (seen fs)
-follow_seen lanes (f ∷ added) fs follow = before_then (seen fs) (seen (added ++ fs)) f (follow_seen lanes added fs follow.2) follow.1
-
-pub goes_seen : (lanes : ℕ) (fs gs : List LockHistory) → GoesOn lanes fs gs → IsBefore (seen fs) (seen gs)
-goes_seen lanes fs gs goes = subst (λ x. IsBefore (seen fs) (seen x)) (sym goes.all) (follow_seen lanes goes.added fs goes.follow)
-
--- fronts that follow one another from the first on, and go on, still do
-pub goes_follow : (lanes : ℕ) (fs gs : List LockHistory) → Follow lanes fs [] → GoesOn lanes fs gs → Follow lanes gs []
-goes_follow lanes fs gs follow goes =
-    subst (λ x. Follow lanes x []) (sym goes.all) (follow_more lanes [] fs goes.added follow (subst (λ x. Follow lanes goes.added x) (sym (append-nil fs)) goes.follow))
-
-pub seen_legal : (lanes : ℕ) (fs : List LockHistory) → Follow lanes fs [] → IsLegal lanes (seen fs)
-seen_legal lanes [] follow = tt
-seen_legal lanes (f ∷ fs) follow = follow.0
-
--- ---- the events of a lane
-
-pub then_more : (xs ys : List LockEvent) (h : LockHistory) → then_events (xs ++ ys) h ≡ then_events ys (then_events xs h)
-then_more [] ys h = refl
-then_more (e ∷ xs) ys h = then_more xs ys (e ∷ h)
-
-pub makes_self : (s : Seat (Unit {0}) SeatView) (l : ℕ) → Makes s s l []
-makes_self s l = record { table = refl; number = refl; lanes = refl; fronts = goes_self s.me.0.lanes s.me.0.fronts; own_events = refl }
+pub makes_self : (s : Seat (Unit {0}) SeatView) (l : ℕ) → IsLegal s.me.0.lanes (seen s.me.0.fronts) → Makes s s l []
+makes_self s l legal = record { number = refl; calls = calls_none (lane_at s l) legal }
 
 module _ (s t u : Seat (Unit {0}) SeatView) (l : ℕ) where
   pub makes_then : (xs ys : List LockEvent) → Makes s t l xs → Makes t u l ys → Makes s u l (xs ++ ys)
-  makes_then xs ys a b = record {
-    table = b.table ∙ a.table;
-    number = b.number ∙ a.number;
-    lanes = b.lanes ∙ a.lanes;
-    fronts = goes_then s.me.0.lanes s.me.0.fronts t.me.0.fronts u.me.0.fronts a.fronts (subst (λ n. GoesOn n t.me.0.fronts u.me.0.fronts) a.lanes b.fronts);
-    own_events = b.own_events ∙ (ap (λ h. then_events ys h) a.own_events ∙ sym (then_more xs ys (own l (seen s.me.0.fronts))));
-  }
+  makes_then xs ys a b = record { number = b.number ∙ a.number; calls = calls_then (lane_at s l) (lane_at t l) (lane_at u l) xs ys a.calls b.calls }
 
   -- the second part made no event
   pub makes_quiet : (xs : List LockEvent) → Makes s t l xs → Makes t u l [] → Makes s u l xs
-  makes_quiet xs a b = record {
-    table = b.table ∙ a.table;
-    number = b.number ∙ a.number;
-    lanes = b.lanes ∙ a.lanes;
-    fronts = goes_then s.me.0.lanes s.me.0.fronts t.me.0.fronts u.me.0.fronts a.fronts (subst (λ n. GoesOn n t.me.0.fronts u.me.0.fronts) a.lanes b.fronts);
-    own_events = b.own_events ∙ a.own_events;
-  }
+  makes_quiet xs a b = subst (λ zs. Makes s u l zs) (append-nil xs) (makes_then xs [] a b)
+
+pub makes_legal : (s t : Seat (Unit {0}) SeatView) (l : ℕ) (xs : List LockEvent) → Makes s t l xs → IsLegal t.me.0.lanes (seen t.me.0.fronts)
+makes_legal s t l xs makes = subst (λ n. IsLegal n (seen t.me.0.fronts)) (sym makes.calls.lanes) makes.calls.calls.legal
 
 pub lane_makes : (table : TableId) (keys l : ℕ) (s t : Seat (Unit {0}) SeatView) (xs : List LockEvent) → IsLane table keys s l → Makes s t l xs → IsLane table keys t l
-lane_makes table keys l s t xs lane makes = record { same_table = makes.table ∙ lane.same_table; same_keys = lane.same_keys; number = makes.number ∙ lane.number; few = lane.few }
+lane_makes table keys l s t xs lane makes = record {
+  same_table = makes.calls.table ∙ lane.same_table;
+  same_keys = lane.same_keys;
+  number = makes.number ∙ lane.number;
+  few = lane.few;
+  legal = makes_legal s t l xs makes;
+}
 
 pub looked_makes : (s t : Seat (Unit {0}) SeatView) (l k n : ℕ) → t.table_id ≡ s.table_id → Looked s.me.0 l k n t.me.0 → Makes s t l []
 looked_makes s t l k n same it = record {
-  table = same;
   number = ap (λ x. x.number) it.view;
-  lanes = ap (λ x. x.lanes) it.view;
-  fronts = looked_goes s.me.0 t.me.0 l k n it;
-  own_events = ap (λ x. own l (seen x.fronts)) it.view ∙ it.meets.own;
+  calls = record { table = same; lanes = ap (λ x. x.lanes) it.view; calls = looked_calls s.me.0 t.me.0 l k n it };
 }
 
 pub stepped_makes : (s t : Seat (Unit {0}) SeatView) (l k : ℕ) (m : LockMode) (b : Bool) → t.table_id ≡ s.table_id → Stepped s.me.0 l k m b t.me.0 → Makes s t l (event l k m b ∷ [])
 stepped_makes s t l k m b same it = record {
-  table = same;
   number = ap (λ y. y.number) it.view;
-  lanes = ap (λ y. y.lanes) it.view;
-  fronts = stepped_goes s.me.0 t.me.0 l k m b it;
-  own_events = ap (λ x. own l (seen x.fronts)) it.view ∙ (own_self (event l k m b) it.history ∙ ap (λ o. event l k m b ∷ o) it.meets.own);
+  calls = record { table = same; lanes = ap (λ x. x.lanes) it.view; calls = stepped_calls s.me.0 t.me.0 l k m b it };
 }
 
 -- a lane that was told of a history, and then looked
 pub told_makes : (s t : Seat (Unit {0}) SeatView) (v : SeatView) (l k n : ℕ) → t.table_id ≡ s.table_id → Looked (told_of s.me.0 v) l k n t.me.0 → Makes s t l []
 told_makes s t v l k n same it = record {
-  table = same;
   number = ap (λ x. x.number) it.view;
-  lanes = ap (λ x. x.lanes) it.view;
-  fronts = looked_goes (told_of s.me.0 v) t.me.0 l k n it;
-  own_events = ap (λ x. own l (seen x.fronts)) it.view ∙ it.meets.own;
+  calls = record { table = same; lanes = ap (λ x. x.lanes) it.view; calls = looked_calls (told_of s.me.0 v) t.me.0 l k n it };
 }
 
 -- a lane of which another was told
-pub kept_makes : (s t : Seat (Unit {0}) SeatView) (l : ℕ) → t.table_id ≡ s.table_id → t.me ≡ s.me → Makes s t l []
-kept_makes s t l same e = record {
-  table = same;
+pub kept_makes : (s t : Seat (Unit {0}) SeatView) (l : ℕ) → IsLegal s.me.0.lanes (seen s.me.0.fronts) → t.table_id ≡ s.table_id → t.me ≡ s.me → Makes s t l []
+kept_makes s t l legal same e = record {
   number = ap (λ m. m.0.number) e;
-  lanes = ap (λ m. m.0.lanes) e;
-  fronts = subst (λ m. GoesOn s.me.0.lanes s.me.0.fronts m.0.fronts) (sym e) (goes_self s.me.0.lanes s.me.0.fronts);
-  own_events = ap (λ m. own l (seen m.0.fronts)) e;
+  calls = record {
+    table = same;
+    lanes = ap (λ m. m.0.lanes) e;
+    calls = subst (λ m. Calls s.me.0.lanes (lane_view s.me.0 l) (lane_view m.0 l) []) (sym e) (composed.calls_none lane_of (lane_view s.me.0 l) legal);
+  };
 }
-
--- as contracts see it
-pub calls_made : (s t : Seat (Unit {0}) SeatView) (l : ℕ) (xs : List LockEvent) → Follow s.me.0.lanes s.me.0.fronts [] → Makes s t l xs → Calls (lane_at s l) (lane_at t l) xs
-calls_made s t l xs follow makes = record {
-  table = makes.table;
-  lanes = makes.lanes;
-  number = refl;
-  fronts = makes.fronts;
-  legal = seen_legal s.me.0.lanes t.me.0.fronts (goes_follow s.me.0.lanes s.me.0.fronts t.me.0.fronts follow makes.fronts);
-  own_events = makes.own_events;
-}
-
--- two calls one after the other
-pub calls_then : (a b c : LaneView) (xs ys : List LockEvent) → Calls a b xs → Calls b c ys → Calls a c (xs ++ ys)
-calls_then a b c xs ys first second = record {
-  table = second.table ∙ first.table;
-  lanes = second.lanes ∙ first.lanes;
-  number = second.number ∙ first.number;
-  fronts = goes_then a.lanes a.fronts b.fronts c.fronts first.fronts (subst (λ n. GoesOn n b.fronts c.fronts) first.lanes second.fronts);
-  legal = subst (λ n. IsLegal n (seen_by c)) first.lanes second.legal;
-  own_events = subst (λ n. own n (seen_by c) ≡ then_events ys (own n (seen_by b))) first.number second.own_events
-      ∙ (ap (then_events ys) first.own_events ∙ sym (then_more xs ys (own a.number (seen_by a))));
-}
-
--- a lane that was not called
-pub calls_none : (a : LaneView) → IsLegal a.lanes (seen_by a) → Calls a a []
-calls_none a legal = record { table = refl; lanes = refl; number = refl; fronts = goes_self a.lanes a.fronts; legal = legal; own_events = refl }
-
--- the fronts that a call added
-pub added_fronts : (fs gs added : List LockHistory) → gs ≡ added ++ fs → take (length gs - length fs) gs ≡ added
-added_fronts fs gs added all =
-    subst (λ x. take (length x - length fs) x ≡ added) (sym all)
-    (ap (λ n. take n (added ++ fs)) (let e = length-append added fs in let d : length (added ++ fs) - length fs ≡ length added = omega arith in d) ∙ take-append_seam added fs)

@@ -1,10 +1,15 @@
 -- Laws of lock histories.
-use Rattle.std.proofs.Common.{◌≡◌, ◌≢◌, ◌==◌, ◌&&◌, ◌<◌, ◌≤◌, ℕ, Bool, true, false, if◌then◌else◌, List, [], ◌∷◌, ◌++◌, refl, sym, ap, ◌∙◌, subst, true≢false, arith, append_assoc}
-use Rattle.std.proofs.lemmas.Bool.{eqb-true, eq-eqb, ne_eqb, and_parts, cond_both, cond-true, cond-false, both_ways, false_from_ne_true}
+use Rattle.std.proofs.Common.{◌≡◌, ◌≢◌, ◌==◌, ◌&&◌, ◌<◌, ◌≤◌, ℕ, Bool, true, false, if◌then◌else◌, [], ◌∷◌, ◌++◌, inl, inr, refl, sym, ap, ◌∙◌, subst, true≢false, fold}
+use Rattle.std.proofs.lemmas.Bool.{eqb-true, eqb-false, and_parts, cond-true, cond-false, both_ways, false_from_ne_true}
+use Rattle.std.proofs.lemmas.List.Sums.{fold-append}
+use Rattle.ext_history.proofs.Lists.{bools}
+use Rattle.ext_history.proofs.Lanes.{own_yes, own_not}
+use Rattle.ext_history.proofs.Legal.{legal_induct}
+use Rattle.ext_history.proofs.ByLanes.{none_beyond, no_lane_no_event}
 use Rattle.ext_locks.specs.declared.event.LockMode.{LockMode}
 use Rattle.ext_locks.specs.declared.event.LockMode.TheVariants.{Read, ReadWrite}
 use Rattle.ext_locks.specs.declared.event.LockEvent.{LockEvent}
-use Rattle.ext_locks.specs.History.{same_mode, is_about, holds, own, IsFree, IsAllowedAs, IsAllowed, IsLegal, IsLawful, IsBefore, AllBefore}
+use Rattle.ext_locks.specs.History.{LockHistory, lane_of, same_mode, is_about, holds_then, holds, own, IsFree, IsAllowedAs, IsAllowed, IsLegal, IsLawful}
 
 pub same_mode-true : (m n : LockMode) → same_mode m n ≡ true → m ≡ n
 same_mode-true Read Read e = refl
@@ -27,51 +32,51 @@ about e k m l is =
     let q = and_parts (e.key == k) (e.lane == l) p.0 in
     record { key = eqb-true _ _ q.0; lane = eqb-true _ _ q.1; mode = same_mode-true _ _ p.1 }
 
+-- one event more
+pub holds-push : (h : LockHistory) (e : LockEvent) (k : ℕ) (m : LockMode) (l : ℕ) → holds (h ++ e ∷ []) k m l ≡ (if is_about e k m l then e.takes else holds h k m l)
+holds-push h e k m l = fold-append (holds_then k m l) false h (e ∷ [])
+
 -- an event on another key, or of another lane, changes nothing
-pub other_key : (e : LockEvent) (h : List LockEvent) (k : ℕ) (m : LockMode) (l : ℕ) → e.key ≢ k → holds (e ∷ h) k m l ≡ holds h k m l
-other_key e h k m l ne = cond-false (is_about e k m l) e.takes (holds h k m l) (false_from_ne_true _ (λ is. ne (about e k m l is).key))
-
-pub other_lane : (e : LockEvent) (h : List LockEvent) (k : ℕ) (m : LockMode) (l : ℕ) → e.lane ≢ l → holds (e ∷ h) k m l ≡ holds h k m l
-other_lane e h k m l ne = cond-false (is_about e k m l) e.takes (holds h k m l) (false_from_ne_true _ (λ is. ne (about e k m l is).lane))
-
-pub own_other : (e : LockEvent) (h : List LockEvent) (l : ℕ) → e.lane ≢ l → own l (e ∷ h) ≡ own l h
-own_other e h l ne = cond-false (e.lane == l) (e ∷ own l h) (own l h) (ne_eqb _ _ ne)
-
-pub own_self : (e : LockEvent) (h : List LockEvent) → own e.lane (e ∷ h) ≡ e ∷ own e.lane h
-own_self e h = cond-true (e.lane == e.lane) (e ∷ own e.lane h) (own e.lane h) (eq-eqb e.lane e.lane refl)
+pub other_key : (e : LockEvent) (h : LockHistory) (k : ℕ) (m : LockMode) (l : ℕ) → e.key ≢ k → holds (h ++ e ∷ []) k m l ≡ holds h k m l
+other_key e h k m l ne = holds-push h e k m l ∙ cond-false (is_about e k m l) e.takes (holds h k m l) (false_from_ne_true _ (λ is. ne (about e k m l is).key))
 
 -- what a lane holds is decided by its own events
-pub by_own : (h : List LockEvent) (k : ℕ) (m : LockMode) (l : ℕ) → holds h k m l ≡ holds (own l h) k m l
-by_own [] k m l = refl
-by_own (e ∷ h) k m l =
-    cond_both (e.lane == l) (e ∷ own l h) (own l h) (λ o. holds (e ∷ h) k m l ≡ holds o k m l)
-    (λ is. ap (λ b. if is_about e k m l then e.takes else b) (by_own h k m l))
-    (λ isnt. other_lane e h k m l (λ is. both_ways (e.lane == l) isnt (eq-eqb e.lane l is)) ∙ by_own h k m l)
+from_own : (h : LockHistory) (b : Bool) (k : ℕ) (m : LockMode) (l : ℕ) → fold (holds_then k m l) b h ≡ fold (holds_then k m l) b (own l h)
+from_own [] b k m l = refl
+from_own (e ∷ h) b k m l = elim (bools (e.lane == l)) [
+  | inl mine ↦ from_own h (holds_then k m l b e) k m l ∙ ap (fold (holds_then k m l) b) (sym (own_yes lane_of l e h mine))
+  | inr not_mine ↦
+      ap (λ c. fold (holds_then k m l) c h) (cond-false (is_about e k m l) e.takes b (false_from_ne_true _ (λ is. eqb-false _ _ not_mine (about e k m l is).lane)))
+      ∙ (from_own h b k m l ∙ ap (fold (holds_then k m l) b) (sym (own_not lane_of l e h not_mine)))
+]
 
-pub none_held : (h : List LockEvent) (k : ℕ) (m : LockMode) (l : ℕ) → own l h ≡ [] → holds h k m l ≡ false
+pub by_own : (h : LockHistory) (k : ℕ) (m : LockMode) (l : ℕ) → holds h k m l ≡ holds (own l h) k m l
+by_own h k m l = from_own h false k m l
+
+pub none_held : (h : LockHistory) (k : ℕ) (m : LockMode) (l : ℕ) → own l h ≡ [] → holds h k m l ≡ false
 none_held h k m l none = by_own h k m l ∙ ap (λ o. holds o k m l) none
 
-pub same_held : (h g : List LockEvent) (k : ℕ) (m : LockMode) (l : ℕ) → own l h ≡ own l g → holds h k m l ≡ holds g k m l
+pub same_held : (h g : LockHistory) (k : ℕ) (m : LockMode) (l : ℕ) → own l h ≡ own l g → holds h k m l ≡ holds g k m l
 same_held h g k m l same = by_own h k m l ∙ (ap (λ o. holds o k m l) same ∙ sym (by_own g k m l))
 
 -- a lock that is free for a mode is not written
-not_beside : (h : List LockEvent) (k : ℕ) (m : LockMode) (l w : ℕ) → IsFree h k m → holds h k ReadWrite w ≡ true → ⊥
+not_beside : (h : LockHistory) (k : ℕ) (m : LockMode) (l w : ℕ) → IsFree h k m → holds h k ReadWrite w ≡ true → ⊥
 not_beside h k Read l w free writes = both_ways _ (free w) writes
 not_beside h k ReadWrite l w free writes = both_ways _ (free w ReadWrite) writes
 
-lawful_more : (lanes : ℕ) (e : LockEvent) (h : List LockEvent) → IsAllowed lanes h e → IsLawful h → IsLawful (e ∷ h)
+lawful_more : (lanes : ℕ) (e : LockEvent) (h : LockHistory) → IsAllowed lanes h e → IsLawful h → IsLawful (h ++ e ∷ [])
 lawful_more lanes e h may old k w l m writes holds_it =
     split (is_about e k ReadWrite w) refl (is_about e k m l) refl
   where
-    takes : (n : LockMode) (o : ℕ) → is_about e k n o ≡ true → holds (e ∷ h) k n o ≡ true → IsFree h k n
+    takes : (n : LockMode) (o : ℕ) → is_about e k n o ≡ true → holds (h ++ e ∷ []) k n o ≡ true → IsFree h k n
     takes n o is it =
-        let t : e.takes ≡ true = sym (cond-true (is_about e k n o) e.takes (holds h k n o) is) ∙ it in
+        let t : e.takes ≡ true = sym (holds-push h e k n o ∙ cond-true (is_about e k n o) e.takes (holds h k n o) is) ∙ it in
         let a = about e k n o is in
-        let free : IsFree h e.key e.mode = subst (λ b. IsAllowedAs b h e) t may.1 in
+        let free : IsFree h e.key e.mode = subst (λ b. IsAllowedAs b h e) t may.may in
         subst (λ (x : ℕ × LockMode). IsFree h x.0 x.1) (λ i. (a.key i, a.mode i)) free
 
-    before : (n : LockMode) (o : ℕ) → is_about e k n o ≡ false → holds (e ∷ h) k n o ≡ true → holds h k n o ≡ true
-    before n o isnt it = sym (cond-false (is_about e k n o) e.takes (holds h k n o) isnt) ∙ it
+    before : (n : LockMode) (o : ℕ) → is_about e k n o ≡ false → holds (h ++ e ∷ []) k n o ≡ true → holds h k n o ≡ true
+    before n o isnt it = sym (holds-push h e k n o ∙ cond-false (is_about e k n o) e.takes (holds h k n o) isnt) ∙ it
 
     split : (b : Bool) → is_about e k ReadWrite w ≡ b → (c : Bool) → is_about e k m l ≡ c → w ≡ l
     split true is true is' = sym (about e k ReadWrite w is).lane ∙ (about e k m l is').lane
@@ -79,42 +84,17 @@ lawful_more lanes e h may old k w l m writes holds_it =
     split false isnt true is' = absurd (not_beside h k m l w (takes m l is' holds_it) (before ReadWrite w isnt writes))
     split false isnt false isnt' = old k w l m (before ReadWrite w isnt writes) (before m l isnt' holds_it)
 
-pub lawful : (lanes : ℕ) (h : List LockEvent) → IsLegal lanes h → IsLawful h
-lawful lanes [] legal = λ k w l m writes holds_it. absurd (true≢false (sym writes))
-lawful lanes (e ∷ h) legal = lawful_more lanes e h legal.0 (lawful lanes h legal.1)
+pub lawful : (lanes : ℕ) (h : LockHistory) → IsLegal lanes h → IsLawful h
+lawful lanes h legal = legal_induct (IsAllowed lanes) IsLawful (λ k w l m writes holds_it. absurd (true≢false (sym writes))) (λ g e was old may. lawful_more lanes e g may old) h legal
 
 -- only the lanes that there are make events
-pub unmade : (lanes : ℕ) (h : List LockEvent) → IsLegal lanes h → (l : ℕ) → lanes ≤ l → own l h ≡ []
-unmade lanes [] legal l many = refl
-unmade lanes (e ∷ h) legal l many = own_other e h l (λ same. let below = legal.0.0 in omega arith) ∙ unmade lanes h legal.1 l many
+pub unmade : (lanes : ℕ) (h : LockHistory) → IsLegal lanes h → (l : ℕ) → lanes ≤ l → own l h ≡ []
+unmade lanes h legal l many = none_beyond lane_of (IsAllowed lanes) lanes (λ before e may. may.lane) l many h legal
 
 -- where none of them made one, there is none
-pub nothing_yet : (lanes : ℕ) (h : List LockEvent) → IsLegal lanes h → ((l : ℕ) → l < lanes → own l h ≡ []) → h ≡ []
-nothing_yet lanes [] legal none = refl
-nothing_yet lanes (e ∷ h) legal none = let one : e ∷ own e.lane h ≡ [] = sym (own_self e h) ∙ none e.lane legal.0.0 in absurd (cc)
+pub nothing_yet : (lanes : ℕ) (h : LockHistory) → IsLegal lanes h → ((l : ℕ) → l < lanes → own l h ≡ []) → h ≡ []
+nothing_yet lanes h legal none = no_lane_no_event lane_of (IsAllowed lanes) lanes (λ before e may. may.lane) h legal none
 
-legal_part : (lanes : ℕ) (since f : List LockEvent) → IsLegal lanes (since ++ f) → IsLegal lanes f
-legal_part lanes [] f legal = legal
-legal_part lanes (e ∷ since) f legal = legal_part lanes since f legal.1
-
--- what a legal history goes on from is legal
-pub legal_before : (lanes : ℕ) (f h : List LockEvent) → IsBefore f h → IsLegal lanes h → IsLegal lanes f
-legal_before lanes f h b legal = legal_part lanes b.0 f (subst (IsLegal lanes) b.1 legal)
-
--- beginnings
-pub before_self : (h : List LockEvent) → IsBefore h h
-before_self h = ([], refl)
-
-pub before_more : (f h : List LockEvent) (e : LockEvent) → IsBefore f h → IsBefore f (e ∷ h)
-before_more f h e b = (e ∷ b.0, ap (λ t. e ∷ t) b.1)
-
-pub before_then : (f g h : List LockEvent) → IsBefore f g → IsBefore g h → IsBefore f h
-before_then f g h a b = (b.0 ++ a.0, b.1 ∙ (ap (λ t. b.0 ++ t) a.1 ∙ sym (append_assoc b.0 a.0 f)))
-
-pub all_before_more : (fs : List (List LockEvent)) (h : List LockEvent) (e : LockEvent) → AllBefore fs h → AllBefore fs (e ∷ h)
-all_before_more [] h e all = tt
-all_before_more (f ∷ fs) h e all = (before_more f h e all.0, all_before_more fs h e all.1)
-
-pub free_unwritten : (h : List LockEvent) (k : ℕ) (m : LockMode) → IsFree h k m → (l : ℕ) → holds h k ReadWrite l ≡ false
+pub free_unwritten : (h : LockHistory) (k : ℕ) (m : LockMode) → IsFree h k m → (l : ℕ) → holds h k ReadWrite l ≡ false
 free_unwritten h k Read free l = free l
 free_unwritten h k ReadWrite free l = free l ReadWrite

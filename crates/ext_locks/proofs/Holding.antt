@@ -1,24 +1,28 @@
 -- What a lane holds after a step.
-use Rattle.std.proofs.Common.{◌≡◌, ◌≢◌, ◌&&◌, ℕ, ◌+◌, ◌<◌, ◌≤◌, Bool, true, false, if◌then◌else◌, List, length, Option, Some, None, slice_index_or, refl, sym, ap, ◌∙◌, subst, ⊎_elim, arith}
+use Rattle.std.proofs.Common.{◌≡◌, ◌≢◌, ◌&&◌, ℕ, ◌+◌, ◌<◌, ◌≤◌, Bool, true, false, if◌then◌else◌, List, [], ◌∷◌, ◌++◌, length, Option, Some, None, slice_index_or, refl, sym, ap, ◌∙◌, subst, ⊎_elim, arith}
 use Rattle.std.proofs.lemmas.Bool.{cond_both, both_ways, and_from, and_left, and_right, false_from_ne_true, cases_eq, cases_lt, eq-eqb}
 use Rattle.std.proofs.lemmas.List.{get_or_past}
 use Rattle.std.proofs.lemmas.Bool.Decides.{nat_tests}
+use Rattle.ext_history.specs.Views.{seen}
 use Rattle.ext_locks.specs.declared.event.LockMode.{LockMode}
 use Rattle.ext_locks.specs.declared.seat.SeatView.{SeatView}
 use Rattle.ext_locks.specs.History.{LockHistory, event, same_mode, is_about, holds}
-use Rattle.ext_locks.specs.Views.{seen}
 use Rattle.ext_locks.specs.Rule.{Looked, Stepped}
 use Rattle.ext_locks.specs.Steps.{is_mode, has_mode, is_between, HoldsBetween, SameHeld, HeldBut}
-use Rattle.ext_locks.proofs.Histories.{about, same_held, same_mode_self}
+use Rattle.ext_locks.proofs.Histories.{about, holds-push, same_held, same_mode_self}
+use Rattle.ext_locks.proofs.Fronts.{seen_now}
 
 -- a look leaves what the lane holds
 pub looked_held : (v w : SeatView) (l k n : ℕ) → Looked v l k n w → SameHeld v.fronts w.fronts l
-looked_held v w l k n it = record { each = λ key mode. ap (λ x. holds (seen x.fronts) key mode l) it.view ∙ same_held it.history (seen v.fronts) key mode l it.meets.own }
+looked_held v w l k n it = record { each = λ key mode. ap (λ h. holds h key mode l) (seen_now v w it.history it.view) ∙ same_held it.history (seen v.fronts) key mode l it.meets.on.own_same }
 
 -- a step decides about one lock and mode, and leaves the rest
 pub stepped_held : (v w : SeatView) (l k : ℕ) (m : LockMode) (t : Bool) → Stepped v l k m t w → HeldBut v.fronts w.fronts l k m t
 stepped_held v w l k m t it = record {
-  each = λ key mode. ap (λ x. holds (seen x.fronts) key mode l) it.view ∙ ap (λ b. if is_about (event l k m t) key mode l then t else b) (same_held it.history (seen v.fronts) key mode l it.meets.own);
+  each = λ key mode.
+      ap (λ h. holds h key mode l) (seen_now v w (it.history ++ event l k m t ∷ []) it.view)
+      ∙ (holds-push it.history (event l k m t) key mode l
+      ∙ ap (λ b. if is_about (event l k m t) key mode l then t else b) (same_held it.history (seen v.fronts) key mode l it.meets.on.own_same));
 }
 
 between_same : (f n k : ℕ) → k ≢ n → is_between f (n + 1) k ≡ is_between f n k

@@ -4,7 +4,6 @@ pub mod Moves
 pub mod Holding
 pub mod Lists
 pub mod Fronts
-pub mod Points
 pub mod Trying
 pub mod Whole
 pub mod Seats

@@ -1,5 +1,5 @@
 -- The locks of a set as a list, against its modes by lock number.
-use Rattle.std.proofs.Common.{◌≡◌, ◌&&◌, ◌||◌, ℕ, zero, suc, ◌+◌, ◌<◌, ◌≤◌, Bool, true, false, List, [], ◌∷◌, ◌++◌, length, take, map, Option, Some, None, slice_index_or, refl, sym, ap, ◌∙◌, subst, arith}
+use Rattle.std.proofs.Common.{◌≡◌, ◌&&◌, ◌||◌, ℕ, zero, suc, ◌+◌, ◌<◌, ◌≤◌, Bool, true, false, List, [], ◌∷◌, ◌++◌, length, take, map, Option, Some, None, slice_index_or, refl, sym, ap, ◌∙◌, subst, arith, append-nil}
 use Rattle.std.specs.Prelude.{nat_lt, slice_get, slice_index}
 use Rattle.std.specs.List.Sorted.{IsStrictlyIncreasing}
 use Rattle.std.proofs.lemmas.Bool.{ne_eqb, eq-eqb, cond-true, cond-false}
@@ -62,11 +62,7 @@ pub locks_more : (modes : List (Option LockMode)) (k : ℕ) (m : LockMode) → k
 locks_more modes k m below is = more modes k below ∙ ap (λ o. locks_of (take k modes) ++ locks_from k (o ∷ [])) is
 
 pub locks_same : (modes : List (Option LockMode)) (k : ℕ) → k < length modes → slice_index_or modes k None ≡ None → locks_of (take (k + 1) modes) ≡ locks_of (take k modes)
-locks_same modes k below is = more modes k below ∙ (ap (λ o. locks_of (take k modes) ++ locks_from k (o ∷ [])) is ∙ append_none (locks_of (take k modes)))
-  where
-    append_none : (xs : List (ℕ × LockMode)) → xs ++ [] ≡ xs
-    append_none [] = refl
-    append_none (x ∷ xs) = ap (λ t. x ∷ t) (append_none xs)
+locks_same modes k below is = more modes k below ∙ (ap (λ o. locks_of (take k modes) ++ locks_from k (o ∷ [])) is ∙ append-nil (locks_of (take k modes)))
 
 lt_true : (n k : ℕ) → n < k → nat_lt n k ≡ true
 lt_true n k below = grind (arith, nat_tests)

@@ -1,36 +1,29 @@
 -- Each step keeps the rule.
-use Rattle.std.proofs.Common.{◌≡◌, ◌≢◌, ◌==◌, ℕ, zero, suc, ◌^◌, ◌<◌, Bool, true, false, List, [], ◌∷◌, set, get_or, Option, Some, None, refl, sym, ap, ◌∙◌, subst, ⊎_elim, arith, get_or-set_same, get_or-set_other, length-set, w64}
+use Rattle.std.proofs.Common.{◌≡◌, ◌≢◌, ◌==◌, ℕ, ◌^◌, ◌<◌, Bool, true, false, List, [], ◌∷◌, ◌++◌, set, get_or, Some, refl, sym, ap, ◌∙◌, subst, ⊎_elim, arith, get_or-set_same, get_or-set_other, length-set, w64}
+use Rattle.std.proofs.lemmas.List.{set-get_or}
 use Rattle.std.proofs.lemmas.Bool.{cases_eq, eqb-true}
 use Rattle.std.specs.Prelude.{slice_index, slice_set}
 use Rattle.std.specs.Int.{bit_not}
 use Rattle.std.specs.Int.RustNames.{bit_and, bit_or}
 use prog.Atomic.{either}
 use mathlib.Core.Option.{some, none}
+use mathlib.Core.List.{IsPrefix}
+use base.Growing.{prefix_refl, prefix_trans}
 use lib.ListN.{get_elem?}
 use Rattle.atomic_table.specs.Table.{Act, Me, keeps, step, Allows, Valid, carried_after}
 use Rattle.atomic_table.proofs.Lists.{at_set}
+use Rattle.ext_history.specs.Views.{seen}
+use Rattle.ext_history.proofs.Lanes.{own_push_other}
+use Rattle.ext_history.proofs.Fronts.{last_append}
+use Rattle.ext_history.proofs.Legal.{legal_push}
 use Rattle.ext_locks.specs.declared.event.LockMode.{LockMode}
 use Rattle.ext_locks.specs.declared.event.LockEvent.{LockEvent}
 use Rattle.ext_locks.specs.declared.seat.SeatView.{SeatView}
-use Rattle.ext_locks.specs.History.{LockHistory, event, holds, IsAllowed, IsLegal}
-use Rattle.ext_locks.specs.Views.{seen}
+use Rattle.ext_locks.specs.History.{LockHistory, event, lane_of, own, holds, IsAllowed, IsLegal}
 use Rattle.ext_locks.specs.Words.{bit_of, IsWord, IsFreeWord}
-use Rattle.ext_locks.specs.Rule.{KnowsOwn, Fits, Counts, Gives, Kept, seeing, Meets, Looked, Stepped, TakesIf, Takes, GivesBack, Looks}
-use Rattle.ext_locks.proofs.Histories.{before_self, all_before_more, own_other, same_held, unmade}
+use Rattle.ext_locks.specs.Rule.{Fits, Counts, Gives, Kept, seeing, Meets, Looked, Stepped, TakesIf, Takes, GivesBack, Looks}
+use Rattle.ext_locks.proofs.Histories.{same_held, unmade}
 use Rattle.ext_locks.proofs.Words.{word_stays, taken_word, given_word, free_word}
-
-knows_seen : (h : List LockEvent) (fs : List LockHistory) (o : Option ℕ) → KnowsOwn h (h ∷ fs) o
-knows_seen h fs None = tt
-knows_seen h fs (Some l) = refl
-
-knows_more : (e : LockEvent) (h : List LockEvent) (fs : List LockHistory) (o : Option ℕ) → ((l : ℕ) → o ≡ Some l → e.lane ≢ l) → KnowsOwn h fs o → KnowsOwn (e ∷ h) fs o
-knows_more e h fs None apart knows = tt
-knows_more e h fs (Some l) apart knows = own_other e h l (apart l refl) ∙ knows
-
-set_same : (ws : List ℕ) (k : ℕ) → set ws k (get_or ws k 0) ≡ ws
-set_same [] k = refl
-set_same (w ∷ ws) zero = refl
-set_same (w ∷ ws) (suc k) = ap (λ t. w ∷ t) (set_same ws k)
 
 -- a step leaves the numbers of all views
 record Was (views : List SeatView) (j : ℕ) (u : SeatView) : Type 0 where
@@ -46,6 +39,12 @@ was views id v h at j u there =
     (λ (x : (j ≡ id) × (seeing v h ≡ u)). record { view = v; there = subst (λ i. get_elem? views i ≡ some v) (sym x.0) at; number = ap (λ y. y.number) x.1; next = ap (λ y. y.next) x.1; lanes = ap (λ y. y.lanes) x.1 })
     (λ (x : (j ≢ id) × (get_elem? views j ≡ some u)). record { view = u; there = x.1; number = refl; next = refl; lanes = refl })
     (at_set views id j (seeing v h) u there)
+
+-- a seat has seen all of what its step showed
+fits_seeing : (v : SeatView) (h : LockHistory) → Fits h (seeing v h)
+fits_seeing v h =
+    let same : h ≡ seen (v.fronts ++ h ∷ []) = sym (last_append [] v.fronts (h ∷ [])) in
+    record { seen_is = subst (λ (z : LockHistory). IsPrefix z h) same (prefix_refl h); told_is = (h, refl); own_is = λ o is. ap (own o) same }
 
 module _ (keys lanes : ℕ) (words : List ℕ) (views : List SeatView) (kept : Kept keys lanes words views) (id l : ℕ) (v : SeatView) (at : get_elem? views id ≡ some v) (mine : v.number ≡ Some l) where
   -- the lane is one of those that there are
@@ -78,53 +77,52 @@ module _ (keys lanes : ℕ) (words : List ℕ) (views : List SeatView) (kept : K
   below_set : (h : List LockEvent) (next : ℕ) → Gives lanes kept.history views next → (j lane : ℕ) (u : SeatView) → get_elem? (set views id (seeing v h)) j ≡ some u → u.number ≡ Some lane → lane < next
   below_set h next gives j lane u there is = let s = was views id v h at j u there in gives.below j lane s.view s.there (s.number ∙ is)
 
-  module _ (k : ℕ) (m : LockMode) (t : Bool) (n : ℕ) (inside : k < keys) (may : IsAllowed lanes kept.history (event l k m t)) (word : IsWord (event l k m t ∷ kept.history) k n) where
-    fits_more : (j : ℕ) (u : SeatView) → j ≢ id → get_elem? views j ≡ some u → Fits (event l k m t ∷ kept.history) u
+  module _ (k : ℕ) (m : LockMode) (t : Bool) (n : ℕ) (inside : k < keys) (may : IsAllowed lanes kept.history (event l k m t)) (word : IsWord (kept.history ++ event l k m t ∷ []) k n) where
+    longer : IsPrefix kept.history (kept.history ++ event l k m t ∷ [])
+    longer = (event l k m t ∷ [], refl)
+
+    fits_more : (j : ℕ) (u : SeatView) → j ≢ id → get_elem? views j ≡ some u → Fits (kept.history ++ event l k m t ∷ []) u
     fits_more j u apart there =
         let f = kept.fits j u there in record {
-          fronts = all_before_more u.fronts kept.history (event l k m t) f.fronts;
-          told = all_before_more u.told kept.history (event l k m t) f.told;
-          knows = knows_more (event l k m t) kept.history u.fronts u.number (λ o is same. apart (kept.apart j id o u v there at is (mine ∙ ap Some same))) f.knows;
+          seen_is = prefix_trans (seen u.fronts) kept.history (kept.history ++ event l k m t ∷ []) f.seen_is longer;
+          told_is = prefix_trans u.told kept.history (kept.history ++ event l k m t ∷ []) f.told_is longer;
+          own_is = λ o is. own_push_other lane_of o kept.history (event l k m t) (λ same. apart (kept.apart j id o u v there at is (mine ∙ ap Some same))) ∙ f.own_is o is;
         }
 
-    fits_mine : Fits (event l k m t ∷ kept.history) (seeing v (event l k m t ∷ kept.history))
-    fits_mine = record {
-      fronts = (before_self _, all_before_more v.fronts kept.history (event l k m t) (kept.fits id v at).fronts);
-      told = tt;
-      knows = knows_seen (event l k m t ∷ kept.history) v.fronts v.number;
-    }
+    fits_mine : Fits (kept.history ++ event l k m t ∷ []) (seeing v (kept.history ++ event l k m t ∷ []))
+    fits_mine = fits_seeing v (kept.history ++ event l k m t ∷ [])
 
-    bits_set : (j : ℕ) → j < keys → IsWord (event l k m t ∷ kept.history) j (get_or (set words k n) j 0)
+    bits_set : (j : ℕ) → j < keys → IsWord (kept.history ++ event l k m t ∷ []) j (get_or (set words k n) j 0)
     bits_set j below =
         ⊎_elim
-        (λ (is : j ≡ k). subst (λ i. IsWord (event l k m t ∷ kept.history) i (get_or (set words k n) i 0)) (sym is)
-        (subst (λ x. IsWord (event l k m t ∷ kept.history) k x) (sym (get_or-set_same words k n 0 (let size = kept.size in omega arith))) word))
-        (λ (isnt : j ≢ k). subst (λ x. IsWord (event l k m t ∷ kept.history) j x) (sym (get_or-set_other words k j n 0 isnt))
+        (λ (is : j ≡ k). subst (λ i. IsWord (kept.history ++ event l k m t ∷ []) i (get_or (set words k n) i 0)) (sym is)
+        (subst (λ x. IsWord (kept.history ++ event l k m t ∷ []) k x) (sym (get_or-set_same words k n 0 (let size = kept.size in omega arith))) word))
+        (λ (isnt : j ≢ k). subst (λ x. IsWord (kept.history ++ event l k m t ∷ []) j x) (sym (get_or-set_other words k j n 0 isnt))
         (word_stays (event l k m t) kept.history j (get_or words j 0) (λ same. isnt (sym same)) (kept.bits j below)))
         (cases_eq j k)
 
-    pub keeps_event : Kept keys lanes (set words k n) (set views id (seeing v (event l k m t ∷ kept.history)))
+    pub keeps_event : Kept keys lanes (set words k n) (set views id (seeing v (kept.history ++ event l k m t ∷ [])))
     keeps_event = record {
       size = length-set words k n ∙ kept.size;
-      history = event l k m t ∷ kept.history;
-      legal = (may, kept.legal);
+      history = kept.history ++ event l k m t ∷ [];
+      legal = legal_push kept.history (event l k m t) kept.legal may;
       bits = bits_set;
       few = kept.few;
-      counts = counts_set (event l k m t ∷ kept.history);
+      counts = counts_set (kept.history ++ event l k m t ∷ []);
       fits = λ j u there. ⊎_elim
-          (λ (x : (j ≡ id) × (seeing v (event l k m t ∷ kept.history) ≡ u)). subst (λ y. Fits (event l k m t ∷ kept.history) y) x.1 fits_mine)
+          (λ (x : (j ≡ id) × (seeing v (kept.history ++ event l k m t ∷ []) ≡ u)). subst (λ y. Fits (kept.history ++ event l k m t ∷ []) y) x.1 fits_mine)
           (λ (x : (j ≢ id) × (get_elem? views j ≡ some u)). fits_more j u x.0 x.1)
-          (at_set views id j (seeing v (event l k m t ∷ kept.history)) u there);
-      apart = apart_set (event l k m t ∷ kept.history);
-      one_gives = one_set (event l k m t ∷ kept.history);
+          (at_set views id j (seeing v (kept.history ++ event l k m t ∷ [])) u there);
+      apart = apart_set (kept.history ++ event l k m t ∷ []);
+      one_gives = one_set (kept.history ++ event l k m t ∷ []);
       gives = λ j next u there is.
-          let s = was views id v (event l k m t ∷ kept.history) at j u there in
+          let s = was views id v (kept.history ++ event l k m t ∷ []) at j u there in
           let g = kept.gives j next s.view s.there (s.next ∙ is) in
           let lower = g.below id l v at mine in
           record {
             most = g.most;
-            below = below_set (event l k m t ∷ kept.history) next g;
-            unused = λ lane many. own_other (event l k m t) kept.history lane (λ same. omega arith) ∙ g.unused lane many;
+            below = below_set (kept.history ++ event l k m t ∷ []) next g;
+            unused = λ lane many. own_push_other lane_of lane kept.history (event l k m t) (λ same. omega arith) ∙ g.unused lane many;
           };
     }
 
@@ -132,8 +130,7 @@ module _ (keys lanes : ℕ) (words : List ℕ) (views : List SeatView) (kept : K
   fits_look : (j : ℕ) (u : SeatView) → get_elem? (set views id (seeing v kept.history)) j ≡ some u → Fits kept.history u
   fits_look j u there =
       ⊎_elim
-      (λ (x : (j ≡ id) × (seeing v kept.history ≡ u)). subst (λ y. Fits kept.history y) x.1
-      (record { fronts = (before_self _, (kept.fits id v at).fronts); told = tt; knows = knows_seen kept.history v.fronts v.number }))
+      (λ (x : (j ≡ id) × (seeing v kept.history ≡ u)). subst (λ y. Fits kept.history y) x.1 (fits_seeing v kept.history))
       (λ (x : (j ≢ id) × (get_elem? views j ≡ some u)). kept.fits j u x.1)
       (at_set views id j (seeing v kept.history) u there)
 
@@ -156,11 +153,13 @@ module _ (keys lanes : ℕ) (words : List ℕ) (views : List SeatView) (kept : K
 
   pub meets : Meets v l kept.history
   meets = record {
-    legal = subst (λ n. IsLegal n kept.history) (sym counted.1) kept.legal;
+    on = record {
+      legal = subst (λ n. IsLegal n kept.history) (sym counted.1) kept.legal;
+      begins = (kept.fits id v at).seen_is;
+      own_same = (kept.fits id v at).own_is l mine;
+    };
+    told = (kept.fits id v at).told_is;
     few = λ other many. unmade lanes kept.history kept.legal other (let few = kept.few in omega arith);
-    fronts = (kept.fits id v at).fronts;
-    told = (kept.fits id v at).told;
-    own = subst (λ o. KnowsOwn kept.history v.fronts o) mine (kept.fits id v at).knows;
   }
 
 module _ (keys lanes slots id l : ℕ) (me : Me (Unit {0}) SeatView) (mine : me.0.number ≡ Some l) where
@@ -176,7 +175,7 @@ module _ (keys lanes slots id l : ℕ) (me : Me (Unit {0}) SeatView) (mine : me.
       (record { history = kept.history; meets = meets keys lanes words views kept id l me.0 at mine; word = kept.bits k inside; view = refl })
 
   stays : (k : ℕ) (words : List ℕ) (views : List SeatView) (kept : Kept keys lanes words views) → get_elem? views id ≡ some me.0 → Kept keys lanes (slice_set words k (slice_index words k)) (slice_set views id (seeing me.0 kept.history))
-  stays k words views kept at = subst (λ ws. Kept keys lanes ws (set views id (seeing me.0 kept.history))) (sym (set_same words k)) (keeps_look keys lanes words views kept id l me.0 at mine)
+  stays k words views kept at = subst (λ ws. Kept keys lanes ws (set views id (seeing me.0 kept.history))) (sym (set-get_or words k 0)) (keeps_look keys lanes words views kept id l me.0 at mine)
 
   pub looks : (k : ℕ) → k < keys → Allows (λ s. Kept keys lanes s.words s.views) slots id me k (λ n. n) (Looks (step slots k 0 0 none) me)
   looks k inside s kept same at small = (seeing me.0 kept.history, keeps, tt, stays k s.words s.views kept at, (refl, looked k inside s.words s.views kept at))
@@ -195,14 +194,14 @@ module _ (keys lanes slots id l : ℕ) (me : Me (Unit {0}) SeatView) (mine : me.
             let word = subst (λ n. IsWord kept.history k n) hit (kept.bits k inside) in
             let among = counted keys lanes s.words s.views kept id l me.0 at mine in
             let may = free_word m kept.history k old free word (λ other many. unmade lanes kept.history kept.legal other (let bound = kept.few in omega arith)) in (
-              seeing me.0 (event l k m true ∷ kept.history),
+              seeing me.0 (kept.history ++ event l k m true ∷ []),
               keeps,
               tt,
-              keeps_event keys lanes s.words s.views kept id l me.0 at mine k m true (bit_or old (2 ^ bit_of m l)) inside (among.0, may) (taken_word kept.history l k m old few word),
+              keeps_event keys lanes s.words s.views kept id l me.0 at mine k m true (bit_or old (2 ^ bit_of m l)) inside (record { lane = among.0; may = may }) (taken_word kept.history l k m old few word),
               (
                 refl,
-                only (λ lane. Stepped me.0 lane k m true (seeing me.0 (event l k m true ∷ kept.history)))
-                    (record { history = kept.history; meets = meets keys lanes s.words s.views kept id l me.0 at mine; allowed = (subst (λ n. l < n) (sym among.1) among.0, may); view = refl }),
+                only (λ lane. Stepped me.0 lane k m true (seeing me.0 (kept.history ++ event l k m true ∷ [])))
+                    (record { history = kept.history; meets = meets keys lanes s.words s.views kept id l me.0 at mine; allowed = record { lane = subst (λ n. l < n) (sym among.1) among.0; may = may }; view = refl }),
               ),
             )
         go false isnt = (seeing me.0 kept.history, keeps, tt, stays k s.words s.views kept at, (refl, looked k inside s.words s.views kept at))
@@ -212,16 +211,16 @@ module _ (keys lanes slots id l : ℕ) (me : Me (Unit {0}) SeatView) (mine : me.
     gives_back held s kept same at small =
         let met = meets keys lanes s.words s.views kept id l me.0 at mine in
         let among = counted keys lanes s.words s.views kept id l me.0 at mine in
-        let may : holds kept.history k m l ≡ true = same_held kept.history (seen me.0.fronts) k m l met.own ∙ held in (
-          seeing me.0 (event l k m false ∷ kept.history),
+        let may : holds kept.history k m l ≡ true = same_held kept.history (seen me.0.fronts) k m l met.on.own_same ∙ held in (
+          seeing me.0 (kept.history ++ event l k m false ∷ []),
           keeps,
           tt,
-          keeps_event keys lanes s.words s.views kept id l me.0 at mine k m false (bit_and (slice_index s.words k) (bit_not w64 (2 ^ bit_of m l))) inside (among.0, may)
+          keeps_event keys lanes s.words s.views kept id l me.0 at mine k m false (bit_and (slice_index s.words k) (bit_not w64 (2 ^ bit_of m l))) inside (record { lane = among.0; may = may })
               (given_word kept.history l k m (slice_index s.words k) few (kept.bits k inside)),
           (
             refl,
-            only (λ lane. Stepped me.0 lane k m false (seeing me.0 (event l k m false ∷ kept.history)))
-                (record { history = kept.history; meets = met; allowed = (subst (λ n. l < n) (sym among.1) among.0, may); view = refl }),
+            only (λ lane. Stepped me.0 lane k m false (seeing me.0 (kept.history ++ event l k m false ∷ [])))
+                (record { history = kept.history; meets = met; allowed = record { lane = subst (λ n. l < n) (sym among.1) among.0; may = may }; view = refl }),
           ),
         )
 

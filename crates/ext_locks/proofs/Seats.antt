@@ -1,24 +1,22 @@
 -- The rule where a seat is split off, or joined in.
 use Rattle.std.proofs.Common.{◌≡◌, ◌≢◌, ◌⊎◌, ℕ, zero, suc, ◌+◌, ◌<◌, ◌≤◌, List, [], ◌∷◌, ◌++◌, length, set, get_or, Option, Some, None, refl, sym, ap, ◌∙◌, subst, ⊎_elim, inl, inr, arith}
 use Rattle.std.specs.Prelude.{replicate}
-use Rattle.std.proofs.lemmas.List.{get_or_past, get_or-replicate, length-replicate}
-use Rattle.std.proofs.lemmas.Bool.{cases_lt}
+use Rattle.std.proofs.lemmas.List.{length-replicate}
 use Rattle.std.specs.Int.{bit_at}
 use Rattle.std.proofs.lemmas.Nat.Bits.{bit_at-zero}
+use Rattle.ext_history.specs.Views.{seen, Follow}
+use Rattle.ext_history.proofs.Lists.{at_push, at_zeros}
+use Rattle.ext_history.proofs.Legal.{legal_empty}
 use Rattle.ext_locks.specs.declared.event.LockMode.{LockMode}
 use mathlib.Core.Option.{some, some-injective, some-ne-none}
+use base.Growing.{prefix_refl}
 use lib.ListN.{get_elem?}
 use Rattle.atomic_table.specs.Table.{Splits, Joins}
 use Rattle.atomic_table.proofs.Lists.{at_set, set_again}
 use Rattle.ext_locks.specs.declared.seat.SeatView.{SeatView}
+use Rattle.ext_locks.specs.History.{LockHistory, IsAllowed, IsLegal}
 use Rattle.ext_locks.specs.Words.{bit_of, IsWord}
-use Rattle.ext_locks.specs.Rule.{KnowsOwn, Fits, Counts, Gives, Kept, founder, dealer, dealt, noted, told_of, nobody, next_after}
-
-at_end : (l : List SeatView) (a b : SeatView) (j : ℕ) → get_elem? (l ++ a ∷ []) j ≡ some b → (get_elem? l j ≡ some b) ⊎ ((j ≡ length l) × (a ≡ b))
-at_end [] a b zero e = inr (refl, some-injective a b e)
-at_end [] a b (suc j) e = absurd (some-ne-none b (sym e))
-at_end (x ∷ xs) a b zero e = inl e
-at_end (x ∷ xs) a b (suc j) e = ⊎_elim inl (λ t. inr (ap suc t.0, t.1)) (at_end xs a b j e)
+use Rattle.ext_locks.specs.Rule.{Fits, Counts, Gives, Kept, founder, dealer, dealt, noted, told_of, nobody, next_after}
 
 -- where a view comes from: it has the numbers of the one that stood there, or none
 record Same (views : List SeatView) (j : ℕ) (u : SeatView) : Type 0 where
@@ -40,6 +38,18 @@ record Numbered (views : List SeatView) (j lane : ℕ) : Type 0 where
 
 none-some : {X : Type 0} {o : Option ℕ} {n : ℕ} → o ≡ None → o ≡ Some n → X
 none-some a b = absurd (cc)
+
+noted_fits : (h : LockHistory) (v : SeatView) → Fits h v → Fits h (noted v)
+noted_fits h v f = record { seen_is = (h, refl); told_is = f.seen_is; own_is = λ lane is. none-some refl is }
+
+told_fits : (h : LockHistory) (v w : SeatView) → Fits h v → Fits h w → Fits h (told_of v w)
+told_fits h v w f g = record { seen_is = f.seen_is; told_is = g.told_is; own_is = f.own_is }
+
+nobody_fits : (h : LockHistory) → Fits h nobody
+nobody_fits h = record { seen_is = (h, refl); told_is = (h, refl); own_is = λ lane is. none-some refl is }
+
+dealer_fits : (h : LockHistory) (v : SeatView) → Fits h v → Fits h (dealer v)
+dealer_fits h v f = record { seen_is = f.seen_is; told_is = f.told_is; own_is = f.own_is }
 
 -- a view with the numbers of one that stood there, or with none, counts as many lanes
 counts_from : (lanes : ℕ) (views : List SeatView) → ((j : ℕ) (u : SeatView) → get_elem? views j ≡ some u → Counts lanes u) → (j : ℕ) (u : SeatView) → Same views j u ⊎ Numberless u → Counts lanes u
@@ -94,8 +104,8 @@ module _ (keys lanes : ℕ) (words : List ℕ) (views : List SeatView) (kept : K
 
   kept_note : (id : ℕ) (v : SeatView) → get_elem? views id ≡ some v → Kept keys lanes words (views ++ noted v ∷ [])
   kept_note id v at = kept_as (views ++ noted v ∷ [])
-      (λ j u there. ⊎_elim (λ old. inl (same_here j u old)) (λ (x : (j ≡ length views) × (noted v ≡ u)). inr (record { number = sym (ap (λ y. y.number) x.1); next = sym (ap (λ y. y.next) x.1) })) (at_end views (noted v) u j there))
-      (λ j u there. ⊎_elim (kept.fits j u) (λ (x : (j ≡ length views) × (noted v ≡ u)). subst (λ y. Fits kept.history y) x.1 (record { fronts = (kept.fits id v at).fronts; told = tt; knows = tt })) (at_end views (noted v) u j there))
+      (λ j u there. ⊎_elim (λ old. inl (same_here j u old)) (λ (x : (j ≡ length views) × (noted v ≡ u)). inr (record { number = sym (ap (λ y. y.number) x.1); next = sym (ap (λ y. y.next) x.1) })) (at_push views (noted v) u j there))
+      (λ j u there. ⊎_elim (kept.fits j u) (λ (x : (j ≡ length views) × (noted v ≡ u)). subst (λ y. Fits kept.history y) x.1 (noted_fits kept.history v (kept.fits id v at))) (at_push views (noted v) u j there))
 
   kept_join : (id other : ℕ) (v w : SeatView) → get_elem? views id ≡ some v → get_elem? views other ≡ some w → Kept keys lanes words (set (set views id (told_of v w)) other nobody)
   kept_join id other v w at there = kept_as (set (set views id (told_of v w)) other nobody)
@@ -107,10 +117,10 @@ module _ (keys lanes : ℕ) (words : List ℕ) (views : List SeatView) (kept : K
       (at_set views id j (told_of v w) u x.1))
       (at_set (set views id (told_of v w)) other j nobody u q))
       (λ j u q. ⊎_elim
-      (λ (x : (j ≡ other) × (nobody ≡ u)). subst (λ y. Fits kept.history y) x.1 (record { fronts = tt; told = tt; knows = tt }))
+      (λ (x : (j ≡ other) × (nobody ≡ u)). subst (λ y. Fits kept.history y) x.1 (nobody_fits kept.history))
       (λ (x : (j ≢ other) × (get_elem? (set views id (told_of v w)) j ≡ some u)). ⊎_elim
       (λ (y : (j ≡ id) × (told_of v w ≡ u)). subst (λ z. Fits kept.history z) y.1
-      (record { fronts = (kept.fits id v at).fronts; told = (kept.fits other w there).fronts; knows = (kept.fits id v at).knows }))
+      (told_fits kept.history v w (kept.fits id v at) (kept.fits other w there)))
       (λ (y : (j ≢ id) × (get_elem? views j ≡ some u)). kept.fits j u y.1)
       (at_set views id j (told_of v w) u x.1))
       (at_set (set views id (told_of v w)) other j nobody u q))
@@ -143,7 +153,7 @@ module _ (keys lanes : ℕ) (words : List ℕ) (views : List SeatView) (kept : K
       (λ (x : (j ≢ id) × (get_elem? views j ≡ some u)). inl (x.0, record { view = u; there = x.1; number = refl; next = refl; lanes = refl }))
       (at_set views id j (dealer v) u old))
       (λ (x : (j ≡ length (set views id (dealer v))) × (dealt v ≡ u)). inr (inr x))
-      (at_end (set views id (dealer v)) (dealt v) u j there)
+      (at_push (set views id (dealer v)) (dealt v) u j there)
 
   numbered : (j lane : ℕ) (u : SeatView) → get_elem? (set views id (dealer v) ++ dealt v ∷ []) j ≡ some u → u.number ≡ Some lane → Numbered views j lane ⊎ ((j ≡ length (set views id (dealer v))) × (lane ≡ n))
   numbered j lane u there is =
@@ -194,12 +204,16 @@ module _ (keys lanes : ℕ) (words : List ℕ) (views : List SeatView) (kept : K
     counts = counts_new;
     fits = λ j u there. ⊎_elim
         (λ (old : get_elem? (set views id (dealer v)) j ≡ some u). ⊎_elim
-        (λ (x : (j ≡ id) × (dealer v ≡ u)). subst (λ y. Fits kept.history y) x.1 (record { fronts = (kept.fits id v at).fronts; told = (kept.fits id v at).told; knows = (kept.fits id v at).knows }))
+        (λ (x : (j ≡ id) × (dealer v ≡ u)). subst (λ y. Fits kept.history y) x.1 (dealer_fits kept.history v (kept.fits id v at)))
         (λ (x : (j ≢ id) × (get_elem? views j ≡ some u)). kept.fits j u x.1)
         (at_set views id j (dealer v) u old))
         (λ (x : (j ≡ length (set views id (dealer v))) × (dealt v ≡ u)). subst (λ y. Fits kept.history y) x.1
-        (record { fronts = tt; told = tt; knows = subst (λ o. KnowsOwn kept.history [] o) (sym next_is) (mine.unused n (omega arith)) }))
-        (at_end (set views id (dealer v)) (dealt v) u j there);
+        (record {
+          seen_is = (kept.history, refl);
+          told_is = (kept.history, refl);
+          own_is = λ lane is. mine.unused lane (let same : n ≡ lane = some-of (sym next_is ∙ is) in omega arith);
+        }))
+        (at_push (set views id (dealer v)) (dealt v) u j there);
     apart = λ one other lane x y p q a b.
         ⊎_elim
         (λ (s : Numbered views one lane). ⊎_elim
@@ -221,6 +235,13 @@ module _ (keys lanes : ℕ) (words : List ℕ) (views : List SeatView) (kept : K
 pub deals : (keys lanes id n : ℕ) (v : SeatView) → v.next ≡ Some n → n < lanes → Splits {S = Unit {0}} (λ s. Kept keys lanes s.words s.views) id v (dealer v) (dealt v)
 deals keys lanes id n v is few s kept at = kept_deal keys lanes s.words s.views kept id n v at is few
 
+-- the new lane has made no step
+pub dealt_lane : (v w : SeatView) (n lanes : ℕ) → w ≡ dealt v → v.next ≡ Some n → v.lanes ≡ lanes → n < lanes → lanes ≤ 16
+    → (w.number ≡ Some n) × (n < w.lanes) × (w.lanes ≤ 16) × Follow [] w.fronts × IsLegal w.lanes (seen w.fronts)
+dealt_lane v w n lanes is next count below few =
+    subst (λ (x : SeatView). (x.number ≡ Some n) × (n < x.lanes) × (x.lanes ≤ 16) × Follow [] x.fronts × IsLegal x.lanes (seen x.fronts)) (sym is)
+    (next, subst (λ k. n < k) (sym count) below, subst (λ k. k ≤ 16) (sym count) few, tt, legal_empty (IsAllowed v.lanes))
+
 -- the rule at the start
 bit_none : (m : LockMode) (lane : ℕ) → bit_at 0 (bit_of m lane) ≡ 0
 bit_none m lane = bit_at-zero (bit_of m lane)
@@ -233,11 +254,11 @@ pub opens : (keys lanes : ℕ) (words : List ℕ) → lanes ≤ 16 → length wo
 opens keys lanes words few size zeros = record {
   size = size;
   history = [];
-  legal = tt;
+  legal = legal_empty (IsAllowed lanes);
   bits = λ k inside. subst (λ w. IsWord [] k w) (sym (zeros k)) (record { small = omega arith; bits = λ m lane few. bit_none m lane });
   few = few;
   counts = λ j u there. subst (λ y. Counts lanes y) (at_first (founder lanes) u j there).1 (record { lane = λ number is. none-some refl is; gives = λ next is. refl });
-  fits = λ j u there. subst (λ y. Fits [] y) (at_first (founder lanes) u j there).1 (record { fronts = tt; told = tt; knows = tt });
+  fits = λ j u there. subst (λ y. Fits [] y) (at_first (founder lanes) u j there).1 (record { seen_is = prefix_refl []; told_is = prefix_refl []; own_is = λ lane is. refl });
   apart = λ one other lane v w p q a b. (at_first (founder lanes) v one p).0 ∙ sym (at_first (founder lanes) w other q).0;
   one_gives = λ one other m n v w p q a b. (at_first (founder lanes) v one p).0 ∙ sym (at_first (founder lanes) w other q).0;
   gives = λ seat next u p is.
@@ -250,8 +271,5 @@ opens keys lanes words few size zeros = record {
       });
 }
 
-zero_at : (n k : ℕ) → get_or {A = ℕ} (replicate n 0) k 0 ≡ 0
-zero_at n k = ⊎_elim (λ few. get_or-replicate {A = ℕ} n k 0 0 few) (λ many. get_or_past {X = ℕ} (replicate n 0) k 0 (let l = length-replicate {A = ℕ} n 0 in omega arith)) (cases_lt k n)
-
 pub opens_zero : (keys lanes : ℕ) (words : List ℕ) → lanes ≤ 16 → words ≡ replicate keys 0 → Kept keys lanes words (founder lanes ∷ [])
-opens_zero keys lanes words few is = subst (λ ws. Kept keys lanes ws (founder lanes ∷ [])) (sym is) (opens keys lanes (replicate keys 0) few (length-replicate keys 0) (zero_at keys))
+opens_zero keys lanes words few is = subst (λ ws. Kept keys lanes ws (founder lanes ∷ [])) (sym is) (opens keys lanes (replicate keys 0) few (length-replicate keys 0) (at_zeros keys))

@@ -6,20 +6,25 @@ use Rattle.std.proofs.lemmas.Nat.{and_le_r}
 use Rattle.std.proofs.lemmas.Nat.Bits.{bit_at_and, bit_at_ones, bit_at_ones_above, bit_at-zero, bit_at-lt, same_from_bits_below}
 use Rattle.std.proofs.lemmas.Bool.{both_ways, cases_lt, cases_eq, eqb-false}
 use Rattle.atomic_table.specs.declared.shared.Seat.{Seat}
+use Rattle.ext_history.specs.Histories.{others}
+use Rattle.ext_history.specs.Views.{seen, first_or, first_front, IsStepped}
+use Rattle.ext_history.specs.Calls.{IsCrowded}
+use Rattle.ext_history.proofs.Lanes.{others_append, others_more}
+use Rattle.ext_history.proofs.Fronts.{moved_fronts}
+use Rattle.ext_history.proofs.Composed.{seen_goes_on, first_decides, steps_stay}
 use Rattle.ext_locks.specs.declared.event.LockMode.{LockMode}
 use Rattle.ext_locks.specs.declared.event.LockMode.TheVariants.{Read, ReadWrite}
-use Rattle.ext_locks.specs.declared.event.LockEvent.{LockEvent}
 use Rattle.ext_locks.specs.declared.seat.SeatView.{SeatView}
 use Rattle.ext_locks.specs.declared.refusal.LockRefusal.TheVariants.{Taken, Contended}
-use Rattle.ext_locks.specs.History.{LockHistory, event, is_about, holds, own, others, IsBefore}
-use Rattle.ext_locks.specs.Views.{seen, GoesOn}
+use Rattle.ext_locks.specs.History.{LockHistory, event, lane_of, is_about, holds, own, IsLegal}
+use Rattle.ext_locks.specs.Views.{LaneView, Calls}
 use Rattle.ext_locks.specs.Words.{as_bit, IsWord, IsFreeWord}
-use Rattle.ext_locks.specs.Rule.{Looked, Stepped, TakesIf}
-use Rattle.ext_locks.specs.Refusals.{IsTakenBy}
+use Rattle.ext_locks.specs.Rule.{lane_view, seeing, Looked, Stepped, TakesIf}
+use Rattle.ext_locks.specs.Refusals.{excludes_mode, IsTakenBy}
 use Rattle.ext_locks.specs.Steps.{Makes, AddsAtMost, SameHeld, HeldBut, Missed}
 use Rattle.ext_locks.proofs.Words.{free_word}
 use Rattle.ext_locks.proofs.Holding.{looked_held, stepped_held}
-use Rattle.ext_locks.proofs.Fronts.{makes_self, makes_then, makes_quiet, looked_makes, stepped_makes, seen_before}
+use Rattle.ext_locks.proofs.Fronts.{seen_now, looked_stepped, makes_self, makes_then, makes_quiet, looked_makes, stepped_makes}
 
 -- a number of 32 bits, whose upper 16 are clear
 low_bits : (n : ℕ) → n < 2 ^ 32 → ((i : ℕ) → i < 16 → bit_at n (16 + i) ≡ 0) → n < 2 ^ 16
@@ -66,7 +71,7 @@ holder f (suc n) = ⊎_elim inl (λ none. last none (f n) refl) (holder f n)
     last none true is = inl (record { at = n; is = is })
     last none false isnt = inr (λ i below. ⊎_elim (λ (e : i ≡ n). subst (λ j. f j ≡ false) (sym e) isnt) (λ ne. none i (omega arith)) (cases_eq i n))
 
-taken_by : (h : LockHistory) (k l : ℕ) (m held : LockMode) → ((x : LockMode) → holds h k x l ≡ false) → Rattle.ext_locks.specs.Refusals.excludes_mode held m ≡ true → Holder (λ i. holds h k held i) → IsTakenBy h l k m
+taken_by : (h : LockHistory) (k l : ℕ) (m held : LockMode) → ((x : LockMode) → holds h k x l ≡ false) → excludes_mode held m ≡ true → Holder (λ i. holds h k held i) → IsTakenBy h l k m
 taken_by h k l m held none excludes it = record {
   other = it.at;
   held = held;
@@ -94,31 +99,6 @@ one_word h k n m a b = same_from_bits_below 32 n m a.small b.small each
         (λ many. subst (λ j. bit_at n j ≡ bit_at m j) (let l = many in omega arith) (a.bits ReadWrite (i - 16) (omega arith) ∙ sym (b.bits ReadWrite (i - 16) (omega arith))))
         (cases_lt i 16)
 
--- ---- events of others between two looks
-
-count_more : (l : ℕ) (e : LockEvent) (h : LockHistory) → length (own l h) + others l h ≡ length h → (b : Bool)
-    → length (if b then e ∷ own l h else own l h) + (if b then others l h else 1 + others l h) ≡ suc (length h)
-count_more l e h c true = omega arith
-count_more l e h c false = omega arith
-
--- a history is a lane's events, and those of others
-counted : (l : ℕ) (h : LockHistory) → length (own l h) + others l h ≡ length h
-counted l [] = refl
-counted l (e ∷ h) = count_more l e h (counted l h) (e.lane == l)
-
-longer : (f h since : LockHistory) → h ≡ since ++ f → h ≢ f → length f < length h
-longer f h [] is ne = absurd (ne is)
-longer f h (e ∷ since) is ne = let c = ap length is in let a = length-append since f in omega arith
-
--- where a lane made no event, and the history is another, other lanes made one
-others_more : (l : ℕ) (f h : LockHistory) → IsBefore f h → own l h ≡ own l f → h ≢ f → others l f + 1 ≤ others l h
-others_more l f h b same ne =
-    let a = counted l f in
-    let c = counted l h in
-    let o = ap length same in
-    let d = longer f h b.0 b.1 ne in
-    omega arith
-
 -- ---- the loop
 
 -- since the seat was at `start`, so many exchanges failed, and the last look found this word
@@ -127,24 +107,38 @@ pub record Tried (start now : Seat (Unit {0}) SeatView) (l k found n : ℕ) : Ty
   pub held : SameHeld start.me.0.fronts now.me.0.fronts l
   pub word : IsWord (seen now.me.0.fronts) k found
   pub few : (other : ℕ) → 16 ≤ other → own other (seen now.me.0.fronts) ≡ []
-  pub count : n + others l (seen start.me.0.fronts) ≤ others l (seen now.me.0.fronts)
+  pub count : n + others lane_of l (seen start.me.0.fronts) ≤ others lane_of l (seen now.me.0.fronts)
   pub steps : AddsAtMost n start.me.0.fronts now.me.0.fronts
 
 looked_word : (v w : SeatView) (l k n : ℕ) → Looked v l k n w → IsWord (seen w.fronts) k n
-looked_word v w l k n it = subst (λ x. IsWord (seen x.fronts) k n) (sym it.view) it.word
+looked_word v w l k n it = subst (λ h. IsWord h k n) (sym (seen_now v w it.history it.view)) it.word
 
 looked_few : (v w : SeatView) (l k n : ℕ) → Looked v l k n w → (other : ℕ) → 16 ≤ other → own other (seen w.fronts) ≡ []
-looked_few v w l k n it other many = ap (λ x. own other (seen x.fronts)) it.view ∙ it.meets.few other many
+looked_few v w l k n it other many = ap (λ h. own other h) (seen_now v w it.history it.view) ∙ it.meets.few other many
+
+looked_legal : (v w : SeatView) (l k n : ℕ) → Looked v l k n w → IsLegal w.lanes (seen w.fronts)
+looked_legal v w l k n it =
+    subst (λ (x : ℕ × LockHistory). IsLegal x.0 x.1) (λ i. (sym (ap (λ x. x.lanes) it.view) i, sym (seen_now v w it.history it.view) i)) it.meets.on.legal
 
 pub tried_first : (s t : Seat (Unit {0}) SeatView) (l k n : ℕ) → Looked s.me.0 l k n t.me.0 → Tried t t l k n 0
 tried_first s t l k n it = record {
-  makes = makes_self t l;
+  makes = makes_self t l (looked_legal s.me.0 t.me.0 l k n it);
   held = record { each = λ key mode. refl };
   word = looked_word s.me.0 t.me.0 l k n it;
   few = looked_few s.me.0 t.me.0 l k n it;
   count = omega arith;
   steps = omega arith;
 }
+
+-- a look adds a front, and so does an exchange
+one_more : (v w : SeatView) (h : LockHistory) → w ≡ seeing v h → length w.fronts ≡ length v.fronts + 1
+one_more v w h is = ap (λ x. length x.fronts) is ∙ length-append v.fronts (h ∷ [])
+
+pub looked_adds : (v w : SeatView) (l k n : ℕ) → Looked v l k n w → length w.fronts ≡ length v.fronts + 1
+looked_adds v w l k n it = one_more v w it.history it.view
+
+pub stepped_adds : (v w : SeatView) (l k : ℕ) (m : LockMode) (t : Bool) → Stepped v l k m t w → length w.fronts ≡ length v.fronts + 1
+stepped_adds v w l k m t it = one_more v w (it.history ++ event l k m t ∷ []) it.view
 
 pub tried_again : (start s t : Seat (Unit {0}) SeatView) (l k found next n : ℕ) (m : LockMode) → Tried start s l k found n → t.table_id ≡ s.table_id → (b : Bool) → (next == found) ≡ b → b ≡ false → TakesIf b s.me.0 l k m next t.me.0
     → Tried start t l k next (n + 1)
@@ -155,22 +149,15 @@ tried_again start s t l k found next n m tried same false is isnt it = record {
   word = looked_word s.me.0 t.me.0 l k next it;
   few = looked_few s.me.0 t.me.0 l k next it;
   count = (
-      let more = others_more l (seen s.me.0.fronts) it.history (seen_before s.me.0.fronts it.history it.meets.fronts) it.meets.own other in
+      let more = others_more lane_of l (seen s.me.0.fronts) it.history it.meets.on.begins it.meets.on.own_same other in
       let c = tried.count in
-      let e = ap (λ x. others l (seen x.fronts)) it.view in
+      let e = ap (others lane_of l) (seen_now s.me.0 t.me.0 it.history it.view) in
       omega arith);
-  steps = (let was = tried.steps in let e = ap (λ x. length x.fronts) it.view in omega arith);
+  steps = (let was = tried.steps in let e = looked_adds s.me.0 t.me.0 l k next it in omega arith);
 }
   where
     other : it.history ≢ seen s.me.0.fronts
     other at_once = eqb-false _ _ is (one_word it.history k next found it.word (subst (λ h. IsWord h k found) (sym at_once) tried.word))
-
--- a look adds a front, and so does an exchange
-looked_adds : (v w : SeatView) (l k n : ℕ) → Looked v l k n w → length w.fronts ≡ length v.fronts + 1
-looked_adds v w l k n it = let e = ap (λ x. length x.fronts) it.view in omega arith
-
-pub stepped_adds : (v w : SeatView) (l k : ℕ) (m : LockMode) (t : Bool) → Stepped v l k m t w → length w.fronts ≡ length v.fronts + 1
-stepped_adds v w l k m t it = let e = ap (λ x. length x.fronts) it.view in omega arith
 
 exchange_adds : (b : Bool) (v w : SeatView) (l k n : ℕ) (m : LockMode) → TakesIf b v l k m n w → length w.fronts ≡ length v.fronts + 1
 exchange_adds true v w l k n m it = stepped_adds v w l k m true it
@@ -184,6 +171,12 @@ taken_then start s t l k found next n m tried same true is it = (
 )
 taken_then start s t l k found next n m tried same false isnt it = absurd (cc)
 
+-- a look's one front is the first
+looked_first : (v w : SeatView) (l k n : ℕ) (it : Looked v l k n w) → first_front (lane_view v l) (lane_view w l) ≡ it.history
+looked_first v w l k n it =
+    subst (λ x. first_front (lane_view v l) (lane_view x l) ≡ it.history) (sym it.view)
+    (ap (first_or (seen v.fronts)) (moved_fronts (lane_view v l) (it.history ∷ [])))
+
 -- the whole of a call that began with a look
 module _ (before start now : Seat (Unit {0}) SeatView) (l k first found n : ℕ) (b : start.table_id ≡ before.table_id) (it : Looked before.me.0 l k first start.me.0) (tried : Tried start now l k found n) where
   pub all_makes : Makes before now l []
@@ -195,27 +188,46 @@ module _ (before start now : Seat (Unit {0}) SeatView) (l k first found n : ℕ)
   pub all_steps : (tries : ℕ) → n ≤ tries → AddsAtMost (tries + 1) before.me.0.fronts now.me.0.fronts
   all_steps tries most = let e = looked_adds before.me.0 start.me.0 l k first it in let s = tried.steps in omega arith
 
-  goes : GoesOn before.me.0.lanes (it.history ∷ before.me.0.fronts) now.me.0.fronts
-  goes = subst (λ (x : SeatView). GoesOn x.lanes x.fronts now.me.0.fronts) it.view tried.makes.fronts
+  abbrev pub B : LaneView
+  B = lane_view before.me.0 l
 
-  pub all_contended : (m : LockMode) (tries : ℕ) → tries ≤ n → IsFreeWord m found → Missed (Contended k) before.me.0.lanes before.me.0.fronts now.me.0.fronts l m tries
-  all_contended m tries most free = record {
-    first = it.history;
-    begins = seen_before before.me.0.fronts it.history it.meets.fronts;
-    goes_on = goes;
-    stands = (
-      free_word m (seen now.me.0.fronts) k found free tried.word tried.few,
-      (let c = tried.count in let e = ap (λ x. others l (seen x.fronts)) it.view in omega arith),
-    );
-  }
+  abbrev pub S : LaneView
+  S = lane_view start.me.0 l
 
-  pub all_taken : (m : LockMode) (tries : ℕ) → (IsFreeWord m found → ⊥) → ((x : LockMode) → holds (seen before.me.0.fronts) k x l ≡ false) → Missed (Taken k) before.me.0.lanes before.me.0.fronts now.me.0.fronts l m tries
-  all_taken m tries isnt none = record {
-    first = it.history;
-    begins = seen_before before.me.0.fronts it.history it.meets.fronts;
-    goes_on = goes;
-    stands = taken_word m (seen now.me.0.fronts) k found l tried.word isnt (λ x. all_held.each k x ∙ none x);
-  }
+  abbrev pub N : LaneView
+  N = lane_view now.me.0 l
+
+  looked : Calls before.me.0.lanes B S []
+  looked = (looked_makes before start l k first b it).calls.calls
+
+  then_tried : Calls before.me.0.lanes S N []
+  then_tried = subst (λ n. Calls n S N []) (looked_makes before start l k first b it).calls.lanes tried.makes.calls.calls
+
+  first_step : IsStepped B S
+  first_step = looked_stepped before.me.0 start.me.0 l k first it
+
+  all_stepped : IsStepped B N
+  all_stepped = steps_stay looked then_tried (inl first_step)
+
+  -- the call's first front is what it saw at first
+  first_is : first_front B N ≡ seen start.me.0.fronts
+  first_is =
+      first_decides looked then_tried first_step
+      ∙ (looked_first before.me.0 start.me.0 l k first it ∙ sym (seen_now before.me.0 start.me.0 it.history it.view))
+
+  crowded : (tries : ℕ) → tries ≤ n → IsCrowded lane_of tries B N
+  crowded tries most =
+      let goes = seen_goes_on then_tried in
+      let more : LockHistory = goes.0 in
+      let all : others lane_of l (seen start.me.0.fronts ++ more) ≡ others lane_of l (seen start.me.0.fronts) + others lane_of l more = others_append lane_of l (seen start.me.0.fronts) more in
+      let same : others lane_of l (seen start.me.0.fronts ++ more) ≡ others lane_of l (seen now.me.0.fronts) = ap (others lane_of l) goes.1 in
+      (more, sym goes.1 ∙ ap (λ h. h ++ more) (sym first_is), (let c = tried.count in omega (arith, all, same, c, most)))
+
+  pub all_contended : (m : LockMode) (tries : ℕ) → tries ≤ n → IsFreeWord m found → Missed (Contended k) B N m tries
+  all_contended m tries most free = record { stepped = all_stepped; stood = (free_word m (seen now.me.0.fronts) k found free tried.word tried.few, crowded tries most) }
+
+  pub all_taken : (m : LockMode) (tries : ℕ) → (IsFreeWord m found → ⊥) → ((x : LockMode) → holds (seen before.me.0.fronts) k x l ≡ false) → Missed (Taken k) B N m tries
+  all_taken m tries isnt none = record { stepped = all_stepped; stood = taken_word m (seen now.me.0.fronts) k found l tried.word isnt (λ x. all_held.each k x ∙ none x) }
 
   pub then_taken : (after : Seat (Unit {0}) SeatView) (next : ℕ) (m : LockMode) → after.table_id ≡ now.table_id → (x : Bool) → x ≡ true → TakesIf x now.me.0 l k m next after.me.0
       → Makes before after l (event l k m true ∷ []) × HeldBut before.me.0.fronts after.me.0.fronts l k m true

@@ -1,28 +1,28 @@
 -- What is known while a lane takes a whole set, or gives it back.
-use Rattle.std.proofs.Common.{◌≡◌, ℕ, ◌+◌, ◌*◌, ◌<◌, ◌≤◌, true, false, List, [], ◌∷◌, ◌++◌, length, take, map, Option, Some, None, slice_index_or, refl, sym, ap, ◌∙◌, subst, arith, length-append}
+use Rattle.std.proofs.Common.{◌≡◌, ℕ, ◌+◌, ◌*◌, ◌<◌, ◌≤◌, true, false, List, [], ◌∷◌, ◌++◌, length, take, Option, Some, None, slice_index_or, sym, ap, ◌∙◌, subst, arith, length-append, append-nil, inl, inr}
 use Rattle.std.proofs.Math.Nat.{add-mul, mul-add}
 use Rattle.std.proofs.Math.Seq.{take-length}
+use Rattle.std.proofs.lemmas.List.{map-append}
 use Rattle.std.proofs.lemmas.Bool.{and_left}
+use mathlib.Core.List.{IsPrefix}
 use Rattle.atomic_table.specs.declared.shared.Seat.{Seat}
+use Rattle.ext_history.specs.Views.{seen, first_front, IsStepped, IsPointAfter}
+use Rattle.ext_history.proofs.Composed.{calls_compose, steps_stay, first_decides, first_is_seen, point_of_first, seen_is_point}
+use Rattle.ext_history.proofs.Crowded.{crowded_at_first, crowded_at_second}
 use Rattle.ext_locks.specs.declared.event.LockMode.{LockMode}
 use Rattle.ext_locks.specs.declared.event.LockEvent.{LockEvent}
 use Rattle.ext_locks.specs.declared.seat.SeatView.{SeatView}
 use Rattle.ext_locks.specs.declared.refusal.LockRefusal.{LockRefusal}
 use Rattle.ext_locks.specs.declared.refusal.LockRefusal.TheVariants.{Taken, Contended}
-use Rattle.ext_locks.specs.History.{LockHistory, event, holds, own, IsBefore}
-use Rattle.ext_locks.specs.Views.{seen, first_front, GoesOn, earliest_or}
+use Rattle.ext_locks.specs.History.{LockHistory, event, lane_of, holds, IsLegal}
+use Rattle.ext_locks.specs.Views.{LaneView, Calls}
+use Rattle.ext_locks.specs.Rule.{lane_view}
 use Rattle.ext_locks.specs.Sets.{locks_of, locks_below, wants, takes_of, gives_of, HoldsNothing, HoldsExactly, AllBelow}
 use Rattle.ext_locks.specs.Refusals.{key_of, undone, steps_to_take, steps_to_refuse, StoodAt, IsRefused}
-use Rattle.ext_locks.specs.Steps.{lane_at, Makes, AddsAtMost, HoldsBetween, HeldBut, IsWithin, Stands, Missed}
-use Rattle.ext_locks.proofs.Histories.{before_then}
+use Rattle.ext_locks.specs.Steps.{lane_at, Makes, AddsAtMost, HoldsBetween, HeldBut, IsWithin, Missed}
 use Rattle.ext_locks.proofs.Holding.{passed, took, passed_back, gave, none_between, all_between, has_own}
 use Rattle.ext_locks.proofs.Lists.{wants_modes, locks_more, locks_same, below_take}
-use Rattle.ext_locks.proofs.Fronts.{goes_then, goes_seen, makes_self, makes_then, makes_quiet}
-use Rattle.ext_locks.proofs.Points.{crowd, earliest_from, stepped_call, first_is}
-
-map_one : (f : ℕ × LockMode → LockEvent) (xs : List (ℕ × LockMode)) (x : ℕ × LockMode) → map f (xs ++ x ∷ []) ≡ map f xs ++ f x ∷ []
-map_one f [] x = refl
-map_one f (y ∷ xs) x = ap (λ t. f y ∷ t) (map_one f xs x)
+use Rattle.ext_locks.proofs.Fronts.{makes_self, makes_then, makes_quiet}
 
 -- each lock more takes a look and the exchanges of its tries
 more_locks : (n t : ℕ) → (n + 1) * (t + 1) ≡ n * (t + 1) + (t + 1)
@@ -48,15 +48,15 @@ pub record GaveBelow (start now : Seat (Unit {0}) SeatView) (l : ℕ) (modes : L
   pub held : HoldsBetween now.me.0.fronts l modes key end
 
 module _ (start now : Seat (Unit {0}) SeatView) (l : ℕ) (modes : List (Option LockMode)) where
-  pub took_none : (tries : ℕ) → HoldsNothing (lane_at start l) → TookBelow start start l modes tries 0
-  took_none tries none = record {
-    makes = makes_self start l;
+  pub took_none : (tries : ℕ) → IsLegal start.me.0.lanes (seen start.me.0.fronts) → HoldsNothing (lane_at start l) → TookBelow start start l modes tries 0
+  took_none tries legal none = record {
+    makes = makes_self start l legal;
     steps = omega arith;
     held = record { each = λ key mode. none.each key mode ∙ sym (and_left _ _ (none_between 0 key)) };
   }
 
-  pub gave_none : (end : ℕ) → HoldsBetween start.me.0.fronts l modes 0 end → GaveBelow start start l modes 0 end
-  gave_none end held = record { makes = makes_self start l; steps = omega arith; held = held }
+  pub gave_none : (end : ℕ) → IsLegal start.me.0.lanes (seen start.me.0.fronts) → HoldsBetween start.me.0.fronts l modes 0 end → GaveBelow start start l modes 0 end
+  gave_none end legal held = record { makes = makes_self start l legal; steps = omega arith; held = held }
 
   module _ (k : ℕ) (below : k < length modes) where
     pub took_same : (tries : ℕ) → TookBelow start now l modes tries k → slice_index_or modes k None ≡ None → TookBelow start now l modes tries (k + 1)
@@ -79,7 +79,7 @@ module _ (start now : Seat (Unit {0}) SeatView) (l : ℕ) (modes : List (Option 
       took_more tries t adds makes but = record {
         steps = (let e = ap (steps_to_take tries) (locks_more modes k m below is) ∙ steps_more tries (locks_of (take k modes)) (k, m) in let s = t.steps in omega arith);
         makes = subst (λ x. Makes start after l x)
-            (sym (ap (takes_of l) (locks_more modes k m below is) ∙ map_one (λ lock. event l lock.0 lock.1 true) (locks_of (take k modes)) (k, m)))
+            (sym (ap (takes_of l) (locks_more modes k m below is) ∙ map-append (λ lock. event l lock.0 lock.1 true) (locks_of (take k modes)) ((k, m) ∷ [])))
             (makes_then start now after l (takes_of l (locks_of (take k modes))) (event l k m true ∷ []) t.makes makes);
         held = took now.me.0.fronts after.me.0.fronts l modes k m t.held is but;
       }
@@ -89,7 +89,7 @@ module _ (start now : Seat (Unit {0}) SeatView) (l : ℕ) (modes : List (Option 
       gave_more end t adds makes but = record {
         steps = (let e = ap length (locks_more modes k m below is) in let a = length-append (locks_of (take k modes)) ((k, m) ∷ []) in let s = t.steps in omega arith);
         makes = subst (λ x. Makes start after l x)
-            (sym (ap (gives_of l) (locks_more modes k m below is) ∙ map_one (λ lock. event l lock.0 lock.1 false) (locks_of (take k modes)) (k, m)))
+            (sym (ap (gives_of l) (locks_more modes k m below is) ∙ map-append (λ lock. event l lock.0 lock.1 false) (locks_of (take k modes)) ((k, m) ∷ [])))
             (makes_then start now after l (gives_of l (locks_of (take k modes))) (event l k m false ∷ []) t.makes makes);
         held = gave now.me.0.fronts after.me.0.fronts l modes k end m t.held is but;
       }
@@ -129,37 +129,66 @@ module _ (start mid last after : Seat (Unit {0}) SeatView) (l : ℕ) (modes : Li
       subst (λ (x : List (ℕ × LockMode)). length after.me.0.fronts ≤ length start.me.0.fronts + (length x * (tries + 2) + (tries + 1))) (sym (ap (λ n. locks_below n (locks_of modes)) key ∙ below_take modes k))
       (let s = took.steps in let e = more_steps (length (locks_of (take k modes))) tries in omega arith)
 
-  module _ (refusal : LockRefusal) (key : key_of refusal ≡ k) (why : Missed refusal mid.me.0.lanes mid.me.0.fronts last.me.0.fronts l m tries) where
-    missed_on : GoesOn start.me.0.lanes (why.first ∷ mid.me.0.fronts) last.me.0.fronts
-    missed_on = subst (λ n. GoesOn n (why.first ∷ mid.me.0.fronts) last.me.0.fronts) took.makes.lanes why.goes_on
+  module _ (refusal : LockRefusal) (key : key_of refusal ≡ k) (why : Missed refusal (lane_view mid.me.0 l) (lane_view last.me.0 l) m tries) where
+    abbrev S : LaneView
+    S = lane_view start.me.0 l
 
-    rest : GoesOn start.me.0.lanes (why.first ∷ mid.me.0.fronts) after.me.0.fronts
-    rest = goes_then start.me.0.lanes (why.first ∷ mid.me.0.fronts) last.me.0.fronts after.me.0.fronts missed_on
-        (subst (λ n. GoesOn n last.me.0.fronts after.me.0.fronts) (missed.lanes ∙ took.makes.lanes) gave.fronts)
+    abbrev M : LaneView
+    M = lane_view mid.me.0 l
 
-    front_is : first_front (lane_at start l) (lane_at after l) ≡ earliest_or why.first took.makes.fronts.added
-    front_is = first_is start.me.0.lanes start.me.0.fronts mid.me.0.fronts after.me.0.fronts why.first took.makes.fronts rest (seen start.me.0.fronts)
+    abbrev L : LaneView
+    L = lane_view last.me.0 l
 
-    early : IsBefore (first_front (lane_at start l) (lane_at after l)) why.first
-    early = subst (λ h. IsBefore h why.first) (sym front_is)
-        (earliest_from start.me.0.lanes start.me.0.fronts took.makes.fronts.added why.first took.makes.fronts.follow (subst (λ fs. IsBefore (seen fs) why.first) took.makes.fronts.all why.begins))
+    abbrev A : LaneView
+    A = lane_view after.me.0 l
 
-    stood_at : (refusal : LockRefusal) → Stands refusal why.first (seen last.me.0.fronts) l m tries → StoodAt refusal m tries (lane_at start l) (lane_at after l) (seen last.me.0.fronts)
-    stood_at (Taken key') stands = stands
-    stood_at (Contended key') stands = (stands.0, crowd l tries (first_front (lane_at start l) (lane_at after l)) why.first (seen last.me.0.fronts) early (goes_seen start.me.0.lanes (why.first ∷ mid.me.0.fronts) last.me.0.fronts missed_on) stands.1)
+    abbrev lanes : ℕ
+    lanes = start.me.0.lanes
+
+    abbrev xs : List LockEvent
+    xs = takes_of l (locks_of (take k modes))
+
+    abbrev gs : List LockEvent
+    gs = gives_of l (locks_of (take k modes))
+
+    first : Calls lanes S M xs
+    first = took.makes.calls.calls
+
+    second : Calls lanes M L []
+    second = subst (λ n. Calls n M L []) took.makes.calls.lanes missed.calls.calls
+
+    third : Calls lanes L A gs
+    third = subst (λ n. Calls n L A gs) (missed.calls.lanes ∙ took.makes.calls.lanes) gave.calls.calls
+
+    -- the takes and what was tried last
+    both : Calls lanes S L (xs ++ [])
+    both = calls_compose first second
+
+    both_stepped : IsStepped S L
+    both_stepped = steps_stay first second (inr why.stepped)
+
+    first_is : first_front S A ≡ first_front S L
+    first_is = first_decides both third both_stepped
+
+    stood_at : (refusal : LockRefusal) → StoodAt refusal m tries M L (seen last.me.0.fronts) → StoodAt refusal m tries S A (seen last.me.0.fronts)
+    stood_at (Taken key') stood = stood
+    stood_at (Contended key') stood = (
+      stood.0,
+      crowded_at_first tries both third both_stepped (seen last.me.0.fronts)
+          (crowded_at_second tries first second (seen last.me.0.fronts) stood.1),
+    )
+
+    takes_are : xs ++ [] ≡ takes_of l (locks_below (key_of refusal) (locks_of modes))
+    takes_are = append-nil xs ∙ ap (takes_of l) (sym (ap (λ n. locks_below n (locks_of modes)) key ∙ below_take modes k))
 
     pub refused_why : IsRefused tries (locks_of modes) (lane_at start l) (lane_at after l) refusal
     refused_why = record {
       mode = m;
       wanted = ap (λ n. wants (locks_of modes) n m) key ∙ (wants_modes modes k m ∙ has_own modes k m is);
-      stepped = stepped_call start.me.0.lanes start.me.0.fronts mid.me.0.fronts after.me.0.fronts why.first took.makes.fronts rest;
+      stepped = steps_stay both third (inl both_stepped);
       point = seen last.me.0.fronts;
-      is_point = record {
-        since = before_then (first_front (lane_at start l) (lane_at after l)) why.first (seen last.me.0.fronts) early (goes_seen start.me.0.lanes (why.first ∷ mid.me.0.fronts) last.me.0.fronts missed_on);
-        until = goes_seen last.me.0.lanes last.me.0.fronts after.me.0.fronts gave.fronts;
-        own_events = subst (λ x. own l (seen last.me.0.fronts) ≡ Rattle.ext_locks.specs.History.then_events (takes_of l x) (own l (seen start.me.0.fronts)))
-            (sym (ap (λ n. locks_below n (locks_of modes)) key ∙ below_take modes k))
-            (missed.own_events ∙ took.makes.own_events);
-      };
-      stood = stood_at refusal why.stands;
+      since_first = subst (λ (h : LockHistory). IsPrefix h (seen last.me.0.fronts)) (sym first_is) (first_is_seen both);
+      is_point = subst (λ es. IsPointAfter lane_of S A es (seen last.me.0.fronts)) takes_are
+          (point_of_first both third (seen_is_point both));
+      stood = stood_at refusal why.stood;
     }

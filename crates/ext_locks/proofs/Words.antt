@@ -1,5 +1,5 @@
 -- The bits of a key's word, after an event.
-use Rattle.std.proofs.Common.{◌≡◌, ◌≢◌, ℕ, ◌+◌, ◌-◌, ◌^◌, ◌<◌, ◌≤◌, Bool, true, false, List, [], ◌∷◌, refl, sym, ap, ◌∙◌, subst, ⊎_elim, arith, min, w64}
+use Rattle.std.proofs.Common.{◌≡◌, ◌≢◌, ℕ, ◌+◌, ◌-◌, ◌^◌, ◌<◌, ◌≤◌, Bool, true, false, List, [], ◌∷◌, ◌++◌, refl, sym, ap, ◌∙◌, subst, ⊎_elim, arith, min, w64}
 use Rattle.std.specs.Int.{bit_at, bit_not}
 use Rattle.std.specs.Int.RustNames.{bit_and, bit_or}
 use Rattle.std.proofs.lemmas.Nat.{or_lt, and_le_l}
@@ -11,7 +11,7 @@ use Rattle.ext_locks.specs.declared.event.LockMode.TheVariants.{Read, ReadWrite}
 use Rattle.ext_locks.specs.declared.event.LockEvent.{LockEvent}
 use Rattle.ext_locks.specs.History.{event, is_about, same_mode, holds, own, IsFree}
 use Rattle.ext_locks.specs.Words.{bit_of, as_bit, IsWord, IsFreeWord}
-use Rattle.ext_locks.proofs.Histories.{About, about, other_key, same_mode_self, none_held}
+use Rattle.ext_locks.proofs.Histories.{About, about, holds-push, other_key, same_mode_self, none_held}
 
 bit_small : (m : LockMode) (l : ℕ) → l < 16 → bit_of m l < 32
 bit_small Read l h = omega arith
@@ -34,15 +34,16 @@ apart_bit l k m t n o a b isnt same =
     both_ways _ isnt (and_from _ _ (and_from _ _ (eq-eqb k k refl) (eq-eqb l o s.1)) s.0)
 
 -- an event on another key leaves the word
-pub word_stays : (e : LockEvent) (h : List LockEvent) (k n : ℕ) → e.key ≢ k → IsWord h k n → IsWord (e ∷ h) k n
+pub word_stays : (e : LockEvent) (h : List LockEvent) (k n : ℕ) → e.key ≢ k → IsWord h k n → IsWord (h ++ e ∷ []) k n
 word_stays e h k n ne w = record { small = w.small; bits = λ m l below. w.bits m l below ∙ ap as_bit (sym (other_key e h k m l ne)) }
 
-pub taken_word : (h : List LockEvent) (l k : ℕ) (m : LockMode) (n : ℕ) → l < 16 → IsWord h k n → IsWord (event l k m true ∷ h) k (bit_or n (2 ^ bit_of m l))
+pub taken_word : (h : List LockEvent) (l k : ℕ) (m : LockMode) (n : ℕ) → l < 16 → IsWord h k n → IsWord (h ++ event l k m true ∷ []) k (bit_or n (2 ^ bit_of m l))
 taken_word h l k m n few w = record {
   small = or_lt 32 n (2 ^ bit_of m l) w.small (pow-lt (bit_small m l few));
   bits = λ x o below. cond_both (is_about (event l k m true) k x o) true (holds h k x o) (λ b. bit_at (bit_or n (2 ^ bit_of m l)) (bit_of x o) ≡ as_bit b)
       (λ is. here x o (about (event l k m true) k x o is))
-      (λ isnt. there x o below isnt);
+      (λ isnt. there x o below isnt)
+      ∙ ap as_bit (sym (holds-push h (event l k m true) k x o));
 }
   where
     here : (x : LockMode) (o : ℕ) → About (event l k m true) k x o → bit_at (bit_or n (2 ^ bit_of m l)) (bit_of x o) ≡ 1
@@ -57,12 +58,13 @@ taken_word h l k m n few w = record {
         let b = w.bits x o below in
         omega arith
 
-pub given_word : (h : List LockEvent) (l k : ℕ) (m : LockMode) (n : ℕ) → l < 16 → IsWord h k n → IsWord (event l k m false ∷ h) k (bit_and n (bit_not w64 (2 ^ bit_of m l)))
+pub given_word : (h : List LockEvent) (l k : ℕ) (m : LockMode) (n : ℕ) → l < 16 → IsWord h k n → IsWord (h ++ event l k m false ∷ []) k (bit_and n (bit_not w64 (2 ^ bit_of m l)))
 given_word h l k m n few w = record {
   small = (let le = and_le_l n (bit_not w64 (2 ^ bit_of m l)) in let s = w.small in omega arith);
   bits = λ x o below. cond_both (is_about (event l k m false) k x o) false (holds h k x o) (λ b. bit_at (bit_and n (bit_not w64 (2 ^ bit_of m l))) (bit_of x o) ≡ as_bit b)
       (λ is. here x o (about (event l k m false) k x o is))
-      (λ isnt. there x o below isnt);
+      (λ isnt. there x o below isnt)
+      ∙ ap as_bit (sym (holds-push h (event l k m false) k x o));
 }
   where
     cleared : (i : ℕ) → i < 32 → bit_at (bit_and n (bit_not w64 (2 ^ bit_of m l))) i ≡ min (bit_at n i) (1 - bit_at (2 ^ bit_of m l) i)

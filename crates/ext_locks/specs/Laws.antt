@@ -1,12 +1,14 @@
 -- Laws of lock histories, of calls on locks and of merged sets, which `lock_laws` proves.
 -- JUnit 5 User Guide, section "Synchronization": readers may run together, and a writer excludes all others.
 use Rattle.std.specs.Prelude.{ℕ, ◌≡◌, ◌<◌, ◌≤◌, false, List, [], ◌++◌}
+use mathlib.Core.List.{IsPrefix}
+use Rattle.ext_history.specs.Views.{seen_by}
 use Rattle.ext_locks.specs.declared.event.LockMode.{LockMode}
 use Rattle.ext_locks.specs.declared.event.LockMode.TheVariants.{ReadWrite}
 use Rattle.ext_locks.specs.declared.event.LockEvent.{LockEvent}
 use Rattle.ext_locks.specs.declared.request.LockRequest.{LockRequest}
-use Rattle.ext_locks.specs.History.{LockHistory, holds, own, IsFree, IsLegal, IsLawful, IsBefore}
-use Rattle.ext_locks.specs.Views.{LaneView, seen_by, Calls}
+use Rattle.ext_locks.specs.History.{LockHistory, holds, own, IsFree, IsLegal, IsLawful}
+use Rattle.ext_locks.specs.Views.{Lane, LaneCalls}
 use Rattle.ext_locks.specs.Names.{AreDifferent, IsMerged}
 
 -- ---- histories
@@ -35,19 +37,19 @@ FreshIsEmpty = (lanes : ℕ) (h : LockHistory) → IsLegal lanes h → ((lane : 
 abbrev pub OnlyLanesHold : Type 0
 OnlyLanesHold = (lanes : ℕ) (h : LockHistory) → IsLegal lanes h → (lane : ℕ) → lanes ≤ lane → (key : ℕ) (mode : LockMode) → holds h key mode lane ≡ false
 
--- What a legal history goes on from is legal: so it is at each point of a call
+-- What a legal history goes on from is legal: so is each front of a lane, and each point of a call
 abbrev pub BeginningsAreLegal : Type 0
-BeginningsAreLegal = (lanes : ℕ) (f h : LockHistory) → IsBefore f h → IsLegal lanes h → IsLegal lanes f
+BeginningsAreLegal = (lanes : ℕ) (f h : LockHistory) → IsPrefix f h → IsLegal lanes h → IsLegal lanes f
 
 -- ---- calls
 
 -- Two calls one after the other are one call with the events of both
 abbrev pub CallsCompose : Type 0
-CallsCompose = (first second third : LaneView) (xs ys : List LockEvent) → Calls first second xs → Calls second third ys → Calls first third (xs ++ ys)
+CallsCompose = (first second third : Lane) (xs ys : List LockEvent) → LaneCalls first second xs → LaneCalls second third ys → LaneCalls first third (xs ++ ys)
 
 -- A lane that was not called made a call of no events: what it has seen is legal by `look_back`
 abbrev pub NoCall : Type 0
-NoCall = (lane : LaneView) → IsLegal lane.lanes (seen_by lane) → Calls lane lane []
+NoCall = (lane : Lane) → IsLegal lane.lanes (seen_by lane.view) → LaneCalls lane lane []
 
 -- ---- sets
 

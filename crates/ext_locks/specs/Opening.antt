@@ -7,7 +7,7 @@ use Rattle.std.specs.Cmp.Lexicographic.{slice_cmp}
 use Rattle.atomic_table.specs.Seated.{TableId}
 use Rattle.ext_locks.specs.declared.fault.LockFault.{LockFault}
 use Rattle.ext_locks.specs.declared.fault.LockFault.TheVariants.{BadLimit, TooMany, Twice, UnknownKey, Memory}
-use Rattle.ext_locks.specs.Views.{LaneView}
+use Rattle.ext_locks.specs.Views.{Lane}
 use Rattle.ext_locks.specs.Names.{AreDifferent, IsFirstTwice}
 
 -- Locks as contracts see them: their table of words, the names in the order of their numbers, how many lanes there are, and how many
@@ -19,11 +19,11 @@ pub record LocksView : Type 0 where
   pub tries : ℕ
 
 -- a lane, of so many, that has seen nothing
-abbrev pub fresh_lane : TableId → ℕ → ℕ → LaneView
-fresh_lane table lanes number = record { table = table; lanes = lanes; number = number; fronts = [] }
+abbrev pub fresh_lane : TableId → ℕ → ℕ → Lane
+fresh_lane table lanes number = record { table = table; lanes = lanes; view = record { number = number; fronts = [] } }
 
 -- the first of so many lanes, numbered from 0
-abbrev pub fresh_lanes : TableId → ℕ → ℕ → List LaneView
+abbrev pub fresh_lanes : TableId → ℕ → ℕ → List Lane
 fresh_lanes table lanes zero = []
 fresh_lanes table lanes (suc n) = fresh_lanes table lanes n ++ fresh_lane table lanes n ∷ []
 
@@ -47,7 +47,7 @@ pub record AreLocks (locks : LocksView) : Type 0 where
 
 -- The names are those handed in, in the order of their bytes, and the lanes are fresh, all that there are: so the history is empty and
 -- nobody holds anything (`fresh` of `lock_laws`)
-pub record IsOpened (names : List (List ℕ)) (lanes tries : ℕ) (locks : LocksView) (made : List LaneView) : Type 0 where
+pub record IsOpened (names : List (List ℕ)) (lanes tries : ℕ) (locks : LocksView) (made : List Lane) : Type 0 where
   pub limits : AreLimits lanes tries
   pub few : length names ≤ 63
   pub different : AreDifferent names

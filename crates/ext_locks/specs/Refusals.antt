@@ -1,13 +1,16 @@
 -- When a set of locks is refused: another lane held one of them, or other lanes were in the way.
 -- JUnit waits instead; that a set is refused whole, and why, is an own rule.
 use Rattle.std.specs.Prelude.{ℕ, ◌≡◌, ◌≢◌, ◌+◌, ◌*◌, Bool, true, false, List, ◌++◌, length}
+use mathlib.Core.List.{IsPrefix}
+use Rattle.ext_history.specs.Views.{first_front, IsStepped, IsPointAfter}
+use Rattle.ext_history.specs.Calls.{IsCrowdedAt}
 use Rattle.ext_locks.specs.declared.event.LockMode.{LockMode}
 use Rattle.ext_locks.specs.declared.event.LockMode.TheVariants.{Read, ReadWrite}
 use Rattle.ext_locks.specs.declared.event.LockEvent.{LockEvent}
 use Rattle.ext_locks.specs.declared.refusal.LockRefusal.{LockRefusal}
 use Rattle.ext_locks.specs.declared.refusal.LockRefusal.TheVariants.{Taken, Contended}
-use Rattle.ext_locks.specs.History.{LockHistory, holds, IsFree}
-use Rattle.ext_locks.specs.Views.{LaneView, IsStepped, IsPointAfter, IsCrowdedAt}
+use Rattle.ext_locks.specs.History.{LockHistory, lane_of, holds, IsFree}
+use Rattle.ext_locks.specs.Views.{LaneView, Lane}
 use Rattle.ext_locks.specs.Sets.{locks_below, wants, takes_of, gives_of}
 
 -- whether a lane that holds a lock in the first mode keeps others from it in the second
@@ -38,7 +41,7 @@ undone lane set refusal = takes_of lane (locks_below (key_of refusal) set) ++ gi
 -- Contended: at such a point the lock was free for the mode, and other lanes had made so many events since the call's first step
 abbrev pub StoodAt : LockRefusal → LockMode → ℕ → LaneView → LaneView → LockHistory → Type 0
 StoodAt (Taken key) mode tries before after p = IsTakenBy p before.number key mode
-StoodAt (Contended key) mode tries before after p = IsFree p key mode × IsCrowdedAt tries before after p
+StoodAt (Contended key) mode tries before after p = IsFree p key mode × IsCrowdedAt lane_of tries before after p
 
 -- ---- how many steps a call makes at most
 
@@ -53,10 +56,13 @@ steps_to_refuse tries set refusal = length (locks_below (key_of refusal) set) * 
 -- ---- why a set was refused
 
 -- Why the set was refused: by which lock of it, and at which point of the call
-pub record IsRefused (tries : ℕ) (set : List (ℕ × LockMode)) (before after : LaneView) (refusal : LockRefusal) : Type 0 where
+pub record IsRefused (tries : ℕ) (set : List (ℕ × LockMode)) (before after : Lane) (refusal : LockRefusal) : Type 0 where
   pub mode : LockMode
   pub wanted : wants set (key_of refusal) mode ≡ true
-  pub stepped : IsStepped before after
+  pub stepped : IsStepped before.view after.view
   pub point : LockHistory
-  pub is_point : IsPointAfter before after (takes_of before.number (locks_below (key_of refusal) set)) point
-  pub stood : StoodAt refusal mode tries before after point
+  -- the point is not before the call's first step
+  pub since_first : IsPrefix (first_front before.view after.view) point
+  -- there the lane had taken the locks of the set below this one, and given none back
+  pub is_point : IsPointAfter lane_of before.view after.view (takes_of before.view.number (locks_below (key_of refusal) set)) point
+  pub stood : StoodAt refusal mode tries before.view after.view point

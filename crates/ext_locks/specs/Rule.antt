@@ -1,27 +1,25 @@
 -- The rule of the table of lock words: the words are those of one legal history, of which every lane has seen beginnings and all its own events.
 -- Own rule. It holds between any two steps, and each kind of step below keeps it and tells its lane what it met.
-use Rattle.std.specs.Prelude.{ℕ, ◌≡◌, ◌==◌, ◌+◌, ◌<◌, ◌≤◌, Bool, true, false, List, [], ◌∷◌, length, Option, Some, None, slice_index}
+use Rattle.std.specs.Prelude.{ℕ, ◌≡◌, ◌==◌, ◌+◌, ◌<◌, ◌≤◌, Bool, true, false, List, [], ◌∷◌, ◌++◌, length, Option, Some, None, slice_index}
 use mathlib.Core.Option.{some}
+use mathlib.Core.List.{IsPrefix}
 use lib.ListN.{get_elem?}
 use Rattle.atomic_table.specs.Table.{Step, Me}
+use Rattle.ext_history.specs.Views.{seen}
+use Rattle.ext_history.specs.Calls.{GoesOn}
 use Rattle.ext_locks.specs.declared.event.LockMode.{LockMode}
 use Rattle.ext_locks.specs.declared.seat.SeatView.{SeatView}
-use Rattle.ext_locks.specs.History.{LockHistory, event, own, IsLegal, IsAllowed, AllBefore}
-use Rattle.ext_locks.specs.Views.{seen}
+use Rattle.ext_locks.specs.History.{LockHistory, event, lane_of, own, IsLegal, IsAllowed}
+use Rattle.ext_locks.specs.Views.{LaneView}
 use Rattle.ext_locks.specs.Words.{IsWord}
 
 -- ---- the rule
 
--- the lane has seen all its own events
-abbrev pub KnowsOwn : LockHistory → List LockHistory → Option ℕ → Type 0
-KnowsOwn h fronts None = Unit {0}
-KnowsOwn h fronts (Some lane) = own lane h ≡ own lane (seen fronts)
-
--- what a seat saw or was told of are beginnings of the history
+-- what a seat saw or was told of are beginnings of the history, which has no event of its lane that it has not seen
 pub record Fits (h : LockHistory) (v : SeatView) : Type 0 where
-  pub fronts : AllBefore v.fronts h
-  pub told : AllBefore v.told h
-  pub knows : KnowsOwn h v.fronts v.number
+  pub seen_is : IsPrefix (seen v.fronts) h
+  pub told_is : IsPrefix v.told h
+  pub own_is : (lane : ℕ) → v.number ≡ Some lane → own lane h ≡ own lane (seen v.fronts)
 
 -- a seat that is a lane's has a number below the count of lanes, and like the one that gives numbers it knows the count
 pub record Counts (lanes : ℕ) (v : SeatView) : Type 0 where
@@ -51,15 +49,17 @@ pub record Kept (keys lanes : ℕ) (words : List ℕ) (views : List SeatView) : 
 
 -- the view after this history was seen
 abbrev pub seeing : SeatView → LockHistory → SeatView
-seeing v h = record { number = v.number; next = v.next; lanes = v.lanes; fronts = h ∷ v.fronts; told = [] }
+seeing v h = record { number = v.number; next = v.next; lanes = v.lanes; fronts = v.fronts ++ h ∷ []; told = [] }
+
+-- a lane of this number with the seat's fronts
+abbrev pub lane_view : SeatView → ℕ → LaneView
+lane_view v lane = record { number = lane; fronts = v.fronts }
 
 -- a lane meets a legal history: it goes on from all that the lane had seen or was told of, and of the lane's events has just those that it had seen
 pub record Meets (v : SeatView) (lane : ℕ) (h : LockHistory) : Type 0 where
-  pub legal : IsLegal v.lanes h
+  pub on : GoesOn lane_of (IsAllowed v.lanes) (lane_view v lane) h
+  pub told : IsPrefix v.told h
   pub few : (other : ℕ) → 16 ≤ other → own other h ≡ []
-  pub fronts : AllBefore v.fronts h
-  pub told : AllBefore v.told h
-  pub own : own lane h ≡ own lane (seen v.fronts)
 
 -- the lane met a history in which this was the lock's word, and saw it
 pub record Looked (v : SeatView) (lane key found : ℕ) (w : SeatView) : Type 0 where
@@ -73,7 +73,7 @@ pub record Stepped (v : SeatView) (lane key : ℕ) (mode : LockMode) (takes : Bo
   pub history : LockHistory
   pub meets : Meets v lane history
   pub allowed : IsAllowed v.lanes history (event lane key mode takes)
-  pub view : w ≡ seeing v (event lane key mode takes ∷ history)
+  pub view : w ≡ seeing v (history ++ event lane key mode takes ∷ [])
 
 -- an exchange that found the word it expected took the lock, and any other was a look
 abbrev pub TakesIf : Bool → SeatView → ℕ → ℕ → LockMode → ℕ → SeatView → Type 0
@@ -108,10 +108,10 @@ dealt v = record { number = v.next; next = None; lanes = v.lanes; fronts = []; t
 
 -- a note of what a lane has seen, and a lane that was told of it
 abbrev pub noted : SeatView → SeatView
-noted v = record { number = None; next = None; lanes = v.lanes; fronts = v.fronts; told = [] }
+noted v = record { number = None; next = None; lanes = v.lanes; fronts = []; told = seen v.fronts }
 
 abbrev pub told_of : SeatView → SeatView → SeatView
-told_of v w = record { number = v.number; next = v.next; lanes = v.lanes; fronts = v.fronts; told = w.fronts }
+told_of v w = record { number = v.number; next = v.next; lanes = v.lanes; fronts = v.fronts; told = w.told }
 
 abbrev pub nobody : SeatView
 nobody = record { number = None; next = None; lanes = 0; fronts = []; told = [] }

@@ -3,11 +3,12 @@
 use Rattle.std.specs.Prelude.{ℕ, suc, ◌≡◌, ◌<◌, ◌==◌, ◌&&◌, Bool, true, false, nat_lt, List, [], ◌∷◌, map, filter, Option, Some, None}
 use Rattle.std.specs.List.{list_any}
 use Rattle.atomic_table.specs.Seated.{TableId}
+use Rattle.ext_history.specs.Views.{seen_by}
 use Rattle.ext_locks.specs.declared.event.LockMode.{LockMode}
 use Rattle.ext_locks.specs.declared.event.LockMode.TheVariants.{ReadWrite}
 use Rattle.ext_locks.specs.declared.event.LockEvent.{LockEvent}
 use Rattle.ext_locks.specs.History.{LockHistory, event, same_mode, holds}
-use Rattle.ext_locks.specs.Views.{LaneView, seen_by, own_of}
+use Rattle.ext_locks.specs.Views.{Lane, own_of}
 
 -- the locks of a set, where each lock from a number on has the mode in which the set wants it, or none
 abbrev pub locks_from : ℕ → List (Option LockMode) → List (ℕ × LockMode)
@@ -46,16 +47,16 @@ gives_of lane set = map (λ lock. event lane lock.0 lock.1 false) set
 -- ---- what a lane holds
 
 -- the lane holds no lock
-pub record HoldsNothing (lane : LaneView) : Type 0 where
-  pub each : (key : ℕ) (mode : LockMode) → holds (seen_by lane) key mode lane.number ≡ false
+pub record HoldsNothing (lane : Lane) : Type 0 where
+  pub each : (key : ℕ) (mode : LockMode) → holds (seen_by lane.view) key mode lane.view.number ≡ false
 
 -- the lane holds each lock of the set in its mode, and nothing else
-pub record HoldsExactly (lane : LaneView) (set : List (ℕ × LockMode)) : Type 0 where
-  pub each : (key : ℕ) (mode : LockMode) → holds (seen_by lane) key mode lane.number ≡ wants set key mode
+pub record HoldsExactly (lane : Lane) (set : List (ℕ × LockMode)) : Type 0 where
+  pub each : (key : ℕ) (mode : LockMode) → holds (seen_by lane.view) key mode lane.view.number ≡ wants set key mode
 
 -- where the one lane writes by a lock, the other holds nothing on it
-pub record Excludes (one other : LaneView) : Type 0 where
-  pub each : (key : ℕ) (mode : LockMode) → holds (seen_by one) key ReadWrite one.number ≡ true → holds (seen_by other) key mode other.number ≡ false
+pub record Excludes (one other : Lane) : Type 0 where
+  pub each : (key : ℕ) (mode : LockMode) → holds (seen_by one.view) key ReadWrite one.view.number ≡ true → holds (seen_by other.view) key mode other.view.number ≡ false
 
 -- A held set as contracts see it: the lane that took it, the names of its locks, the set, and the lane's own events as they were once it
 -- was taken. How many these are tells one taking of a lane from every other
@@ -67,7 +68,7 @@ pub record HeldView : Type 0 where
   pub own_events : LockHistory
 
 -- the lane took the set, and has made no event since
-pub record IsHeldBy (held : HeldView) (lane : LaneView) : Type 0 where
+pub record IsHeldBy (held : HeldView) (lane : Lane) : Type 0 where
   pub same_table : lane.table ≡ held.table
-  pub same_lane : lane.number ≡ held.lane
+  pub same_lane : lane.view.number ≡ held.lane
   pub no_event : own_of lane ≡ held.own_events

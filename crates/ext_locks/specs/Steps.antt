@@ -1,35 +1,34 @@
 -- What the parts of a call on a set of locks do to a lane's seat. No public clause cites these.
 -- Own rule. A set stands here as one mode, or none, for each lock number.
-use Rattle.std.specs.Prelude.{ℕ, ◌≡◌, ◌+◌, ◌<◌, ◌≤◌, ◌&&◌, Bool, false, if◌then◌else◌, leb, ltb, List, ◌∷◌, length, Option, Some, None, slice_index_or}
+use Rattle.std.specs.Prelude.{ℕ, ◌≡◌, ◌+◌, ◌<◌, ◌≤◌, ◌&&◌, Bool, false, if◌then◌else◌, leb, ltb, List, length, Option, Some, None, slice_index_or}
 use Rattle.atomic_table.specs.Seated.{TableId}
 use Rattle.atomic_table.specs.declared.shared.Seat.{Seat}
+use Rattle.ext_history.specs.Views.{seen, IsStepped}
 use Rattle.ext_locks.specs.declared.event.LockMode.{LockMode}
 use Rattle.ext_locks.specs.declared.event.LockEvent.{LockEvent}
 use Rattle.ext_locks.specs.declared.seat.SeatView.{SeatView}
 use Rattle.ext_locks.specs.declared.refusal.LockRefusal.{LockRefusal}
-use Rattle.ext_locks.specs.declared.refusal.LockRefusal.TheVariants.{Taken, Contended}
-use Rattle.ext_locks.specs.History.{LockHistory, event, is_about, same_mode, holds, own, others, IsFree, IsBefore, then_events}
-use Rattle.ext_locks.specs.Views.{LaneView, seen, GoesOn}
-use Rattle.ext_locks.specs.Refusals.{IsTakenBy}
+use Rattle.ext_locks.specs.History.{LockHistory, event, is_about, same_mode, holds, IsLegal}
+use Rattle.ext_locks.specs.Views.{LaneView, Lane, LaneCalls}
+use Rattle.ext_locks.specs.Rule.{lane_view}
+use Rattle.ext_locks.specs.Refusals.{StoodAt}
 
 -- the lane of a seat, as contracts see it
-abbrev pub lane_at : Seat (Unit {0}) SeatView → ℕ → LaneView
-lane_at seat lane = record { table = seat.table_id; lanes = seat.me.0.lanes; number = lane; fronts = seat.me.0.fronts }
+abbrev pub lane_at : Seat (Unit {0}) SeatView → ℕ → Lane
+lane_at seat lane = record { table = seat.table_id; lanes = seat.me.0.lanes; view = lane_view seat.me.0 lane }
 
--- the seat is this lane's, of a table with a word for each lock
+-- the seat is this lane's, of a table with a word for each lock, and what it has seen is legal
 pub record IsLane (table : TableId) (keys : ℕ) (seat : Seat (Unit {0}) SeatView) (lane : ℕ) : Type 0 where
   pub same_table : seat.table_id ≡ table
   pub same_keys : keys ≡ table.words
   pub number : seat.me.0.number ≡ Some lane
   pub few : lane < 16
+  pub legal : IsLegal seat.me.0.lanes (seen seat.me.0.fronts)
 
 -- the seat went on, and its lane made these events
 pub record Makes (before after : Seat (Unit {0}) SeatView) (lane : ℕ) (events : List LockEvent) : Type 0 where
-  pub table : after.table_id ≡ before.table_id
   pub number : after.me.0.number ≡ before.me.0.number
-  pub lanes : after.me.0.lanes ≡ before.me.0.lanes
-  pub fronts : GoesOn before.me.0.lanes before.me.0.fronts after.me.0.fronts
-  pub own_events : own lane (seen after.me.0.fronts) ≡ then_events events (own lane (seen before.me.0.fronts))
+  pub calls : LaneCalls (lane_at before lane) (lane_at after lane) events
 
 -- at most so many fronts were added
 abbrev pub AddsAtMost : ℕ → List LockHistory → List LockHistory → Type 0
@@ -66,14 +65,7 @@ pub record IsWithin (modes : List (Option LockMode)) (keys : ℕ) : Type 0 where
 
 -- ---- why one lock was not taken
 
--- Taken: another lane holds it in what the seat saw last. Contended: it is free there, and since the first front other lanes made so many events
-abbrev pub Stands : LockRefusal → LockHistory → LockHistory → ℕ → LockMode → ℕ → Type 0
-Stands (Taken key) first last lane mode tries = IsTakenBy last lane key mode
-Stands (Contended key) first last lane mode tries = IsFree last key mode × (tries + others lane first ≤ others lane last)
-
--- between these fronts there was at least one, the first of them, and what was seen last says why
-pub record Missed (refusal : LockRefusal) (lanes : ℕ) (before after : List LockHistory) (lane : ℕ) (mode : LockMode) (tries : ℕ) : Type 0 where
-  pub first : LockHistory
-  pub begins : IsBefore (seen before) first
-  pub goes_on : GoesOn lanes (first ∷ before) after
-  pub stands : Stands refusal first (seen after) lane mode tries
+-- between these fronts there was at least one, and what was seen last says why: the point of the refusal is there
+pub record Missed (refusal : LockRefusal) (before after : LaneView) (mode : LockMode) (tries : ℕ) : Type 0 where
+  pub stepped : IsStepped before after
+  pub stood : StoodAt refusal mode tries before after (seen after.fronts)

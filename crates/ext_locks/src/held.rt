@@ -21,7 +21,7 @@ impl Model for Held {
 
     ghost Value = { HeldView };
 
-    ghost view = { λ h. record { table = h.taken.value.table; lane = h.taken.value.number; names = map string_bytes h.names.value.items; set = h.set; own_events = own_of h.taken.value } };
+    ghost view = { λ h. record { table = h.taken.value.table; lane = h.taken.value.view.number; names = map string_bytes h.names.value.items; set = h.set; own_events = own_of h.taken.value } };
 
     ghost invariant = { λ h.
         HoldsExactly h.taken.value h.set

@@ -4,8 +4,8 @@ use std::marker::Model;
 
 /// A lane of some locks. It is owned by one thread at a time, and may be moved to another.
 ///
-/// Contracts see the locks that it belongs to and how many lanes these have, its number, from 0, and the histories that it
-/// saw (own rule).
+/// Contracts see the locks that it belongs to, how many lanes these have, and its number, from 0, with the histories that
+/// it saw (own rule).
 #[derive(Drop)]
 pub struct LockLane {
     pub(crate) seat: LaneSeat,
@@ -14,28 +14,31 @@ pub struct LockLane {
 
 impl Model for LockLane {
     ghost use Rattle.std.specs.Prelude.{◌≡◌, ◌<◌, ◌≤◌, [], Some};
-    ghost use Rattle.ext_locks.specs.Views.{LaneView, Follow};
+    ghost use Rattle.ext_history.specs.Views.{seen, Follow};
+    ghost use Rattle.ext_locks.specs.History.{IsLegal};
+    ghost use Rattle.ext_locks.specs.Views.{Lane};
 
-    ghost Value = { LaneView };
+    ghost Value = { Lane };
 
-    ghost view = { λ a. record { table = a.seat.table_id; lanes = a.seat.me.0.lanes; number = a.number; fronts = a.seat.me.0.fronts } };
+    ghost view = { λ a. record { table = a.seat.table_id; lanes = a.seat.me.0.lanes; view = record { number = a.number; fronts = a.seat.me.0.fronts } } };
 
     ghost invariant = { λ a.
         (a.seat.me.0.number ≡ Some a.number)
         × (a.number < a.seat.me.0.lanes)
         × (a.seat.me.0.lanes ≤ 16)
-        × Follow a.seat.me.0.lanes a.seat.me.0.fronts [] };
+        × Follow [] a.seat.me.0.fronts
+        × IsLegal a.seat.me.0.lanes (seen a.seat.me.0.fronts) };
 }
 
 impl LockLane {
     ghost use Rattle.std.specs.Prelude.{◌≡◌, ◌<◌, ◌≤◌, []};
+    ghost use Rattle.ext_history.specs.Views.{seen_by, Follow};
     ghost use Rattle.ext_locks.specs.History.{IsLegal};
-    ghost use Rattle.ext_locks.specs.Views.{seen_by, Follow};
 
     /// The lane's number, from 0: it is below the count of lanes, and no other lane of these locks has it. Takes no memory.
     /// Own rule.
     pub fn number(&self) -> usize
-        ensures number { result ≡ self.now.number }
+        ensures number { result ≡ self.now.view.number }
         ensures below { result < self.now.lanes }
     {
         self.number
@@ -44,10 +47,10 @@ impl LockLane {
     /// Shows what is true of every lane: all that it has seen is legal, and each history goes on from the one before it.
     /// Does nothing when it runs. Own rule.
     pub fn look_back(&self)
-        ensures lane { self.now.number < self.now.lanes }
+        ensures lane { self.now.view.number < self.now.lanes }
         ensures lanes { self.now.lanes ≤ 16 }
-        ensures one_history { Follow self.now.lanes self.now.fronts [] }
-        ensures legal { IsLegal self.now.lanes (seen_by self.now) }
+        ensures one_history { Follow [] self.now.view.fronts }
+        ensures legal { IsLegal self.now.lanes (seen_by self.now.view) }
     {
         let _number = self.number;
     }

@@ -2,9 +2,9 @@
 //!
 //! Follows the JUnit 5 User Guide, section "Synchronization", and the Javadoc of `ResourceLock`. Each lock is one word, and
 //! each lock event one atomic step on it. Contracts speak of the history of these events and of what each lane has seen of
-//! it: `specs/History` has who holds what, `Views` what a call adds to a lane, `Sets` sets of locks, `Refusals` when a set
-//! is refused, `Names` names and requests, and `Opening` fresh locks. `Words` and `Rule` are the words and what holds of
-//! them between any two steps.
+//! it, in the words of `ext_history`: `specs/History` has what an event is, who holds what and when an event may come,
+//! `Views` what a lane of locks is, `Sets` sets of locks, `Refusals` when a set is refused, `Names` names and requests, and
+//! `Opening` fresh locks. `Words` and `Rule` are the words and what holds of them between any two steps.
 #![tactic(auto)]
 
 mod event;
@@ -23,8 +23,6 @@ mod set;
 mod steps;
 mod taking;
 mod telling;
-#[cfg(test)]
-mod tests;
 
 pub use event::{LockEvent, LockMode, LockNo};
 pub use fault::LockFault;

@@ -55,8 +55,9 @@ impl Model for Locks {
 
 impl Locks {
     ghost use Rattle.std.specs.Prelude.{◌≡◌, ◌≢◌, ◌+◌, ◌≤◌, ◌↔◌, [], length, None, IfOk, IfErr, IfSome, OnOk, OnErr};
-    ghost use Rattle.ext_locks.specs.History.{IsBefore};
-    ghost use Rattle.ext_locks.specs.Views.{seen_by, call_fronts, Calls};
+    ghost use mathlib.Core.List.{IsPrefix};
+    ghost use Rattle.ext_history.specs.Views.{seen_by, call_fronts};
+    ghost use Rattle.ext_locks.specs.Views.{LaneCalls};
     ghost use Rattle.ext_locks.specs.Sets.{AllBelow, takes_of, gives_of, HoldsNothing, HoldsExactly, Excludes, IsHeldBy};
     ghost use Rattle.ext_locks.specs.Refusals.{undone, steps_to_take, steps_to_refuse, IsRefused};
     ghost use Rattle.ext_locks.specs.Names.{IsNamed, IsMerged, IsNotMerged};
@@ -139,14 +140,14 @@ impl Locks {
         requires lane { lane.old.table ≡ self.now.table }
         requires free_hands { HoldsNothing lane.old }
         requires set { AllBelow (length self.now.names + 1) set.now }
-        ensures steps { OnOk result (length (call_fronts lane.old lane.new) ≤ steps_to_take self.now.tries set.now) }
+        ensures steps { OnOk result (length (call_fronts lane.old.view lane.new.view) ≤ steps_to_take self.now.tries set.now) }
         ensures taken { OnOk result (HoldsExactly lane.new set.now) }
-        ensures taken_events { OnOk result (Calls lane.old lane.new (takes_of lane.old.number set.now)) }
+        ensures taken_events { OnOk result (LaneCalls lane.old lane.new (takes_of lane.old.view.number set.now)) }
         ensures held { IfOk result (λ held. (held.set ≡ set.now) × IsHeldBy held lane.new) }
         ensures names { IfOk result (λ held. held.names ≡ self.now.names) }
-        ensures refused_steps { IfErr result (λ refusal. length (call_fronts lane.old lane.new) ≤ steps_to_refuse self.now.tries set.now refusal) }
+        ensures refused_steps { IfErr result (λ refusal. length (call_fronts lane.old.view lane.new.view) ≤ steps_to_refuse self.now.tries set.now refusal) }
         ensures nothing { OnErr result (HoldsNothing lane.new) }
-        ensures refused_events { IfErr result (λ refusal. Calls lane.old lane.new (undone lane.old.number set.now refusal)) }
+        ensures refused_events { IfErr result (λ refusal. LaneCalls lane.old lane.new (undone lane.old.view.number set.now refusal)) }
         ensures refusal { IfErr result (λ refusal. IsRefused self.now.tries set.now lane.old lane.new refusal) }
     {
         match take_keys(
@@ -172,9 +173,9 @@ impl Locks {
     pub fn give(&self, lane: &mut LockLane, held: Held)
         requires lane { lane.old.table ≡ self.now.table }
         requires held { IsHeldBy held lane.old }
-        ensures steps { length (call_fronts lane.old lane.new) ≡ length held.set }
+        ensures steps { length (call_fronts lane.old.view lane.new.view) ≡ length held.set }
         ensures nothing { HoldsNothing lane.new }
-        ensures events { Calls lane.old lane.new (gives_of lane.old.number held.set) }
+        ensures events { LaneCalls lane.old lane.new (gives_of lane.old.view.number held.set) }
     {
         let Held {
             set,
@@ -192,16 +193,18 @@ impl Locks {
     }
 
     /// Shows that of two different lanes, where one writes by a lock, the other holds nothing on it. Each looks
-    /// at the locks and makes no event. Cannot fail, takes no memory, and waits for nobody.
+    /// once at the locks and makes no event. Cannot fail, takes no memory, and waits for nobody.
     ///
     /// JUnit 5 User Guide, section "Synchronization".
     pub fn exclusive(&self, one: &mut LockLane, other: &mut LockLane)
         requires one { one.old.table ≡ self.now.table }
         requires other { other.old.table ≡ self.now.table }
-        requires apart { one.old.number ≢ other.old.number }
-        ensures one { Calls one.old one.new [] }
-        ensures other { Calls other.old other.new [] }
-        ensures one_history { IsBefore (seen_by other.new) (seen_by one.new) }
+        requires apart { one.old.view.number ≢ other.old.view.number }
+        ensures steps_one { length (call_fronts one.old.view one.new.view) ≡ 1 }
+        ensures steps_other { length (call_fronts other.old.view other.new.view) ≡ 1 }
+        ensures one { LaneCalls one.old one.new [] }
+        ensures other { LaneCalls other.old other.new [] }
+        ensures one_history { IsPrefix (seen_by other.new.view) (seen_by one.new.view) }
         ensures one_excludes { Excludes one.new other.new }
         ensures other_excludes { Excludes other.new one.new }
     {

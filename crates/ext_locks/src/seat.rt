@@ -10,8 +10,8 @@ pub(crate) struct SeatView {
     pub next: Option<u64>,
     /// How many lanes there are, where this seat is a lane's or gives the numbers.
     pub lanes: u64,
-    /// The histories that the lane saw, the latest first.
+    /// The histories that the lane saw, the oldest first.
     pub fronts: LinkedList<LinkedList<LockEvent>>,
-    /// The histories that it was told of and has not seen yet.
-    pub told: LinkedList<LinkedList<LockEvent>>,
+    /// The history that it was told of and has not seen yet.
+    pub told: LinkedList<LockEvent>,
 }

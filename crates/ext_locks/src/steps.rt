@@ -1,10 +1,10 @@
 //! Single steps on the word of one lock. Only these touch the shared words.
 ghost use Rattle.std.specs.Prelude.{◌≡◌, ◌+◌, ◌^◌, ◌<◌, ◌==◌, Some, true, false, [], ◌∷◌, ◌↔◌, IsTrue, IfErr, IfOk, OnOk};
+ghost use Rattle.ext_history.specs.Views.{seen};
 ghost use Rattle.ext_locks.specs.declared.event.LockMode.{LockMode};
 ghost use Rattle.ext_locks.specs.History.{event, holds};
-ghost use Rattle.ext_locks.specs.Views.{seen};
 ghost use Rattle.ext_locks.specs.Words.{bit_of, IsFreeWord};
-ghost use Rattle.ext_locks.specs.Rule.{TakesIf, Stepped, Looked};
+ghost use Rattle.ext_locks.specs.Rule.{lane_view, TakesIf, Stepped, Looked};
 ghost use Rattle.ext_locks.specs.Refusals.{key_of};
 ghost use Rattle.ext_locks.specs.Steps.{IsLane, Makes, AddsAtMost, SameHeld, HeldBut, Missed};
 
@@ -110,7 +110,7 @@ pub(crate) fn take_key(
     ensures missed { IfErr result (λ _. Makes seat.old seat.new lane []) }
     ensures unheld { IfErr result (λ _. SameHeld seat.old.me.0.fronts seat.new.me.0.fronts lane) }
     ensures key { IfErr result (λ refusal. key_of refusal ≡ key) }
-    ensures why { IfErr result (λ refusal. Missed refusal seat.old.me.0.lanes seat.old.me.0.fronts seat.new.me.0.fronts lane mode tries) }
+    ensures why { IfErr result (λ refusal. Missed refusal (lane_view seat.old.me.0 lane) (lane_view seat.new.me.0 lane) mode tries) }
 {
     let mut found = look(words, seat, lane, key);
     for attempt in 0..tries {

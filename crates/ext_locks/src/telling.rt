@@ -1,8 +1,8 @@
 //! A lane is told of what another has seen.
-ghost use Rattle.std.specs.Prelude.{◌≡◌, ◌≢◌, ◌<◌, []};
-ghost use Rattle.ext_locks.specs.Views.{seen};
-ghost use Rattle.ext_locks.specs.History.{IsBefore};
-ghost use Rattle.ext_locks.specs.Rule.{Looked, told_of};
+ghost use Rattle.std.specs.Prelude.{◌≡◌, ◌≢◌, ◌+◌, ◌<◌, [], length};
+ghost use mathlib.Core.List.{IsPrefix};
+ghost use Rattle.ext_history.specs.Views.{seen};
+ghost use Rattle.ext_locks.specs.Rule.{Looked, told_of, noted};
 ghost use Rattle.ext_locks.specs.Sets.{Excludes};
 ghost use Rattle.ext_locks.specs.Steps.{lane_at, IsLane, Makes};
 
@@ -16,7 +16,7 @@ fn tell(words: &LockWords, from: &mut LaneSeat, to: &mut LaneSeat, lane: usize) 
     requires key { 0 < words.now.key.locks }
     ensures from { (from.new.table_id ≡ from.old.table_id) × (from.new.me ≡ from.old.me) }
     ensures table { to.new.table_id ≡ to.old.table_id }
-    ensures step { Looked (told_of to.old.me.0 from.old.me.0) lane 0 result to.new.me.0 }
+    ensures step { Looked (told_of to.old.me.0 (noted from.old.me.0)) lane 0 result to.new.me.0 }
 {
     let note = words.split_seat::<Notes>(from);
     words.join_seat::<Notes>(to, note);
@@ -38,9 +38,11 @@ pub(crate) fn exclude(
     requires other { IsLane words.now.table_id words.now.key.locks other.old other_lane }
     requires apart { one_lane ≢ other_lane }
     requires key { 0 < words.now.key.locks }
+    ensures steps_one { length one.new.me.0.fronts ≡ length one.old.me.0.fronts + 1 }
+    ensures steps_other { length other.new.me.0.fronts ≡ length other.old.me.0.fronts + 1 }
     ensures one { Makes one.old one.new one_lane [] }
     ensures other { Makes other.old other.new other_lane [] }
-    ensures seen { IsBefore (seen other.new.me.0.fronts) (seen one.new.me.0.fronts) }
+    ensures seen { IsPrefix (seen other.new.me.0.fronts) (seen one.new.me.0.fronts) }
     ensures shuts_out { Excludes (lane_at one.new one_lane) (lane_at other.new other_lane) }
     ensures is_shut_out { Excludes (lane_at other.new other_lane) (lane_at one.new one_lane) }
 {

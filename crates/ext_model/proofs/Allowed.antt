@@ -1,7 +1,7 @@
 -- What is allowed, act by act.
 use Rattle.std.proofs.Common.{◌≡◌, ℕ, ◌+◌, ◌≤◌, ◌<◌, Bool, true, false, refl, ap, ◌∙◌, arith, eqb-true, eq-eqb, Option, None, Some}
 use Rattle.std.specs.Prelude.{nat_lt, if◌then◌else◌, ◌==◌, ◌↔◌}
-use Rattle.std.proofs.lemmas.Bool.Decides.{nat_tests}
+use Rattle.std.proofs.lemmas.Bool.{lt-ltb, le-ltb, ltb-true, ltb-false}
 use Rattle.ext_model.specs.declared.event.Act.{Act}
 use Rattle.ext_model.specs.declared.event.Act.TheVariants.{Keep, Put, Remove, Claim, Fill, Abandon, Seal}
 use Rattle.ext_model.specs.declared.slot.Slot.{Slot}
@@ -10,22 +10,10 @@ use Rattle.ext_model.specs.Events.{Happens, Refuses, NumbersFull, Barred, keep_r
 use Rattle.ext_model.specs.History.{History, Limits, by, state_after, IsAllowed}
 use Rattle.ext_model.specs.Allowed.{IsOpen, IsPresent, Permits, MayHappen}
 
-below : (a b : ℕ) → nat_lt a b ≡ true → a < b
-below a b e = grind (arith, nat_tests)
-
-above : (a b : ℕ) → nat_lt a b ≡ false → b ≤ a
-above a b e = grind (arith, nat_tests)
-
-is_below : (a b : ℕ) → a < b → nat_lt a b ≡ true
-is_below a b e = grind (arith, nat_tests)
-
-is_above : (a b : ℕ) → b ≤ a → nat_lt a b ≡ false
-is_above a b e = grind (arith, nat_tests)
-
 -- ---- what a reply that happens says
 
 keep_says : (numbers drawn : ℕ) (b : Bool) (answer : Option ℕ) → nat_lt drawn numbers ≡ b → (if b then Happens (Some (drawn + 1)) else Refuses NumbersFull) ≡ Happens answer → drawn < numbers
-keep_says numbers drawn true answer is happens = below drawn numbers is
+keep_says numbers drawn true answer is happens = ltb-true drawn numbers is
 keep_says numbers drawn false answer is happens = absurd (cc happens)
 
 put_says : (worn : Bool) (x : Option Slot) (answer : Option ℕ) → put_reply worn x ≡ Happens answer → IsOpen x × (worn ≡ false)
@@ -69,7 +57,7 @@ seal_says (Some (slot.Sealed kept)) answer happens = absurd (cc happens)
 -- ---- what makes a reply happen
 
 keep_does : (numbers drawn : ℕ) → drawn < numbers → keep_reply numbers drawn ≡ Happens (Some (drawn + 1))
-keep_does numbers drawn less = ap (λ b. if b then Happens (Some (drawn + 1)) else Refuses NumbersFull) (is_below drawn numbers less)
+keep_does numbers drawn less = ap (λ b. if b then Happens (Some (drawn + 1)) else Refuses NumbersFull) (lt-ltb drawn numbers less)
 
 put_does : (worn : Bool) (x : Option Slot) → worn ≡ false → IsOpen x → (answer : Option ℕ) × (put_reply worn x ≡ Happens answer)
 put_does true x fresh open_there = absurd (cc fresh)
@@ -105,9 +93,9 @@ module _ (limits : Limits) (h : History) (lane : ℕ) where
       let less = keep_says limits.numbers (state_after h).drawn _ a.happens.0 refl a.happens.1 in
       let next : number ≡ (state_after h).drawn + 1 = a.next in
       (next, omega (arith, less, next))
-  permitted (Put at number) a = let s = put_says _ _ a.happens.0 a.happens.1 in (a.within, s.0, above _ _ s.1, record { drew = a.drew; fresh = a.fresh })
-  permitted (Remove at) a = let s = remove_says _ _ a.happens.0 a.happens.1 in (a.within, s.0, above _ _ s.1)
-  permitted (Claim at) a = let s = claim_says _ _ a.happens.0 a.happens.1 in (a.within, s.0, above _ _ s.1)
+  permitted (Put at number) a = let s = put_says _ _ a.happens.0 a.happens.1 in (a.within, s.0, ltb-false _ _ s.1, record { drew = a.drew; fresh = a.fresh })
+  permitted (Remove at) a = let s = remove_says _ _ a.happens.0 a.happens.1 in (a.within, s.0, ltb-false _ _ s.1)
+  permitted (Claim at) a = let s = claim_says _ _ a.happens.0 a.happens.1 in (a.within, s.0, ltb-false _ _ s.1)
   permitted (Fill at number) a = (a.within, end_says lane _ a.happens.0 a.happens.1, record { drew = a.drew; fresh = a.fresh })
   permitted (Abandon at) a = (a.within, end_says lane _ a.happens.0 a.happens.1)
   permitted (Seal at) a = (a.within, seal_says _ a.happens.0 a.happens.1)
@@ -120,9 +108,9 @@ module _ (limits : Limits) (h : History) (lane : ℕ) where
       let next : number ≡ (state_after h).drawn + 1 = m.0 in
       let few : number ≤ limits.numbers = m.1 in
       record { lane = mine; within = tt; happens = (Some ((state_after h).drawn + 1), keep_does limits.numbers (state_after h).drawn (omega (arith, next, few))); next = next; drew = tt; fresh = tt }
-  may_be mine (Put at number) m = record { lane = mine; within = m.0; happens = put_does _ _ (is_above _ _ m.2) m.1; next = tt; drew = m.3.drew; fresh = m.3.fresh }
-  may_be mine (Remove at) m = record { lane = mine; within = m.0; happens = remove_does _ _ (is_above _ _ m.2) m.1; next = tt; drew = tt; fresh = tt }
-  may_be mine (Claim at) m = record { lane = mine; within = m.0; happens = claim_does _ _ (is_above _ _ m.2) m.1; next = tt; drew = tt; fresh = tt }
+  may_be mine (Put at number) m = record { lane = mine; within = m.0; happens = put_does _ _ (le-ltb _ _ m.2) m.1; next = tt; drew = m.3.drew; fresh = m.3.fresh }
+  may_be mine (Remove at) m = record { lane = mine; within = m.0; happens = remove_does _ _ (le-ltb _ _ m.2) m.1; next = tt; drew = tt; fresh = tt }
+  may_be mine (Claim at) m = record { lane = mine; within = m.0; happens = claim_does _ _ (le-ltb _ _ m.2) m.1; next = tt; drew = tt; fresh = tt }
   may_be mine (Fill at number) m = record { lane = mine; within = m.0; happens = end_does lane _ m.1; next = tt; drew = m.2.drew; fresh = m.2.fresh }
   may_be mine (Abandon at) m = record { lane = mine; within = m.0; happens = end_does lane _ m.1; next = tt; drew = tt; fresh = tt }
   may_be mine (Seal at) m = record { lane = mine; within = m.0; happens = seal_does _ m.1; next = tt; drew = tt; fresh = tt }

@@ -8,11 +8,12 @@ use Rattle.ext_model.specs.declared.event.Event.{Event}
 use Rattle.ext_model.specs.declared.slot.Slot.{Slot}
 use Rattle.ext_model.specs.declared.slot.Slot.TheVariants as slot
 use Rattle.ext_model.specs.Events.{slot_after, is_on}
-use Rattle.ext_model.specs.History.{History, Limits, by, own, state_after, version_of, IsQuiet, IsAllowed, IsLegal}
+use Rattle.ext_model.specs.History.{History, Limits, by, lane_of, own, state_after, version_of, IsQuiet, IsAllowed, IsLegal}
 use Rattle.ext_model.specs.Words.{word_of}
 use Rattle.ext_model.specs.Allowed.{IsOpen, IsPresent, Permits}
-use Rattle.ext_model.proofs.Lists.{bools}
-use Rattle.ext_model.proofs.Legal.{legal_induct}
+use Rattle.ext_history.proofs.Lists.{bools}
+use Rattle.ext_history.proofs.Lanes.{own_yes, own_not}
+use Rattle.ext_history.proofs.Legal.{legal_induct}
 use Rattle.ext_model.proofs.Allowed.{may_happen}
 use Rattle.ext_model.proofs.Versions.{version-cons, same_word, slot_stays, after-append}
 use Rattle.ext_model.proofs.Words.{version-push, slots-push}
@@ -41,26 +42,20 @@ module _ (limits : Limits) (h : History) (lane cell : ℕ) where
   claimer (Abandon at) holder is on may = let e : Some (slot.Claim lane) ≡ Some (slot.Claim holder) = sym may.1 ∙ there at _ on is in cc e
   claimer (Seal at) holder is on may = absurd (subst IsOpen (there at _ on is) may.1)
 
-pub own_yes : (lane : ℕ) (e : Event ℕ) (es : History) → (e.lane == lane) ≡ true → own lane (e ∷ es) ≡ e ∷ own lane es
-own_yes lane e es is = ap (λ b. cond b (e ∷ own lane es) (own lane es)) is
-
-pub own_not : (lane : ℕ) (e : Event ℕ) (es : History) → (e.lane == lane) ≡ false → own lane (e ∷ es) ≡ own lane es
-own_not lane e es is = ap (λ b. cond b (e ∷ own lane es) (own lane es)) is
-
 bit_of : (e : Event ℕ) (cell : ℕ) (b : Bool) → is_on nat_eq cell e.act ≡ b → ◌≡◌ {A = ℕ} (cond (is_on nat_eq cell e.act) 1 0) (cond b 1 0)
 bit_of e cell b is = ap (λ c. cond c 1 0) is
 
 -- none of the lane's events is on the cell, and so no later ones are
 later_quiet : (lane cell : ℕ) (e : Event ℕ) (es : History) → IsQuiet cell (own lane (e ∷ es)) → IsQuiet cell (own lane es)
 later_quiet lane cell e es quiet = elim (bools (e.lane == lane)) [
-  | inl mine ↦ let q : version_of (e ∷ own lane es) cell ≡ 0 = subst (IsQuiet cell) (own_yes lane e es mine) quiet in omega (arith, q, version-cons e (own lane es) cell)
-  | inr not_mine ↦ subst (IsQuiet cell) (own_not lane e es not_mine) quiet
+  | inl mine ↦ let q : version_of (e ∷ own lane es) cell ≡ 0 = subst (IsQuiet cell) (own_yes lane_of lane e es mine) quiet in omega (arith, q, version-cons e (own lane es) cell)
+  | inr not_mine ↦ subst (IsQuiet cell) (own_not lane_of lane e es not_mine) quiet
 ]
 
 -- where the lane's events are none on the cell, its first is not
 first_quiet : (lane cell : ℕ) (e : Event ℕ) (es : History) → (e.lane == lane) ≡ true → is_on nat_eq cell e.act ≡ true → IsQuiet cell (own lane (e ∷ es)) → ⊥
 first_quiet lane cell e es mine on quiet =
-    let q : version_of (e ∷ own lane es) cell ≡ 0 = subst (IsQuiet cell) (own_yes lane e es mine) quiet in
+    let q : version_of (e ∷ own lane es) cell ≡ 0 = subst (IsQuiet cell) (own_yes lane_of lane e es mine) quiet in
     let bit : ◌≡◌ {A = ℕ} (cond (is_on nat_eq cell e.act) 1 0) 1 = bit_of e cell true on in
     omega (arith, q, bit, version-cons e (own lane es) cell)
 
@@ -113,7 +108,7 @@ module _ (limits : Limits) (h : History) (lane cell : ℕ) where
 
 -- in a legal history each cell has a version left for each act that must not fail
 pub room_left : {limits : Limits} (h : History) (cell : ℕ) → IsLegal limits h → version_of h cell ≤ most ((state_after h).slots cell)
-room_left {limits} h cell legal = legal_induct limits (λ g. version_of g cell ≤ most ((state_after g).slots cell)) (omega arith) step h legal
+room_left {limits} h cell legal = legal_induct (IsAllowed limits) (λ g. version_of g cell ≤ most ((state_after g).slots cell)) (omega arith) step h legal
   where
     step : (g : History) (e : Event ℕ) → IsLegal limits g → version_of g cell ≤ most ((state_after g).slots cell) → IsAllowed limits g e → version_of (g ++ e ∷ []) cell ≤ most ((state_after (g ++ e ∷ [])).slots cell)
     step g e legal room a = elim (bools (is_on nat_eq cell e.act)) [
@@ -158,7 +153,7 @@ act_within limits h lane cell (Seal at) a on = subst (λ k. k < limits.cells) (s
 
 -- only cells of the store are used
 pub used_within : {limits : Limits} (h : History) (cell : ℕ) (slot : Slot) → IsLegal limits h → (state_after h).slots cell ≡ Some slot → cell < limits.cells
-used_within {limits} h cell slot legal = legal_induct limits (λ g. (state_after g).slots cell ≡ Some slot → cell < limits.cells) (λ is. absurd (cc is)) step h legal
+used_within {limits} h cell slot legal = legal_induct (IsAllowed limits) (λ g. (state_after g).slots cell ≡ Some slot → cell < limits.cells) (λ is. absurd (cc is)) step h legal
   where
     step : (g : History) (e : Event ℕ) → IsLegal limits g → ((state_after g).slots cell ≡ Some slot → cell < limits.cells) → IsAllowed limits g e → (state_after (g ++ e ∷ [])).slots cell ≡ Some slot → cell < limits.cells
     step g e legal old a is =
@@ -178,7 +173,7 @@ claimed_after true limits lane holder (Abandon at) y few old is = absurd (cc is)
 claimed_after true limits lane holder (Seal at) y few old is = absurd (cc is)
 
 pub holder_within : {limits : Limits} (h : History) (cell holder : ℕ) → IsLegal limits h → (state_after h).slots cell ≡ Some (slot.Claim holder) → holder < limits.lanes
-holder_within {limits} h cell holder legal = legal_induct limits (λ g. (state_after g).slots cell ≡ Some (slot.Claim holder) → holder < limits.lanes) (λ is. absurd (cc is)) step h legal
+holder_within {limits} h cell holder legal = legal_induct (IsAllowed limits) (λ g. (state_after g).slots cell ≡ Some (slot.Claim holder) → holder < limits.lanes) (λ is. absurd (cc is)) step h legal
   where
     step : (g : History) (e : Event ℕ) → IsLegal limits g → ((state_after g).slots cell ≡ Some (slot.Claim holder) → holder < limits.lanes) → IsAllowed limits g e
         → (state_after (g ++ e ∷ [])).slots cell ≡ Some (slot.Claim holder) → holder < limits.lanes

@@ -1,22 +1,23 @@
 -- A claim that a lane has seen as its own stands on while its calls make no event on the cell.
-use Rattle.std.proofs.Common.{◌≡◌, ℕ, false, cond, List, [], ◌∷◌, refl, ap, sym, subst, ◌∙◌, append-nil, arith, Some, nat_eq}
+use Rattle.std.proofs.Common.{◌≡◌, ℕ, false, cond, List, [], ◌∷◌, refl, ap, sym, subst, ◌∙◌, arith, Some, nat_eq}
 use Rattle.std.specs.Prelude.{All}
 use Rattle.std.proofs.lemmas.List.Elements.{All-head, All-tail}
-use mathlib.Core.List.{append_cancel_left}
 use Rattle.ext_model.specs.declared.event.Act.{Act}
 use Rattle.ext_model.specs.declared.event.Act.TheVariants.{Fill, Abandon}
 use Rattle.ext_model.specs.declared.slot.Slot.TheVariants as slot
 use Rattle.ext_model.specs.Events.{is_on}
-use Rattle.ext_model.specs.History.{History, Limits, by, own, state_after, version_of, IsQuiet, IsAllowed, IsLegal}
+use Rattle.ext_model.specs.History.{History, Limits, by, state_after, version_of, IsQuiet, IsAllowed, IsLegal}
 use Rattle.ext_model.specs.Words.{word_of}
 use Rattle.ext_model.specs.Allowed.{MayStore}
-use Rattle.ext_model.specs.Views.{LaneView, seen_by, events_by}
+use Rattle.ext_history.specs.Views.{seen_by}
+use Rattle.ext_model.specs.Views.{LaneView, events_by}
 use Rattle.ext_model.specs.Calls.{Calls, IsHeld, MayStoreNow, GoesOn}
 use Rattle.ext_model.proofs.Allowed.{allowed}
 use Rattle.ext_model.proofs.Owned.{own_may_store}
 use Rattle.ext_model.proofs.Versions.{version-cons}
 use Rattle.ext_model.proofs.Claims.{claim_stands, quiet_slot, quiet_word, used_within, holder_within}
-use Rattle.ext_model.proofs.Composed.{own_append, same_number, seen_goes_on}
+use Rattle.ext_history.proofs.Composed.{same_number, seen_goes_on, events_past}
+use Rattle.ext_history.proofs.Single.{none_own}
 
 quiet_acts : (lane cell : ℕ) (acts : List (Act ℕ)) → All (λ act. is_on nat_eq cell act ≡ false) acts → IsQuiet cell (events_by lane acts)
 quiet_acts lane cell [] off = refl
@@ -26,34 +27,22 @@ quiet_acts lane cell (act ∷ acts) off =
     let bit : ◌≡◌ {A = ℕ} (cond (is_on nat_eq cell act) 1 0) 0 = ap (λ b. cond b 1 0) (All-head P act acts off) in
     omega (arith, r, bit, version-cons (by lane act) (events_by lane acts) cell)
 
--- the lane's events past what it had seen are those of the call
-pub own_past : (limits : Limits) (a b : LaneView) (acts : List (Act ℕ)) (one : Calls limits a b acts) → own a.number (seen_goes_on limits a b acts one).0 ≡ events_by a.number acts
-own_past limits a b acts one =
-    let begins = seen_goes_on limits a b acts one in
-    append_cancel_left (own a.number (seen_by a)) (own a.number begins.0) (events_by a.number acts)
-    (sym (own_append a.number (seen_by a) begins.0) ∙ (ap (own a.number) begins.1 ∙ one.own_events))
-
 pub claim_held : (limits : Limits) (a b : LaneView) (acts : List (Act ℕ)) (cell : ℕ) → Calls limits a b acts → All (λ act. is_on nat_eq cell act ≡ false) acts → IsHeld a cell → IsHeld b cell × (word_of (seen_by b) cell ≡ word_of (seen_by a) cell)
 claim_held limits a b acts cell one off is =
-    let begins = seen_goes_on limits a b acts one in
+    let begins = seen_goes_on one in
     let quiet : IsQuiet cell begins.0 =
-    claim_stands (seen_by a) begins.0 a.number cell (subst (IsLegal limits) (sym begins.1) one.legal) is (subst (IsQuiet cell) (sym (own_past limits a b acts one)) (quiet_acts a.number cell acts off)) in (
-      ap (λ h. (state_after h).slots cell) (sym begins.1) ∙ (quiet_slot (seen_by a) begins.0 cell quiet ∙ (is ∙ ap (λ n. Some (slot.Claim n)) (sym (same_number limits a b acts one)))),
+    claim_stands (seen_by a) begins.0 a.number cell (subst (IsLegal limits) (sym begins.1) one.legal) is (subst (IsQuiet cell) (sym (events_past one)) (quiet_acts a.number cell acts off)) in (
+      ap (λ h. (state_after h).slots cell) (sym begins.1) ∙ (quiet_slot (seen_by a) begins.0 cell quiet ∙ (is ∙ ap (λ n. Some (slot.Claim n)) (sym (same_number one)))),
       ap (λ h. word_of h cell) (sym begins.1) ∙ quiet_word (seen_by a) begins.0 cell quiet,
     )
 
 -- ---- what other lanes did meanwhile
 
 module _ (limits : Limits) (lane : LaneView) (h : History) (on : GoesOn limits lane h) where
-  none_own : own lane.number on.begins.0 ≡ []
-  none_own =
-      append_cancel_left (own lane.number (seen_by lane)) (own lane.number on.begins.0) []
-      (sym (own_append lane.number (seen_by lane) on.begins.0) ∙ (ap (own lane.number) on.begins.1 ∙ (on.own_same ∙ sym (append-nil (own lane.number (seen_by lane))))))
-
   still_quiet : (cell : ℕ) → IsHeld lane cell → IsQuiet cell on.begins.0
   still_quiet cell is =
       let none : IsQuiet cell [] = refl in
-      claim_stands (seen_by lane) on.begins.0 lane.number cell (subst (IsLegal limits) (sym on.begins.1) on.legal) is (subst (IsQuiet cell) (sym none_own) none)
+      claim_stands (seen_by lane) on.begins.0 lane.number cell (subst (IsLegal limits) (sym on.begins.1) on.legal) is (subst (IsQuiet cell) (sym (none_own on)) none)
 
   still_held : (cell : ℕ) → IsHeld lane cell → (state_after h).slots cell ≡ Some (slot.Claim lane.number)
   still_held cell is = ap (λ g. (state_after g).slots cell) (sym on.begins.1) ∙ (quiet_slot (seen_by lane) on.begins.0 cell (still_quiet cell is) ∙ is)

@@ -12,7 +12,8 @@ use Rattle.ext_model.specs.State.{standing}
 use Rattle.ext_model.specs.Events.{Happens, Refuses, NumbersFull, slot_after, drawn_after, is_on, apply}
 use Rattle.ext_model.specs.History.{History, Limits, state_after, by, IsAllowed, IsLegal}
 use Rattle.ext_model.specs.Words.{number_code}
-use Rattle.ext_model.proofs.Legal.{after-push, legal_steps}
+use Rattle.ext_history.proofs.Legal.{legal_steps}
+use Rattle.ext_model.proofs.Words.{after-push}
 
 -- the count and the numbers at the cells are within the limit, and the numbers drawn within the count
 pub record IsBounded (numbers : ℕ) (h : History) : Type 0 where

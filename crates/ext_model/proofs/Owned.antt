@@ -6,8 +6,8 @@ use Rattle.ext_model.specs.declared.event.Act.TheVariants.{Keep}
 use Rattle.ext_model.specs.declared.event.Event.{Event}
 use Rattle.ext_model.specs.History.{History, Limits, by, own, stored_number, state_after, IsAllowed, IsLegal}
 use Rattle.ext_model.specs.Allowed.{MayStore}
-use Rattle.ext_model.proofs.Lists.{contains_none, contains_filter, contains_from_filter, contains_filter_map, contains_from_filter_map}
-use Rattle.ext_model.proofs.Legal.{legal_induct}
+use Rattle.ext_history.proofs.Lists.{contains_none, contains_filter, contains_from_filter, contains_filter_map, contains_from_filter_map}
+use Rattle.ext_history.proofs.Legal.{legal_induct}
 use Rattle.ext_model.proofs.Numbers.{bounded}
 use Rattle.ext_model.proofs.Stored.{drew_own}
 
@@ -25,7 +25,7 @@ not_before limits h e a b number legal allowed is old =
     omega (arith, next, least)
 
 pub drawn_once : {limits : Limits} (h : History) → IsLegal limits h → OneDrew h
-drawn_once {limits} h legal = legal_induct limits OneDrew (λ a b number x y. absurd (contains_none _ x)) step h legal
+drawn_once {limits} h legal = legal_induct (IsAllowed limits) OneDrew (λ a b number x y. absurd (contains_none _ x)) step h legal
   where
     step : (g : History) (e : Event ℕ) → IsLegal limits g → OneDrew g → IsAllowed limits g e → OneDrew (g ++ e ∷ [])
     step g e legal one allowed a b number x y = elim (Contains-push_cases g e (by a (Keep number)) x) [

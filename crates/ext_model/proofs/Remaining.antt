@@ -6,7 +6,7 @@ use Rattle.ext_model.specs.declared.slot.Slot.{Slot}
 use Rattle.ext_model.specs.declared.slot.Slot.TheVariants.{Entry, Claim, Sealed}
 use Rattle.ext_model.specs.History.{History, Limits, slots_in, IsQuiet, IsLegal}
 use Rattle.ext_model.specs.Closing.{IsClosed, kept_by, put_in, put_in_kept, remaining, IsKept, IsBelow, IsFalling, IsRemaining}
-use Rattle.ext_model.proofs.Lists.{bools, contains_none, contains_here, contains_later, contains_cons}
+use Rattle.ext_history.proofs.Lists.{bools, contains_none, contains_here, contains_later, contains_cons}
 use Rattle.ext_model.proofs.Standing.{is_sealed, none_after_seal}
 use Rattle.ext_model.proofs.Claims.{quiet_slot}
 

@@ -1,5 +1,5 @@
 -- What stands stays: a number until it is removed, and a seal for good.
-use Rattle.std.proofs.Common.{◌≡◌, ℕ, zero, suc, ◌⊎◌, Bool, true, false, cond, [], ◌∷◌, ◌++◌, inl, inr, refl, ap, sym, subst, arith, Option, None, Some, append_assoc, Contains, nat_eq}
+use Rattle.std.proofs.Common.{◌≡◌, ℕ, zero, ◌⊎◌, Bool, true, false, cond, [], ◌∷◌, ◌++◌, inl, inr, refl, ap, sym, subst, arith, Option, None, Some, append_assoc, Contains, nat_eq}
 use Rattle.std.specs.Prelude.{if◌then◌else◌}
 use Rattle.std.proofs.lemmas.Bool.Decides.{nat_tests}
 use Rattle.ext_model.specs.declared.event.Act.{Act}
@@ -9,7 +9,8 @@ use Rattle.ext_model.specs.declared.slot.Slot.{Slot}
 use Rattle.ext_model.specs.declared.slot.Slot.TheVariants as slot
 use Rattle.ext_model.specs.Events.{Happens, put_reply, remove_reply, claim_reply, end_reply, seal_reply, slot_after, is_on, apply}
 use Rattle.ext_model.specs.History.{History, Limits, state_after, version_of, by, IsAllowed, IsLegal}
-use Rattle.ext_model.proofs.Legal.{after-push}
+use Rattle.ext_history.proofs.Lists.{contains_later}
+use Rattle.ext_model.proofs.Words.{after-push}
 use Rattle.ext_model.proofs.Versions.{version-cons, none_on}
 
 -- a number stands, or stood when the cell was sealed
@@ -58,9 +59,6 @@ module _ {limits : Limits} (before : History) (lane cell : ℕ) (filled : is_fil
   stays_filled (Fill at number) a = inr (either_filled (nat_eq at cell) _ _ (λ is. refl) filled)
   stays_filled (Abandon at) a = inr (either_filled (nat_eq at cell) _ _ (λ is. absurd (no_end _ _ _ (filled_at before cell filled at is) a.happens.1)) filled)
   stays_filled (Seal at) a = inr (either_filled (nat_eq at cell) _ _ (λ is. refl) filled)
-
-contains_later : (e : Event ℕ) (rest : History) (x : Event ℕ) → Contains rest x → Contains (e ∷ rest) x
-contains_later e rest x there = (suc there.0, omega (arith, there.1), there.2)
 
 -- where a number stands and the cell is filled later, it is removed in between
 removed_before_fill : {limits : Limits} (before between : History) (lane cell number : ℕ) (later : History)

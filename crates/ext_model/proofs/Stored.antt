@@ -9,7 +9,7 @@ use Rattle.std.proofs.lemmas.Bool.Decides.{nat_tests}
 use Rattle.ext_model.specs.declared.event.Act.TheVariants.{Keep}
 use Rattle.ext_model.specs.declared.event.Event.{Event}
 use Rattle.ext_model.specs.History.{History, Limits, by, stored, stored_number, IsAllowed, IsLegal}
-use Rattle.ext_model.proofs.Legal.{legal_steps}
+use Rattle.ext_history.proofs.Legal.{legal_steps}
 
 -- each number that an event of the history stored was drawn by that event's lane
 abbrev pub DrewOwn : History → Type 0

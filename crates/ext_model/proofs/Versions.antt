@@ -13,8 +13,8 @@ use Rattle.ext_model.specs.History.{History, Limits, state_after, version_of, Is
 use Rattle.ext_model.specs.Words.{state_code, number_code, word, word_of}
 use Rattle.ext_model.specs.declared.event.Act.{Act}
 use Rattle.ext_model.specs.Events.{place_of, is_at}
-use Rattle.ext_model.proofs.Lists.{contains_here, contains_later}
-use Rattle.ext_model.proofs.Legal.{legal_prefix}
+use Rattle.ext_history.proofs.Lists.{contains_here, contains_later}
+use Rattle.ext_history.proofs.Legal.{legal_prefix}
 use Rattle.ext_model.proofs.Numbers.{bounded}
 
 pub version-append : (h rest : History) (cell : ℕ) → version_of (h ++ rest) cell ≡ version_of h cell + version_of rest cell

@@ -1,12 +1,15 @@
--- What one event does to the words.
+-- What one event does to what a history leaves, and so to the words.
 use Rattle.std.proofs.Common.{◌≡◌, ℕ, ◌+◌, true, false, cond, [], ◌∷◌, ◌++◌, ap, ◌∙◌, arith, nat_eq}
 use Rattle.std.specs.Prelude.{if◌then◌else◌}
-use Rattle.std.proofs.lemmas.List.Sums.{sum_by_push}
+use Rattle.std.proofs.lemmas.List.Sums.{sum_by_push, fold-append}
 use Rattle.ext_model.specs.declared.event.Event.{Event}
-use Rattle.ext_model.specs.Events.{is_on, slot_after, drawn_after}
+use Rattle.ext_model.specs.State.{opening}
+use Rattle.ext_model.specs.Events.{is_on, slot_after, drawn_after, apply}
 use Rattle.ext_model.specs.History.{History, state_after, version_of}
 use Rattle.ext_model.specs.Words.{state_code, number_code, word, word_of}
-use Rattle.ext_model.proofs.Legal.{after-push}
+
+pub after-push : (h : History) (e : Event ℕ) → state_after (h ++ e ∷ []) ≡ apply nat_eq (state_after h) e
+after-push h e = fold-append (apply nat_eq) opening h (e ∷ [])
 
 pub version-push : (h : History) (e : Event ℕ) (cell : ℕ) → version_of (h ++ e ∷ []) cell ≡ version_of h cell + cond (is_on nat_eq cell e.act) 1 0
 version-push h e cell = sum_by_push _ h e

@@ -2,13 +2,13 @@
 use Rattle.std.proofs.Common.{◌≡◌, ℕ, ◌≤◌, Contains, [], ◌∷◌, ◌++◌, length, inl, inr, refl, ap, sym, subst, arith, None, Some, append-nil}
 use Rattle.ext_model.specs.declared.event.Act.TheVariants.{Keep, Put, Remove, Claim, Fill, Abandon}
 use Rattle.ext_model.specs.declared.event.Event.{Event}
-use Rattle.ext_model.specs.History.{History, by}
+use Rattle.ext_model.specs.History.{History, by, lane_of, IsAllowed}
 use Rattle.ext_model.specs.Worked.{small, at_root}
 use Rattle.ext_model.specs.WorkedCalls.{AnsweredNow, NotFromMemory, EitherPoint, OvertakenByOne, NotOvertakenByTwo, NotOvertakenByLagging, NotCrowdedByItself, SixAreLegal, RemoveAnswered, PutAnswered, NoAnswerWithoutStep, meanwhile, SecondLookFinds, RootIsLegal, NotByAnotherLane, NotWithAnothersNumber, NotTwice, NotWithoutClaim}
 use mathlib.Core.List.{append_cancel_left}
-use Rattle.ext_model.specs.Views.{others}
-use Rattle.ext_model.proofs.Lists.{contains_none, contains_here, contains_cons}
-use Rattle.ext_model.proofs.Legal.{legal_empty, legal_push}
+use Rattle.ext_history.specs.Histories.{others}
+use Rattle.ext_history.proofs.Lists.{contains_none, contains_here, contains_cons}
+use Rattle.ext_history.proofs.Legal.{legal_empty, legal_push}
 
 pub answered_now : AnsweredNow
 answered_now = (([], append-nil at_root), ([], append-nil at_root))
@@ -22,7 +22,7 @@ not_from_memory at = let e : length (at_root ++ at.0.0) ≡ 1 = ap length at.0.1
 pub root_is_legal : RootIsLegal
 root_is_legal =
     legal_push (by 0 (Keep 1) ∷ []) (by 0 (Put 0 1))
-    (legal_push [] (by 0 (Keep 1)) (legal_empty small) (record { lane = omega arith; within = tt; happens = (Some 1, refl); next = refl; drew = tt; fresh = tt }))
+    (legal_push [] (by 0 (Keep 1)) (legal_empty (IsAllowed small)) (record { lane = omega arith; within = tt; happens = (Some 1, refl); next = refl; drew = tt; fresh = tt }))
     (record { lane = omega arith; within = omega arith; happens = (None, refl); next = tt; drew = (0, omega arith, refl); fresh = λ there. contains_none 1 there })
 
 pub not_by_another_lane : NotByAnotherLane
@@ -91,7 +91,7 @@ pub not_crowded_by_itself : NotCrowdedByItself
 not_crowded_by_itself crowded =
     let own_acts : History = by 1 (Claim 3) ∷ by 1 (Abandon 3) ∷ [] in
     let more : crowded.0 ≡ own_acts = sym (append_cancel_left (by 0 (Keep 1) ∷ []) own_acts crowded.0 crowded.1) in
-    let none : 1 ≤ others 1 own_acts = subst (λ h. 1 ≤ others 1 h) more crowded.2 in absurd (omega (arith, none))
+    let none : 1 ≤ others lane_of 1 own_acts = subst (λ h. 1 ≤ others lane_of 1 h) more crowded.2 in absurd (omega (arith, none))
 
 -- ---- six events
 

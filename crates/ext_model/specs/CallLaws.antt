@@ -8,7 +8,8 @@ use Rattle.ext_model.specs.Events.{is_on}
 use Rattle.ext_model.specs.History.{History, Limits, by, IsAllowed, IsLegal}
 use Rattle.ext_model.specs.Words.{word_of}
 use Rattle.ext_model.specs.Allowed.{MayStore}
-use Rattle.ext_model.specs.Views.{LaneView, seen_by, moved, call_fronts, first_front, IsStepped, IsPoint, IsAnswerPoint, IsPointAfter}
+use Rattle.ext_history.specs.Views.{seen_by, moved, call_fronts, first_front, IsStepped, IsPoint}
+use Rattle.ext_model.specs.Views.{LaneView, IsAnswerPoint, IsPointAfter}
 use Rattle.ext_model.specs.Calls.{Calls, IsOvertaken, IsCrowded, IsHeld, MayStoreNow, GoesOn}
 
 -- ---- one step

@@ -1,49 +1,41 @@
--- What the contract of a call on a lane says: its fronts, its events, and the point at which its answer is that of one thread.
--- Own rule. A lane stands here as it was before the call and as it is after it, and an answer may be of any type: a new call needs
--- only its reply, a function of the history, and the acts that each answer means.
-use Rattle.std.specs.Prelude.{ℕ, ◌≡◌, ◌≢◌, ◌≤◌, ◌⊎◌, List, [], ◌∷◌, ◌++◌, length, Option, Some}
-use mathlib.Core.List.{IsPrefix}
+-- What the contract of a call on a lane of a store says: its fronts, its acts, and the point at which its answer is that of one thread.
+-- Own rule. The words stand in `ext_history`, for events of any type; here they are those of acts, which are the lane's own, in a store of these limits.
+-- A new call needs only its reply, a function of the history, and the acts that each answer means.
+use Rattle.std.specs.Prelude.{ℕ, ◌≡◌, ◌⊎◌, List, [], ◌∷◌, Option, Some}
+use Rattle.ext_history.specs.Calls as calls
+use Rattle.ext_history.specs.Views.{seen_by}
 use Rattle.ext_model.specs.declared.event.Act.{Act}
 use Rattle.ext_model.specs.declared.event.Act.TheVariants.{Seal}
 use Rattle.ext_model.specs.declared.slot.Slot.TheVariants.{Claim}
 use Rattle.ext_model.specs.Events as events
-use Rattle.ext_model.specs.History.{History, Limits, own, state_after, reply_after, IsLegal}
+use Rattle.ext_model.specs.History.{History, Limits, lane_of, own, state_after, reply_after, IsAllowed}
 use Rattle.ext_model.specs.Allowed.{MayStore}
-use Rattle.ext_model.specs.Views.{LaneView, seen_by, Follow, moved, call_fronts, first_front, IsStepped, events_by, others, IsAnswerPoint}
+use Rattle.ext_model.specs.Views.{LaneView, events_by}
 
--- The call made these events and no others
-pub record Calls (limits : Limits) (before after : LaneView) (acts : List (Act ℕ)) : Type 0 where
-  -- the lane is the same, and its fronts are those before and then those of the call
-  pub fronts : after ≡ moved before (call_fronts before after)
-  -- each of them goes on from the one before it
-  pub follow : Follow (seen_by before) (call_fronts before after)
-  -- what is seen is legal
-  pub legal : IsLegal limits (seen_by after)
-  -- the lane's events are those before and then these, each once and in this order
-  pub own_events : own before.number (seen_by after) ≡ own before.number (seen_by before) ++ events_by before.number acts
+-- The call made the events of these acts and no others
+abbrev pub Calls : Limits → LaneView → LaneView → List (Act ℕ) → Type 0
+Calls limits before after acts = calls.Calls lane_of (IsAllowed limits) before after (events_by before.number acts)
 
--- ---- answers
-
--- The call made these events, and a fact holds at the point of its answer, for which the call made a step of its own
-pub record HoldsAtPoint (limits : Limits) (before after : LaneView) (acts : List (Act ℕ)) (Fact : History → Type 0) : Type 0 where
-  pub calls : Calls limits before after acts
-  pub stepped : IsStepped before after
-  pub point : (p : History) × IsAnswerPoint before after acts p × Fact p
+-- and a fact holds at the point of its answer
+abbrev pub HoldsAtPoint : Limits → LaneView → LaneView → List (Act ℕ) → (History → Type 0) → Type 0
+HoldsAtPoint limits before after acts Fact = calls.HoldsAtPoint lane_of (IsAllowed limits) before after (events_by before.number acts) Fact
 
 -- other lanes made at least so many events past the call's first front, and the lane made none
-pub record IsOvertaken (limits : Limits) (tries : ℕ) (before after : LaneView) : Type 0 where
-  pub calls : Calls limits before after []
-  pub passed : (more : History) × (seen_by after ≡ first_front before after ++ more) × (own before.number more ≡ []) × (tries ≤ length more)
-
--- The call's result. `contended` is the one result that says that other lanes were in the way: then they were.
--- Every other result is what the reply says at a point of the call, and the lane's events are those that the result means
-pub record Answers {R : Type 0} (limits : Limits) (tries : ℕ) (contended : R) (before after : LaneView) (acts_of : R → List (Act ℕ)) (reply_at : History → R) (result : R) : Type 0 where
-  pub overtaken : result ≡ contended → IsOvertaken limits tries before after
-  pub replied : result ≢ contended → HoldsAtPoint limits before after (acts_of result) (λ p. result ≡ reply_at p)
+abbrev pub IsOvertaken : Limits → ℕ → LaneView → LaneView → Type 0
+IsOvertaken limits tries before after = calls.IsOvertaken lane_of (IsAllowed limits) tries before after
 
 -- other lanes made at least so many events past the call's first front, whatever the lane itself made
 abbrev pub IsCrowded : ℕ → LaneView → LaneView → Type 0
-IsCrowded tries before after = (more : History) × (seen_by after ≡ first_front before after ++ more) × (tries ≤ others before.number more)
+IsCrowded tries before after = calls.IsCrowded lane_of tries before after
+
+-- The call's result: `contended` only where it was overtaken, and else what the reply says at a point of the call, by the acts that it means
+abbrev pub Answers : {R : Type 0} → Limits → ℕ → R → LaneView → LaneView → (R → List (Act ℕ)) → (History → R) → R → Type 0
+Answers limits tries contended before after acts_of reply_at result =
+    calls.Answers lane_of (IsAllowed limits) tries contended before after (λ r. events_by before.number (acts_of r)) reply_at result
+
+-- the history goes on from what the lane has seen, and all that is new in it is by other lanes
+abbrev pub GoesOn : Limits → LaneView → History → Type 0
+GoesOn limits lane h = calls.GoesOn lane_of (IsAllowed limits) lane h
 
 -- A seal's answer doesn't tell whether there was an event: the call sealed the cell, which kept this, or the cell was sealed already and had kept this
 abbrev pub Seals : Limits → ℕ → LaneView → LaneView → Option ℕ → Type 0
@@ -60,9 +52,3 @@ IsHeld lane cell = (state_after (seen_by lane)).slots cell ≡ Some (Claim lane.
 -- the lane drew the number and has not stored it
 abbrev pub MayStoreNow : LaneView → ℕ → Type 0
 MayStoreNow lane number = MayStore lane.number number (own lane.number (seen_by lane))
-
--- The history goes on from what the lane has seen, and all that is new in it is by other lanes: so the lane finds it at its next step
-pub record GoesOn (limits : Limits) (lane : LaneView) (h : History) : Type 0 where
-  pub legal : IsLegal limits h
-  pub begins : IsPrefix (seen_by lane) h
-  pub own_same : own lane.number h ≡ own lane.number (seen_by lane)

@@ -6,7 +6,8 @@ use Rattle.ext_model.specs.declared.event.Act.TheVariants.{Claim}
 use Rattle.ext_model.specs.declared.look.Look.{Look}
 use Rattle.ext_model.specs.declared.slot.Slot.{Slot}
 use Rattle.ext_model.specs.History.{History, Limits, slots_in, IsQuiet, IsLegal}
-use Rattle.ext_model.specs.Views.{LaneView, seen_by}
+use Rattle.ext_history.specs.Views.{seen_by}
+use Rattle.ext_model.specs.Views.{LaneView}
 use Rattle.ext_model.specs.Closing.{IsClosed, remaining, IsRemaining}
 use Rattle.ext_model.specs.SecondLook.{LooksAgain, LookedAgain}
 

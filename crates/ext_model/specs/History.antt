@@ -1,6 +1,8 @@
 -- Histories: the lists of events that all lanes together made, what each of them leaves, and which of them are legal.
--- Own rule. The events of all lanes are one list over cells, the oldest first, and a cell is a context and a key in one number.
-use Rattle.std.specs.Prelude.{ℕ, ◌≡◌, ◌+◌, ◌<◌, nat_eq, ◌==◌, List, ◌∷◌, ◌++◌, Option, None, Some, IfSome, Contains, fold, count_by, filter, filter_map}
+-- Own rule. The events of all lanes are one list over cells, the oldest first, and a cell is a context and a key in one number. What a history is for
+-- events of any type, which of them are a lane's own, and when it is legal stands in `ext_history`.
+use Rattle.std.specs.Prelude.{ℕ, ◌≡◌, ◌+◌, ◌<◌, nat_eq, List, Option, None, Some, IfSome, Contains, fold, count_by, filter_map}
+use Rattle.ext_history.specs.Histories as histories
 use Rattle.ext_model.specs.declared.event.Act.{Act}
 use Rattle.ext_model.specs.declared.event.Act.TheVariants.{Keep, Put, Remove, Claim, Fill, Abandon, Seal}
 use Rattle.ext_model.specs.declared.event.Event.{Event}
@@ -36,9 +38,13 @@ slots_in cell_of h index = (state_after h).slots (cell_of index)
 abbrev pub version_of : History → ℕ → ℕ
 version_of h cell = count_by (λ e. is_on nat_eq cell e.act) h
 
--- the events of one lane, in order
+-- which lane an event is by
+abbrev pub lane_of : Event ℕ → ℕ
+lane_of e = e.lane
+
+-- the events of one lane, in order: `ext_history` has it of events of any type
 abbrev pub own : ℕ → History → History
-own lane h = filter (λ e. e.lane == lane) h
+own lane h = histories.own lane_of lane h
 
 -- none of these events is on the cell
 abbrev pub IsQuiet : ℕ → History → Type 0
@@ -91,6 +97,6 @@ pub record IsAllowed (limits : Limits) (before : History) (e : Event ℕ) : Type
   -- and was never stored
   pub fresh : IfSome (stored_number e.act) (λ number. ¬ (Contains (stored before) number))
 
--- A history is legal where each event is allowed directly after those before it
-pub record IsLegal (limits : Limits) (h : History) : Type 0 where
-  pub each : (before : History) (e : Event ℕ) (later : History) → h ≡ before ++ e ∷ later → IsAllowed limits before e
+-- A history is legal where each event is allowed directly after those before it: `ext_history` has it of events of any type
+abbrev pub IsLegal : Limits → History → Type 0
+IsLegal limits h = histories.IsLegal (IsAllowed limits) h

@@ -5,7 +5,8 @@ use Rattle.ext_model.specs.declared.event.Act.TheVariants.{Keep, Put, Remove, Cl
 use Rattle.ext_model.specs.declared.look.Look.TheVariants as look
 use Rattle.ext_model.specs.Events.{Happens, Answers}
 use Rattle.ext_model.specs.History.{History, by, reply_after, IsLegal}
-use Rattle.ext_model.specs.Views.{LaneView, seen_by, call_fronts, IsAnswerPoint}
+use Rattle.ext_history.specs.Views.{seen_by, call_fronts}
+use Rattle.ext_model.specs.Views.{LaneView, IsAnswerPoint}
 use Rattle.ext_model.specs.Calls.{HoldsAtPoint, IsOvertaken, IsCrowded}
 use Rattle.ext_model.specs.SecondLook.{LooksAgain}
 use Rattle.ext_model.specs.Worked.{small, at_root}

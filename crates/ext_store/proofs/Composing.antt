@@ -9,7 +9,9 @@ use Rattle.ext_model.specs.Events as events
 use Rattle.ext_model.specs.History.{Limits, reply_after}
 use Rattle.ext_model.specs.Views.{LaneView}
 use Rattle.ext_model.specs.Calls.{Calls}
-use Rattle.ext_model.proofs.Composed.{same_number, calls_compose, point_of_second, crowded_by_second}
+use Rattle.ext_history.proofs.Composed.{same_number}
+use Rattle.ext_history.proofs.Crowded.{crowded_by_second}
+use Rattle.ext_model.proofs.Composed.{calls_compose, point_of_second}
 use Rattle.ext_store.specs.declared.fault.Refusal.TheVariants as refusal
 use Rattle.ext_store.specs.declared.fault.KeepFault.{KeepFault}
 use Rattle.ext_store.specs.declared.fault.KeepFault.TheVariants as fault
@@ -80,11 +82,11 @@ module _ (store : StoreView) (context : ℕ) (ancestors : List ℕ) (key claim :
           (
             u.1.0,
             point_of_second limits a b c (Claim here ∷ []) (Abandon claim ∷ []) one u.0 [] u.1.0 u.1.1,
-            subst (λ n. reply_after limits u.1.0 n (Keep 0) ≡ events.Refuses events.NumbersFull) (same_number limits a b (Claim here ∷ []) one) u.1.2,
+            subst (λ n. reply_after limits u.1.0 n (Keep 0) ≡ events.Refuses events.NumbersFull) (same_number one) u.1.2,
           ),
         ),
       )
-  keeps_not fault.Contended u = let k = fails u.0 in (k.0, (k.1, crowded_by_second limits store.tries a b c (Claim here ∷ []) (Abandon claim ∷ []) one u.0 u.1))
+  keeps_not fault.Contended u = let k = fails u.0 in (k.0, (k.1, crowded_by_second store.tries one u.0 u.1))
   keeps_not fault.Unplaced u = (
     looks (Keep u.0 ∷ Abandon claim ∷ []) u.1,
     (

@@ -8,7 +8,9 @@ use Rattle.ext_model.specs.Events as events
 use Rattle.ext_model.specs.Events.{is_on}
 use Rattle.ext_model.specs.History.{Limits, stored_number, reply_after}
 use Rattle.ext_model.specs.Calls.{Calls, HoldsAtPoint, IsOvertaken, IsHeld}
-use Rattle.ext_model.proofs.Composed.{calls_compose, point_of_first, answer_first, overtaken_crowded, crowded_by_first}
+use Rattle.ext_history.proofs.Composed.{point_of_first, answer_first}
+use Rattle.ext_history.proofs.Crowded.{overtaken_crowded, crowded_by_first}
+use Rattle.ext_model.proofs.Composed.{calls_compose}
 use Rattle.ext_model.proofs.Held.{claim_held}
 use Rattle.ext_values.specs.Known.{known_at}
 use Rattle.ext_cells.specs.Lanes.{CellsId, Lane}
@@ -90,14 +92,14 @@ module _ (store : StoreView) (a b : Lane) (is : a.cells ≡ store.id.cells) (cel
           calls_compose limits a.view b.view c.view [] (Abandon cell ∷ []) full.calls two,
           (
             full.point.0,
-            point_of_first limits a.view b.view c.view [] (Abandon cell ∷ []) full.calls two [] full.point.0 (answer_first limits a.view b.view [] full.point.0 full.calls full.point.1),
+            point_of_first full.calls two (answer_first full.calls full.point.0 full.point.1),
             full.point.2,
           ),
         )
     unkept fault.Contended h two =
         let over : IsOvertaken limits store.tries a.view b.view = subst (λ (z : CellsId). IsOvertaken z.limits store.tries a.view b.view) is h in (
           calls_compose limits a.view b.view c.view [] (Abandon cell ∷ []) over.calls two,
-          crowded_by_first limits store.tries a.view b.view c.view [] (Abandon cell ∷ []) over.calls two (overtaken_crowded limits store.tries a.view b.view over),
+          crowded_by_first store.tries over.calls two (overtaken_crowded store.tries over),
         )
     unkept fault.Unplaced h two =
         let one = drew h.0 h.1 in (

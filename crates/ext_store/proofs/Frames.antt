@@ -1,17 +1,18 @@
 -- The laws of frames, and the frames of calls.
-use Rattle.std.proofs.Common.{◌≡◌, ◌≢◌, inl, inr, ℕ, List, [], ◌∷◌, ◌++◌, map, sym, refl, ap, ◌∙◌, subst, arith, append-nil}
+use Rattle.std.proofs.Common.{◌≡◌, ◌≢◌, inl, inr, ℕ, List, [], ◌∷◌, ◌++◌, map, sym, refl, ap, ◌∙◌, subst, arith}
 use Rattle.std.specs.Prelude.{All, Contains, Option, None, Result, Ok, Err}
 use Rattle.std.proofs.lemmas.List.Elements.{All-nil, All-cons, All-head, All-tail, Contains-append_left, Contains-append_right, Contains-push, Contains-push_cases}
 use mathlib.Core.List.{IsPrefix}
 use base.Growing.{prefix_trans}
 use Rattle.ext_model.specs.declared.event.Act.{Act}
 use Rattle.ext_model.specs.declared.event.Act.TheVariants.{Keep, Put}
-use Rattle.ext_model.specs.History as history
-use Rattle.ext_model.specs.History.{History, Limits, IsLegal}
-use Rattle.ext_model.specs.Views.{LaneView, last_after, seen, seen_by, moved, Follow}
+use Rattle.ext_model.specs.History.{History, Limits, lane_of, IsLegal}
+use Rattle.ext_history.specs.Views.{last_after, seen, seen_by, Follow}
+use Rattle.ext_model.specs.Views.{LaneView}
 use Rattle.ext_model.specs.Calls.{Calls}
-use Rattle.ext_model.proofs.Fronts.{follow_last}
-use Rattle.ext_model.proofs.Composed.{calls_moved, calls_compose}
+use Rattle.ext_history.proofs.Fronts.{follow_last}
+use Rattle.ext_history.proofs.Composed.{calls_none}
+use Rattle.ext_model.proofs.Composed.{calls_compose}
 use Rattle.ext_values.specs.Known.{KeepsKnown, Learns, known_at, places_of}
 use Rattle.ext_cells.specs.Lanes.{CellsId, Lane}
 use Rattle.ext_store.specs.declared.fault.Refusal.{Refusal}
@@ -19,14 +20,6 @@ use Rattle.ext_store.specs.Stores.{StoreId, StoreView, StoreLane, IsKeptBy, IsLa
 use Rattle.ext_store.specs.Calls.{put_acts, remove_acts}
 use Rattle.ext_store.specs.Frames.{Frame, Makes, stored_by}
 use Rattle.ext_store.proofs.Keeping.{quiet_keeps, stored_keeps, remove_keeps, unplaced_keeps, learnt_keeps}
-
--- ---- no call
-
--- a lane without further fronts
-pub no_call : (limits : Limits) (lane : LaneView) → IsLegal limits (seen_by lane) → Calls limits lane lane []
-no_call limits lane legal =
-    let same : moved lane [] ≡ lane = λ i. record { number = lane.number; fronts = append-nil lane.fronts i } in
-    subst (λ after. Calls limits lane after []) same (calls_moved limits lane [] [] tt legal (sym (append-nil (history.own lane.number (seen_by lane)))))
 
 nowhere : (number : ℕ) → Contains [] number → ⊥
 nowhere number at = let less = at.1 in absurd (omega (arith, less))
@@ -58,7 +51,7 @@ module _ {V : Type 0} (id : StoreId) where
   pub frame_calls : (stored : List ℕ) (a b : StoreLane V) → Frame id stored a b → IsLegal id.cells.limits (seen_by b.cells.view) → (acts : List (Act ℕ)) × Calls id.cells.limits a.cells.view b.cells.view acts
   unfolding Frame
   frame_calls stored a b frame legal = elim frame.steps.1 [
-    | inl still ↦ ([], subst (λ (l : Lane). Calls id.cells.limits l.view b.cells.view []) still.0 (no_call id.cells.limits b.cells.view legal))
+    | inl still ↦ ([], subst (λ (l : Lane). Calls id.cells.limits l.view b.cells.view []) still.0 (calls_none lane_of b.cells.view legal))
     | inr calls ↦ (frame.steps.0, calls)
   ]
 

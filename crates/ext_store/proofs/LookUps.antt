@@ -1,5 +1,5 @@
 -- What a collect of the cells on a path says of the look-up along it.
-use Rattle.std.proofs.Common.{◌≡◌, ℕ, ◌%◌, ◌<◌, ◌≤◌, List, [], map, length, sym, ap, ◌∙◌, subst, arith, Option, None, Some}
+use Rattle.std.proofs.Common.{◌≡◌, ℕ, ◌%◌, ◌<◌, ◌≤◌, List, map, length, sym, ap, ◌∙◌, subst, arith, Option, None, Some}
 use Rattle.std.specs.Prelude.{All, Result, Ok, Err}
 use Rattle.std.proofs.lemmas.List.Elements.{All-map}
 use Rattle.std.proofs.lemmas.List.{length-map}
@@ -9,7 +9,7 @@ use Rattle.ext_model.specs.declared.slot.Slot.TheVariants.{Entry, Claim, Sealed}
 use Rattle.ext_model.specs.State.{lookup}
 use Rattle.ext_model.specs.History.{History, Limits, slots_in, IsLegal}
 use Rattle.ext_model.specs.Words.{state_code, word, word_of}
-use Rattle.ext_model.proofs.Composed.{answer_point, point_legal}
+use Rattle.ext_history.proofs.Composed.{answer_point, point_legal}
 use Rattle.ext_model.proofs.Numbers.{bounded}
 use Rattle.ext_cells.specs.Lanes.{Lane}
 use Rattle.ext_cells.specs.Calls.{StoodTogether}
@@ -43,7 +43,7 @@ pub looks_found : (store : StoreView) (path : List ℕ) (key : ℕ) (before afte
 looks_found store path key before after cells words look few all stood said =
     let p : History = stood.point.0 in
     let limits = before.cells.limits in
-    let legal : IsLegal limits p = point_legal limits before.view after.view [] p stood.calls (answer_point limits before.view after.view [] p stood.calls stood.point.1) in
+    let legal : IsLegal limits p = point_legal stood.calls p (answer_point stood.calls p stood.point.1) in
     let long : length cells ≡ length path = ap length all ∙ length-map path (cell_in store key) in
     record {
       calls = stood.calls;

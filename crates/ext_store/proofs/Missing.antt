@@ -10,7 +10,9 @@ use Rattle.ext_model.specs.Events as events
 use Rattle.ext_model.specs.History.{History, Limits, slots_in, reply_after}
 use Rattle.ext_model.specs.Calls.{Calls, HoldsAtPoint, IsOvertaken, IsHeld}
 use Rattle.ext_model.specs.SecondLook.{look_after}
-use Rattle.ext_model.proofs.Composed.{same_number, calls_compose, later_answers, answer_first, quiet_point, overtaken_crowded, crowded_overtaken, crowded_by_first, crowded_by_second}
+use Rattle.ext_history.proofs.Composed.{same_number, answer_first, quiet_point}
+use Rattle.ext_history.proofs.Crowded.{overtaken_crowded, crowded_overtaken, crowded_by_first, crowded_by_second}
+use Rattle.ext_model.proofs.Composed.{calls_compose, later_answers}
 use Rattle.ext_model.proofs.Held.{claim_held}
 use Rattle.ext_tree.specs.Trees.{Id}
 use Rattle.ext_tree.specs.Paths.{IsPathOf}
@@ -103,7 +105,7 @@ module _ (store : StoreView) (context key : ℕ) (rest : List ℕ) where
 
     -- or by which nothing does
     none_first : Stands store (context ∷ rest) key a b None → LooksFirst (cell_in store key) (context ∷ rest) a.view b.view
-    none_first s = record { at = s.point.0; stepped = s.point.1.0; point = quiet_point limits a.view b.view s.point.0 (quiet (context ∷ rest) None s) s.point.1; missing = sym s.point.2 }
+    none_first s = record { at = s.point.0; stepped = s.point.1.0; point = quiet_point (quiet (context ∷ rest) None s) s.point.0 s.point.1; missing = sym s.point.2 }
 
   -- ---- the claim
 
@@ -139,8 +141,8 @@ module _ (store : StoreView) (context key : ℕ) (rest : List ℕ) where
 
     overtaken : IsOvertaken store.id.cells.limits store.tries b.view c.view → ClaimsFrom store context rest key a.view c.view (Err (Refused refusal.Contended))
     unfolding IsRefused
-    overtaken over = inl (crowded_overtaken limits store.tries a.view c.view (calls_compose limits a.view b.view c.view [] [] one over.calls)
-        (crowded_by_second limits store.tries a.view b.view c.view [] [] one over.calls (overtaken_crowded limits store.tries b.view c.view over)))
+    overtaken over = inl (crowded_overtaken store.tries (calls_compose limits a.view b.view c.view [] [] one over.calls)
+        (crowded_by_second store.tries one over.calls (overtaken_crowded store.tries over)))
 
     never : {P : History → Type 0} → ((p : History) → P p → ⊥) → HoldsAtPoint store.id.cells.limits a.view c.view [] P → ⊥
     never none h = none h.point.0 h.point.2
@@ -150,7 +152,7 @@ module _ (store : StoreView) (context key : ℕ) (rest : List ℕ) where
     refused cell.Busy all = inl (claim_told (Err cell.Busy) (λ e. cc e) all)
     refused cell.Closed all = inl (claim_told (Err cell.Closed) (λ e. cc e) all)
     refused cell.Exhausted all = (
-      subst (λ k. HoldsAtPoint limits a.view c.view [] (λ p. reply_after limits p k (Claim here) ≡ events.Refuses events.Exhausted)) (same_number limits a.view b.view [] one) (claim_told (Err cell.Exhausted) (λ e. cc e) all),
+      subst (λ k. HoldsAtPoint limits a.view c.view [] (λ p. reply_after limits p k (Claim here) ≡ events.Refuses events.Exhausted)) (same_number one) (claim_told (Err cell.Exhausted) (λ e. cc e) all),
       looked_before [] (claim_holds (Err cell.Exhausted) (λ e. cc e) all).calls,
     )
     refused cell.Contended all = overtaken (subst (λ (z : CellsId × ℕ). IsOvertaken z.0.limits z.1 b.view c.view) (λ i. (is i, same i)) (all.overtaken refl))
@@ -165,7 +167,7 @@ module _ (store : StoreView) (context key : ℕ) (rest : List ℕ) where
     won_claims claim all = record {
       looked_first = looked_before (Claim here ∷ []) (claim_holds (Ok (Won claim)) (λ e. cc e) all).calls;
       claimed = happens_alone limits a.view c.view (Claim here) None
-          (subst (λ k. HoldsAtPoint limits a.view c.view (Claim here ∷ []) (λ p. reply_after limits p k (Claim here) ≡ events.Happens None)) (same_number limits a.view b.view [] one) (claim_told (Ok (Won claim)) (λ e. cc e) all));
+          (subst (λ k. HoldsAtPoint limits a.view c.view (Claim here ∷ []) (λ p. reply_after limits p k (Claim here) ≡ events.Happens None)) (same_number one) (claim_told (Ok (Won claim)) (λ e. cc e) all));
     }
 
   -- ---- the second look
@@ -175,7 +177,7 @@ module _ (store : StoreView) (context key : ℕ) (rest : List ℕ) where
     looks met l =
         let two : Calls limits c.view d.view [] = subst (λ (z : CellsId). Calls z.limits c.view d.view []) is l.calls in record {
           claims = claims_stay limits store context rest key a.view c.view d.view [] won two did;
-          looked = looks_second limits a.view c.view d.view (Claim here ∷ []) [] won two (cell_in store key) rest [] met (l.point.0, answer_first limits c.view d.view [] l.point.0 two l.point.1, sym l.point.2);
+          looked = looks_second limits a.view c.view d.view (Claim here ∷ []) [] won two (cell_in store key) rest [] met (l.point.0, answer_first two l.point.0 l.point.1, sym l.point.2);
         }
 
     pub held_on : (claim : ℕ) (r : Option Unused) → claim ≡ cell_in store key context → IsHeld c.view (cell_in store key context) → Stands store rest key c d r → IsHeld d.view claim
@@ -212,8 +214,8 @@ module _ (store : StoreView) (context key : ℕ) (rest : List ℕ) where
           inr (
             calls_compose limits a.view d.view e.view (Claim here ∷ []) (Abandon here ∷ []) (both over.calls) ended,
             claims_stay limits store context rest key a.view d.view e.view (Abandon here ∷ []) (both over.calls) ended (claims_stay limits store context rest key a.view c.view d.view [] won over.calls did),
-            crowded_by_first limits store.tries a.view d.view e.view (Claim here ∷ []) (Abandon here ∷ []) (both over.calls) ended
-                (crowded_by_second limits store.tries a.view c.view d.view (Claim here ∷ []) [] won over.calls (overtaken_crowded limits store.tries c.view d.view over)),
+            crowded_by_first store.tries (both over.calls) ended
+                (crowded_by_second store.tries won over.calls (overtaken_crowded store.tries over)),
           )
       given_up_look (Refused refusal.UnknownKey) s = absurd s
       given_up_look (Refused refusal.Exhausted) s = absurd s

@@ -12,7 +12,8 @@ use Rattle.ext_model.specs.declared.look.Look.TheVariants as look
 use Rattle.ext_model.specs.declared.look.Fault.{Fault}
 use Rattle.ext_model.specs.Events as events
 use Rattle.ext_model.specs.History.{History, Limits, by, reply_after}
-use Rattle.ext_model.specs.Views.{LaneView, first_front, IsPointAfter}
+use Rattle.ext_history.specs.Views.{first_front}
+use Rattle.ext_model.specs.Views.{LaneView, IsPointAfter}
 use Rattle.ext_model.specs.Calls.{Calls, HoldsAtPoint, IsOvertaken, IsCrowded}
 use Rattle.ext_model.specs.SecondLook.{look_after, LooksAgain}
 use Rattle.ext_tree.specs.Paths.{IsPathOf}

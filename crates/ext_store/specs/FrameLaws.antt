@@ -4,7 +4,8 @@ use Rattle.std.specs.Prelude.{ℕ, List, [], ◌++◌, map, All}
 use mathlib.Core.List.{IsPrefix}
 use Rattle.ext_model.specs.declared.event.Act.{Act}
 use Rattle.ext_model.specs.History.{Limits, IsLegal}
-use Rattle.ext_model.specs.Views.{LaneView, seen, seen_by, Follow}
+use Rattle.ext_history.specs.Views.{seen, seen_by, Follow}
+use Rattle.ext_model.specs.Views.{LaneView}
 use Rattle.ext_model.specs.Calls.{Calls}
 use Rattle.ext_store.specs.Stores.{StoreId, StoreLane, IsLaneOf, StillKeeps}
 use Rattle.ext_store.specs.Frames.{Frame}

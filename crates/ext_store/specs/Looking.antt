@@ -4,7 +4,8 @@ use Rattle.std.specs.Prelude.{ℕ, ◌≡◌, ◌≤◌, ◌^◌, ◌<◌, ◌�
 use Rattle.ext_model.specs.declared.look.Look.{Look}
 use Rattle.ext_model.specs.History.{History, slots_in}
 use Rattle.ext_model.specs.Words.{number_code}
-use Rattle.ext_model.specs.Views.{IsStepped, IsAnswerPoint}
+use Rattle.ext_history.specs.Views.{IsStepped}
+use Rattle.ext_model.specs.Views.{IsAnswerPoint}
 use Rattle.ext_model.specs.Calls as model
 use Rattle.ext_cells.specs.Lanes.{Lane}
 use Rattle.ext_store.specs.declared.fault.Refusal.{Refusal}

@@ -1,7 +1,7 @@
 //! A lane of a store, which a thread owns.
 ghost use Rattle.std.specs.Prelude.{◌≡◌, []};
 ghost use Rattle.ext_model.specs.History.{IsLegal};
-ghost use Rattle.ext_model.specs.Views.{Follow, seen_by};
+ghost use Rattle.ext_history.specs.Views.{Follow, seen_by};
 
 use ext_cells::CellLane;
 use ext_model::LaneNo;

@@ -2,7 +2,7 @@
 ghost use Rattle.std.specs.Prelude.{ℕ, ◌≡◌, ◌≢◌, ◌↔◌, ◌*◌, ◌<◌, ◌≤◌, [], All, Contains, IfErr, IfNone, IfOk, IfSome, MatchResult, Ok, Err, length, map, take};
 ghost use mathlib.Core.List.{IsPrefix};
 ghost use Rattle.ext_model.specs.Calls.{Calls, MayStoreNow};
-ghost use Rattle.ext_model.specs.Views.{seen_by};
+ghost use Rattle.ext_history.specs.Views.{seen_by};
 ghost use Rattle.ext_tree.specs.Keys.{HasNumber};
 ghost use Rattle.ext_values.specs.Known.{AllAgree, KeepsKnown, Learns, known_at};
 ghost use Rattle.ext_cells.specs.Lanes.{AreLimits, fresh_lanes};

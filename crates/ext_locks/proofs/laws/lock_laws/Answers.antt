@@ -1,6 +1,8 @@
-use Rattle.ext_locks.proofs.Histories.{lawful, same_held, none_held, free_unwritten, unmade, nothing_yet, legal_before}
+use Rattle.ext_locks.proofs.Histories.{lawful, same_held, none_held, free_unwritten, unmade, nothing_yet}
+use Rattle.ext_history.proofs.Legal.{legal_empty, legal_begun}
 use Rattle.ext_locks.proofs.Fronts.{calls_then, calls_none}
 use Rattle.ext_locks.proofs.OneSet.{one_merged}
+use Rattle.ext_locks.specs.History.{IsAllowed}
 use Rattle.ext_locks.proofs.laws.lock_laws.Goals as goal
 
 pub returns-clause-lawful : goal.returns-clause-lawful
@@ -12,6 +14,9 @@ returns-clause-own c = λ h later key mode lane same. same_held later h key mode
 pub returns-clause-free : goal.returns-clause-free
 returns-clause-free c = free_unwritten
 
+pub returns-clause-empty : goal.returns-clause-empty
+returns-clause-empty c = λ lanes. legal_empty (IsAllowed lanes)
+
 pub returns-clause-fresh : goal.returns-clause-fresh
 returns-clause-fresh c = nothing_yet
 
@@ -19,7 +24,7 @@ pub returns-clause-only_lanes : goal.returns-clause-only_lanes
 returns-clause-only_lanes c = λ lanes h legal lane many key mode. none_held h key mode lane (unmade lanes h legal lane many)
 
 pub returns-clause-beginnings : goal.returns-clause-beginnings
-returns-clause-beginnings c = legal_before
+returns-clause-beginnings c = λ lanes f h begins legal. legal_begun f h begins legal
 
 pub returns-clause-compose : goal.returns-clause-compose
 returns-clause-compose c = calls_then

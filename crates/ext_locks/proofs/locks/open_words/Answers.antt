@@ -1,7 +1,7 @@
 use Rattle.std.proofs.Common.{ℕ, ◌+◌, arith, sym, ap, length, ◌∙◌, subst}
 use Rattle.std.proofs.lemmas.List.{length-replicate}
 use Rattle.ext_locks.specs.Opening.{AreLimits}
-use Rattle.ext_locks.proofs.Seats.{opens_zero, deals}
+use Rattle.ext_locks.proofs.Seats.{opens_zero, deals, dealt_lane}
 use Rattle.ext_locks.proofs.Texts.{names_count, sorted_texts}
 use Rattle.ext_locks.proofs.locks.open_words.Goals as goal
 
@@ -14,6 +14,11 @@ split_seat-seat-requires c =
     let l = length-replicate {A = ℕ} (c.len-locks.result + 1) 0 in
     let e = ap length (c.as_slice.ensures.value ∙ c.in_ok-zeros.ensures) in
     (c.loop-number.invariant.0, omega arith, deals _ _ _ c.loop-number.number c.loop-number.dealer.me.0 c.loop-number.invariant.1 (let counts = ap (λ x. x.lanes) c.in_ok-table.ensures.5 in omega arith))
+
+pub invariant_of-push_reserved : goal.invariant_of-push_reserved
+invariant_of-push_reserved c =
+    dealt_lane c.loop-number.dealer.me.0 c.split_seat-seat.result.me.0 c.loop-number.number c.args.lanes (ap (λ m. m.0) c.split_seat-seat.ensures.4) c.loop-number.invariant.1 c.loop-number.invariant.2
+    c.loop-number-test.true c.requires.limits.1
 
 pub returns-clause-sorted : goal.returns-clause-sorted
 returns-clause-sorted c = sorted_texts c.in_ok-names.names.items c.in_ok-names.ensures.sorted

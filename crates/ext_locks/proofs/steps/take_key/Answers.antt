@@ -1,7 +1,10 @@
 use Rattle.std.proofs.Common.{eq-eqb, refl, arith}
 use Rattle.std.proofs.lemmas.Bool.{ne_eqb, both_ways}
-use Rattle.ext_locks.proofs.Trying.{all_makes, all_held, all_taken, all_contended, all_steps, then_taken, then_steps, tried_again}
+use Rattle.ext_locks.proofs.Trying.{tried_first, all_makes, all_held, all_taken, all_contended, all_steps, then_taken, then_steps, tried_again}
 use Rattle.ext_locks.proofs.steps.take_key.Goals as goal
+
+pub loop-attempt-init : goal.loop-attempt-init
+loop-attempt-init c = tried_first c.args.seat.now c.look-found.new.seat _ _ _ c.look-found.ensures.step
 
 pub returns-then-not-is_free-clause-missed : goal.returns-then-not-is_free-clause-missed
 returns-then-not-is_free-clause-missed c = all_makes c.args.seat.now c.look-found.new.seat c.loop-attempt.seat _ _ _ _ _ c.look-found.ensures.table c.look-found.ensures.step c.loop-attempt.invariant

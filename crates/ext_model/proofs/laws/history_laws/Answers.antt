@@ -1,10 +1,11 @@
-use Rattle.std.proofs.Common.{◌≡◌, ap, true}
-use Rattle.ext_model.proofs.Legal.{legal_prefix, legal_push, legal_empty, legal_induct}
+use Rattle.std.proofs.Common.{◌≡◌, ◌<◌, ap, true}
+use Rattle.ext_history.proofs.Legal.{legal_prefix, legal_push, legal_empty, legal_induct, legal_each}
+use Rattle.ext_history.proofs.ByLanes.{no_lane_no_event}
+use Rattle.ext_model.specs.History.{lane_of, IsAllowed}
 use Rattle.ext_model.proofs.Allowed.{allowed_by_cases}
 use Rattle.ext_model.proofs.Versions.{none_on, quiet_from_none}
 use Rattle.ext_model.proofs.Standing.{is_sealed, remove_between_fills, none_after_seal}
 use Rattle.ext_model.proofs.Claims.{claim_stands, used_within}
-use Rattle.ext_model.proofs.ByLanes.{by_lanes, no_lane_no_event}
 use Rattle.ext_model.proofs.Stored.{stored_once, drew_own}
 use Rattle.ext_model.proofs.Owned.{drawn_once, own_may_store}
 use Rattle.ext_model.proofs.laws.history_laws.Goals as goal
@@ -13,12 +14,12 @@ pub returns : goal.returns
 returns c = record {
   prefixes = λ limits h rest legal. legal_prefix h rest legal;
   one_more = λ limits h e legal allowed. legal_push h e legal allowed;
-  empty = legal_empty;
-  induction = λ limits test first next h legal. legal_induct limits (λ g. test g ≡ true) first next h legal;
+  empty = λ limits. legal_empty (IsAllowed limits);
+  induction = λ limits test first next h legal. legal_induct (IsAllowed limits) (λ g. test g ≡ true) first next h legal;
   by_cases = allowed_by_cases;
   quiet = λ cell events. (none_on events cell, quiet_from_none events cell);
-  by_lanes = by_lanes;
-  no_lane = no_lane_no_event;
+  by_lanes = λ limits h e legal there. legal_each (IsAllowed limits) (λ x. x.lane < limits.lanes) (λ before x allowed. allowed.lane) h legal e there;
+  no_lane = λ limits h legal none. no_lane_no_event lane_of (IsAllowed limits) limits.lanes (λ before e allowed. allowed.lane) h legal none;
   fills = λ limits before between later lane cell number lane' number' legal. remove_between_fills before between later lane cell number lane' number' legal;
   seals = λ limits h rest cell kept legal sealed. none_after_seal h rest cell legal (ap is_sealed sealed);
   claims = λ limits h rest lane cell legal is quiet. claim_stands h rest lane cell legal is quiet;

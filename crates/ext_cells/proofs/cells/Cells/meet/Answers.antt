@@ -1,9 +1,9 @@
 use Rattle.std.proofs.Common.{ap, sym, subst, ◌∙◌, arith}
 use mathlib.Core.List.{IsPrefix}
-use Rattle.ext_model.specs.Views.{seen}
+use Rattle.ext_history.specs.Views.{seen}
 use Rattle.ext_cells.specs.declared.rule.View.{View}
 use Rattle.ext_cells.proofs.Seats.{splits_note, joins_note}
-use Rattle.ext_cells.proofs.Meeting.{met_stays, met_call, met_cells, met_told}
+use Rattle.ext_cells.proofs.Meeting.{met_stays, met_call, met_step, met_cells, met_told}
 use Rattle.ext_cells.proofs.cells.Cells.meet.Goals as goal
 
 pub split_seat-note-requires : goal.split_seat-note-requires
@@ -45,6 +45,12 @@ pub returns-clause-second_call : goal.returns-clause-second_call
 returns-clause-second_call c =
     let f = c.load.ensures.found in
     met_call c.second.inside.seat.me.0 c.split_seat-note.result.me.0 c.join_seat.new.seat.me.0 c.load.new.seat.me.0 _ _ f.0 c.second.inside.number c.second.invariant (ap (λ z. z.0) c.join_seat.ensures.2) f.1 f.2
+    c.second.inside.seat.table_id c.load.new.seat.table_id _ c.second.view_is
+
+pub returns-clause-second_steps : goal.returns-clause-second_steps
+returns-clause-second_steps c =
+    let f = c.load.ensures.found in
+    met_step c.second.inside.seat.me.0 c.split_seat-note.result.me.0 c.join_seat.new.seat.me.0 c.load.new.seat.me.0 _ _ f.0 c.second.inside.number c.second.invariant (ap (λ z. z.0) c.join_seat.ensures.2) f.1 f.2
     c.second.inside.seat.table_id c.load.new.seat.table_id _ c.second.view_is
 
 pub returns-clause-met : goal.returns-clause-met

@@ -19,5 +19,5 @@ invariant_of-lane c = kept c.lane.inside.seat c.give_keys.new.seat c.lane.inside
 
 pub returns-clause-events : goal.returns-clause-events
 returns-clause-events c =
-    called c.args.lane.now c.lane.inside.seat c.give_keys.new.seat c.lane.inside.number _ _ c.lane.view_is c.lane.invariant c.give_keys.ensures.events
+    called c.args.lane.now c.lane.inside.seat c.give_keys.new.seat c.lane.inside.number _ _ c.lane.view_is c.give_keys.ensures.events
     (gives_same c.args.lane.now c.lane.inside.seat c.lane.inside.number c.lane.view_is _ _ (ap locks_of (take-length c.set.inside.modes) ∙ (c.set.view_is ∙ ap (λ (h : HeldView). h.set) c.held.view_is)))

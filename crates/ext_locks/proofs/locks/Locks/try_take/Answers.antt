@@ -17,5 +17,5 @@ invariant_of-lane-in-Err c = kept c.lane.inside.seat c.take_keys.new.seat c.lane
 
 pub returns-in-Ok-clause-taken_events : goal.returns-in-Ok-clause-taken_events
 returns-in-Ok-clause-taken_events c =
-    called c.args.lane.now c.lane.inside.seat c.take_keys.new.seat c.lane.inside.number _ _ c.lane.view_is c.lane.invariant c.in-Ok.ensures.taken
+    called c.args.lane.now c.lane.inside.seat c.take_keys.new.seat c.lane.inside.number _ _ c.lane.view_is c.in-Ok.ensures.taken
     (takes_same c.args.lane.now c.lane.inside.seat c.lane.inside.number c.lane.view_is _ _ c.set.view_is)

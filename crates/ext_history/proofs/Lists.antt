@@ -1,6 +1,11 @@
--- What a list contains, and what filters leave of it.
-use Rattle.std.proofs.Common.{◌≡◌, ℕ, zero, suc, ◌<◌, ◌⊎◌, inl, inr, Bool, true, false, cond, List, [], ◌∷◌, length, get_or, refl, ap, sym, subst, ◌∙◌, arith, Option, None, Some, Contains}
+-- What a list contains, what filters leave of it, where lists are cut, and what stands where.
+use Rattle.std.proofs.Common.{◌≡◌, ℕ, zero, suc, ◌<◌, ◌⊎◌, inl, inr, Bool, true, false, cond, List, [], ◌∷◌, length, get_or, refl, ap, sym, subst, ◌∙◌, arith, Option, None, Some, Contains, drop, ◌++◌}
+use Rattle.std.specs.Prelude.{replicate}
 use Rattle.std.specs.List.{filter, filter_map, cons_option}
+use Rattle.std.proofs.lemmas.List.{get_or_past, get_or-replicate, length-replicate}
+use Rattle.std.proofs.lemmas.Bool.{cases_lt}
+use mathlib.Core.Option.{some, some-ne-none, some-injective}
+use lib.ListN.{get_elem?}
 
 pub bools : (b : Bool) → (b ≡ true) ⊎ (b ≡ false)
 bools true = inl refl
@@ -81,3 +86,45 @@ module _ {A B : Type 0} (f : A → Option B) where
         | inl here ↦ (z, contains_here z xs, here)
         | inr later ↦ let r = contains_from_filter_map xs y later in (r.0, contains_later z xs r.0 r.1, r.2)
       ]
+
+-- ---- lists that are put together
+
+pub left_nil : {A : Type 0} (xs ys : List A) → xs ++ ys ≡ [] → xs ≡ []
+left_nil [] ys e = refl
+left_nil (x ∷ xs) ys e = absurd (cc e)
+
+pub drop_front : {A : Type 0} (xs ys : List A) → drop (length xs) (xs ++ ys) ≡ ys
+drop_front [] ys = refl
+drop_front (x ∷ xs) ys = drop_front xs ys
+
+-- where the last element stands in a list that is cut at an element
+pub split_push : {A : Type 0} (h : List A) (x : A) (before : List A) (e : A) (later : List A) → h ++ x ∷ [] ≡ before ++ e ∷ later
+    → ((h ≡ before) × (x ≡ e)) ⊎ ((between : List A) × (h ≡ before ++ e ∷ between))
+split_push [] x [] e later is = inl (refl, cc is)
+split_push [] x (y ∷ []) e later is = absurd (cc is)
+split_push [] x (y ∷ z ∷ before) e later is = absurd (cc is)
+split_push (w ∷ h) x [] e later is = inr (h, cc is)
+split_push (w ∷ h) x (y ∷ before) e later is =
+    elim (split_push h x before e later (cc is)) [
+      | inl r ↦ inl (cc (is, r.0), r.1)
+      | inr r ↦ inr (r.0, cc (is, r.1))
+    ]
+
+-- ---- what stands where
+
+-- where an element of a list with one more behind it stood
+pub at_push : {A : Type 0} (l : List A) (a b : A) (j : ℕ) → get_elem? (l ++ a ∷ []) j ≡ some b → (get_elem? l j ≡ some b) ⊎ ((j ≡ length l) × (a ≡ b))
+at_push [] a b zero e = inr (refl, some-injective a b e)
+at_push [] a b (suc j) e = absurd (some-ne-none b (sym e))
+at_push (x ∷ xs) a b zero e = inl e
+at_push (x ∷ xs) a b (suc j) e = elim (at_push xs a b j e) [
+  | inl t ↦ inl t
+  | inr t ↦ inr (ap suc t.0, t.1)
+]
+
+-- the elements of a list of zeros, and past its end
+pub at_zeros : (n k : ℕ) → get_or {A = ℕ} (replicate n 0) k 0 ≡ 0
+at_zeros n k = elim (cases_lt k n) [
+  | inl few ↦ get_or-replicate {A = ℕ} n k 0 0 few
+  | inr many ↦ get_or_past {X = ℕ} (replicate n 0) k 0 (let l = length-replicate {A = ℕ} n 0 in omega arith)
+]

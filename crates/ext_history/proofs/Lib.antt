@@ -1,0 +1,9 @@
+pub mod Lists
+pub mod Lanes
+pub mod Legal
+pub mod ByLanes
+pub mod Fronts
+pub mod Composed
+pub mod Answered
+pub mod Crowded
+pub mod Single

@@ -1,0 +1,35 @@
+//! Requests, as tests ask for them.
+use ext_locks::{LockFault, LockKey, LockMode, LockNo, LockRequest, Locks};
+
+/// A named lock, to read by.
+pub(crate) fn read(name: &str) -> LockRequest {
+    LockRequest {
+        key: LockKey::Named(name),
+        mode: LockMode::Read,
+    }
+}
+
+/// A named lock, to write by.
+pub(crate) fn write(name: &str) -> LockRequest {
+    LockRequest {
+        key: LockKey::Named(name),
+        mode: LockMode::ReadWrite,
+    }
+}
+
+/// The global lock.
+pub(crate) fn global(mode: LockMode) -> LockRequest<'static> {
+    LockRequest {
+        key: LockKey::Global,
+        mode,
+    }
+}
+
+/// The lock at this place of the set that the requests ask for.
+pub(crate) fn merged_at(
+    locks: &Locks,
+    requests: &[LockRequest],
+    at: usize,
+) -> Result<Option<(LockNo, LockMode)>, LockFault> {
+    Ok(locks.merge(requests)?.get(at))
+}

@@ -1,0 +1,45 @@
+//! A number that two threads count up, each in two steps, while it holds a lock.
+ghost use Rattle.std.specs.Prelude.{◌≡◌, ◌+◌, ◌≤◌, length};
+ghost use Rattle.ext_locks.specs.Sets.{HoldsNothing, AllBelow};
+
+use crate::asking::write;
+use ext_locks::{LockLane, LockSet, Locks};
+use std::sync::atomic::{AtomicU64, Ordering};
+use std::test::Fail;
+use std::thread;
+
+/// Tries a thousand times to take the set, and adds one to the number, in two steps, while it is held. Returns how often
+/// it was.
+fn count_up(locks: &Locks, lane: &mut LockLane, set: &LockSet, number: &AtomicU64) -> u64
+    requires lane { lane.old.table ≡ locks.now.table }
+    requires nothing { HoldsNothing lane.old }
+    requires set { AllBelow (length locks.now.names + 1) set.now }
+    ensures { result ≤ 1000 }
+{
+    let mut successes = 0;
+    for turn in 0..1000u64 {
+        if let Ok(held) = locks.try_take(lane, set) {
+            let seen = number.load(Ordering::SeqCst);
+            number.store(seen.wrapping_add(1), Ordering::SeqCst);
+            locks.give(lane, held);
+            successes += 1;
+        }
+    }
+    successes
+}
+
+#[test]
+fn two_threads_count_while_they_hold(rt: HostRuntime) -> Result<(), Fail> {
+    let (locks, mut lanes) = Locks::open(rt.alloc(), &["a"], 2, 8)?;
+    let writes = locks.merge(&[write("a")])?;
+    let number = AtomicU64::new(0);
+    let (first, second) = lanes.as_mut_slice().split_at_mut(1);
+    let (one, other) = thread::join(
+        &rt,
+        || count_up(&locks, &mut first[0], &writes, &number),
+        || count_up(&locks, &mut second[0], &writes, &number),
+    );
+    assert_eq!(rt; number.load(Ordering::SeqCst), one + other);
+    assert!(rt; one + other > 0);
+    Ok(())
+}
