@@ -18,8 +18,6 @@ mod lane;
 mod opening;
 mod refusal;
 mod rule;
-#[cfg(test)]
-mod tests;
 mod words;
 
 pub use cell_state::CellState;

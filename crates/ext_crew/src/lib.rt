@@ -16,8 +16,6 @@ mod hand;
 mod job;
 mod rule;
 mod slot;
-#[cfg(test)]
-mod tests;
 mod workers;
 
 pub use crew::run_children;

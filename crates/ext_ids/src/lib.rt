@@ -10,8 +10,6 @@ mod id;
 mod laws;
 mod scan;
 mod segment;
-#[cfg(test)]
-mod tests;
 
 pub use fault::IdFault;
 pub use id::UniqueId;

@@ -30,6 +30,3 @@ pub use plain::PlainStore;
 pub use plain_fault::PlainFault;
 pub use slot::Slot;
 pub use worked::worked_histories;
-
-#[cfg(test)]
-mod tests;

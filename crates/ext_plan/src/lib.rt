@@ -13,8 +13,6 @@ mod numbers;
 mod plan;
 mod read;
 mod steps;
-#[cfg(test)]
-mod tests;
 
 pub use fault::{Place, PlanFault};
 pub use numbers::KeyNumbers;

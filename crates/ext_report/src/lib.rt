@@ -5,8 +5,6 @@ mod line;
 mod report;
 mod result;
 mod status;
-#[cfg(test)]
-mod tests;
 mod totals;
 
 pub use report::{any_failed, report_text};

@@ -2,12 +2,12 @@
 ghost use Rattle.std.specs.Prelude.{◌≡◌, ◌<◌, length};
 ghost use Rattle.ext_store.specs.Stores.{IsLaneOf};
 
-use crate::opening::{Letter, Opened, contexts, key, keys, plain};
+use crate::opening::{Letter, Opened, key, open_chain, plain, same};
 use ext_model::{ContextNo, Look};
-use ext_store::{Lane, Limits, Refusal, Store};
+use ext_store::{Lane, Refusal, Store};
 use ext_tree::Key;
-use std::test::Fail;
-use std::thread::join;
+use std::sync::Wait;
+use std::thread::{Threads, join};
 
 // How often the value goes to the class and back, and how often it is looked up meanwhile.
 const ROUNDS: u32 = 1_000;
@@ -87,54 +87,58 @@ fn all_are_shown(store: &Store<Letter>, lane: &mut Lane<Letter>) -> bool
     shown
 }
 
-#[test]
-fn value_that_moves_is_never_missed(rt: HostRuntime) -> Result<(), Fail> {
-    let limits = Limits {
-        lanes: 2,
-        tries: 8,
-        numbers: 2 * ROUNDS + 1,
-    };
-    let (store, mut lanes, _closers) = Store::open(
-        rt.alloc(),
-        contexts(&rt, rt.alloc()),
-        keys(&rt, rt.alloc(), 3),
-        limits,
-    )?;
-    let (Some(mut mover), Some(mut looker)) = (lanes.pop(), lanes.pop()) else {
-        return Err(Fail::from("there are two lanes"));
-    };
-    if store.tree().len() != 3 {
-        return Err(Fail::from("the chain has three contexts"));
-    }
-    let a = key(&rt, rt.alloc(), "a");
-    assert!(rt; store_next(&store, &mut mover, &a, 0, 1));
-    let (shared, name) = (&store, &a);
-    let (moved, (found, mut looker)) = join(
-        &rt,
+/// What both threads say, of which one moves the value and the other looks it up, and the lane of the second.
+fn move_and_look<R: Threads + Wait + Sync>(
+    rt: &R,
+    store: &Store<Letter>,
+    mover: Lane<Letter>,
+    looker: Lane<Letter>,
+    key: &Key,
+) -> (bool, (bool, Lane<Letter>))
+    requires mover { IsLaneOf store.now.id mover }
+    requires looker { IsLaneOf store.now.id looker }
+    requires contexts { 2 < length store.now.tree }
+    ensures { IsLaneOf store.now.id result.1.1 }
+{
+    join(
+        rt,
         move || -> bool
-            requires lane { IsLaneOf shared.now.id mover }
-            requires contexts { 2 < length shared.now.tree }
+            requires lane { IsLaneOf store.now.id mover }
+            requires contexts { 2 < length store.now.tree }
         {
             let mut mover = mover;
-            move_often(shared, &mut mover, name)
+            move_often(store, &mut mover, key)
         },
         move || -> (bool, Lane<Letter>)
-            requires lane { IsLaneOf shared.now.id looker }
-            requires contexts { 2 < length shared.now.tree }
-            ensures { IsLaneOf shared.entry.now.id result.1 }
+            requires lane { IsLaneOf store.now.id looker }
+            requires contexts { 2 < length store.now.tree }
+            ensures { IsLaneOf store.entry.now.id result.1 }
         {
             let mut looker = looker;
-            let found = look_often(shared, &mut looker, name);
+            let found = look_often(store, &mut looker, key);
             (found, looker)
         },
-    );
-    assert!(rt; moved);
-    assert!(rt; found);
+    )
+}
+
+#[test]
+fn value_that_moves_is_never_missed(rt: HostRuntime) {
+    let Opened {
+        store,
+        first: mut mover,
+        second: looker,
+        ..
+    } = open_chain(&rt, rt.alloc(), 2 * ROUNDS + 1);
+    let a = key(&rt, rt.alloc(), "a");
+    assert!(rt; store_next(&store, &mut mover, &a, 0, 1));
+    let (moved, (found, mut looker)) = move_and_look(&rt, &store, mover, looker, &a);
+    same(&rt, (moved, found), (true, true), "what both threads say");
     let last = Look::Found {
         at: 0,
         number: 2 * ROUNDS + 1,
     };
-    assert_eq!(rt; store.get(&mut looker, 2, &a), Ok(last));
-    assert!(rt; all_are_shown(&store, &mut looker));
-    Ok(())
+    let seen = store.get(&mut looker, 2, &a);
+    same(&rt, seen, Ok(last), "where the value is");
+    let shown = all_are_shown(&store, &mut looker);
+    same(&rt, shown, true, "each number's value is shown");
 }

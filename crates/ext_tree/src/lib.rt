@@ -11,8 +11,6 @@ mod key;
 mod laws;
 mod namespace;
 mod path;
-#[cfg(test)]
-mod tests;
 mod text;
 mod trail;
 mod tree;

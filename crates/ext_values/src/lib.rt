@@ -13,8 +13,6 @@ mod fault;
 mod laws;
 mod note;
 mod notes;
-#[cfg(test)]
-mod tests;
 mod values;
 
 pub use fault::ValuesFault;

@@ -1,6 +1,0 @@
-use Rattle.std.specs.List.{IsDistinct}
-use Rattle.ext_cells.proofs.tests.abandoned_cells_are_empty.Goals as goal
-
-pub collect-requires-clause-different : goal.collect-requires-clause-different
-unfolding IsDistinct
-collect-requires-clause-different g c = (tt, tt)

@@ -1,0 +1,123 @@
+//! Cells whose answers were worked out by hand.
+ghost use Rattle.std.specs.Prelude.{◌≡◌, ◌<◌, ◌≤◌};
+ghost use Rattle.ext_model.specs.Calls.{IsHeld};
+
+use crate::hand::{Call, end_claim, go, rows};
+use crate::same::same;
+use ext_cells::{CellLane, CellRefusal, Cells, Claim, Claimed};
+use std::process::Abort;
+
+#[test]
+fn sealed_cells_keep_their_numbers(rt: HostRuntime) {
+    let closed = Err(CellRefusal::Closed);
+    let all = [
+        (0, 0, Call::Reads(0)),
+        (0, 3, Call::Reads(0)),
+        (0, 1, Call::Removes(Ok(None))),
+        (0, 1, Call::Reads(0)),
+        (0, 0, Call::Puts(1, Ok(None))),
+        (1, 0, Call::Seals(Ok(Some(1)))),
+        (1, 0, Call::Seals(Ok(Some(1)))),
+        (0, 0, Call::Puts(2, closed)),
+        (0, 0, Call::Removes(closed)),
+        (0, 0, Call::Asks(closed)),
+        // sealed, with number 1, at version 2
+        (0, 0, Call::Reads(33_554_451)),
+    ];
+    rows(&rt, rt.alloc(), &all);
+}
+
+#[test]
+fn abandoned_cells_are_empty(rt: HostRuntime) {
+    let all = [
+        (0, 0, Call::Asks(Ok(None))),
+        (1, 0, Call::Asks(Ok(None))),
+        // empty, at version 4
+        (1, 0, Call::Reads(67_108_864)),
+        (0, 0, Call::Seals(Ok(None))),
+        (1, 0, Call::Asks(Err(CellRefusal::Closed))),
+    ];
+    rows(&rt, rt.alloc(), &all);
+}
+
+/// The claim of cell 0.
+fn won(rt: &impl Abort, cells: &Cells, lane: &mut CellLane) -> Claim
+    requires lane { lane.old.cells ≡ cells.now.id }
+    requires cell { 0 < cells.now.id.limits.cells }
+    ensures lane { lane.new.cells ≡ lane.old.cells }
+    ensures held { IsHeld lane.new.view result }
+{
+    match cells.claim(lane, 0) {
+        Ok(Claimed::Won(claim)) => claim,
+        Ok(Claimed::Standing(_)) | Err(_) => panic!(rt; "no claim"),
+    }
+}
+
+#[test]
+fn claims_keep_others_out(rt: HostRuntime) {
+    let Ok((cells, mut lanes)) = Cells::open(rt.alloc(), 1, 2, 8, 8) else {
+        panic!(rt; "no memory")
+    };
+    let (Some(mut second), Some(mut first)) = (lanes.pop(), lanes.pop()) else {
+        panic!(rt; "no lanes")
+    };
+    let claim = won(&rt, &cells, &mut first);
+    let busy = Err(CellRefusal::Busy);
+    go(&rt, &cells, &mut second, 0, Call::Asks(busy));
+    go(&rt, &cells, &mut second, 0, Call::Removes(busy));
+    go(&rt, &cells, &mut second, 0, Call::Seals(busy));
+    go(&rt, &cells, &mut second, 0, Call::Puts(1, busy));
+    let filled = end_claim(&cells, &mut first, claim);
+    same(&rt, filled, Ok(2), "the number");
+    go(&rt, &cells, &mut second, 0, Call::Asks(Ok(Some(2))));
+    go(&rt, &cells, &mut second, 0, Call::Removes(Ok(Some(2))));
+    cells.meet(&mut second, &mut first);
+}
+
+#[test]
+fn zero_words_at_open(rt: HostRuntime) {
+    let Ok((cells, mut lanes)) = Cells::open(rt.alloc(), 3, 1, 1, 8) else {
+        panic!(rt; "no memory")
+    };
+    let Some(mut lane) = lanes.pop() else {
+        panic!(rt; "no lane")
+    };
+    let Ok(words) = cells.collect(&mut lane, &[2, 1, 0]) else {
+        panic!(rt; "contended")
+    };
+    let three = (words.get(0), words.get(1), words.get(2));
+    same(&rt, three, (0, 0, 0), "the words");
+    let nothing = cells.collect(&mut lane, &[]).is_ok();
+    same(&rt, nothing, true, "a collect of no cells");
+}
+
+/// What stands at these 16 cells together.
+fn sixteen(cells: &Cells, lane: &mut CellLane) -> Option<[u64; 16]>
+    requires lane { lane.old.cells ≡ cells.now.id }
+    requires cells { 256 ≤ cells.now.id.limits.cells }
+{
+    let all = [255, 240, 32, 31, 30, 15, 14, 13, 12, 11, 10, 9, 8, 7, 1, 0];
+    let words = cells.collect(lane, &all).ok()?;
+    let mut found = [0; 16];
+    for place in 0..16 {
+        found[place] = words.get(place);
+    }
+    Some(found)
+}
+
+#[test]
+fn sixteen_cells_at_once(rt: HostRuntime) {
+    let Ok((cells, mut lanes)) = Cells::open(rt.alloc(), 256, 1, 1, 8) else {
+        panic!(rt; "no memory")
+    };
+    let Some(mut lane) = lanes.pop() else {
+        panic!(rt; "no lane")
+    };
+    go(&rt, &cells, &mut lane, 240, Call::Puts(1, Ok(None)));
+    go(&rt, &cells, &mut lane, 31, Call::Puts(2, Ok(None)));
+    let mut wanted = [0; 16];
+    wanted[1] = 16_777_234;
+    wanted[3] = 16_777_250;
+    let found = sixteen(&cells, &mut lane);
+    same(&rt, found, Some(wanted), "the words");
+}

@@ -1,0 +1,165 @@
+//! Cells with both of their lanes in one hand, so that a test names a lane by its number.
+ghost use Rattle.std.specs.Prelude.{◌≡◌, ◌<◌, ◌%◌};
+ghost use Rattle.ext_model.specs.Calls.{IsHeld};
+
+use crate::same::same;
+use ext_cells::{CellLane, CellRefusal, Cells, Claim, Claimed};
+use ext_model::CellNo;
+use std::alloc::Global;
+use std::marker::Model;
+use std::process::Abort;
+
+/// A call, with what it is to answer.
+#[derive(Clone, Copy)]
+pub(crate) enum Call {
+    /// Draws a number, which is this one, and puts it.
+    Puts(u32, Result<Option<u32>, CellRefusal>),
+    Removes(Result<Option<u32>, CellRefusal>),
+    Seals(Result<Option<u32>, CellRefusal>),
+    /// Asks for the cell; `None` where the claim is won, which is given up again.
+    Asks(Result<Option<u32>, CellRefusal>),
+    /// The cell's word by a collect of it alone.
+    Reads(u64),
+}
+
+/// A row of a test: the lane that calls, 0 or 1, the cell, 0 to 3, and the call.
+pub(crate) type Row = (usize, CellNo, Call);
+
+/// Cells and their two lanes.
+#[derive(Drop)]
+pub(crate) struct Hand {
+    cells: Cells,
+    lanes: [CellLane; 2],
+}
+
+impl Model for Hand {
+    ghost use Rattle.std.specs.Prelude.{◌≡◌, ◌≤◌, All};
+
+    ghost Value = { Unit {0} };
+
+    ghost view = { λ _. tt };
+
+    ghost invariant = { λ h. All (λ lane. lane.cells ≡ h.cells.id) h.lanes × (4 ≤ h.cells.id.limits.cells) };
+}
+
+/// What a lane is answered that asks for the cell: `None` where it won the claim, which it gives up again.
+pub(crate) fn ask(
+    cells: &Cells,
+    lane: &mut CellLane,
+    cell: CellNo,
+) -> Result<Option<u32>, CellRefusal>
+    requires lane { lane.old.cells ≡ cells.now.id }
+    requires cell { cell < cells.now.id.limits.cells }
+    ensures { lane.new.cells ≡ lane.old.cells }
+{
+    match cells.claim(lane, cell)? {
+        Claimed::Won(claim) => {
+            cells.abandon(lane, claim);
+            Ok(None)
+        }
+        Claimed::Standing(number) => Ok(Some(number)),
+    }
+}
+
+/// The word of one cell, or 0 where other lanes were in the way.
+pub(crate) fn peek(cells: &Cells, lane: &mut CellLane, cell: CellNo) -> u64
+    requires lane { lane.old.cells ≡ cells.now.id }
+    requires cell { cell < cells.now.id.limits.cells }
+    ensures lane { lane.new.cells ≡ lane.old.cells }
+    ensures word { result % 16 < 4 }
+{
+    match cells.collect(lane, &[cell]) {
+        Ok(words) => words.get(0),
+        Err(_) => 0,
+    }
+}
+
+/// Draws a number and fills the claimed cell with it; where there is none, the claim is given up.
+pub(crate) fn end_claim(
+    cells: &Cells,
+    lane: &mut CellLane,
+    claim: Claim,
+) -> Result<u32, CellRefusal>
+    requires lane { lane.old.cells ≡ cells.now.id }
+    requires held { IsHeld lane.old.view claim }
+    ensures { lane.new.cells ≡ lane.old.cells }
+{
+    match cells.next_number(lane) {
+        Ok(number) => {
+            cells.fill(lane, claim, number);
+            Ok(number)
+        }
+        Err(refusal) => {
+            cells.abandon(lane, claim);
+            Err(refusal)
+        }
+    }
+}
+
+/// The number that is drawn, and what its put answers; or why there is none.
+pub(crate) fn put(
+    cells: &Cells,
+    lane: &mut CellLane,
+    cell: CellNo,
+) -> Result<(u32, Result<Option<u32>, CellRefusal>), CellRefusal>
+    requires lane { lane.old.cells ≡ cells.now.id }
+    requires cell { cell < cells.now.id.limits.cells }
+    ensures { lane.new.cells ≡ lane.old.cells }
+{
+    let number = cells.next_number(lane)?;
+    Ok((number, cells.put(lane, cell, number)))
+}
+
+/// Asserts that the call has its answer.
+pub(crate) fn go(rt: &impl Abort, cells: &Cells, lane: &mut CellLane, cell: CellNo, call: Call)
+    requires lane { lane.old.cells ≡ cells.now.id }
+    requires cell { cell < cells.now.id.limits.cells }
+    ensures { lane.new.cells ≡ lane.old.cells }
+{
+    match call {
+        Call::Puts(number, answer) => {
+            same(rt, put(cells, lane, cell), Ok((number, answer)), "put");
+        }
+        Call::Removes(answer) => same(rt, cells.remove(lane, cell), answer, "remove"),
+        Call::Seals(answer) => same(rt, cells.seal(lane, cell), answer, "seal"),
+        Call::Asks(answer) => same(rt, ask(cells, lane, cell), answer, "claim"),
+        Call::Reads(word) => same(rt, peek(cells, lane, cell), word, "collect"),
+    }
+}
+
+impl Hand {
+    /// Four cells, two lanes and eight numbers.
+    fn open<R: Abort>(rt: &R, alloc: Global) -> Hand {
+        let Ok((cells, mut lanes)) = Cells::open(alloc, 4, 2, 1, 8) else {
+            panic!(rt; "no memory");
+        };
+        let (Some(second), Some(first)) = (lanes.pop(), lanes.pop()) else {
+            panic!(rt; "no lanes");
+        };
+        same(
+            rt,
+            (first.number(), second.number(), cells.tries()),
+            (0, 1, 1),
+            "the numbers of the lanes, and the tries",
+        );
+        Hand {
+            cells,
+            lanes: [first, second],
+        }
+    }
+
+    fn go<R: Abort>(&mut self, rt: &R, row: Row) {
+        let (lane, cell, call) = row;
+        assert!(rt; lane < 2 && cell < 4);
+        let lane = &mut self.lanes[lane];
+        go(rt, &self.cells, lane, cell, call);
+    }
+}
+
+/// Opens four cells with two lanes, and asserts that each row's call, in order, has its answer.
+pub(crate) fn rows<R: Abort>(rt: &R, alloc: Global, rows: &[Row]) {
+    let mut hand = Hand::open(rt, alloc);
+    for row in rows {
+        hand.go(rt, *row);
+    }
+}

@@ -1,0 +1,19 @@
+//! Tests of what several lanes share and are run by, each by its public calls: cells, places for values, the crew.
+#![tactic(auto)]
+
+#[cfg(test)]
+mod cells;
+#[cfg(test)]
+mod crew;
+#[cfg(test)]
+mod gates;
+#[cfg(test)]
+mod hand;
+#[cfg(test)]
+mod same;
+#[cfg(test)]
+mod threads;
+#[cfg(test)]
+mod values;
+#[cfg(test)]
+mod words;

@@ -1,0 +1,107 @@
+//! Words at their limits, the limits of opening, and the printed texts of refusals.
+use crate::same::same;
+use ext_cells::{CellRefusal, CellState, Cells, after, parts, word};
+use ext_model::Act;
+use std::alloc::Global;
+use std::process::Abort;
+use std::test::Fail;
+
+// 2^40 - 4, the greatest version at which a cell takes a claim.
+const LAST_CLAIM: u64 = 1_099_511_627_772;
+
+/// Asserts what the word after an act is, or why there is none.
+fn next(rt: &impl Abort, answer: Result<u64, CellRefusal>, wanted: Result<u64, CellRefusal>) {
+    same(rt, answer, wanted, "the next word");
+}
+
+#[test]
+fn words_and_versions(rt: HostRuntime) {
+    let present = (CellState::Present, 5, 3);
+    same(&rt, parts(50_331_730), present, "a word");
+    same(&rt, word(CellState::Present, 5, 3), 50_331_730, "its parts");
+    let empty = (CellState::Empty, 0, 4);
+    same(&rt, parts(67_108_864), empty, "the word without the number");
+    next(&rt, after(50_331_730, Act::Remove(0)), Ok(67_108_864));
+    next(&rt, after(50_331_730, Act::Put(0, 7)), Ok(67_108_978));
+}
+
+#[test]
+fn versions_run_out(rt: HostRuntime) {
+    let put = Ok(18_446_744_073_675_997_282);
+    let removed = Ok(18_446_744_073_675_997_184);
+    let last = 18_446_744_073_692_774_483;
+    let present = word(CellState::Present, 5, LAST_CLAIM + 1);
+    next(&rt, after(present, Act::Put(0, 6)), put);
+    next(&rt, after(present, Act::Remove(0)), removed);
+    let empty = word(CellState::Empty, 0, LAST_CLAIM + 1);
+    let exhausted = Err(CellRefusal::Exhausted);
+    next(&rt, after(empty, Act::Claim(0)), exhausted);
+    let worn = word(CellState::Present, 5, LAST_CLAIM + 2);
+    next(&rt, after(worn, Act::Put(0, 6)), exhausted);
+    next(&rt, after(worn, Act::Remove(0)), exhausted);
+    next(&rt, after(worn, Act::Seal(0)), Ok(last));
+    let sealed = (CellState::Sealed, 5, 1_099_511_627_775);
+    same(&rt, parts(last), sealed, "the last word");
+    let closed = Err(CellRefusal::Closed);
+    next(&rt, after(last, Act::Put(0, 6)), closed);
+}
+
+#[test]
+fn claims_end_at_the_last_versions(rt: HostRuntime) {
+    let empty = word(CellState::Empty, 0, LAST_CLAIM);
+    let claimed = word(CellState::Computing, 0, LAST_CLAIM + 1);
+    let filled = word(CellState::Present, 9, LAST_CLAIM + 2);
+    let sealed = word(CellState::Sealed, 9, LAST_CLAIM + 3);
+    let given_up = word(CellState::Empty, 0, LAST_CLAIM + 2);
+    let busy = Err(CellRefusal::Busy);
+    next(&rt, after(empty, Act::Claim(0)), Ok(claimed));
+    next(&rt, after(claimed, Act::Fill(0, 9)), Ok(filled));
+    next(&rt, after(filled, Act::Seal(0)), Ok(sealed));
+    next(&rt, after(claimed, Act::Abandon(0)), Ok(given_up));
+    next(&rt, after(claimed, Act::Put(0, 9)), busy);
+    next(&rt, after(claimed, Act::Seal(0)), busy);
+}
+
+/// How many lanes there are of so many cells, or why they are not opened.
+fn opened(
+    alloc: Global,
+    cells: usize,
+    lanes: usize,
+    tries: u32,
+    numbers: u32,
+) -> Result<usize, CellRefusal> {
+    match Cells::open(alloc, cells, lanes, tries, numbers) {
+        Ok((_cells, lanes)) => Ok(lanes.len()),
+        Err(refusal) => Err(refusal),
+    }
+}
+
+#[test]
+fn open_within_limits(rt: HostRuntime) {
+    let bad = Err(CellRefusal::BadLimit);
+    for (cells, lanes, tries, numbers, wanted) in [
+        (4_096, 2, 1, 8, Ok(2)),
+        (0, 16, 64, 65_535, Ok(16)),
+        (4_097, 2, 1, 8, bad),
+        (3, 2, 0, 8, bad),
+        (3, 0, 1, 8, bad),
+        (3, 17, 1, 8, bad),
+        (3, 2, 65, 8, bad),
+        (3, 2, 1, 0, bad),
+        (3, 2, 1, 65_536, bad),
+    ] {
+        let answer = opened(rt.alloc(), cells, lanes, tries, numbers);
+        same(&rt, answer, wanted, "the lanes");
+    }
+}
+
+#[test]
+fn refusals_print_their_texts(rt: HostRuntime) -> Result<(), Fail> {
+    for (refusal, text) in [
+        (CellRefusal::Busy, "busy"),
+        (CellRefusal::BadLimit, "a limit is out of its range"),
+    ] {
+        same(&rt, refusal.to_string(rt.alloc())?.as_str(), text, text);
+    }
+    Ok(())
+}

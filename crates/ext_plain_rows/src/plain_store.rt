@@ -1,0 +1,121 @@
+//! Stores of one thread whose answers were worked out by hand, and the printed texts of faults.
+use crate::same::same;
+use ext_model::{ContextNo, Fault, Look, PlainFault, PlainStore};
+use std::alloc::Global;
+use std::process::Abort;
+use std::test::Fail;
+
+/// A call under key 0, with what it is to answer. The lane is 3.
+#[derive(Clone, Copy)]
+enum Call {
+    Keeps(Result<u32, PlainFault>),
+    /// Puts this number in the context.
+    Puts(ContextNo, u32, Result<Option<u32>, PlainFault>),
+    /// Looks along the chain from the context 2.
+    Gets(Look),
+    Claims(ContextNo, Result<(), PlainFault>),
+    /// Whether the lane's claim stands in the context.
+    Holds(ContextNo, bool),
+    /// Fills the context's claim with this number.
+    Fills(ContextNo, u32),
+    Abandons(ContextNo),
+    Removes(ContextNo, Result<Option<u32>, PlainFault>),
+    Seals(ContextNo, Result<Option<u32>, PlainFault>),
+}
+
+/// Asserts that the call has its answer.
+fn go<R: Abort>(rt: &R, store: &mut PlainStore, call: Call) {
+    match call {
+        Call::Keeps(answer) => same(rt, store.keep(), answer, "keep"),
+        Call::Puts(at, number, answer) => same(rt, store.put(at, 0, number), answer, "put"),
+        Call::Gets(answer) => same(rt, store.get(&[2, 1, 0], 0), answer, "get"),
+        Call::Claims(at, answer) => same(rt, store.claim(at, 0, 3), answer, "claim"),
+        Call::Holds(at, answer) => same(rt, store.is_claimed_by(at, 0, 3), answer, "holds"),
+        Call::Fills(at, number) => {
+            assert!(rt; store.is_claimed_by(at, 0, 3));
+            same(rt, store.fill(at, 0, 3, number), Ok(()), "fill");
+        }
+        Call::Abandons(at) => {
+            assert!(rt; store.is_claimed_by(at, 0, 3));
+            store.abandon(at, 0, 3);
+        }
+        Call::Removes(at, answer) => same(rt, store.remove(at, 0), answer, "remove"),
+        Call::Seals(at, answer) => same(rt, store.seal(at, 0), answer, "seal"),
+    }
+}
+
+/// Asserts that each call, in order, has its answer by a new store of so many numbers.
+fn answers<R: Abort>(rt: &R, alloc: Global, numbers: u32, calls: &[Call]) {
+    let mut store = PlainStore::new(alloc, numbers);
+    for call in calls {
+        go(rt, &mut store, *call);
+    }
+}
+
+#[test]
+fn plain_store_row(rt: HostRuntime) {
+    let calls = [
+        Call::Keeps(Ok(1)),
+        Call::Puts(0, 1, Ok(None)),
+        Call::Gets(Look::Found { at: 0, number: 1 }),
+        Call::Claims(1, Ok(())),
+        Call::Gets(Look::Busy(1)),
+        Call::Keeps(Ok(2)),
+        Call::Puts(1, 2, Err(PlainFault::Busy)),
+        Call::Seals(1, Err(PlainFault::Busy)),
+        Call::Fills(1, 2),
+        Call::Gets(Look::Found { at: 1, number: 2 }),
+        Call::Claims(1, Err(PlainFault::Taken(2))),
+        Call::Removes(1, Ok(Some(2))),
+        Call::Seals(0, Ok(Some(1))),
+        Call::Seals(0, Ok(Some(1))),
+        Call::Gets(Look::Closed(0)),
+    ];
+    answers(&rt, rt.alloc(), 8, &calls);
+}
+
+#[test]
+fn plain_store_of_two_numbers(rt: HostRuntime) {
+    let calls = [
+        Call::Keeps(Ok(1)),
+        Call::Puts(0, 1, Ok(None)),
+        Call::Gets(Look::Found { at: 0, number: 1 }),
+        Call::Seals(0, Ok(Some(1))),
+        Call::Keeps(Ok(2)),
+        Call::Puts(0, 2, Err(PlainFault::Closed)),
+        Call::Keeps(Err(PlainFault::NumbersFull)),
+    ];
+    answers(&rt, rt.alloc(), 2, &calls);
+}
+
+#[test]
+fn abandoned_place_is_empty(rt: HostRuntime) {
+    let calls = [
+        Call::Claims(0, Ok(())),
+        Call::Holds(0, true),
+        Call::Abandons(0),
+        Call::Holds(0, false),
+        Call::Gets(Look::Absent),
+        Call::Removes(0, Ok(None)),
+        Call::Seals(0, Ok(None)),
+        Call::Claims(0, Err(PlainFault::Closed)),
+    ];
+    answers(&rt, rt.alloc(), 8, &calls);
+}
+
+#[test]
+fn faults_print_their_texts(rt: HostRuntime) -> Result<(), Fail> {
+    for (fault, text) in [
+        (PlainFault::Busy, "busy"),
+        (PlainFault::Closed, "closed"),
+        (PlainFault::Taken(2), "number 2 stands there"),
+        (PlainFault::NumbersFull, "numbers full"),
+        (PlainFault::Memory, "no memory"),
+    ] {
+        same(&rt, fault.to_string(rt.alloc())?.as_str(), text, text);
+    }
+    let boom = Fault::Text(String::from_str(rt.alloc(), "boom")?);
+    let texts = format!(in rt.alloc(); "{boom}, {}", Fault::Memory)?;
+    same(&rt, texts.as_str(), "boom, no memory", "faults of callers");
+    Ok(())
+}
