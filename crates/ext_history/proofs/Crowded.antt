@@ -1,6 +1,6 @@
 -- Other lanes in the way: calls that were overtaken or crowded.
 use Rattle.std.proofs.Common.{◌≡◌, ℕ, ◌+◌, ◌≤◌, List, [], ◌∷◌, ◌++◌, length, sym, ap, ◌∙◌, subst, arith, append_assoc, append-nil}
-use mathlib.Core.List.{IsPrefix, append_cancel_left}
+use mathlib.Core.List.{append_cancel_left}
 use Rattle.ext_history.specs.Histories.{own, others}
 use Rattle.ext_history.specs.Views.{LaneView, last_after, first_or, seen_by, Follow, call_fronts, first_front, IsStepped}
 use Rattle.ext_history.specs.Calls.{Calls, IsOvertaken, IsCrowdedAt, IsCrowded}
@@ -9,14 +9,6 @@ use Rattle.ext_history.proofs.Lanes.{own_past, own_between, others_append, other
 use Rattle.ext_history.proofs.Composed.{same_number, seen_is, first_goes_on, fronts_compose, follow_on, first_decides, first_is_earlier}
 
 module _ {E : Type 0} (lane_of : E → ℕ) (tries : ℕ) where
-  -- a call that was crowded up to a point was crowded up to each later one
-  pub crowded_later : (a b : LaneView E) (p q : List E) → IsPrefix p q → IsCrowdedAt lane_of tries a b p → IsCrowdedAt lane_of tries a b q
-  crowded_later a b p q begins over =
-      let x : List E = begins.0 in
-      let many : tries ≤ others lane_of a.number over.0 = over.2 in
-      let t : others lane_of a.number (over.0 ++ x) ≡ others lane_of a.number over.0 + others lane_of a.number x = others_append lane_of a.number over.0 x in
-      (over.0 ++ x, sym begins.1 ∙ (ap (λ z. z ++ x) over.1 ∙ append_assoc (first_front a b) over.0 x), omega (arith, many, t))
-
   crowded_cases : (n : ℕ) (h now later : List E) (fs gs : List (List E)) → Follow (last_after h fs) gs → now ≡ last_after h fs → later ≡ last_after (last_after h fs) gs
       → ((more : List E) × (now ≡ first_or h fs ++ more) × (tries ≤ others lane_of n more)) → (more : List E) × (later ≡ first_or h (fs ++ gs) ++ more) × (tries ≤ others lane_of n more)
   crowded_cases n h now later [] gs two now_is later_is over =

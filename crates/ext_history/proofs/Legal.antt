@@ -34,10 +34,6 @@ module _ {E : Type 0} {IsAllowed : List E → E → Type 0} where
     ];
   }
 
-  -- the last event of a legal history was allowed after the others
-  pub last_allowed : (h : List E) (e : E) → IsLegal IsAllowed (h ++ e ∷ []) → IsAllowed h e
-  last_allowed h e legal = legal.each h e [] refl
-
 module _ {E : Type 0} {IsAllowed : List E → E → Type 0} (Fact : List E → Type 0) (step : (before : List E) (e : E) → IsAllowed before e → Fact before → Fact (before ++ e ∷ [])) where
   -- what holds of a history and is kept by each event that is allowed holds of what follows
   pub legal_steps : (before rest : List E) → IsLegal IsAllowed (before ++ rest) → Fact before → Fact (before ++ rest)

@@ -1,4 +1,4 @@
-//! Tests of resource locks: sets that are taken, refused and given back, and the refusals of opening and merging.
+//! Tests of resource locks: sets that are taken, waited for, refused and given back, and the refusals of opening and merging.
 #![tactic(auto)]
 
 #[cfg(test)]
@@ -19,3 +19,5 @@ mod sets;
 mod taking;
 #[cfg(test)]
 mod texts;
+#[cfg(test)]
+mod waiting;

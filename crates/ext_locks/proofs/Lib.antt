@@ -12,3 +12,4 @@ pub mod Calling
 pub mod Merged
 pub mod OneSet
 pub mod Texts
+pub mod Waited

@@ -36,10 +36,14 @@ steps_more : (tries : ℕ) (set : List (ℕ × LockMode)) (lock : ℕ × LockMod
 steps_more tries set lock = ap (λ n. n * (tries + 1)) (length-append set (lock ∷ [])) ∙ more_locks (length set) tries
 
 -- the locks of the set below `key` were taken
-pub record TookBelow (start now : Seat (Unit {0}) SeatView) (l : ℕ) (modes : List (Option LockMode)) (tries key : ℕ) : Type 0 where
+pub record TookBelow (start now : Seat (Unit {0}) SeatView) (l : ℕ) (modes : List (Option LockMode)) (key : ℕ) : Type 0 where
   pub makes : Makes start now l (takes_of l (locks_of (take key modes)))
-  pub steps : AddsAtMost (steps_to_take tries (locks_of (take key modes))) start.me.0.fronts now.me.0.fronts
   pub held : HoldsBetween now.me.0.fronts l modes 0 key
+
+-- they were taken by at most so many tries each
+pub record TriedBelow (start now : Seat (Unit {0}) SeatView) (l : ℕ) (modes : List (Option LockMode)) (tries key : ℕ) : Type 0 where
+  pub taken : TookBelow start now l modes key
+  pub steps : AddsAtMost (steps_to_take tries (locks_of (take key modes))) start.me.0.fronts now.me.0.fronts
 
 -- the locks of the set below `key` were given back, and those up to `end` are held
 pub record GaveBelow (start now : Seat (Unit {0}) SeatView) (l : ℕ) (modes : List (Option LockMode)) (key end : ℕ) : Type 0 where
@@ -48,22 +52,29 @@ pub record GaveBelow (start now : Seat (Unit {0}) SeatView) (l : ℕ) (modes : L
   pub held : HoldsBetween now.me.0.fronts l modes key end
 
 module _ (start now : Seat (Unit {0}) SeatView) (l : ℕ) (modes : List (Option LockMode)) where
-  pub took_none : (tries : ℕ) → IsLegal start.me.0.lanes (seen start.me.0.fronts) → HoldsNothing (lane_at start l) → TookBelow start start l modes tries 0
-  took_none tries legal none = record {
+  pub took_none : IsLegal start.me.0.lanes (seen start.me.0.fronts) → HoldsNothing (lane_at start l) → TookBelow start start l modes 0
+  took_none legal none = record {
     makes = makes_self start l legal;
-    steps = omega arith;
     held = record { each = λ key mode. none.each key mode ∙ sym (and_left _ _ (none_between 0 key)) };
   }
+
+  pub tried_none : (tries : ℕ) → IsLegal start.me.0.lanes (seen start.me.0.fronts) → HoldsNothing (lane_at start l) → TriedBelow start start l modes tries 0
+  tried_none tries legal none = record { taken = took_none legal none; steps = omega arith }
 
   pub gave_none : (end : ℕ) → IsLegal start.me.0.lanes (seen start.me.0.fronts) → HoldsBetween start.me.0.fronts l modes 0 end → GaveBelow start start l modes 0 end
   gave_none end legal held = record { makes = makes_self start l legal; steps = omega arith; held = held }
 
   module _ (k : ℕ) (below : k < length modes) where
-    pub took_same : (tries : ℕ) → TookBelow start now l modes tries k → slice_index_or modes k None ≡ None → TookBelow start now l modes tries (k + 1)
-    took_same tries t none = record {
-      steps = subst (λ x. AddsAtMost (steps_to_take tries x) start.me.0.fronts now.me.0.fronts) (sym (locks_same modes k below none)) t.steps;
+    pub took_same : TookBelow start now l modes k → slice_index_or modes k None ≡ None → TookBelow start now l modes (k + 1)
+    took_same t none = record {
       makes = subst (λ x. Makes start now l (takes_of l x)) (sym (locks_same modes k below none)) t.makes;
       held = passed now.me.0.fronts now.me.0.fronts l modes k t.held none;
+    }
+
+    pub tried_same : (tries : ℕ) → TriedBelow start now l modes tries k → slice_index_or modes k None ≡ None → TriedBelow start now l modes tries (k + 1)
+    tried_same tries t none = record {
+      taken = took_same t.taken none;
+      steps = subst (λ x. AddsAtMost (steps_to_take tries x) start.me.0.fronts now.me.0.fronts) (sym (locks_same modes k below none)) t.steps;
     }
 
     pub gave_same : (end : ℕ) → GaveBelow start now l modes k end → slice_index_or modes k None ≡ None → GaveBelow start now l modes (k + 1) end
@@ -74,14 +85,19 @@ module _ (start now : Seat (Unit {0}) SeatView) (l : ℕ) (modes : List (Option 
     }
 
     module _ (after : Seat (Unit {0}) SeatView) (m : LockMode) (is : slice_index_or modes k None ≡ Some m) where
-      pub took_more : (tries : ℕ) → TookBelow start now l modes tries k → AddsAtMost (tries + 1) now.me.0.fronts after.me.0.fronts → Makes now after l (event l k m true ∷ []) → HeldBut now.me.0.fronts after.me.0.fronts l k m true
-          → TookBelow start after l modes tries (k + 1)
-      took_more tries t adds makes but = record {
-        steps = (let e = ap (steps_to_take tries) (locks_more modes k m below is) ∙ steps_more tries (locks_of (take k modes)) (k, m) in let s = t.steps in omega arith);
+      pub took_more : TookBelow start now l modes k → Makes now after l (event l k m true ∷ []) → HeldBut now.me.0.fronts after.me.0.fronts l k m true → TookBelow start after l modes (k + 1)
+      took_more t makes but = record {
         makes = subst (λ x. Makes start after l x)
             (sym (ap (takes_of l) (locks_more modes k m below is) ∙ map-append (λ lock. event l lock.0 lock.1 true) (locks_of (take k modes)) ((k, m) ∷ [])))
             (makes_then start now after l (takes_of l (locks_of (take k modes))) (event l k m true ∷ []) t.makes makes);
         held = took now.me.0.fronts after.me.0.fronts l modes k m t.held is but;
+      }
+
+      pub tried_more : (tries : ℕ) → TriedBelow start now l modes tries k → AddsAtMost (tries + 1) now.me.0.fronts after.me.0.fronts → Makes now after l (event l k m true ∷ []) → HeldBut now.me.0.fronts after.me.0.fronts l k m true
+          → TriedBelow start after l modes tries (k + 1)
+      tried_more tries t adds makes but = record {
+        taken = took_more t.taken makes but;
+        steps = (let e = ap (steps_to_take tries) (locks_more modes k m below is) ∙ steps_more tries (locks_of (take k modes)) (k, m) in let s = t.steps in omega arith);
       }
 
       pub gave_more : (end : ℕ) → GaveBelow start now l modes k end → length after.me.0.fronts ≡ length now.me.0.fronts + 1 → Makes now after l (event l k m false ∷ []) → HeldBut now.me.0.fronts after.me.0.fronts l k m false
@@ -94,14 +110,15 @@ module _ (start now : Seat (Unit {0}) SeatView) (l : ℕ) (modes : List (Option 
         held = gave now.me.0.fronts after.me.0.fronts l modes k end m t.held is but;
       }
 
-  -- the ends of both loops
-  pub took_all : (tries : ℕ) → TookBelow start now l modes tries (length modes)
-      → Makes start now l (takes_of l (locks_of modes)) × HoldsExactly (lane_at now l) (locks_of modes) × AddsAtMost (steps_to_take tries (locks_of modes)) start.me.0.fronts now.me.0.fronts
-  took_all tries t = (
+  -- the ends of the loops
+  pub took_all : TookBelow start now l modes (length modes) → Makes start now l (takes_of l (locks_of modes)) × HoldsExactly (lane_at now l) (locks_of modes)
+  took_all t = (
     subst (λ x. Makes start now l (takes_of l (locks_of x))) (take-length modes) t.makes,
     record { each = λ key mode. t.held.each key mode ∙ (all_between modes key mode ∙ sym (wants_modes modes key mode)) },
-    subst (λ x. AddsAtMost (steps_to_take tries (locks_of x)) start.me.0.fronts now.me.0.fronts) (take-length modes) t.steps,
   )
+
+  pub tried_all : (tries : ℕ) → TriedBelow start now l modes tries (length modes) → AddsAtMost (steps_to_take tries (locks_of modes)) start.me.0.fronts now.me.0.fronts
+  tried_all tries t = subst (λ x. AddsAtMost (steps_to_take tries (locks_of x)) start.me.0.fronts now.me.0.fronts) (take-length modes) t.steps
 
   pub gave_all : (end : ℕ) → GaveBelow start now l modes end end → HoldsNothing (lane_at now l)
   gave_all end t = record { each = λ key mode. t.held.each key mode ∙ and_left _ _ (none_between end key) }
@@ -116,18 +133,18 @@ within_of modes count keys all same = record { each = λ key mode is. subst (λ 
 -- ---- a lock of the set was refused
 
 module _ (start mid last after : Seat (Unit {0}) SeatView) (l : ℕ) (modes : List (Option LockMode)) (k : ℕ) (m : LockMode) (is : slice_index_or modes k None ≡ Some m)
-    (tries : ℕ) (took : TookBelow start mid l modes tries k) (missed : Makes mid last l []) (gave : Makes last after l (gives_of l (locks_of (take k modes)))) where
+    (tries : ℕ) (tried : TriedBelow start mid l modes tries k) (missed : Makes mid last l []) (gave : Makes last after l (gives_of l (locks_of (take k modes)))) where
   pub refused_makes : (refusal : LockRefusal) → key_of refusal ≡ k → Makes start after l (undone l (locks_of modes) refusal)
   refused_makes refusal key =
       subst (λ x. Makes start after l (takes_of l x ++ gives_of l x)) (sym (ap (λ n. locks_below n (locks_of modes)) key ∙ below_take modes k))
       (makes_then start last after l (takes_of l (locks_of (take k modes))) (gives_of l (locks_of (take k modes)))
-      (makes_quiet start mid last l (takes_of l (locks_of (take k modes))) took.makes missed) gave)
+      (makes_quiet start mid last l (takes_of l (locks_of (take k modes))) tried.taken.makes missed) gave)
 
   pub refused_steps : (refusal : LockRefusal) → key_of refusal ≡ k → AddsAtMost (tries + 1) mid.me.0.fronts last.me.0.fronts → length after.me.0.fronts ≡ length last.me.0.fronts + length (locks_of (take k modes))
       → AddsAtMost (steps_to_refuse tries (locks_of modes) refusal) start.me.0.fronts after.me.0.fronts
-  refused_steps refusal key tried given =
+  refused_steps refusal key adds given =
       subst (λ (x : List (ℕ × LockMode)). length after.me.0.fronts ≤ length start.me.0.fronts + (length x * (tries + 2) + (tries + 1))) (sym (ap (λ n. locks_below n (locks_of modes)) key ∙ below_take modes k))
-      (let s = took.steps in let e = more_steps (length (locks_of (take k modes))) tries in omega arith)
+      (let s = tried.steps in let e = more_steps (length (locks_of (take k modes))) tries in omega arith)
 
   module _ (refusal : LockRefusal) (key : key_of refusal ≡ k) (why : Missed refusal (lane_view mid.me.0 l) (lane_view last.me.0 l) m tries) where
     abbrev S : LaneView
@@ -152,13 +169,13 @@ module _ (start mid last after : Seat (Unit {0}) SeatView) (l : ℕ) (modes : Li
     gs = gives_of l (locks_of (take k modes))
 
     first : Calls lanes S M xs
-    first = took.makes.calls.calls
+    first = tried.taken.makes.calls.calls
 
     second : Calls lanes M L []
-    second = subst (λ n. Calls n M L []) took.makes.calls.lanes missed.calls.calls
+    second = subst (λ n. Calls n M L []) tried.taken.makes.calls.lanes missed.calls.calls
 
     third : Calls lanes L A gs
-    third = subst (λ n. Calls n L A gs) (missed.calls.lanes ∙ took.makes.calls.lanes) gave.calls.calls
+    third = subst (λ n. Calls n L A gs) (missed.calls.lanes ∙ tried.taken.makes.calls.lanes) gave.calls.calls
 
     -- the takes and what was tried last
     both : Calls lanes S L (xs ++ [])

@@ -1,4 +1,5 @@
-//! Resource locks of parallel tests: a test takes all its locks or none, readers together, a writer alone.
+//! Resource locks of parallel tests: a test takes all its locks or none, or waits for each in turn; readers together, a
+//! writer alone.
 //!
 //! Follows the JUnit 5 User Guide, section "Synchronization", and the Javadoc of `ResourceLock`. Each lock is one word, and
 //! each lock event one atomic step on it. Contracts speak of the history of these events and of what each lane has seen of
@@ -23,6 +24,7 @@ mod set;
 mod steps;
 mod taking;
 mod telling;
+mod waiting;
 
 pub use event::{LockEvent, LockMode, LockNo};
 pub use fault::LockFault;

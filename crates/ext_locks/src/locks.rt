@@ -14,11 +14,14 @@ use crate::set::MAX_LOCKS;
 use crate::steps::MAX_LANES;
 use crate::taking::{give_keys, take_keys};
 use crate::telling::exclude;
+use crate::waiting::{SharedLocks, wait_for_keys};
 use crate::{Held, LockFault, LockLane, LockMode, LockNo, LockRefusal, LockRequest, LockSet};
 use atomic_table::Table;
+use ext_waiters::Waiters;
 use std::alloc::{AllocError, Global};
 use std::marker::Model;
 use std::snapshot::Snapshot;
+use std::sync::Wait;
 
 /// How many exchanges a call may be told to make for one lock.
 const MAX_TRIES: u32 = 64;
@@ -31,6 +34,8 @@ pub struct Locks {
     table: Table<(), SeatView, LockCounts, LockRule, Global>,
     names: Vec<String>,
     tries: u32,
+    /// The lanes that wait until a lane gives locks back. No clause speaks of them.
+    waiters: Waiters,
 }
 
 impl Model for Locks {
@@ -65,7 +70,7 @@ impl Locks {
 
     /// Locks that nobody holds: the global one, and one for each name. The names, of which there are at most 63, get the
     /// numbers from 1 on in the order of their bytes. Also gives the lanes, 1 to 16 of them, numbered from 0. A call
-    /// makes at most `tries` exchanges, 1 to 64, for each lock. Takes memory; no other call does.
+    /// that does not wait makes at most `tries` exchanges, 1 to 64, for each lock. Takes memory; no other call does.
     ///
     /// These are all lanes that there are: only they can make events, and none of them has made any. So nobody holds a
     /// lock, and nobody but these lanes ever will (`fresh` and `only_lanes` of `lock_laws`).
@@ -135,7 +140,8 @@ impl Locks {
     /// Refused as `Taken(lock)` where another lane held that lock, in a mode that excludes the one wanted, at a moment of
     /// the call, and as `Contended(lock)` where other lanes made at least as many lock events during the call as there are
     /// tries, though the lock was free when it was last looked at. After either the lane holds nothing: what it had taken
-    /// it gave back. JUnit 5 User Guide, section "Synchronization"; refusals in place of waiting are an own rule.
+    /// it gave back, and it has then woken the lanes that wait for locks. JUnit 5 User Guide, section "Synchronization";
+    /// refusals in place of waiting are an own rule.
     pub fn try_take(&self, lane: &mut LockLane, set: &LockSet) -> Result<Held, LockRefusal>
         requires lane { lane.old.table ≡ self.now.table }
         requires free_hands { HoldsNothing lane.old }
@@ -162,12 +168,46 @@ impl Locks {
                 taken: Snapshot::of(lane),
                 names: Snapshot::of(&self.names),
             }),
-            Err(refusal) => Err(refusal),
+            Err(refusal) => {
+                self.waiters.wake_all();
+                Err(refusal)
+            }
         }
     }
 
-    /// Gives back what a lane holds, in the order of the locks' numbers, by one step each. Cannot fail, takes no memory, and
-    /// waits for nobody.
+    /// Takes all locks of a set, one after another in the order of their numbers, and keeps what it has while it waits for
+    /// the next. Where another lane holds a lock, in a mode that excludes the one wanted, it waits, parked, until a lane has
+    /// given locks back, and tries that lock again; where other lanes were in the way it tries again at once. So it is
+    /// never refused. Takes no memory. It may wait: it promises its clauses if it returns.
+    ///
+    /// Two lanes that wait here never wait for each other: each began with empty hands and takes its locks in the one order
+    /// of their numbers, so it waits only for a lock above all that it holds. A lane that sleeps holds the locks of its set
+    /// below the one that it waits for, so `try_take` may be refused by these; and a writer may wait as long as readers
+    /// keep coming, since no lock is kept free for it. JUnit 5 User Guide, section "Synchronization".
+    pub fn take_wait<R: Wait>(&self, rt: &R, lane: &mut LockLane, set: &LockSet) -> Held
+        requires lane { lane.old.table ≡ self.now.table }
+        requires free_hands { HoldsNothing lane.old }
+        requires set { AllBelow (length self.now.names + 1) set.now }
+        ensures taken { HoldsExactly lane.new set.now }
+        ensures taken_events { LaneCalls lane.old lane.new (takes_of lane.old.view.number set.now) }
+        ensures held { (result.set ≡ set.now) × IsHeldBy result lane.new }
+        ensures names { result.names ≡ self.now.names }
+    {
+        let shared = SharedLocks {
+            words: &self.table.shared,
+            waiters: &self.waiters,
+            tries: self.tries,
+        };
+        wait_for_keys(rt, &shared, &mut lane.seat, lane.number, &set.modes);
+        Held {
+            set: LockSet { modes: set.modes },
+            taken: Snapshot::of(lane),
+            names: Snapshot::of(&self.names),
+        }
+    }
+
+    /// Gives back what a lane holds, in the order of the locks' numbers, by one step each, and then wakes the lanes that
+    /// wait for locks. Cannot fail, takes no memory, and waits for nobody.
     ///
     /// JUnit 5 User Guide, section "Synchronization".
     pub fn give(&self, lane: &mut LockLane, held: Held)
@@ -190,6 +230,7 @@ impl Locks {
             modes,
             modes.len(),
         );
+        self.waiters.wake_all();
     }
 
     /// Shows that of two different lanes, where one writes by a lock, the other holds nothing on it. Each looks
@@ -256,6 +297,7 @@ fn open_words(
             table,
             names,
             tries,
+            waiters: Waiters::new(),
         },
         made,
     ))

@@ -1,7 +1,7 @@
 -- Reading a text never gives the fault `NotUtf8`: each part has other faults.
 use Rattle.std.proofs.Common.{◌≢◌, ℕ, Bool, true, false, ◌&&◌, not, List, [], ◌∷◌, ◌++◌, length, Option, Some, None, is_some, codes, Result, Ok, Err, refl}
-use Rattle.std.specs.Prelude.{nat_lt}
-use Rattle.toml.specs.Data.{Data, Members, get_member, as_str}
+use Rattle.std.specs.Prelude.{nat_lt, nat_le}
+use Rattle.toml.specs.Data.{Data, Members, get_member, as_bool, as_str}
 use Rattle.ext_ids.specs.declared.fault.IdFault.{IdFault}
 use Rattle.ext_ids.specs.Grammar.{Pair}
 use Rattle.ext_ids.specs.Reading.{read_id}
@@ -11,13 +11,14 @@ use Rattle.ext_plan.specs.declared.fault.PlanFault.{PlanFault}
 use Rattle.ext_plan.specs.declared.fault.PlanFault.TheVariants as faults
 use Rattle.ext_plan.specs.declared.fault.Place.TheVariants as places
 use Rattle.ext_plan.specs.declared.plan.Plan.{Plan}
-use Rattle.ext_plan.specs.Plans.{KeyText, StepText, NodeText, plan_view}
+use Rattle.ext_plan.specs.Plans.{KeyText, LockText, StepText, NodeText, plan_view}
 use Rattle.ext_plan.specs.Faults.{some_or, check, Gives, ◌>>=◌}
-use Rattle.ext_plan.specs.Fields.{has_only, text_at, texts_in, tables_in, text_or_none, texts_or_none, tables_or_none}
+use Rattle.ext_plan.specs.Fields.{has_only, text_at, texts_in, tables_in, text_or_none, texts_or_none, tables_or_none, truth_or_false}
+use Rattle.ext_plan.specs.Locks.{lock_at, lock_of, lock_names, lock_limit, locks_after, locks_at}
 use Rattle.ext_plan.specs.KeyNumbers.{different_keys}
 use Rattle.ext_plan.specs.Keys.{key_fields, labels_of, is_label, is_word, has_parts, key_at, keys_after}
 use Rattle.ext_plan.specs.Nodes.{Sketch, node_fields, id_or, sketch_at, sketches_after, ids_of, has_children, test_at, node_at, nodes_after}
-use Rattle.ext_plan.specs.Steps.{step_of, height, step_at, steps_after}
+use Rattle.ext_plan.specs.Steps.{step_of, height, step_at, steps_after, steps_at, step_limit}
 use Rattle.ext_plan.specs.Reading.{top_fields, are_few, plan_of}
 
 -- the reading has another end than the fault `NotUtf8`
@@ -37,6 +38,7 @@ then_other (Err (faults.BadLabel key)) next a b h = absurd cc
 then_other (Err (faults.BadId node)) next a b h = absurd cc
 then_other (Err faults.BadTree) next a b h = absurd cc
 then_other (Err (faults.BadStep node)) next a b h = absurd cc
+then_other (Err (faults.BadLock node)) next a b h = absurd cc
 then_other (Err (faults.BadTest node)) next a b h = absurd cc
 then_other (Err faults.TooMany) next a b h = absurd cc
 then_other (Err faults.Memory) next a b h = absurd cc
@@ -51,6 +53,7 @@ same_other (faults.BadLabel key) other h = absurd cc
 same_other (faults.BadId node) other h = absurd cc
 same_other faults.BadTree other h = absurd cc
 same_other (faults.BadStep node) other h = absurd cc
+same_other (faults.BadLock node) other h = absurd cc
 same_other (faults.BadTest node) other h = absurd cc
 same_other faults.TooMany other h = absurd cc
 same_other faults.Memory other h = absurd cc
@@ -68,6 +71,10 @@ checked e false other h = other h
 text_other : (e : PlanFault) (found : Option Data) → IsOther {A = ℕ} (Err e) → IsOther (text_or_none e found)
 text_other e None other = value None
 text_other e (Some found) other = then_other (some_or e (as_str found)) _ (or_fault e _ (same_other e other)) (λ text. value _)
+
+truth_other : (e : PlanFault) (found : Option Data) → IsOther {A = ℕ} (Err e) → IsOther (truth_or_false e found)
+truth_other e None other = value false
+truth_other e (Some found) other = or_fault e (as_bool found) (same_other e other)
 
 texts_other : (e : PlanFault) (found : Option Data) → IsOther {A = ℕ} (Err e) → IsOther (texts_or_none e found)
 texts_other e None other = value None
@@ -100,8 +107,10 @@ unfolding sketch_at
 sketch_other node fields =
     then_other (check (faults.UnknownField (places.Node node)) (has_only node_fields fields)) _ (checked _ _ (λ h. absurd cc)) (λ _.
     then_other (some_or (faults.BadField (places.Node node)) (text_at (codes "id") fields)) _ (or_fault _ _ (λ h. absurd cc)) (λ text.
+    then_other (truth_or_false (faults.BadField (places.Node node)) (get_member (codes "isolated") fields)) _ (truth_other (faults.BadField (places.Node node)) (get_member (codes "isolated") fields) (λ h. absurd cc)) (λ isolated.
+    then_other (texts_or_none (faults.BadField (places.Node node)) (get_member (codes "locks") fields)) _ (texts_other (faults.BadField (places.Node node)) (get_member (codes "locks") fields) (λ h. absurd cc)) (λ locks.
     then_other (texts_or_none (faults.BadField (places.Node node)) (get_member (codes "test") fields)) _ (texts_other (faults.BadField (places.Node node)) (get_member (codes "test") fields) (λ h. absurd cc)) (λ test.
-    then_other (id_or (faults.BadId node) (read_id text)) _ (id_other node (read_id text)) (λ id. value _))))
+    then_other (id_or (faults.BadId node) (read_id text)) _ (id_other node (read_id text)) (λ id. value _))))))
 
 sketches_other : (before : List Sketch) (tables : List Members) → IsOther (sketches_after before tables)
 unfolding sketches_after
@@ -119,16 +128,32 @@ unfolding steps_after
 steps_other labels depth node before [] = value before
 steps_other labels depth node before (text ∷ more) = then_other (step_at labels depth node text) _ (step_other labels depth node text) (λ step. steps_other labels depth node (before ++ step ∷ []) more)
 
+short_other : (labels : List (List ℕ)) (depth node : ℕ) (texts : List (List ℕ)) → IsOther (steps_at labels depth node texts)
+unfolding steps_at
+short_other labels depth node texts =
+    then_other (check (faults.BadStep node) (nat_le (length texts) step_limit)) _ (checked _ _ (λ h. absurd cc)) (λ _. steps_other labels depth node [] texts)
+
 test_other : (labels : List (List ℕ)) (depth node : ℕ) (texts : Option (List (List ℕ))) → IsOther (test_at labels depth node texts)
 unfolding test_at
 test_other labels depth node None = value None
-test_other labels depth node (Some texts) = then_other (steps_after labels depth node [] texts) _ (steps_other labels depth node [] texts) (λ steps. value _)
+test_other labels depth node (Some texts) = then_other (steps_at labels depth node texts) _ (short_other labels depth node texts) (λ steps. value _)
+
+locks_other : (node : ℕ) (before : List LockText) (texts : List (List ℕ)) → IsOther (locks_after node before texts)
+unfolding locks_after lock_at
+locks_other node before [] = value before
+locks_other node before (text ∷ more) = then_other (some_or (faults.BadLock node) (lock_of text)) _ (or_fault _ _ (λ h. absurd cc)) (λ lock. locks_other node (before ++ lock ∷ []) more)
+
+all_locks_other : (node : ℕ) (texts : Option (List (List ℕ))) → IsOther (locks_at node texts)
+unfolding locks_at
+all_locks_other node None = value []
+all_locks_other node (Some texts) = locks_other node [] texts
 
 node_other : (labels : List (List ℕ)) (node : ℕ) (parent : Bool) (sketch : Sketch) → IsOther (node_at labels node parent sketch)
 unfolding node_at
 node_other labels node parent sketch =
     then_other (check (faults.BadTest node) (not (is_some sketch.test && parent))) _ (checked _ _ (λ h. absurd cc)) (λ _.
-    then_other (test_at labels (length sketch.id) node sketch.test) _ (test_other labels (length sketch.id) node sketch.test) (λ test. value _))
+    then_other (locks_at node sketch.locks) _ (all_locks_other node sketch.locks) (λ locks.
+    then_other (test_at labels (length sketch.id) node sketch.test) _ (test_other labels (length sketch.id) node sketch.test) (λ test. value _)))
 
 nodes_other : (labels : List (List ℕ)) (ids : List Id) (before : List NodeText) (sketches : List Sketch) → IsOther (nodes_after labels ids before sketches)
 unfolding nodes_after
@@ -152,7 +177,8 @@ plan_other top =
     then_other (sketches_after [] node_tables) _ (sketches_other [] node_tables) (λ sketches.
     then_other (check faults.BadTree (is_tree (ids_of sketches))) _ (checked _ _ (λ h. absurd cc)) (λ _.
     then_other (nodes_after (labels_of keys) (ids_of sketches) [] sketches) _ (nodes_other _ _ [] sketches) (λ nodes.
-    then_other (check faults.TooMany (are_few (length (different_keys keys)) (length nodes))) _ (checked _ _ (λ h. absurd cc)) (λ _. value _))))))))
+    then_other (check faults.TooMany (are_few (length (different_keys keys)) (length nodes))) _ (checked _ _ (λ h. absurd cc)) (λ _.
+    then_other (check faults.TooMany (nat_le (length (lock_names nodes)) lock_limit)) _ (checked _ _ (λ h. absurd cc)) (λ _. value _)))))))))
 
 -- what gives the plan of a document doesn't answer `NotUtf8`
 pub never_not_utf8 : (read : Result Plan PlanFault) (top : Members) → Gives plan_view read (plan_of top) → read ≢ Err faults.NotUtf8
@@ -165,6 +191,7 @@ never_not_utf8 (Err (faults.BadLabel key)) top given h = absurd cc
 never_not_utf8 (Err (faults.BadId node)) top given h = absurd cc
 never_not_utf8 (Err faults.BadTree) top given h = absurd cc
 never_not_utf8 (Err (faults.BadStep node)) top given h = absurd cc
+never_not_utf8 (Err (faults.BadLock node)) top given h = absurd cc
 never_not_utf8 (Err (faults.BadTest node)) top given h = absurd cc
 never_not_utf8 (Err faults.TooMany) top given h = absurd cc
 never_not_utf8 (Err faults.Memory) top given h = absurd cc

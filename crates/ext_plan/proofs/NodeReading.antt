@@ -1,5 +1,5 @@
 -- What holds of the nodes of a plan that was read.
-use Rattle.std.proofs.Common.{◌≡◌, ℕ, ◌<◌, Bool, true, false, ◌&&◌, List, [], ◌∷◌, ◌++◌, length, Option, Some, None, Ok, All, HoldsAt, IfSome, refl, ap, sym, subst, ◌∙◌, arith, inl, inr, append_assoc, append-nil, length-append}
+use Rattle.std.proofs.Common.{◌≡◌, ℕ, ◌<◌, ◌≤◌, Bool, true, false, ◌&&◌, List, [], ◌∷◌, ◌++◌, length, Option, Some, None, Ok, All, HoldsAt, IfSome, refl, ap, sym, subst, ◌∙◌, arith, inl, inr, append_assoc, append-nil, length-append}
 use Rattle.std.specs.Prelude.{not, is_some}
 use Rattle.std.proofs.lemmas.Bool.{not-true, not-false, eqb-true, cases_eq}
 use Rattle.std.proofs.lemmas.List.{get_or_append_left, get_or_push}
@@ -10,11 +10,12 @@ use Rattle.ext_plan.specs.declared.fault.PlanFault.TheVariants as faults
 use Rattle.ext_plan.specs.Plans.{StepText, NodeText}
 use Rattle.ext_plan.specs.Faults.{check}
 use Rattle.ext_plan.specs.Laws.{ids_of_nodes, NamesLabelBelow}
+use Rattle.ext_plan.specs.Locks.{locks_at}
 use Rattle.ext_plan.specs.Nodes.{Sketch, ids_of, has_children, test_at, node_at, nodes_after}
-use Rattle.ext_plan.specs.Steps.{height, steps_after}
+use Rattle.ext_plan.specs.Steps.{height, steps_at, step_limit}
 use Rattle.ext_plan.proofs.Gave.{ok_value, both_gave, passed}
 use Rattle.ext_plan.proofs.Lists.{map-push, nil_from_length}
-use Rattle.ext_plan.proofs.StepReading.{IsFitting, steps_fit}
+use Rattle.ext_plan.proofs.StepReading.{IsFitting, steps_fit, steps_short}
 
 -- ---- one node
 
@@ -22,6 +23,7 @@ use Rattle.ext_plan.proofs.StepReading.{IsFitting, steps_fit}
 pub record NodeFits (labels : ℕ) (node : NodeText) : Type 0 where
   pub names : IfSome node.test (All (NamesLabelBelow labels))
   pub stays : IfSome node.test (All (λ step. height step < length node.id))
+  pub short : IfSome node.test (λ steps. length steps ≤ step_limit)
 
 -- the node of a sketch; if it is a test, it is no parent
 record IsRead (labels : ℕ) (parent : Bool) (sketch : Sketch) (node : NodeText) : Type 0 where
@@ -29,21 +31,22 @@ record IsRead (labels : ℕ) (parent : Bool) (sketch : Sketch) (node : NodeText)
   pub fits : NodeFits labels node
   pub alone : IfSome node.test (λ _. parent ≡ false)
 
-fits_from : (labels : ℕ) (node : NodeText) → IfSome node.test (All (IsFitting labels (length node.id))) → NodeFits labels node
-fits_from labels node fits = record { names = weaker node.test fits (λ s (f : IsFitting labels (length node.id) s). f.names); stays = weaker node.test fits (λ s (f : IsFitting labels (length node.id) s). f.stays) }
+fits_from : (labels : ℕ) (node : NodeText) → IfSome node.test (All (IsFitting labels (length node.id))) → IfSome node.test (λ steps. length steps ≤ step_limit) → NodeFits labels node
+fits_from labels node fits short = record { names = weaker node.test fits (λ s (f : IsFitting labels (length node.id) s). f.names); stays = weaker node.test fits (λ s (f : IsFitting labels (length node.id) s). f.stays); short = short }
   where
     weaker : {P Q : StepText → Type 0} (test : Option (List StepText)) → IfSome test (All P) → ((s : StepText) → P s → Q s) → IfSome test (All Q)
     weaker None h w = tt
     weaker (Some steps) h w = λ k d less. w _ (h k d less)
 
 test_fits : (labels : List (List ℕ)) (depth node : ℕ) (texts : Option (List (List ℕ))) (test : Option (List StepText))
-    → test_at labels depth node texts ≡ Ok test → IfSome test (All (IsFitting (length labels) depth))
+    → test_at labels depth node texts ≡ Ok test → IfSome test (All (IsFitting (length labels) depth)) × IfSome test (λ steps. length steps ≤ step_limit)
 unfolding test_at
-test_fits labels depth node None test h = rw (← ok_value None test _ refl h) tt
+test_fits labels depth node None test h = rw (← ok_value None test _ refl h) (tt, tt)
 test_fits labels depth node (Some texts) test h =
-    let steps = both_gave (steps_after labels depth node [] texts) _ _ h in
-    let fits = steps_fit labels depth node [] texts steps.0 (All-nil (IsFitting (length labels) depth)) steps.1 in
-    rw (← ok_value (Some steps.0) test _ refl steps.2) fits
+    let steps = both_gave (steps_at labels depth node texts) _ _ h in
+    let short = steps_short labels depth node texts steps.0 steps.1 in
+    let fits = steps_fit labels depth node [] texts steps.0 (All-nil (IsFitting (length labels) depth)) short.0 in
+    rw (← ok_value (Some steps.0) test _ refl steps.2) (fits, short.1)
 
 -- where texts were read, there were texts
 test_alone : (labels : List (List ℕ)) (depth node : ℕ) (parent : Bool) (texts : Option (List (List ℕ))) (test : Option (List StepText))
@@ -57,9 +60,11 @@ node_is_read : (labels : List (List ℕ)) (number : ℕ) (parent : Bool) (sketch
 unfolding node_at
 node_is_read labels number parent sketch node h =
     let alone = both_gave (check (faults.BadTest number) (not (is_some sketch.test && parent))) _ _ h in
-    let test = both_gave (test_at labels (length sketch.id) number sketch.test) _ _ alone.2 in
-    let read : NodeText = record { id = sketch.id; test = test.0 } in
-    let fits = fits_from (length labels) read (test_fits labels (length sketch.id) number sketch.test test.0 test.1) in
+    let locks = both_gave (locks_at number sketch.locks) _ _ alone.2 in
+    let test = both_gave (test_at labels (length sketch.id) number sketch.test) _ _ locks.2 in
+    let read : NodeText = record { id = sketch.id; isolated = sketch.isolated; locks = locks.0; test = test.0 } in
+    let fit = test_fits labels (length sketch.id) number sketch.test test.0 test.1 in
+    let fits = fits_from (length labels) read fit.0 fit.1 in
     let single = test_alone labels (length sketch.id) number parent sketch.test test.0 test.1 (passed _ (not (is_some sketch.test && parent)) alone.0 alone.1) in
     rw (← ok_value read node _ refl test.2) (record { id = refl; fits = fits; alone = single })
 

@@ -1,9 +1,9 @@
 -- What holds of the steps of a test that was read.
-use Rattle.std.proofs.Common.{◌≡◌, ℕ, ◌<◌, Bool, true, false, List, [], ◌∷◌, ◌++◌, length, Option, Some, None, option_and_then, Ok, All, refl, ap, sym}
-use Rattle.std.specs.Prelude.{if◌then◌else◌, ◌==◌, nat_lt}
+use Rattle.std.proofs.Common.{◌≡◌, ℕ, ◌+◌, ◌<◌, ◌≤◌, Bool, true, false, List, [], ◌∷◌, ◌++◌, length, Option, Some, None, option_and_then, Ok, All, refl, ap, sym, arith, length-append}
+use Rattle.std.specs.Prelude.{if◌then◌else◌, ◌==◌, nat_le, nat_lt}
 use Rattle.std.specs.List.{slice_split}
 use Rattle.std.specs.Str.{bytes_eq}
-use Rattle.std.proofs.lemmas.Bool.{ltb-true}
+use Rattle.std.proofs.lemmas.Bool.{leb-true, ltb-true}
 use Rattle.std.proofs.lemmas.List.Elements.{All-push}
 use Rattle.std.proofs.lemmas.List.Quantifiers.{position-Some}
 use Rattle.ext_plan.specs.declared.fault.PlanFault.TheVariants as faults
@@ -11,7 +11,7 @@ use Rattle.ext_plan.specs.Plans.{StepText, put, put_closeable, want, nothing, re
 use Rattle.ext_plan.specs.Faults.{some_or, check}
 use Rattle.ext_plan.specs.Keys.{label_number}
 use Rattle.ext_plan.specs.Laws.{label_of_step, NamesLabelBelow}
-use Rattle.ext_plan.specs.Steps.{height_of, key_step, text_step, labelled_key_step, labelled_text_step, step_of_words, step_of, height, step_at, steps_after}
+use Rattle.ext_plan.specs.Steps.{height_of, key_step, text_step, labelled_key_step, labelled_text_step, step_of_words, step_of, height, step_at, steps_after, steps_at, step_limit}
 use Rattle.ext_plan.proofs.Gave.{ok_value, both_gave, was_some, passed}
 
 -- ---- the label that a step names
@@ -116,3 +116,21 @@ steps_fit labels depth node before (text ∷ more) steps all h =
     let step = both_gave (step_at labels depth node text) _ _ h in
     let fits = step_fits labels depth node text step.0 step.1 in
     steps_fit labels depth node (before ++ step.0 ∷ []) more steps (All-push (IsFitting (length labels) depth) before step.0 all fits) step.2
+
+pub steps_counted : (labels : List (List ℕ)) (depth node : ℕ) (before : List StepText) (texts : List (List ℕ)) (steps : List StepText)
+    → steps_after labels depth node before texts ≡ Ok steps → length steps ≡ length before + length texts
+unfolding steps_after
+steps_counted labels depth node before [] steps h = let same = ap length (ok_value before steps _ refl h) in omega (arith, same)
+steps_counted labels depth node before (text ∷ more) steps h =
+    let step = both_gave (step_at labels depth node text) _ _ h in
+    let rest = steps_counted labels depth node (before ++ step.0 ∷ []) more steps step.2 in
+    omega (arith, rest, length-append before (step.0 ∷ []))
+
+-- the steps of a test, of which there are not too many
+pub steps_short : (labels : List (List ℕ)) (depth node : ℕ) (texts : List (List ℕ)) (steps : List StepText) → steps_at labels depth node texts ≡ Ok steps
+    → (steps_after labels depth node [] texts ≡ Ok steps) × (length steps ≤ step_limit)
+unfolding steps_at
+steps_short labels depth node texts steps h =
+    let few = both_gave (check (faults.BadStep node) (nat_le (length texts) step_limit)) _ _ h in
+    let count = steps_counted labels depth node [] texts steps few.2 in
+    (few.2, omega (arith, count, leb-true _ _ (passed _ (nat_le (length texts) step_limit) few.0 few.1)))

@@ -4,7 +4,8 @@ use Rattle.toml.specs.Data.{Members}
 use Rattle.ext_tree.specs.Trees.{Id}
 use Rattle.ext_plan.specs.declared.fault.PlanFault.{PlanFault}
 use Rattle.ext_plan.specs.declared.fault.PlanFault.TheVariants as faults
-use Rattle.ext_plan.specs.Plans.{KeyText, StepText, NodeText}
+use Rattle.ext_plan.specs.Plans.{KeyText, LockText, StepText, NodeText}
+use Rattle.ext_plan.specs.Locks.{lock_at, locks_after}
 use Rattle.ext_plan.specs.Faults.{Fails}
 use Rattle.ext_plan.specs.Keys.{key_at, keys_after, labels_of}
 use Rattle.ext_plan.specs.Nodes.{Sketch, sketch_at, sketches_after, has_children, node_at, nodes_after}
@@ -21,6 +22,7 @@ Fails-whole (faults.BadLabel key) part whole f h = f h
 Fails-whole (faults.BadId node) part whole f h = f h
 Fails-whole faults.BadTree part whole f h = f h
 Fails-whole (faults.BadStep node) part whole f h = f h
+Fails-whole (faults.BadLock node) part whole f h = f h
 Fails-whole (faults.BadTest node) part whole f h = f h
 Fails-whole faults.TooMany part whole f h = f h
 
@@ -65,6 +67,20 @@ steps_stop labels depth node before x more fault e = rw e refl
 pub steps_end : (labels : List (List ℕ)) (depth node : ℕ) (before : List StepText) → steps_after labels depth node before [] ≡ Ok before
 unfolding steps_after
 steps_end labels depth node before = refl
+
+-- ---- locks
+
+pub locks_go : (node : ℕ) (before : List LockText) (x : List ℕ) (more : List (List ℕ)) (lock : LockText) → lock_at node x ≡ Ok lock → locks_after node before (x ∷ more) ≡ locks_after node (before ++ lock ∷ []) more
+unfolding locks_after
+locks_go node before x more lock e = rw e refl
+
+pub locks_stop : (node : ℕ) (before : List LockText) (x : List ℕ) (more : List (List ℕ)) (fault : PlanFault) → lock_at node x ≡ Err fault → locks_after node before (x ∷ more) ≡ Err fault
+unfolding locks_after
+locks_stop node before x more fault e = rw e refl
+
+pub locks_end : (node : ℕ) (before : List LockText) → locks_after node before [] ≡ Ok before
+unfolding locks_after
+locks_end node before = refl
 
 -- ---- nodes with their steps
 

@@ -32,6 +32,7 @@ Fails (faults.BadLabel key) read = read ≡ Err (faults.BadLabel key)
 Fails (faults.BadId node) read = read ≡ Err (faults.BadId node)
 Fails faults.BadTree read = read ≡ Err faults.BadTree
 Fails (faults.BadStep node) read = read ≡ Err (faults.BadStep node)
+Fails (faults.BadLock node) read = read ≡ Err (faults.BadLock node)
 Fails (faults.BadTest node) read = read ≡ Err (faults.BadTest node)
 Fails faults.TooMany read = read ≡ Err faults.TooMany
 

@@ -1,8 +1,8 @@
 -- The fields of a TOML table, as the kit's `toml` reads it: which there are, and which types they have. Own rule.
-use Rattle.std.specs.Prelude.{ℕ, Bool, true, ◌&&◌, List, [], ◌∷◌, ◌++◌, Option, Some, None, option_and_then, Result, Ok}
+use Rattle.std.specs.Prelude.{ℕ, Bool, true, false, ◌&&◌, List, [], ◌∷◌, ◌++◌, Option, Some, None, option_and_then, Result, Ok}
 use Rattle.std.specs.List.{list_any}
 use Rattle.std.specs.Str.{bytes_eq}
-use Rattle.toml.specs.Data.{Data, array, Items, no_items, item, Members, no_members, member, get_member, as_str, as_table}
+use Rattle.toml.specs.Data.{Data, array, Items, no_items, item, Members, no_members, member, get_member, as_bool, as_str, as_table}
 use Rattle.ext_plan.specs.declared.fault.PlanFault.{PlanFault}
 use Rattle.ext_plan.specs.Faults.{some_or, ◌>>=◌}
 
@@ -49,3 +49,8 @@ text_or_none e (Some value) = some_or e (as_str value) >>= (λ text. Ok (Some te
 abbrev pub texts_or_none : PlanFault → Option Data → Result (Option (List (List ℕ))) PlanFault
 texts_or_none e None = Ok None
 texts_or_none e (Some value) = some_or e (texts_in value) >>= (λ texts. Ok (Some texts))
+
+-- the truth of a field that may be left out, and is false then, or this fault where it has another type
+abbrev pub truth_or_false : PlanFault → Option Data → Result Bool PlanFault
+truth_or_false e None = Ok false
+truth_or_false e (Some value) = some_or e (as_bool value)

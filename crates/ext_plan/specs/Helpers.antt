@@ -5,4 +5,4 @@ use Rattle.ext_plan.specs.Nodes.{Sketch}
 
 -- a node between the two passes over a plan
 abbrev pub sketch_view : NodeSketch → Sketch
-sketch_view n = record { id = n.id; test = option_map (λ texts. map (λ t. t.now) texts.items) n.test }
+sketch_view n = record { id = n.id; isolated = n.isolated; locks = option_map (λ texts. map (λ t. t.now) texts.items) n.locks; test = option_map (λ texts. map (λ t. t.now) texts.items) n.test }

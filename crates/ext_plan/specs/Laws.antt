@@ -5,7 +5,8 @@ use Rattle.ext_tree.specs.Trees.{Id, IsTree}
 use Rattle.ext_plan.specs.Plans.{StepText, put, put_closeable, want, nothing, remove, compute, compute_closeable, compute_fail, fail, abort, NodeText, PlanText}
 use Rattle.ext_plan.specs.Keys.{is_word, labels_of}
 use Rattle.ext_plan.specs.KeyNumbers.{different_keys, HasParts}
-use Rattle.ext_plan.specs.Steps.{height}
+use Rattle.ext_plan.specs.Locks.{lock_names, lock_limit}
+use Rattle.ext_plan.specs.Steps.{height, step_limit}
 
 -- the ids of the nodes, in order
 abbrev pub ids_of_nodes : List NodeText → List Id
@@ -44,10 +45,18 @@ StepsNameLabels plan = All (λ node. IfSome node.test (All (NamesLabelBelow (len
 abbrev pub StepsStayBelowRoot : PlanText → Type 0
 StepsStayBelowRoot plan = All (λ node. IfSome node.test (All (λ step. height step < length node.id))) plan.nodes
 
+-- no test has more steps than can be counted in 32 bits
+abbrev pub TestsAreShort : PlanText → Type 0
+TestsAreShort plan = All (λ node. IfSome node.test (λ steps. length steps ≤ step_limit)) plan.nodes
+
 -- there are at most 64 different keys, and 4,096 cells, of which each node has one for each different key
 pub record HasFewCells (plan : PlanText) : Type 0 where
   pub keys : length (different_keys plan.keys) ≤ 64
   pub cells : length plan.nodes * length (different_keys plan.keys) ≤ 4096
+
+-- the locks have at most 63 different names
+abbrev pub HasFewLocks : PlanText → Type 0
+HasFewLocks plan = length (lock_names plan.nodes) ≤ lock_limit
 
 -- each label is a word, and no two keys have the same
 pub record HasOwnLabels (plan : PlanText) : Type 0 where

@@ -4,6 +4,7 @@ pub mod Fields
 pub mod Keys
 pub mod KeyNumbers
 pub mod Steps
+pub mod Locks
 pub mod Nodes
 pub mod Reading
 pub mod Laws

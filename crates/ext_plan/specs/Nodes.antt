@@ -1,4 +1,4 @@
--- The nodes of a plan: first their fields and ids, then, where the ids are those of a tree, the steps of their tests. Own rule.
+-- The nodes of a plan: first their fields and ids, then, where the ids are those of a tree, their locks and the steps of their tests. Own rule.
 use Rattle.std.specs.Prelude.{ℕ, Bool, not, ◌&&◌, ◌==◌, codes, List, [], ◌∷◌, ◌++◌, length, map, Option, Some, None, is_some, Result, Ok, Err}
 use Rattle.toml.specs.Data.{Members, get_member}
 use Rattle.ext_ids.specs.declared.fault.IdFault.{IdFault}
@@ -11,15 +11,18 @@ use Rattle.ext_plan.specs.declared.fault.PlanFault.TheVariants as faults
 use Rattle.ext_plan.specs.declared.fault.Place.TheVariants as places
 use Rattle.ext_plan.specs.Plans.{StepText, NodeText}
 use Rattle.ext_plan.specs.Faults.{some_or, check, ◌>>=◌}
-use Rattle.ext_plan.specs.Fields.{has_only, text_at, texts_or_none}
-use Rattle.ext_plan.specs.Steps.{steps_after}
+use Rattle.ext_plan.specs.Fields.{has_only, text_at, texts_or_none, truth_or_false}
+use Rattle.ext_plan.specs.Locks.{locks_at}
+use Rattle.ext_plan.specs.Steps.{steps_at}
 
 abbrev pub node_fields : List (List ℕ)
-node_fields = codes "id" ∷ codes "test" ∷ []
+node_fields = codes "id" ∷ codes "test" ∷ codes "isolated" ∷ codes "locks" ∷ []
 
--- a node whose fields have their types, with its steps as texts
+-- a node whose fields have their types, with its locks and its steps as texts
 pub record Sketch : Type 0 where
   pub id : List Pair
+  pub isolated : Bool
+  pub locks : Option (List (List ℕ))
   pub test : Option (List (List ℕ))
 
 -- the segments of an id, or this fault where the text is none
@@ -32,9 +35,11 @@ unfoldable pub sketch_at : ℕ → Members → Result Sketch PlanFault
 sketch_at node fields = do
   _ ← check (faults.UnknownField (places.Node node)) (has_only node_fields fields)
   text ← some_or (faults.BadField (places.Node node)) (text_at (codes "id") fields)
+  isolated ← truth_or_false (faults.BadField (places.Node node)) (get_member (codes "isolated") fields)
+  locks ← texts_or_none (faults.BadField (places.Node node)) (get_member (codes "locks") fields)
   test ← texts_or_none (faults.BadField (places.Node node)) (get_member (codes "test") fields)
   id ← id_or (faults.BadId node) (read_id text)
-  Ok (record { id = id; test = test })
+  Ok (record { id = id; isolated = isolated; locks = locks; test = test })
 
 -- these nodes and then those of the tables, in order
 unfoldable pub sketches_after : List Sketch → List Members → Result (List Sketch) PlanFault
@@ -56,15 +61,16 @@ has_children ids node = not (length (children_of ids node) == 0)
 unfoldable pub test_at : List (List ℕ) → ℕ → ℕ → Option (List (List ℕ)) → Result (Option (List StepText)) PlanFault
 test_at labels depth node None = Ok None
 test_at labels depth node (Some texts) = do
-  steps ← steps_after labels depth node [] texts
+  steps ← steps_at labels depth node texts
   Ok (Some steps)
 
 -- the node of a sketch; `parent` says whether it has children, as no test does
 unfoldable pub node_at : List (List ℕ) → ℕ → Bool → Sketch → Result NodeText PlanFault
 node_at labels node parent sketch = do
   _ ← check (faults.BadTest node) (not (is_some sketch.test && parent))
+  locks ← locks_at node sketch.locks
   test ← test_at labels (length sketch.id) node sketch.test
-  Ok (record { id = sketch.id; test = test })
+  Ok (record { id = sketch.id; isolated = sketch.isolated; locks = locks; test = test })
 
 -- these nodes and then those of the sketches, in order, where these are the ids of all nodes
 unfoldable pub nodes_after : List (List ℕ) → List Id → List NodeText → List Sketch → Result (List NodeText) PlanFault

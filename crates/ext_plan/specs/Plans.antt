@@ -1,9 +1,11 @@
 -- A plan without where it lies in memory: its keys by their labels, its nodes by their ids and the steps of their tests. Texts are bytes. Own rule.
-use Rattle.std.specs.Prelude.{ℕ, List, map, Option, option_map, Vec, String, string_bytes}
+use Rattle.std.specs.Prelude.{ℕ, Bool, List, map, Option, option_map, Vec, String, string_bytes}
 use Rattle.std.specs.declared.alloc.Global.{Global}
 use Rattle.ext_ids.specs.Grammar.{Pair}
 use Rattle.ext_plan.specs.declared.plan.Plan.{Plan}
 use Rattle.ext_plan.specs.declared.plan.PlanKey.{PlanKey}
+use Rattle.ext_plan.specs.declared.plan.PlanLock.{PlanLock}
+use Rattle.ext_plan.specs.declared.plan.PlanLock.TheVariants as locks
 use Rattle.ext_plan.specs.declared.plan.PlanNode.{PlanNode}
 use Rattle.ext_plan.specs.declared.plan.Step.{Step}
 use Rattle.ext_plan.specs.declared.plan.Step.TheVariants as steps
@@ -27,9 +29,16 @@ pub data StepText : Type 0 where
   fail : List ℕ → StepText
   abort : List ℕ → StepText
 
--- the segments of the id, each by its type and its value; the steps, where the node is a test
+-- a resource lock, by its name: for reading, or for reading and writing
+pub data LockText : Type 0 where
+  read : List ℕ → LockText
+  read_write : List ℕ → LockText
+
+-- the segments of the id, each by its type and its value; whether the node is isolated, and the locks that it names; the steps, where it is a test
 pub record NodeText : Type 0 where
   pub id : List Pair
+  pub isolated : Bool
+  pub locks : List LockText
   pub test : Option (List StepText)
 
 pub record PlanText : Type 0 where
@@ -59,8 +68,15 @@ step_view (steps.Abort text) = abort (string_bytes text)
 abbrev pub steps_view : Vec Step Global → List StepText
 steps_view v = map step_view v.items
 
+abbrev pub lock_view : PlanLock → LockText
+lock_view (locks.Read name) = read (string_bytes name)
+lock_view (locks.ReadWrite name) = read_write (string_bytes name)
+
+abbrev pub locks_view : Vec PlanLock Global → List LockText
+locks_view v = map lock_view v.items
+
 abbrev pub node_view : PlanNode → NodeText
-node_view n = record { id = n.id; test = option_map steps_view n.test }
+node_view n = record { id = n.id; isolated = n.isolated; locks = locks_view n.locks; test = option_map steps_view n.test }
 
 abbrev pub keys_view : List PlanKey → List KeyText
 keys_view ks = map key_view ks

@@ -11,6 +11,7 @@ use Rattle.ext_plan.specs.Faults.{some_or, check, ◌>>=◌}
 use Rattle.ext_plan.specs.Fields.{has_only, tables_or_none}
 use Rattle.ext_plan.specs.Keys.{keys_after, labels_of}
 use Rattle.ext_plan.specs.KeyNumbers.{different_keys}
+use Rattle.ext_plan.specs.Locks.{lock_names, lock_limit}
 use Rattle.ext_plan.specs.Nodes.{ids_of, sketches_after, nodes_after}
 
 abbrev pub top_fields : List (List ℕ)
@@ -31,6 +32,7 @@ plan_of top = do
   _ ← check faults.BadTree (is_tree (ids_of sketches))
   nodes ← nodes_after (labels_of keys) (ids_of sketches) [] sketches
   _ ← check faults.TooMany (are_few (length (different_keys keys)) (length nodes))
+  _ ← check faults.TooMany (nat_le (length (lock_names nodes)) lock_limit)
   Ok (record { keys = keys; nodes = nodes })
 
 -- the plan of a text

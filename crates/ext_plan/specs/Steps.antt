@@ -5,7 +5,7 @@
 --
 -- Behind all but `fail` and `abort` two more words, `up N`, may stand, with N from 1 to 15: the step acts on the N-th ancestor of the test's context.
 -- The number of words tells which step it is, so that a label or a text may be any word, also `up`. Own rule.
-use Rattle.std.specs.Prelude.{ℕ, suc, ◌==◌, nat_lt, codes, List, [], ◌∷◌, ◌++◌, length, position, Option, Some, None, option_map, option_and_then, Result, Ok, if◌then◌else◌}
+use Rattle.std.specs.Prelude.{ℕ, suc, ◌==◌, nat_le, nat_lt, codes, List, [], ◌∷◌, ◌++◌, length, position, Option, Some, None, option_map, option_and_then, Result, Ok, if◌then◌else◌}
 use Rattle.std.specs.List.{slice_split, list_any}
 use Rattle.std.specs.Str.{bytes_eq}
 use Rattle.ext_plan.specs.declared.fault.PlanFault.{PlanFault}
@@ -95,3 +95,13 @@ steps_after labels depth node before [] = Ok before
 steps_after labels depth node before (text ∷ more) = do
   step ← step_at labels depth node text
   steps_after labels depth node (before ++ step ∷ []) more
+
+-- A test has at most so many steps, so that what they compute and find is counted in 32 bits. Own rule: a text with more has over 16 GB
+abbrev pub step_limit : ℕ
+step_limit = 4294967295
+
+-- the steps that the texts of this node are, in order, if they are not too many
+unfoldable pub steps_at : List (List ℕ) → ℕ → ℕ → List (List ℕ) → Result (List StepText) PlanFault
+steps_at labels depth node texts = do
+  _ ← check (faults.BadStep node) (nat_le (length texts) step_limit)
+  steps_after labels depth node [] texts

@@ -36,7 +36,7 @@ impl fmt::Display for Place {
 /// 3. For each key in order `UnknownField`, `BadField`, `BadLabel`.
 /// 4. For each node in order `UnknownField`, `BadField`, `BadId`.
 /// 5. `BadTree`.
-/// 6. For each node in order `BadTest`, `BadStep`.
+/// 6. For each node in order `BadTest`, `BadLock`, `BadStep`.
 /// 7. `TooMany`.
 ///
 /// `Memory` stands in place of any of them where a growth was refused. A number in a variant is that of the key or
@@ -49,12 +49,12 @@ pub enum PlanFault {
     /// P2: the text is no TOML document.
     #[error("plan: P2")]
     NotToml,
-    /// P3: a field other than `key` and `node` at the top, `label`, `name` and `namespace` in a key, `id` and `test` in
-    /// a node.
+    /// P3: a field other than `key` and `node` at the top, `label`, `name` and `namespace` in a key, `id`, `test`,
+    /// `isolated` and `locks` in a node.
     #[error("plan: P3{0}")]
     UnknownField(Place),
-    /// P4: `key` or `node` is no array of tables; `label` or `id` is missing or no text; `name` is no text; `namespace`
-    /// or `test` is no array of texts.
+    /// P4: `key` or `node` is no array of tables; `label` or `id` is missing or no text; `name` is no text; `namespace`,
+    /// `test` or `locks` is no array of texts; `isolated` is neither true nor false.
     #[error("plan: P4{0}")]
     BadField(Place),
     /// P5: a key's label is empty, has a space or is that of a key before, or its namespace is an empty array.
@@ -67,14 +67,18 @@ pub enum PlanFault {
     /// further one stands twice, has one segment or has no parent before it.
     #[error("plan: P7")]
     BadTree,
-    /// P8: a text in the `test` of a node is no step, names no label of the plan, or goes up past the root.
+    /// P8: a text in the `test` of a node is no step, names no label of the plan, or goes up past the root; or there
+    /// are 2^32 of them or more, which takes a text of over 16 GB.
     #[error("plan: P8 node {0}")]
     BadStep(usize),
+    /// P9: a text in the `locks` of a node is not `READ NAME` or `READ_WRITE NAME`, with one space and one word NAME.
+    #[error("plan: P9 node {0}")]
+    BadLock(usize),
     /// P10: a node is a test and has children.
     #[error("plan: P10 node {0}")]
     BadTest(usize),
     /// P11: there are more than 64 different keys, or more than 4,096 cells, of which each node has one for each
-    /// different key.
+    /// different key, or more than 63 different names of locks.
     #[error("plan: P11")]
     TooMany,
     /// P12: memory was wanted and refused.

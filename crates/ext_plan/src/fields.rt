@@ -5,7 +5,7 @@ ghost use Rattle.std.specs.List.{list_any};
 ghost use Rattle.toml.specs.View.{view, table_view, items_view};
 ghost use Rattle.toml.specs.Data.{get_member};
 ghost use Rattle.ext_plan.specs.Faults.{Gives, GivesAll};
-ghost use Rattle.ext_plan.specs.Fields.{has_only, text_at, texts_in, tables_in, texts_after, tables_after, text_or_none, texts_or_none, tables_or_none};
+ghost use Rattle.ext_plan.specs.Fields.{has_only, text_at, texts_in, tables_in, texts_after, tables_after, text_or_none, texts_or_none, tables_or_none, truth_or_false};
 
 use crate::fault::PlanFault;
 use std::alloc::Global;
@@ -53,6 +53,19 @@ pub fn text_if_given<'a>(
         Some(value) => match value.as_str() {
             None => Err(fault),
             Some(text) => Ok(Some(text)),
+        },
+    }
+}
+
+/// The truth at a name, which may be left out and is false then, or the fault where something else is there.
+pub fn truth_at(table: &Table, name: &str, fault: PlanFault) -> Result<bool, PlanFault>
+    ensures { Gives (λ b. b) result (truth_or_false fault (get_member name.now (table_view table.now))) }
+{
+    match field(table, name) {
+        None => Ok(false),
+        Some(value) => match value.as_bool() {
+            None => Err(fault),
+            Some(truth) => Ok(truth),
         },
     }
 }

@@ -37,6 +37,13 @@ impl<'a> Labels<'a> {
         self.numbers.get_index_of(&label)
     }
 
+    /// How many labels there are.
+    pub fn len(&self) -> usize
+        ensures { result ≡ length self.now }
+    {
+        self.numbers.len()
+    }
+
     /// Adds a label behind the others, and tells whether it is new. One that was added before stays where it is. After a
     /// refused growth the labels are as before.
     pub fn add(&mut self, label: &'a str) -> Result<bool, AllocFailed<&'a str>>

@@ -8,6 +8,7 @@ mod fault;
 mod fields;
 mod keys;
 mod labels;
+mod locks;
 mod nodes;
 mod numbers;
 mod plan;
@@ -16,5 +17,5 @@ mod steps;
 
 pub use fault::{Place, PlanFault};
 pub use numbers::KeyNumbers;
-pub use plan::{LabelNo, Plan, PlanKey, PlanNode, Step};
+pub use plan::{LabelNo, Plan, PlanKey, PlanLock, PlanNode, Step};
 pub use read::read_plan;

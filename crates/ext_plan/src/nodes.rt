@@ -9,8 +9,9 @@ ghost use Rattle.ext_plan.specs.Faults.{check, Gives};
 ghost use Rattle.ext_plan.specs.Nodes.{id_or, sketch_at, sketches_after, ids_of, test_at, node_at, nodes_after};
 
 use crate::fault::{Place, PlanFault};
-use crate::fields::{has_only, text_at, texts_at};
+use crate::fields::{has_only, text_at, texts_at, truth_at};
 use crate::labels::Labels;
+use crate::locks::locks_of;
 use crate::plan::{PlanNode, Step};
 use crate::steps::steps_of;
 use ext_ids::{IdFault, UniqueId};
@@ -18,10 +19,12 @@ use ext_tree::{Tree, TreeFault};
 use std::alloc::{AllocError, Global};
 use toml::Table;
 
-/// A node after the first pass: its fields have their types and its id is one, and its steps are still texts.
+/// A node after the first pass: its fields have their types and its id is one, and its locks and steps are still texts.
 #[derive(Debug, Drop)]
 pub struct NodeSketch<'a> {
     id: UniqueId,
+    isolated: bool,
+    locks: Option<Vec<&'a str>>,
     test: Option<Vec<&'a str>>,
 }
 
@@ -45,15 +48,27 @@ pub fn sketches_of<'a>(
 fn sketch_of<'a>(alloc: Global, node: usize, table: &'a Table) -> Result<NodeSketch<'a>, PlanFault>
     ensures { Gives sketch_view result (sketch_at node (table_view table.now)) }
 {
-    if !has_only(&["id", "test"], table) {
+    if !has_only(&["id", "test", "isolated", "locks"], table) {
         return Err(PlanFault::UnknownField(Place::Node(node)));
     }
     let Some(text) = text_at(table, "id") else {
         return Err(PlanFault::BadField(Place::Node(node)));
     };
+    let isolated = truth_at(table, "isolated", PlanFault::BadField(Place::Node(node)))?;
+    let locks = texts_at(
+        alloc,
+        table,
+        "locks",
+        PlanFault::BadField(Place::Node(node)),
+    )?;
     let test = texts_at(alloc, table, "test", PlanFault::BadField(Place::Node(node)))?;
     let id = id_of(alloc, node, text)?;
-    Ok(NodeSketch { id, test })
+    Ok(NodeSketch {
+        id,
+        isolated,
+        locks,
+        test,
+    })
 }
 
 /// The id that a node's text spells.
@@ -114,7 +129,7 @@ pub fn nodes_of(
     Ok(nodes)
 }
 
-/// The node of a sketch. A test that is a parent is refused before its steps are read.
+/// The node of a sketch. A test that is a parent is refused before its locks are read, and these before its steps.
 #[tactic(auto, unfolding(crate::specs::Nodes::node_at))]
 fn node_of(
     alloc: Global,
@@ -128,9 +143,12 @@ fn node_of(
     if sketch.test.is_some() && is_parent {
         return Err(PlanFault::BadTest(node));
     }
+    let locks = locks_of(alloc, node, &sketch.locks)?;
     let test = test_of(alloc, labels, sketch.id.len(), node, &sketch.test)?;
     Ok(PlanNode {
         id: sketch.id,
+        isolated: sketch.isolated,
+        locks,
         test,
     })
 }

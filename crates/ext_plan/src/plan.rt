@@ -31,8 +31,38 @@ pub struct PlanKey {
 pub struct PlanNode {
     /// The unique id (JUnit 5 `UniqueId`): 1 to 16 segments.
     pub id: UniqueId,
+    /// Whether no other test runs beside one at or below the node (`@Isolated`).
+    pub isolated: bool,
+    /// The resource locks that the node names (`@ResourceLock`), in the order of the plan.
+    pub locks: Vec<PlanLock>,
     /// The steps of a test, in order, perhaps none. A container has `None`, and a node with children is one.
     pub test: Option<Vec<Step>>,
+}
+
+/// A resource lock that a node names, by its name, a word (`@ResourceLock`). Source: JUnit 5 User Guide, section
+/// "Synchronization".
+#[derive(Debug, Drop)]
+pub enum PlanLock {
+    /// `READ NAME`: for reading (`ResourceAccessMode.READ`).
+    Read(String),
+    /// `READ_WRITE NAME`: for reading and writing (`ResourceAccessMode.READ_WRITE`).
+    ReadWrite(String),
+}
+
+impl PlanLock {
+    ghost use Rattle.std.specs.Prelude.{◌≡◌};
+    ghost use Rattle.ext_plan.specs.Locks.{lock_name};
+    ghost use Rattle.ext_plan.specs.Plans.{lock_view};
+
+    /// The name of the lock. Takes no memory. Own rule.
+    pub fn name(&self) -> &str
+        ensures { result.now ≡ lock_name (lock_view self.now) }
+    {
+        match self {
+            PlanLock::Read(name) => name.as_str(),
+            PlanLock::ReadWrite(name) => name.as_str(),
+        }
+    }
 }
 
 /// A step of a test. In a plan that was read, `key` is below the number of the plan's keys, `text` is one word: not

@@ -5,11 +5,12 @@ ghost use Rattle.ext_plan.specs.Plans.{keys_view, plan_view};
 ghost use Rattle.ext_plan.specs.Faults.{Gives, GivesAll};
 ghost use Rattle.ext_plan.specs.KeyNumbers.{different_keys, HasParts};
 ghost use Rattle.ext_plan.specs.Reading.{are_few, plan_of, plan_of_text};
-ghost use Rattle.ext_plan.specs.Laws.{NodesAreTree, TestsHaveNoChildren, HasFewCells, HasOwnLabels, NamespacesHaveParts, StepsNameLabels, StepsStayBelowRoot};
+ghost use Rattle.ext_plan.specs.Laws.{NodesAreTree, TestsHaveNoChildren, HasFewCells, HasFewLocks, HasOwnLabels, NamespacesHaveParts, StepsNameLabels, StepsStayBelowRoot, TestsAreShort};
 
 use crate::fault::{Place, PlanFault};
 use crate::fields::{has_only, tables_at};
 use crate::keys::keys_of;
+use crate::locks::locks_are_few;
 use crate::nodes::{nodes_of, sketches_of, tree_of};
 use crate::numbers::KeyNumbers;
 use crate::plan::{Plan, PlanKey};
@@ -22,7 +23,8 @@ use toml::Table;
 /// The plan has the text's keys, nodes and steps, each in the order of the text. The document has two arrays of
 /// tables, which may be left out: `key`, each with a `label` and, where they are given, a `name`, in place of the label,
 /// and a `namespace`, an array of texts; and `node`, each with an `id` and, where it is a test, with `test`, an array of
-/// steps. The ids are those of a tree (`ext_tree::Tree::build`): the first has one segment, and the parent of each
+/// steps, and, where they are given, with `isolated`, true or false, and `locks`, an array of texts `READ NAME` or
+/// `READ_WRITE NAME`, with at most 63 different names in the plan. The ids are those of a tree (`ext_tree::Tree::build`): the first has one segment, and the parent of each
 /// further one stands before it. A test has no children. A step is one of
 ///
 /// ```text
@@ -31,11 +33,12 @@ use toml::Table;
 /// ```
 ///
 /// with one space between two words, where KEY is a label of the plan and TEXT a word; all but `fail` and `abort` may
-/// end with ` up N`, where N is from 1 to 15 and less than the number of segments of the node's id.
+/// end with ` up N`, where N is from 1 to 15 and less than the number of segments of the node's id. A test has at most
+/// 2^32 - 1 steps.
 ///
 /// Everything else is refused with its first fault. In order: `NotToml`; `UnknownField`, then `BadField`, of the top
 /// fields; for each key `UnknownField`, `BadField`, `BadLabel`; for each node `UnknownField`, `BadField`, `BadId`;
-/// `BadTree`; for each node `BadTest`, `BadStep`; `TooMany`. `Memory` comes in place of any of these where a growth
+/// `BadTree`; for each node `BadTest`, `BadLock`, `BadStep`; `TooMany`. `Memory` comes in place of any of these where a growth
 /// was refused. `NotUtf8` is never answered, since a `&str` is UTF-8.
 ///
 /// Memory is taken for the TOML document, for the lists of its tables and texts, for the set of labels, for the tree of
@@ -54,6 +57,8 @@ pub fn read_plan(alloc: Global, text: &str) -> Result<Plan, PlanFault>
     ensures namespaces { IfOk result (λ p. NamespacesHaveParts (plan_view p)) }
     ensures keys { IfOk result (λ p. StepsNameLabels (plan_view p)) }
     ensures up { IfOk result (λ p. StepsStayBelowRoot (plan_view p)) }
+    ensures locks { IfOk result (λ p. HasFewLocks (plan_view p)) }
+    ensures short { IfOk result (λ p. TestsAreShort (plan_view p)) }
 {
     match toml::table_from_str(alloc, text) {
         Ok(top) => plan_of(alloc, &top),
@@ -77,6 +82,9 @@ fn plan_of(alloc: Global, top: &Table) -> Result<Plan, PlanFault>
     let tree = tree_of(alloc, sketches.as_slice())?;
     let nodes = nodes_of(alloc, &keys.labels, &tree, sketches)?;
     if !are_few(alloc, keys.keys.as_slice(), tree.len())? {
+        return Err(PlanFault::TooMany);
+    }
+    if !locks_are_few(alloc, nodes.as_slice())? {
         return Err(PlanFault::TooMany);
     }
     Ok(Plan {

@@ -4,7 +4,7 @@ ghost use Rattle.std.specs.List.{slice_split, list_any};
 ghost use Rattle.std.specs.Str.{bytes_eq};
 ghost use Rattle.ext_plan.specs.Plans.{step_view, steps_view};
 ghost use Rattle.ext_plan.specs.Faults.{Gives, GivesAll};
-ghost use Rattle.ext_plan.specs.Steps.{height_of, key_step, text_step, labelled_key_step, labelled_text_step, short_step, step_of_words, step_of, height, step_at, steps_after};
+ghost use Rattle.ext_plan.specs.Steps.{height_of, key_step, text_step, labelled_key_step, labelled_text_step, short_step, step_of_words, step_of, height, step_at, steps_after, steps_at};
 
 use crate::fault::PlanFault;
 use crate::labels::Labels;
@@ -16,9 +16,30 @@ const HEIGHTS: [&str; 15] = [
     "1", "2", "3", "4", "5", "6", "7", "8", "9", "10", "11", "12", "13", "14", "15",
 ];
 
-/// The steps that the texts of a node are, in order. `node` is its place in the plan, and `depth` how many segments its
-/// id has.
+/// The greatest number of steps of a test, so that what they compute and find is counted in 32 bits. A text with more
+/// has over 16 GB.
+const STEP_LIMIT: usize = 4_294_967_295;
+
+/// The steps that the texts of a node are, in order, if they are not too many. `node` is its place in the plan, and
+/// `depth` how many segments its id has.
+#[tactic(auto, unfolding(crate::specs::Steps::steps_at))]
 pub fn steps_of(
+    alloc: Global,
+    labels: &Labels<'_>,
+    depth: usize,
+    node: usize,
+    texts: &[&str],
+) -> Result<Vec<Step>, PlanFault>
+    ensures { Gives steps_view result (steps_at labels.now depth node (map (λ t. t.now) texts.now)) }
+{
+    if texts.len() > STEP_LIMIT {
+        return Err(PlanFault::BadStep(node));
+    }
+    steps_in_order(alloc, labels, depth, node, texts)
+}
+
+/// The steps that the texts of a node are, in order, however many there are.
+fn steps_in_order(
     alloc: Global,
     labels: &Labels<'_>,
     depth: usize,
@@ -86,7 +107,7 @@ fn step_of(alloc: Global, labels: &Labels<'_>, text: &str) -> Result<Option<Step
 }
 
 /// The words of a text, with one space between two.
-fn words_of<'a>(alloc: Global, text: &'a str) -> Result<Vec<&'a str>, AllocError>
+pub fn words_of<'a>(alloc: Global, text: &'a str) -> Result<Vec<&'a str>, AllocError>
     ensures { IfOk result (λ v. map (λ w. w.now) v.items ≡ slice_split (λ b. b == 32) text.now) }
 {
     text.split(' ').collect(alloc)

@@ -4,7 +4,7 @@ use Rattle.std.proofs.lemmas.List.{take_more, map-append}
 use Rattle.std.proofs.lemmas.Grind.{flat_map-append}
 use Rattle.ext_ids.specs.Grammar.{Pair}
 use Rattle.ext_tree.specs.Trees.{id_at}
-use Rattle.ext_report.specs.declared.result.NodeResult.{NodeResult}
+use Rattle.ext_lifecycle.specs.declared.node_result.NodeResult.{NodeResult}
 use Rattle.ext_report.specs.Report.{result_view, results_view, line_of, lines_of}
 
 -- the lines of one result more

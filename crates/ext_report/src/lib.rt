@@ -1,12 +1,10 @@
-//! The report of a test run, as a text, and the results of the nodes that it is made of.
+//! The report of a test run, as a text. The results of the nodes that it is made of are those of `ext_lifecycle`.
 #![tactic(auto)]
 
+mod is_status;
 mod line;
 mod report;
-mod result;
-mod status;
 mod totals;
 
+pub use ext_lifecycle::{NodeResult, Status};
 pub use report::{any_failed, report_text};
-pub use result::NodeResult;
-pub use status::Status;

@@ -2,8 +2,8 @@
 ghost use Rattle.std.specs.Prelude.{◌≡◌, ◌++◌, string_bytes, OnOk, Some};
 ghost use Rattle.ext_report.specs.Report.{result_view, status_text, fault_text, fault_part, fault_and_further, line_of};
 
-use crate::{NodeResult, Status};
 use ext_ids::UniqueId;
+use ext_lifecycle::{NodeResult, Status};
 use ext_model::Fault;
 use std::alloc::AllocError;
 

@@ -2,9 +2,10 @@
 ghost use Rattle.std.specs.Prelude.{◌≡◌, ◌<◌, length, string_bytes, IfOk, All};
 ghost use Rattle.ext_report.specs.Report.{results_view, report_of, any_failed};
 
+use crate::is_status::is_status;
 use crate::line::write_line;
 use crate::totals::{NodeSums, TestCounts};
-use crate::{NodeResult, Status};
+use ext_lifecycle::{NodeResult, Status};
 use ext_tree::Tree;
 use std::alloc::{AllocError, Global};
 
@@ -32,7 +33,7 @@ pub fn any_failed(results: &[NodeResult]) -> bool
     ensures { result ≡ any_failed (results_view results.now) }
 {
     for r in results {
-        if r.status.is(Status::Failed) {
+        if is_status(r.status, Status::Failed) {
             return true;
         }
     }

@@ -3,7 +3,8 @@ ghost use Rattle.std.specs.Prelude.{◌≡◌, ◌++◌, string_bytes, OnOk};
 ghost use Rattle.std.specs.List.{count_by};
 ghost use Rattle.ext_report.specs.Report.{results_view, tests_with, counts_of, sums_of, counts_line, sums_line};
 
-use crate::{NodeResult, Status};
+use crate::is_status::is_status;
+use ext_lifecycle::{NodeResult, Status};
 use std::alloc::AllocError;
 
 /// How many tests there are, and how many ended in each way.
@@ -103,6 +104,6 @@ fn tests_with(status: Status, results: &[NodeResult]) -> usize
 {
     results
         .iter()
-        .filter(|r| r.is_test && r.status.is(status))
+        .filter(|r| r.is_test && is_status(r.status, status))
         .count()
 }

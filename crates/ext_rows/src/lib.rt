@@ -8,6 +8,10 @@ mod devices;
 #[cfg(test)]
 mod hostile;
 #[cfg(test)]
+mod lifecycle;
+#[cfg(test)]
+mod locks;
+#[cfg(test)]
 mod rows;
 #[cfg(test)]
 mod trees;

@@ -111,7 +111,12 @@ fn numbers_run_out(rt: HostRuntime) -> Result<(), Fail> {
 }
 
 /// Asserts that the plan has no report, but this line on standard error, and that nothing is written.
-fn refuses(rt: &impl Abort, alloc: Global, plan: &[u8], wanted: &str) -> Result<(), Fail> {
+pub(crate) fn refuses(
+    rt: &impl Abort,
+    alloc: Global,
+    plan: &[u8],
+    wanted: &str,
+) -> Result<(), Fail> {
     let mut written = Vec::new(alloc);
     let fault = outcome(alloc, plan, &mut written).err().ok_or("a report")?;
     same(rt, fault.to_string(alloc)?.as_str(), wanted, "the line");

@@ -4,9 +4,9 @@ use Rattle.ext_model.specs.Events.{Reply, Happens, Answers, Refuses, NumbersFull
 use Rattle.ext_model.specs.State.{State, lookup}
 use Rattle.ext_model.specs.Plain.{Place, result_of, under}
 use Rattle.ext_run.specs.declared.value_store.ValueStore.{ValueStore}
-use Rattle.ext_run.specs.declared.verdict.Outcome.{Outcome}
-use Rattle.ext_run.specs.declared.verdict.Verdict.{Verdict}
-use Rattle.ext_run.specs.Tallies.{VerdictText}
+use Rattle.ext_lifecycle.specs.declared.outcome.Outcome.{Outcome}
+use Rattle.ext_lifecycle.specs.declared.outcome.Verdict.{Verdict}
+use Rattle.ext_run.specs.StepTexts.{VerdictText}
 use Rattle.ext_run.specs.ValueStates.{ValueText, ValueState, refusal}
 use Rattle.ext_run.specs.Steps.{StepEnd, ended, start_of, compute_looked, computefail_looked}
 use Rattle.ext_run.specs.Helpers.{CallText, state_view, verdict_view, end_view}

@@ -8,7 +8,8 @@ use Rattle.ext_model.specs.Plain.{Place}
 use Rattle.ext_plan.specs.Plans.{KeyText, StepText, put, put_closeable, want, nothing, remove, compute, compute_closeable, compute_fail, fail, abort, PlanText}
 use Rattle.ext_plan.specs.Laws.{ids_of_nodes}
 use Rattle.ext_tree.specs.Paths.{children_of}
-use Rattle.ext_run.specs.Tallies.{VerdictText, successful, aborted, failed}
+use Rattle.ext_lifecycle.specs.Endings.{successful, aborted, failed}
+use Rattle.ext_run.specs.StepTexts.{VerdictText}
 use Rattle.ext_run.specs.ValueStates.{ValueText, ValueState, after_act, why_refused, next_number, keep_value}
 use Rattle.ext_run.specs.Steps.{StepEnd, start_of, found_along, or_refused, put_step, put_kept, factory_gave, factory_failed, compute_looked, computefail_looked, step_run, unless_ended, steps_run}
 use Rattle.ext_run.specs.Closes.{seal_keys}

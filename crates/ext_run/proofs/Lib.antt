@@ -1,7 +1,6 @@
 pub mod ReadBytes
 pub mod Outcomes
 pub mod RunAnswers
-pub mod Tallying
 pub mod Stepping
 pub mod Sealing
 pub mod Acts

@@ -1,24 +1,33 @@
 -- The nodes of a plain run: their paths, their children and their ends.
-use Rattle.std.proofs.Common.{◌≡◌, ◌≢◌, ℕ, zero, suc, ◌-◌, ◌<◌, get_or, map, List, [], ◌∷◌, length, Option, Some, is_some, All, Contains, refl, ap, sym, subst, ◌∙◌, arith}
-use Rattle.std.specs.Prelude.{option_map, slice_get}
+use Rattle.std.proofs.Common.{◌≡◌, ◌≢◌, ℕ, zero, suc, ◌-◌, ◌<◌, ◌≤◌, Bool, get_or, map, List, [], ◌∷◌, length, Option, Some, None, is_some, All, Contains, refl, ap, sym, subst, ◌∙◌, arith}
+use Rattle.std.specs.Prelude.{IfSome, Vec, option_map, slice_get}
+use Rattle.std.proofs.lemmas.List.{get_or-map, length-map}
 use Rattle.std.proofs.lemmas.Option.{slice_get-map, slice_get_read}
 use Rattle.std.proofs.lemmas.List.Elements.{Contains-get_or}
 use Rattle.ext_tree.specs.Trees.{Id, IsTree}
 use Rattle.ext_tree.specs.Paths.{IsPathOf, IsParentOf, IsWalk, children_of}
 use Rattle.ext_tree.proofs.TreeLaws.{paths_are_unique, parents_list_children}
 use Rattle.ext_plan.specs.declared.plan.PlanNode.{PlanNode}
-use Rattle.ext_plan.specs.Plans.{StepText, PlanText, node_view, steps_view}
+use Rattle.ext_plan.specs.Plans.{StepText, PlanText, node_view, step_view, steps_view}
+use Rattle.ext_plan.specs.Steps.{step_limit}
+use Rattle.ext_plan.specs.declared.plan.Step.{Step}
+use Rattle.std.specs.declared.alloc.Global.{Global}
 use Rattle.ext_plan.specs.Laws.{ids_of_nodes}
-use Rattle.ext_report.specs.Report.{NodeOutcome}
-use Rattle.ext_run.specs.Tallies.{VerdictText, successful}
+use Rattle.ext_report.specs.Report.{NodeOutcome, fault_text, result_view, results_view}
+use Rattle.ext_model.specs.declared.look.Fault.{Fault}
+use Rattle.ext_lifecycle.specs.declared.node_result.NodeResult.{NodeResult}
+use Rattle.ext_lifecycle.specs.declared.outcome.Outcome.{Outcome}
+use Rattle.ext_lifecycle.specs.declared.tally.Tally.{Tally}
+use Rattle.ext_lifecycle.specs.Endings.{with_fault}
+use Rattle.ext_lifecycle.specs.Lifecycle.{computed_in, endings_of, found_in, tally_of}
+use Rattle.ext_lifecycle.specs.Results.{result_of, told, with_fault_told}
+use Rattle.ext_lifecycle.proofs.OtherFaults.{result_of-to}
 use Rattle.ext_run.specs.ValueStates.{ValueState}
-use Rattle.ext_run.specs.Steps.{start_of}
+use Rattle.ext_run.specs.Steps.{StepEnd, start_of}
 use Rattle.ext_run.specs.Closes.{seal_keys, closes}
-use Rattle.ext_run.specs.PlainRun.{RunState, BodyEnd, container_body, outcome_of, with_result, node_end, node_run, test_in, test_of, body_run, key_count}
+use Rattle.ext_run.specs.PlainRun.{RunState, BodyEnd, container_body, test_body, outcome_of, with_result, node_end, node_run, test_in, test_of, body_run, key_count}
 use Rattle.ext_run.specs.declared.plain.PlainRunner.{PlainRunner}
-use Rattle.ext_run.specs.declared.verdict.Outcome.{Outcome}
-use Rattle.ext_run.specs.declared.verdict.Verdict.TheVariants as verdicts
-use Rattle.ext_run.specs.Helpers.{IsOutcome, run_view, body_view, verdict_view}
+use Rattle.ext_run.specs.Helpers.{run_view, end_view, state_view, EndsAs}
 
 -- ---- levels
 
@@ -62,21 +71,58 @@ test_at nodes at node within is =
 
 -- ---- the end of a node
 
-pub outcome_is : (at : ℕ) (test : Option (List StepText)) (body : BodyEnd) (closed : List VerdictText) (o : NodeOutcome) → IsOutcome at (is_some test) body.verdict closed body.computed body.found o
-    → o ≡ outcome_of at test body closed
-outcome_is at test body closed o h = rw (← h.node, ← h.test, ← h.status, ← h.fault, ← h.more, ← h.computed, ← h.found, ← h.closed, ← h.close_faults) refl
+-- the result of a node whose calls and closes came to this
+pub outcome_is : (at : ℕ) (is_test : Bool) (test : Option (List StepText)) (body : BodyEnd) (closed : List (Option (List ℕ))) (outcomes : List Outcome) (faults : List (Option Fault)) (r : NodeResult)
+    → told r ≡ result_of at is_test (endings_of outcomes) (computed_in outcomes) (found_in outcomes) faults
+    → is_test ≡ is_some test → map (with_fault fault_text) (endings_of outcomes) ≡ body.calls → computed_in outcomes ≡ body.computed → found_in outcomes ≡ body.found → map (option_map fault_text) faults ≡ closed
+    → result_view r ≡ outcome_of at test body closed
+outcome_is at is_test test body closed outcomes faults r is same calls computed found closes =
+    ap (with_fault_told fault_text) is
+    ∙ sym (result_of-to fault_text at is_test (endings_of outcomes) (computed_in outcomes) (found_in outcomes) faults)
+    ∙ ap (λ es. result_of at is_test es (computed_in outcomes) (found_in outcomes) (map (option_map fault_text) faults)) calls
+    ∙ ap (λ n. result_of at is_test body.calls n (found_in outcomes) (map (option_map fault_text) faults)) computed
+    ∙ ap (λ n. result_of at is_test body.calls body.computed n (map (option_map fault_text) faults)) found
+    ∙ ap (result_of at is_test body.calls body.computed body.found) closes
+    ∙ ap (λ t. result_of at t body.calls body.computed body.found closed) same
 
-pub end_is : (keys at : ℕ) (test : Option (List StepText)) (body : BodyEnd) (sealed : ValueState) (closed : List VerdictText) (o : NodeOutcome)
-    → sealed ≡ seal_keys keys at body.run.state → closed ≡ closes keys at sealed → IsOutcome at (is_some test) body.verdict closed body.computed body.found o
+pub end_is : (keys at : ℕ) (test : Option (List StepText)) (body : BodyEnd) (sealed : ValueState) (closed : List (Option (List ℕ))) (o : NodeOutcome)
+    → sealed ≡ seal_keys keys at body.run.state → closed ≡ closes keys at sealed → o ≡ outcome_of at test body closed
     → (let run : RunState = record { state = sealed; results = with_result o body.run.results } in run ≡ node_end keys at test body)
 end_is keys at test body sealed closed o is told shown =
-    ap (λ o. record { state = sealed; results = with_result o body.run.results }) (outcome_is at test body closed o shown ∙ ap (outcome_of at test body) told)
+    ap (λ o. record { state = sealed; results = with_result o body.run.results }) (shown ∙ ap (outcome_of at test body) told)
     ∙ ap (λ s. record { state = s; results = with_result (outcome_of at test body (closes keys at s)) body.run.results }) is
 
--- the body of a container
-pub container_is : (r : PlainRunner) (o : Outcome) (run : RunState) → o.verdict ≡ verdicts.Successful → o.computed ≡ 0 → o.found ≡ 0 → run_view r ≡ run → body_view r o ≡ container_body run
-container_is r o run is computed found ran =
-    ap (λ x. record { run = x; verdict = verdict_view o.verdict; computed = o.computed; found = o.found }) ran
-    ∙ ap (λ v. record { run = run; verdict = verdict_view v; computed = o.computed; found = o.found }) is
-    ∙ ap (λ n. record { run = run; verdict = successful; computed = n; found = o.found }) computed
-    ∙ ap (λ n. record { run = run; verdict = successful; computed = 0; found = n }) found
+-- ---- the body of a node
+
+pub EndsAs-is : (r : PlainRunner) (tally : Tally) (a b : BodyEnd) → a ≡ b → EndsAs r tally a → EndsAs r tally b
+EndsAs-is r tally a b is end = subst (EndsAs r tally) is end
+
+-- of a container
+pub container_is : (r : PlainRunner) (tally : Tally) (run : RunState) → tally ≡ tally_of [] → run_view r ≡ run → EndsAs r tally (container_body run)
+container_is r tally run is ran = record { outcomes = []; tallied = is; calls = refl; computed = refl; found = refl; run = ran }
+
+-- of a test
+pub test_is : (r : PlainRunner) (tally : Tally) (o : Outcome) (results : List NodeOutcome) (end : StepEnd) → tally ≡ tally_of (o ∷ []) → results_view r.results.items ≡ results → end_view r.store o ≡ end
+    → EndsAs r tally (test_body results end)
+test_is r tally o results end is kept ends = record {
+  outcomes = o ∷ [];
+  tallied = is;
+  calls = ap (λ (e : StepEnd). e.verdict ∷ []) ends;
+  computed = (let one = ap (λ (e : StepEnd). e.computed) ends in omega (arith, one));
+  found = (let one = ap (λ (e : StepEnd). e.found) ends in omega (arith, one));
+  run = ap (λ rs. record { state = state_view r.store; results = rs }) kept ∙ ap (λ (e : StepEnd). record { state = e.state; results = results }) ends;
+}
+
+-- ---- tests are short
+
+short_steps : (test : Option (Vec Step Global)) → IfSome (option_map steps_view test) (λ steps. length steps ≤ step_limit) → IfSome test (λ steps. length steps.items ≤ step_limit)
+short_steps None h = tt
+short_steps (Some steps) h = subst (λ n. n ≤ step_limit) (length-map steps.items step_view) h
+
+pub short_test : (nodes : List PlanNode) (at : ℕ) (node : PlanNode) → All (λ n. IfSome n.test (λ steps. length steps ≤ step_limit)) (map node_view nodes) → at < length nodes → node ≡ get_or nodes at node
+    → IfSome node.test (λ steps. length steps.items ≤ step_limit)
+short_test nodes at node short within is =
+    let within_view : at < length (map node_view nodes) = omega (arith, within, length-map nodes node_view) in
+    let here = short at (node_view node) within_view in
+    let found : get_or (map node_view nodes) at (node_view node) ≡ node_view node = get_or-map node_view nodes at node (node_view node) within ∙ ap node_view (sym is) in
+    short_steps node.test (subst (λ n. IfSome n.test (λ steps. length steps ≤ step_limit)) found here)

@@ -1,17 +1,18 @@
 -- A plain run reaches each node of a plan whose nodes are a tree, and whose tests have no children.
-use Rattle.std.proofs.Common.{◌≡◌, ◌≢◌, ◌<◌, ◌≤◌, ◌+◌, ℕ, zero, suc, List, [], ◌∷◌, length, map, get_or, Option, Some, None, is_some, refl, ap, sym, subst, ◌∙◌, arith}
+use Rattle.std.proofs.Common.{◌≡◌, ◌≢◌, ◌<◌, ◌≤◌, ◌+◌, ℕ, zero, suc, List, [], ◌∷◌, ◌++◌, length, map, get_or, Option, Some, None, is_some, refl, ap, sym, subst, ◌∙◌, arith}
 use Rattle.std.specs.Prelude.{fold, slice_get, slice_set, IfSome}
-use Rattle.std.specs.List.{All, Contains, HoldsAt}
+use Rattle.std.specs.List.{All, HoldsAt}
 use Rattle.std.proofs.lemmas.List.{length-map}
-use Rattle.ext_tree.specs.Trees.{Id, id_at, IsTree}
+use Rattle.ext_tree.specs.Trees.{Id, IsTree}
 use Rattle.ext_tree.specs.Paths.{IsParentOf, children_of}
 use Rattle.ext_tree.proofs.TreeFacts.{parent_first}
 use Rattle.ext_tree.proofs.TreeLaws.{parents_list_children}
 use Rattle.ext_plan.specs.Plans.{StepText, NodeText, PlanText}
 use Rattle.ext_plan.specs.Laws.{ids_of_nodes, NodesAreTree, TestsHaveNoChildren}
 use Rattle.ext_report.specs.Report.{NodeOutcome}
-use Rattle.ext_report.specs.declared.status.Status.TheVariants as statuses
-use Rattle.ext_run.specs.Tallies.{VerdictText, first_fault, first_abort, unsuccessful, tally_by}
+use Rattle.ext_lifecycle.specs.declared.status.Status.TheVariants as statuses
+use Rattle.ext_lifecycle.specs.Endings.{first_abort, first_fault, total_by, unsuccessful}
+use Rattle.ext_lifecycle.specs.Results.{close_ending}
 use Rattle.ext_run.specs.Closes.{seal_keys, closes}
 use Rattle.ext_run.specs.PlainRun.{RunState, BodyEnd, outcome_of, key_count, test_in, test_of, body_run, node_run, run_opening, plain_run}
 use Rattle.ext_run.proofs.Sound.{node-kept, tests_of_plan}
@@ -22,13 +23,15 @@ use Rattle.ext_run.proofs.Sound.{node-kept, tests_of_plan}
 abbrev pub HasRun : ℕ → List NodeOutcome → Type 0
 HasRun k results = (d : NodeOutcome) → k < length results → (get_or results k d).status ≢ statuses.Skipped
 
-tally-ran : (fault abort : Option (List ℕ)) (count : ℕ) → (tally_by fault abort count).status ≢ statuses.Skipped
-tally-ran (Some fault) abort count = λ is. absurd cc
-tally-ran None (Some abort) count = λ is. absurd cc
-tally-ran None None count = λ is. absurd cc
+total-ran : (fault abort : Option (List ℕ)) (count : ℕ) → (total_by fault abort count).status ≢ statuses.Skipped
+total-ran (Some fault) abort count = λ is. absurd cc
+total-ran None (Some abort) count = λ is. absurd cc
+total-ran None None count = λ is. absurd cc
 
-outcome-ran : (at : ℕ) (test : Option (List StepText)) (body : BodyEnd) (closed : List VerdictText) → (outcome_of at test body closed).status ≢ statuses.Skipped
-outcome-ran at test body closed = tally-ran (first_fault (body.verdict ∷ closed)) (first_abort (body.verdict ∷ closed)) (unsuccessful (body.verdict ∷ closed))
+outcome-ran : (at : ℕ) (test : Option (List StepText)) (body : BodyEnd) (closed : List (Option (List ℕ))) → (outcome_of at test body closed).status ≢ statuses.Skipped
+outcome-ran at test body closed =
+    let all = body.calls ++ map close_ending closed in
+    total-ran (first_fault all) (first_abort all) (unsuccessful all)
 
 set-here : (results : List NodeOutcome) (at : ℕ) (x : NodeOutcome) → x.status ≢ statuses.Skipped → HasRun at (slice_set results at x)
 set-here [] at x ran = λ d within. absurd (omega (arith, within))

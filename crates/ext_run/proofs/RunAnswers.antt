@@ -36,6 +36,7 @@ RefusedAs-plan (plan.BadLabel key) read h = rw h refl
 RefusedAs-plan (plan.BadId node) read h = rw h refl
 RefusedAs-plan plan.BadTree read h = rw h refl
 RefusedAs-plan (plan.BadStep node) read h = rw h refl
+RefusedAs-plan (plan.BadLock node) read h = rw h refl
 RefusedAs-plan (plan.BadTest node) read h = rw h refl
 RefusedAs-plan plan.TooMany read h = rw h refl
 

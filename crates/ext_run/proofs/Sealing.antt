@@ -1,6 +1,6 @@
 -- The end of a context, one key after another: a seal leaves the other places alone, so that what the earlier seals keep remains.
 use Rattle.std.proofs.Common.{◌≡◌, ℕ, zero, suc, ◌+◌, ◌<◌, Bool, true, false, List, [], ◌∷◌, ◌++◌, length, take, get_or, map, Option, Some, None, refl, ap, sym, subst, ◌∙◌, arith, add-one, append-nil}
-use Rattle.std.specs.Prelude.{if◌then◌else◌}
+use Rattle.std.specs.Prelude.{if◌then◌else◌, option_map}
 use Rattle.std.proofs.lemmas.List.{map-append, take_more}
 use Rattle.ext_model.specs.declared.event.Act.TheVariants.{Seal}
 use Rattle.ext_model.specs.declared.slot.Slot.{Slot}
@@ -9,10 +9,12 @@ use Rattle.ext_model.specs.Closing.{kept_by, put_in_kept, remaining}
 use Rattle.ext_model.proofs.Changes.{same_place_is}
 use Rattle.ext_model.proofs.Steps.{others_stay}
 use Rattle.ext_run.specs.ValueStates.{ValueText, ValueState, run_numbers, after_act, value_of}
-use Rattle.ext_run.specs.Closes.{seal_keys, numbers_left, if_closeable, closeables, close_verdict}
-use Rattle.ext_run.specs.Tallies.{VerdictText}
-use Rattle.ext_run.specs.declared.node_end.NodeEnd.{NodeEnd}
-use Rattle.ext_run.specs.Helpers.{only_closeable, Ends}
+use Rattle.ext_run.specs.Closes.{seal_keys, numbers_left, if_closeable, closeables, close_fault}
+use Rattle.ext_model.specs.declared.look.Fault.{Fault}
+use Rattle.ext_lifecycle.specs.declared.closes.Closes.{Closes}
+use Rattle.ext_lifecycle.specs.Results.{closes_of}
+use Rattle.ext_report.specs.Report.{fault_text}
+use Rattle.ext_run.specs.Helpers.{only_closeable, HasClosed}
 
 pub seal_keys-zero : (at : ℕ) (s : ValueState) → seal_keys 0 at s ≡ s
 unfolding seal_keys
@@ -80,22 +82,31 @@ not_closeable (Some v) is = none_by v.closeable v is
 
 -- one number more: its value is closed where it is closeable
 pub closes-more : (values : List ValueText) (numbers : List ℕ) (i : ℕ) (value : ValueText) → i < length numbers → Some value ≡ only_closeable (value_of values (get_or numbers i 0))
-    → map close_verdict (closeables values (take (i + 1) numbers)) ≡ map close_verdict (closeables values (take i numbers)) ++ close_verdict value ∷ []
+    → map close_fault (closeables values (take (i + 1) numbers)) ≡ map close_fault (closeables values (take i numbers)) ++ close_fault value ∷ []
 closes-more values numbers i value within is =
     let number = get_or numbers i 0 in
     let one : closeables values (number ∷ []) ≡ value ∷ [] = one_closeable (value_of values number) value is in
-    ap (λ ns. map close_verdict (closeables values ns)) (take_more numbers i 0 within)
-    ∙ ap (map close_verdict) (closeables-append values (take i numbers) (number ∷ []) ∙ ap (λ vs. closeables values (take i numbers) ++ vs) one)
-    ∙ map-append close_verdict (closeables values (take i numbers)) (value ∷ [])
+    ap (λ ns. map close_fault (closeables values ns)) (take_more numbers i 0 within)
+    ∙ ap (map close_fault) (closeables-append values (take i numbers) (number ∷ []) ∙ ap (λ vs. closeables values (take i numbers) ++ vs) one)
+    ∙ map-append close_fault (closeables values (take i numbers)) (value ∷ [])
 
 -- or it isn't
 pub closes-same : (values : List ValueText) (numbers : List ℕ) (i : ℕ) → i < length numbers → None ≡ only_closeable (value_of values (get_or numbers i 0))
-    → map close_verdict (closeables values (take (i + 1) numbers)) ≡ map close_verdict (closeables values (take i numbers))
+    → map close_fault (closeables values (take (i + 1) numbers)) ≡ map close_fault (closeables values (take i numbers))
 closes-same values numbers i within is =
     let number = get_or numbers i 0 in
     let one : closeables values (number ∷ []) ≡ [] = not_closeable (value_of values number) is in
-    ap (λ ns. map close_verdict (closeables values ns)) (take_more numbers i 0 within)
-    ∙ ap (map close_verdict) (closeables-append values (take i numbers) (number ∷ []) ∙ ap (λ vs. closeables values (take i numbers) ++ vs) one ∙ append-nil (closeables values (take i numbers)))
+    ap (λ ns. map close_fault (closeables values ns)) (take_more numbers i 0 within)
+    ∙ ap (map close_fault) (closeables-append values (take i numbers) (number ∷ []) ∙ ap (λ vs. closeables values (take i numbers) ++ vs) one ∙ append-nil (closeables values (take i numbers)))
 
-pub Ends-is : (a b : NodeEnd) (body : VerdictText) (xs ys : List VerdictText) → a ≡ b → xs ≡ ys → Ends b body ys → Ends a body xs
-Ends-is a b body xs ys is same end = subst (λ e. Ends e body xs) (sym is) (subst (λ zs. Ends b body zs) (sym same) end)
+-- one close more
+pub HasClosed-more : (old new : Closes) (told : List (Option (List ℕ))) (fault : Option Fault) (text : Option (List ℕ)) → HasClosed old told
+    → ((faults : List (Option Fault)) → old ≡ closes_of faults → new ≡ closes_of (faults ++ fault ∷ [])) → option_map fault_text fault ≡ text → HasClosed new (told ++ text ∷ [])
+HasClosed-more old new told fault text closed counted is = record {
+  faults = closed.faults ++ fault ∷ [];
+  counted = counted closed.faults closed.counted;
+  texts = map-append (option_map fault_text) closed.faults (fault ∷ []) ∙ ap (λ l. l ++ option_map fault_text fault ∷ []) closed.texts ∙ ap (λ t. told ++ t ∷ []) is;
+}
+
+pub HasClosed-is : (a b : Closes) (xs ys : List (Option (List ℕ))) → a ≡ b → xs ≡ ys → HasClosed b ys → HasClosed a xs
+HasClosed-is a b xs ys is same closed = subst (λ e. HasClosed e xs) (sym is) (subst (HasClosed b) (sym same) closed)

@@ -2,13 +2,12 @@
 use Rattle.std.proofs.Common.{◌≡◌, ℕ, zero, suc, ◌+◌, ◌<◌, ◌≤◌, List, [], ◌∷◌, length, map, Option, Some, None, is_some, refl, ap, sym, subst, ◌∙◌, arith, zero-add}
 use Rattle.std.specs.Prelude.{fold, slice_get, slice_set, IfSome}
 use Rattle.std.specs.List.{All, AllByRecursion, range_with_len}
-use Rattle.std.proofs.lemmas.List.{length-map, map-set}
+use Rattle.std.proofs.lemmas.List.{map-set}
 use Rattle.ext_tree.specs.Paths.{children_of}
 use Rattle.ext_plan.specs.Plans.{StepText, NodeText, PlanText}
 use Rattle.ext_plan.specs.Laws.{ids_of_nodes}
-use Rattle.ext_report.specs.declared.result.NodeResult.{NodeResult}
+use Rattle.ext_lifecycle.specs.declared.node_result.NodeResult.{NodeResult}
 use Rattle.ext_report.specs.Report.{NodeOutcome, result_view}
-use Rattle.ext_run.specs.Tallies.{VerdictText}
 use Rattle.ext_run.specs.Steps.{start_of}
 use Rattle.ext_run.specs.Closes.{seal_keys, closes}
 use Rattle.ext_run.specs.PlainRun.{RunState, BodyEnd, outcome_of, key_count, node_run, body_run, test_in, test_of, skipped_from, run_opening, plain_run}
@@ -17,7 +16,7 @@ use Rattle.ext_run.specs.PlainRun.{RunState, BodyEnd, outcome_of, key_count, nod
 
 -- each result that a node may end with is put in its place
 abbrev pub IsKept : PlanText → (List NodeOutcome → Type 0) → Type 0
-IsKept plan P = (at : ℕ) (body : BodyEnd) (closed : List VerdictText) (results : List NodeOutcome) → P results → P (slice_set results at (outcome_of at (test_of plan at) body closed))
+IsKept plan P = (at : ℕ) (body : BodyEnd) (closed : List (Option (List ℕ))) (results : List NodeOutcome) → P results → P (slice_set results at (outcome_of at (test_of plan at) body closed))
 
 fold-kept : (P : List NodeOutcome → Type 0) (path_run : List ℕ → RunState → RunState) → ((path : List ℕ) (run : RunState) → P run.results → P (path_run path run).results)
     → (above children : List ℕ) (run : RunState) → P run.results → P (fold (λ r child. path_run (child ∷ above) r) run children).results

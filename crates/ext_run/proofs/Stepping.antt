@@ -1,7 +1,8 @@
 -- The steps of a test, one after another.
 use Rattle.std.proofs.Common.{◌≡◌, ℕ, ◌+◌, List, [], ◌∷◌, true, false, refl, ap, ◌∙◌, arith}
 use Rattle.ext_plan.specs.Plans.{KeyText, StepText}
-use Rattle.ext_run.specs.Tallies.{VerdictText, successful, aborted, failed, is_successful}
+use Rattle.ext_lifecycle.specs.Endings.{successful, aborted, failed, is_successful}
+use Rattle.ext_run.specs.StepTexts.{VerdictText}
 use Rattle.ext_run.specs.ValueStates.{ValueState}
 use Rattle.ext_run.specs.Steps.{StepEnd, ended, and_then, unless_ended, step_run, steps_run}
 

@@ -12,7 +12,7 @@ use Rattle.ext_model.specs.Events.{Reply, Happens, Answers, Refuses, NumbersFull
 use Rattle.ext_model.specs.Plain.{Place, under, any_lane, state_by}
 use Rattle.ext_model.proofs.Lookups.{put_found}
 use Rattle.ext_plan.specs.Plans.{KeyText, PlanText, put, want}
-use Rattle.ext_run.specs.Tallies.{successful, failed}
+use Rattle.ext_lifecycle.specs.Endings.{successful, failed}
 use Rattle.ext_run.specs.StepTexts.{label_of, other_text}
 use Rattle.ext_run.specs.ValueStates.{run_numbers, ValueText, ValueState, refusal, reply_to, after_act, why_refused, next_number, keep_value, value_of}
 use Rattle.ext_run.specs.Steps.{start_of, key_number, unless_refused, or_refused, put_kept, put_step, want_found, want_verdict, step_run}

@@ -9,7 +9,6 @@ use Rattle.ext_model.specs.declared.event.Act.TheVariants.{Seal}
 use Rattle.ext_model.specs.Plain.{under}
 use Rattle.ext_model.specs.Closing.{remaining}
 use Rattle.ext_run.specs.StepTexts.{close_text}
-use Rattle.ext_run.specs.Tallies.{VerdictText, successful, failed}
 use Rattle.ext_run.specs.ValueStates.{ValueText, ValueState, after_act, value_of}
 
 -- the first so many keys are sealed in the context, in order
@@ -35,10 +34,10 @@ closeables values (number ∷ more) = if_closeable (value_of values number) (clo
 abbrev pub begins_with : List ℕ → List ℕ → Bool
 begins_with front text = bytes_eq front (take (length front) text)
 
--- the close action of the program
-abbrev pub close_verdict : ValueText → VerdictText
-close_verdict value = if begins_with (codes "bad") value.text then failed (close_text value.text) else successful
+-- the close action of the program: the text of its fault, if it fails
+abbrev pub close_fault : ValueText → Option (List ℕ)
+close_fault value = if begins_with (codes "bad") value.text then Some (close_text value.text) else None
 
--- how the closes of a context end, in their order, once its keys are sealed
-abbrev pub closes : ℕ → ℕ → ValueState → List VerdictText
-closes keys at sealed = map close_verdict (closeables sealed.values (numbers_left keys at sealed))
+-- how the closes of a context end, in their order, once its keys are sealed: the fault of each, if it failed
+abbrev pub closes : ℕ → ℕ → ValueState → List (Option (List ℕ))
+closes keys at sealed = map close_fault (closeables sealed.values (numbers_left keys at sealed))

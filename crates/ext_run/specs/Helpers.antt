@@ -1,29 +1,30 @@
 -- What the contracts of private functions cite, and nothing else: no public clause needs it.
-use Rattle.std.specs.Prelude.{◌≡◌, ◌≤◌, ◌+◌, ℕ, Bool, List, [], ◌∷◌, length, map, Option, Some, None, option_map, Result, Ok, Err, string_bytes, if◌then◌else◌}
+use Rattle.std.specs.Prelude.{◌≡◌, ◌≤◌, ℕ, List, [], map, Option, Some, None, option_map, Result, Ok, Err, string_bytes, if◌then◌else◌}
 use Rattle.std.specs.Borrow.{Bor}
 use Rattle.ext_model.specs.declared.plain_fault.PlainFault.{PlainFault}
 use Rattle.ext_model.specs.declared.plain_fault.PlainFault.TheVariants as plain
 use Rattle.ext_model.specs.Events.{NumbersFull, Busy, Closed, Standing}
 use Rattle.ext_model.specs.Plain.{Place, state_of}
+use Rattle.ext_model.specs.declared.look.Fault.{Fault}
+use Rattle.ext_lifecycle.specs.declared.closes.Closes.{Closes}
+use Rattle.ext_lifecycle.specs.declared.outcome.Outcome.{Outcome}
+use Rattle.ext_lifecycle.specs.declared.outcome.Verdict.{Verdict}
+use Rattle.ext_lifecycle.specs.declared.tally.Tally.{Tally}
+use Rattle.ext_lifecycle.specs.Endings.{with_fault}
+use Rattle.ext_lifecycle.specs.Lifecycle.{computed_in, ending_of, endings_of, found_in, tally_of}
+use Rattle.ext_lifecycle.specs.Results.{closes_of}
 use Rattle.ext_plan.specs.Plans.{PlanText, KeyText, keys_view, plan_view}
-use Rattle.ext_report.specs.Report.{NodeOutcome, fault_text, results_view}
+use Rattle.ext_report.specs.Report.{fault_text, results_view}
 use Rattle.ext_run.specs.declared.fault.RunFault.{RunFault}
 use Rattle.ext_run.specs.declared.fault.RunFault.TheVariants as faults
-use Rattle.ext_run.specs.declared.node_end.NodeEnd.{NodeEnd}
 use Rattle.ext_run.specs.declared.plain.PlainRunner.{PlainRunner}
 use Rattle.ext_run.specs.declared.plain.Setting.{Setting}
 use Rattle.ext_run.specs.declared.run_keys.RunKeys.{RunKeys}
 use Rattle.ext_run.specs.declared.run_keys.StoreCall.{StoreCall}
 use Rattle.ext_run.specs.declared.runs.Output.{Output}
-use Rattle.ext_run.specs.declared.tally.Tally.{Tally as TallySoFar}
-use Rattle.ext_run.specs.declared.tally.Total.{Total}
 use Rattle.ext_run.specs.declared.value_store.Value.{Value}
 use Rattle.ext_run.specs.declared.value_store.ValueStore.{ValueStore}
-use Rattle.ext_run.specs.declared.verdict.Outcome.{Outcome}
-use Rattle.ext_run.specs.declared.verdict.Verdict.{Verdict}
-use Rattle.ext_run.specs.declared.verdict.Verdict.TheVariants as verdicts
-use Rattle.ext_run.specs.Tallies.{VerdictText, successful, aborted, failed, unsuccessful, first_fault, first_abort, Tally, tally_of}
-use Rattle.ext_run.specs.StepTexts.{reason}
+use Rattle.ext_run.specs.StepTexts.{VerdictText, reason}
 use Rattle.ext_run.specs.ValueStates.{ValueText, ValueState, why_refused, next_number, keep_value}
 use Rattle.ext_run.specs.Steps.{StepEnd, start_of}
 use Rattle.ext_run.specs.PlainRun.{RunState, BodyEnd}
@@ -100,9 +101,7 @@ keys_in k = keys_view k.keys.now
 -- ---- the steps
 
 abbrev pub verdict_view : Verdict → VerdictText
-verdict_view verdicts.Successful = successful
-verdict_view (verdicts.Aborted fault) = aborted (fault_text fault)
-verdict_view (verdicts.Failed fault) = failed (fault_text fault)
+verdict_view verdict = with_fault fault_text (ending_of verdict)
 
 abbrev pub end_view : ValueStore → Outcome → StepEnd
 end_view s o = record { state = state_view s; verdict = verdict_view o.verdict; computed = o.computed; found = o.found }
@@ -118,44 +117,25 @@ abbrev pub only_closeable : Option ValueText → Option ValueText
 only_closeable None = None
 only_closeable (Some value) = if value.closeable then Some value else None
 
-pub record Tallies (t : TallySoFar) (told : List VerdictText) : Type 0 where
-  pub failed : option_map fault_text t.failed ≡ first_fault told
-  pub aborted : option_map fault_text t.aborted ≡ first_abort told
-  pub count : t.unsuccessful ≡ unsuccessful told
-
-abbrev pub total_view : Total → Tally
-total_view t = record { status = t.status; fault = option_map fault_text t.fault; more = t.more }
-
--- the body of a node ended so, and these closes came after it
-pub record Ends (e : NodeEnd) (body : VerdictText) (closes : List VerdictText) : Type 0 where
-  pub tally : Tallies e.tally (body ∷ closes)
-  pub closed : e.closed ≡ length closes
-  pub faults : e.close_faults ≡ unsuccessful closes
-
--- no more faults than closes, and no more than one beside them
-pub record IsBounded (e : NodeEnd) : Type 0 where
-  pub faults : e.close_faults ≤ e.closed
-  pub tally : e.tally.unsuccessful ≤ e.closed + 1
-
--- the result is of this node, by how its body and its closes ended
-pub record IsOutcome (at : ℕ) (is_test : Bool) (body : VerdictText) (closes : List VerdictText) (computes finds : ℕ) (o : NodeOutcome) : Type 0 where
-  pub node : o.node ≡ at
-  pub test : o.is_test ≡ is_test
-  pub status : o.status ≡ (tally_of (body ∷ closes)).status
-  pub fault : o.fault ≡ (tally_of (body ∷ closes)).fault
-  pub more : o.more ≡ (tally_of (body ∷ closes)).more
-  pub computed : o.computed ≡ computes
-  pub found : o.found ≡ finds
-  pub closed : o.closed ≡ length closes
-  pub close_faults : o.close_faults ≡ unsuccessful closes
+-- these closes were counted, with the texts of their faults
+pub record HasClosed (closes : Closes) (told : List (Option (List ℕ))) : Type 0 where
+  pub faults : List (Option Fault)
+  pub counted : closes ≡ closes_of faults
+  pub texts : map (option_map fault_text) faults ≡ told
 
 -- ---- the plain run
 
 abbrev pub run_view : PlainRunner → RunState
 run_view r = record { state = state_view r.store; results = results_view r.results.items }
 
-abbrev pub body_view : PlainRunner → Outcome → BodyEnd
-body_view r o = record { run = run_view r; verdict = verdict_view o.verdict; computed = o.computed; found = o.found }
+-- the calls of the node came to this tally, and its body left the runner so
+pub record EndsAs (r : PlainRunner) (tally : Tally) (end : BodyEnd) : Type 0 where
+  pub outcomes : List Outcome
+  pub tallied : tally ≡ tally_of outcomes
+  pub calls : map (with_fault fault_text) (endings_of outcomes) ≡ end.calls
+  pub computed : computed_in outcomes ≡ end.computed
+  pub found : found_in outcomes ≡ end.found
+  pub run : run_view r ≡ end.run
 
 abbrev pub plan_in : Setting → PlanText
 plan_in s = plan_view s.plan.now

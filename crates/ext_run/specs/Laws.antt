@@ -8,8 +8,8 @@ use Rattle.ext_model.specs.Plain.{Place}
 use Rattle.ext_plan.specs.Plans.{KeyText, PlanText, put, want}
 use Rattle.ext_plan.specs.KeyNumbers.{different_keys}
 use Rattle.ext_plan.specs.Laws.{NodesAreTree, TestsHaveNoChildren}
-use Rattle.ext_report.specs.declared.status.Status.TheVariants as statuses
-use Rattle.ext_run.specs.Tallies.{successful}
+use Rattle.ext_lifecycle.specs.declared.status.Status.TheVariants as statuses
+use Rattle.ext_lifecycle.specs.Endings.{successful}
 use Rattle.ext_run.specs.ValueStates.{ValueState, value_opening}
 use Rattle.ext_run.specs.Steps.{start_of, step_run}
 use Rattle.ext_run.specs.PlainRun.{RunState, node_run, plain_run}

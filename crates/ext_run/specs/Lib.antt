@@ -1,5 +1,4 @@
 pub mod StepTexts
-pub mod Tallies
 pub mod ValueStates
 pub mod Steps
 pub mod Closes

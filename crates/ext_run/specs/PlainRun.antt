@@ -9,8 +9,8 @@ use Rattle.ext_plan.specs.KeyNumbers.{different_keys}
 use Rattle.ext_plan.specs.Laws.{ids_of_nodes}
 use Rattle.ext_tree.specs.Paths.{children_of}
 use Rattle.ext_report.specs.Report.{NodeOutcome}
-use Rattle.ext_report.specs.declared.status.Status.TheVariants as statuses
-use Rattle.ext_run.specs.Tallies.{VerdictText, successful, unsuccessful, tally_of}
+use Rattle.ext_lifecycle.specs.Results.{result_of, skipped_result}
+use Rattle.ext_run.specs.StepTexts.{VerdictText}
 use Rattle.ext_run.specs.ValueStates.{ValueState, value_opening}
 use Rattle.ext_run.specs.Steps.{StepEnd, start_of, steps_run}
 use Rattle.ext_run.specs.Closes.{seal_keys, closes}
@@ -20,10 +20,10 @@ pub record RunState : Type 0 where
   pub state : ValueState
   pub results : List NodeOutcome
 
--- what the body of a node leaves, and how it ended
+-- what the body of a node leaves, and how its calls ended: a test is one, and a container has none
 pub record BodyEnd : Type 0 where
   pub run : RunState
-  pub verdict : VerdictText
+  pub calls : List VerdictText
   pub computed : ℕ
   pub found : ℕ
 
@@ -31,31 +31,11 @@ pub record BodyEnd : Type 0 where
 
 -- before a node ran
 abbrev pub skipped_outcome : ℕ → Option (List StepText) → NodeOutcome
-skipped_outcome at test = record {
-  node = at;
-  is_test = is_some test;
-  status = statuses.Skipped;
-  fault = None;
-  more = 0;
-  computed = 0;
-  found = 0;
-  closed = 0;
-  close_faults = 0;
-}
+skipped_outcome at test = skipped_result at (is_some test)
 
 -- once it has ended: by how its body ended, and how the closes of its context did
-abbrev pub outcome_of : ℕ → Option (List StepText) → BodyEnd → List VerdictText → NodeOutcome
-outcome_of at test body closed = record {
-  node = at;
-  is_test = is_some test;
-  status = (tally_of (body.verdict ∷ closed)).status;
-  fault = (tally_of (body.verdict ∷ closed)).fault;
-  more = (tally_of (body.verdict ∷ closed)).more;
-  computed = body.computed;
-  found = body.found;
-  closed = length closed;
-  close_faults = unsuccessful closed;
-}
+abbrev pub outcome_of : ℕ → Option (List StepText) → BodyEnd → List (Option (List ℕ)) → NodeOutcome
+outcome_of at test body closed = result_of at (is_some test) body.calls body.computed body.found closed
 
 -- the results with this one in its node's place
 abbrev pub with_result : NodeOutcome → List NodeOutcome → List NodeOutcome
@@ -75,11 +55,11 @@ test_in (Some node) = node.test
 
 -- the body of a test, which is its steps
 abbrev pub test_body : List NodeOutcome → StepEnd → BodyEnd
-test_body results end = record { run = record { state = end.state; results = results }; verdict = end.verdict; computed = end.computed; found = end.found }
+test_body results end = record { run = record { state = end.state; results = results }; calls = end.verdict ∷ []; computed = end.computed; found = end.found }
 
 -- the body of a container, which is its children: it has no fault of its own
 abbrev pub container_body : RunState → BodyEnd
-container_body run = record { run = run; verdict = successful; computed = 0; found = 0 }
+container_body run = record { run = run; calls = []; computed = 0; found = 0 }
 
 module _ (plan : PlanText) where
   -- how many different keys there are

@@ -2,8 +2,13 @@
 -- `put`, `get`, `remove` and `getOrComputeIfAbsent` of JUnit's `ExtensionContext.Store`. Texts are lists of bytes.
 use Rattle.std.specs.Prelude.{ℕ, codes, List, [], ◌++◌, None}
 use Rattle.std.specs.List.{slice_index_or}
+use Rattle.ext_lifecycle.specs.Endings.{Ending}
 use Rattle.ext_plan.specs.Plans.{KeyText}
 use Rattle.ext_model.specs.Events.{Refusal, NumbersFull, Busy, Closed, Standing, Exhausted, Barred}
+
+-- how a step or a test ended, with the text of its fault
+abbrev pub VerdictText : Type 0
+VerdictText = Ending (List ℕ)
 
 -- the label of a key, by its place among the plan's keys
 abbrev pub label_of : List KeyText → ℕ → List ℕ

@@ -14,8 +14,8 @@ use Rattle.ext_model.specs.Plain.{Place, under}
 use Rattle.ext_plan.specs.Plans.{KeyText, StepText, put, put_closeable, want, nothing, remove, compute, compute_closeable, compute_fail, fail, abort}
 use Rattle.ext_plan.specs.KeyNumbers.{numbering}
 use Rattle.ext_model.specs.Events.{Busy, Closed}
-use Rattle.ext_run.specs.StepTexts.{reason, label_of, refused_text, missing_text, other_text, got_text}
-use Rattle.ext_run.specs.Tallies.{VerdictText, successful, aborted, failed}
+use Rattle.ext_run.specs.StepTexts.{reason, label_of, refused_text, missing_text, other_text, got_text, VerdictText}
+use Rattle.ext_lifecycle.specs.Endings.{successful, aborted, failed}
 use Rattle.ext_run.specs.ValueStates.{ValueText, ValueState, after_act, why_refused, next_number, keep_value, value_of}
 
 -- what a step or a test leaves, how it ended, how many values it computed, and how many it found where it would have computed one

@@ -1,14 +1,14 @@
 //! The end of a context.
 ghost use Rattle.std.specs.Prelude.{◌≡◌, ◌≤◌, length, map, option_map, IfOk, OnOk};
+ghost use Rattle.ext_report.specs.Report.{fault_text};
 ghost use Rattle.ext_run.specs.ValueStates.{value_of};
-ghost use Rattle.ext_run.specs.Closes.{seal_keys, numbers_left, closeables, close_verdict};
-ghost use Rattle.ext_run.specs.Helpers.{state_view, value_view, verdict_view, only_closeable, Ends};
+ghost use Rattle.ext_run.specs.Closes.{seal_keys, numbers_left, closeables, close_fault};
+ghost use Rattle.ext_run.specs.Helpers.{state_view, value_view, only_closeable, HasClosed};
 
-use crate::node_end::NodeEnd;
 use crate::step_text::close_text;
 use crate::value_store::{Value, ValueStore};
-use crate::verdict::Verdict;
-use ext_model::{ContextNo, FallingNumbers};
+use ext_lifecycle::Closes;
+use ext_model::{ContextNo, FallingNumbers, Fault};
 use std::alloc::{AllocError, Global};
 
 impl<'a> ValueStore<'a> {
@@ -31,24 +31,19 @@ impl<'a> ValueStore<'a> {
         Ok(numbers)
     }
 
-    /// The end of a node whose body ended so: closes the closeable ones among the values of these numbers, in order,
-    /// each once. A close that fails does not stop the others.
-    pub(crate) fn close_values(
-        &self,
-        alloc: Global,
-        body: Verdict,
-        numbers: &[u32],
-    ) -> Result<NodeEnd, AllocError>
+    /// Closes the closeable ones among the values of these numbers, in order, each once, and counts them. A close that
+    /// fails does not stop the others.
+    pub(crate) fn close_values(&self, alloc: Global, numbers: &[u32]) -> Result<Closes, AllocError>
         requires { length numbers.now ≤ 64 }
-        ensures { IfOk result (λ e. Ends e (verdict_view body) (map close_verdict (closeables (state_view self.now).values numbers.now))) }
+        ensures { IfOk result (λ closes. HasClosed closes (map close_fault (closeables (state_view self.now).values numbers.now))) }
     {
-        let mut end = NodeEnd::after(body);
+        let mut closes = Closes::new();
         for number in numbers {
             if let Some(value) = self.closeable(*number) {
-                end.add_close(close(alloc, value)?);
+                closes.add(close(alloc, value)?);
             }
         }
-        Ok(end)
+        Ok(closes)
     }
 
     /// The value of a number, if it is closeable.
@@ -63,11 +58,11 @@ impl<'a> ValueStore<'a> {
 }
 
 /// The close action of the program: it fails for a value whose text begins with `bad`.
-fn close(alloc: Global, value: Value<'_>) -> Result<Verdict, AllocError>
-    ensures { IfOk result (λ v. verdict_view v ≡ close_verdict (value_view value.entry)) }
+fn close(alloc: Global, value: Value<'_>) -> Result<Option<Fault>, AllocError>
+    ensures { IfOk result (λ fault. option_map fault_text fault ≡ close_fault (value_view value.entry)) }
 {
     if value.text.as_bytes().starts_with(b"bad") {
-        return Ok(Verdict::failed(close_text(alloc, value.text)?));
+        return Ok(Some(Fault::Text(close_text(alloc, value.text)?)));
     }
-    Ok(Verdict::Successful)
+    Ok(None)
 }

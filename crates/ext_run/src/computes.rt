@@ -9,7 +9,7 @@ ghost use Rattle.ext_run.specs.Helpers.{call_view, place_of_call, value_view, st
 use crate::found::{got, refused};
 use crate::run_keys::StoreCall;
 use crate::value_store::{Value, ValueStore};
-use crate::verdict::{Outcome, Verdict};
+use ext_lifecycle::{Outcome, Verdict};
 use ext_model::Look;
 use std::alloc::{AllocError, Global};
 

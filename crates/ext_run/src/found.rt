@@ -1,7 +1,7 @@
 //! Steps that look whether a value is found, and what it is.
 ghost use Rattle.std.specs.Prelude.{◌≡◌, option_map, IfOk};
 ghost use Rattle.ext_run.specs.StepTexts.{refused_text};
-ghost use Rattle.ext_run.specs.Tallies.{failed};
+ghost use Rattle.ext_lifecycle.specs.Endings.{failed};
 ghost use Rattle.ext_run.specs.Steps.{want_found, want_verdict, got_verdict, none_verdict};
 ghost use Rattle.ext_model.specs.State.{lookup};
 ghost use Rattle.ext_model.specs.Plain.{under};
@@ -10,7 +10,8 @@ ghost use Rattle.ext_run.specs.Helpers.{call_view, verdict_view, value_view, sta
 use crate::run_keys::StoreCall;
 use crate::step_text::{got_text, missing_text, other_text, refused_text};
 use crate::value_store::{Value, ValueStore};
-use crate::verdict::Verdict;
+use crate::verdict::failed;
+use ext_lifecycle::Verdict;
 use ext_model::Look;
 use std::alloc::{AllocError, Global};
 
@@ -27,7 +28,7 @@ impl<'a> ValueStore<'a> {
     {
         match self.look(call.path, call.key) {
             Look::Found { number, .. } => want_found(alloc, call, text, self.value_of(number)),
-            Look::Absent => Ok(Verdict::failed(missing_text(alloc, call.label, text)?)),
+            Look::Absent => Ok(failed(missing_text(alloc, call.label, text)?)),
             Look::Busy(_) => refused(alloc, call, "busy"),
             Look::Closed(_) => refused(alloc, call, "closed"),
         }
@@ -59,7 +60,7 @@ fn want_found(
     match found {
         None => refused(alloc, call, "not shown"),
         Some(other) if other.text == text => Ok(Verdict::Successful),
-        Some(other) => Ok(Verdict::failed(other_text(alloc, call.label, text, other.text)?)),
+        Some(other) => Ok(failed(other_text(alloc, call.label, text, other.text)?)),
     }
 }
 
@@ -73,7 +74,7 @@ pub(crate) fn got(
 {
     match found {
         None => refused(alloc, call, "not shown"),
-        Some(other) => Ok(Verdict::failed(got_text(alloc, call.name, call.label, other.text)?)),
+        Some(other) => Ok(failed(got_text(alloc, call.name, call.label, other.text)?)),
     }
 }
 
@@ -81,5 +82,5 @@ pub(crate) fn got(
 pub(crate) fn refused(alloc: Global, call: &StoreCall<'_>, why: &str) -> Result<Verdict, AllocError>
     ensures { IfOk result (λ v. verdict_view v ≡ failed (refused_text (call_view call.now).name (call_view call.now).label why.now)) }
 {
-    Ok(Verdict::failed(refused_text(alloc, call.name, call.label, why)?))
+    Ok(failed(refused_text(alloc, call.name, call.label, why)?))
 }

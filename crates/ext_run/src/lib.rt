@@ -4,7 +4,7 @@
 //! run. A plan that is refused, or a device that fails, is a `RunFault`. What steps do stands in
 //! `specs/Steps.antt`, the run of a plan in `specs/PlainRun.antt`, what a run answers to its input in
 //! `specs/Answers.antt`, and what is true of every plain run in `specs/Laws.antt`, which `plain_run_laws`
-//! proves. The names of `ext_plan` and `ext_report` that callers need stand here too. Own rule.
+//! proves. The names of `ext_plan`, `ext_lifecycle` and `ext_report` that callers need stand here too. Own rule.
 #![tactic(auto)]
 
 mod closing;
@@ -14,20 +14,19 @@ mod found;
 mod id_lines;
 mod input;
 mod laws;
-mod node_end;
 mod plain;
 mod reasons;
 mod run_keys;
 mod runs;
+mod skipped;
 mod step_text;
 mod steps;
-mod tally;
 mod value_store;
 mod verdict;
 
 pub use ext_ids::IdFault;
-pub use ext_plan::{LabelNo, Place, Plan, PlanFault, PlanKey, PlanNode, Step, read_plan};
-pub use ext_report::{NodeResult, Status};
+pub use ext_lifecycle::{NodeResult, Status};
+pub use ext_plan::{LabelNo, Place, Plan, PlanFault, PlanKey, PlanLock, PlanNode, Step, read_plan};
 pub use ext_tree::Tree;
 pub use fault::RunFault;
 pub use id_lines::id_text;

@@ -1,19 +1,21 @@
 //! The plain run of a plan, on one thread over the one-thread store.
-ghost use Rattle.std.specs.Prelude.{◌≡◌, ◌<◌, ◌≤◌, ◌∷◌, [], length, map, option_map, IfOk, OnOk, All, fold};
+ghost use Rattle.std.specs.Prelude.{◌≡◌, ◌<◌, ◌≤◌, ◌∷◌, [], length, map, option_map, IfOk, IfSome, OnOk, All, fold};
 ghost use Rattle.ext_tree.specs.Trees.{IsTree};
 ghost use Rattle.ext_tree.specs.Paths.{IsPathOf, IsParentOf};
 ghost use Rattle.ext_plan.specs.Plans.{keys_view, steps_view, plan_view};
 ghost use Rattle.ext_plan.specs.KeyNumbers.{different_keys, numbering};
+ghost use Rattle.ext_plan.specs.Laws.{TestsAreShort};
+ghost use Rattle.ext_plan.specs.Steps.{step_limit};
+ghost use Rattle.ext_lifecycle.specs.Lifecycle.{IsRoomy};
 ghost use Rattle.ext_report.specs.Report.{result_view, results_view};
 ghost use Rattle.ext_run.specs.PlainRun.{plain_run};
 
-use crate::node_end::skipped;
 use crate::run_keys::RunKeys;
+use crate::skipped::skipped;
 use crate::value_store::ValueStore;
-use crate::verdict::{Outcome, Verdict};
+use ext_lifecycle::{NodeResult, Tally};
 use ext_model::ContextNo;
 use ext_plan::{KeyNumbers, Plan, Step};
-use ext_report::NodeResult;
 use ext_tree::Tree;
 use std::alloc::{AllocError, Global};
 
@@ -48,6 +50,7 @@ pub(crate) fn results_of(
     requires keys { keys.now ≡ numbering (keys_view plan.now.keys.items) }
     requires tree { IsTree tree.now }
     requires nodes { tree.now ≡ map (λ n. n.id) plan.now.nodes.items }
+    requires short { TestsAreShort (plan_view plan.now) }
     ensures { IfOk result (λ results. results_view results.items ≡ plain_run (plan_view plan.now)) }
 {
     let setting = Setting {
@@ -68,7 +71,7 @@ pub(crate) fn results_of(
 
 impl<'a> PlainRunner<'a> {
     ghost use Rattle.ext_run.specs.PlainRun.{node_run, body_run, with_result};
-    ghost use Rattle.ext_run.specs.Helpers.{run_view, plan_in, body_view};
+    ghost use Rattle.ext_run.specs.Helpers.{run_view, plan_in, EndsAs};
 
     /// Runs a node and what is below it, so many levels deep: its body, then the end of its context.
     #[cycle(nodes)]
@@ -82,6 +85,7 @@ impl<'a> PlainRunner<'a> {
     ) -> Result<(), AllocError>
         requires within { at < length setting.now.plan.now.nodes.items }
         requires tree { IsTree setting.now.tree.now }
+        requires short { TestsAreShort (plan_in setting.now) }
         requires path { IsPathOf setting.now.tree.now at path.now }
         ensures { OnOk result (run_view self.new ≡ node_run (plan_in setting.now) levels path.now (run_view self.old)) }
     {
@@ -89,12 +93,10 @@ impl<'a> PlainRunner<'a> {
             return Ok(());
         }
         let test = &setting.plan.nodes[at].test;
-        let body = self.run_body(alloc, setting, levels - 1, at, path, test)?;
+        let tally = self.run_body(alloc, setting, levels - 1, at, path, test)?;
         let numbers = self.store.seal_keys(setting.key_count, at)?;
-        let end = self
-            .store
-            .close_values(alloc, body.verdict, numbers.as_slice())?;
-        self.set_result(end.result(at, test.is_some(), body.computed, body.found));
+        let closes = self.store.close_values(alloc, numbers.as_slice())?;
+        self.set_result(tally.result(at, test.is_some(), closes));
         Ok(())
     }
 
@@ -108,23 +110,29 @@ impl<'a> PlainRunner<'a> {
         at: ContextNo,
         path: &[ContextNo],
         test: &'a Option<Vec<Step>>,
-    ) -> Result<Outcome, AllocError>
+    ) -> Result<Tally, AllocError>
         requires within { at < length setting.now.plan.now.nodes.items }
         requires tree { IsTree setting.now.tree.now }
+        requires short { TestsAreShort (plan_in setting.now) }
         requires path { IsPathOf setting.now.tree.now at path.now }
-        ensures { IfOk result (λ o. body_view self.new o ≡ body_run (plan_in setting.now) (node_run (plan_in setting.now) levels)
-            (option_map steps_view test.now) path.now (run_view self.old)) }
+        requires own { IfSome test.now (λ steps. length steps.items ≤ step_limit) }
+        ensures end { IfOk result (λ tally. EndsAs self.new tally (body_run (plan_in setting.now) (node_run (plan_in setting.now) levels)
+            (option_map steps_view test.now) path.now (run_view self.old))) }
+        ensures room { IfOk result (IsRoomy 1) }
     {
+        let mut tally = Tally::new();
         match test {
-            Some(steps) => self
-                .store
-                .run_steps(alloc, &setting.keys, path, steps.as_slice()),
+            Some(steps) => {
+                let steps = steps.as_slice();
+                let outcome = self.store.run_steps(alloc, &setting.keys, path, steps)?;
+                tally.add(outcome);
+            }
             None => {
                 let children = setting.tree.children(at);
                 self.run_children(alloc, setting, levels, at, path, children)?;
-                Ok(Outcome::of(Verdict::Successful))
             }
         }
+        Ok(tally)
     }
 
     /// Runs some of a container's children, in order.
@@ -139,6 +147,7 @@ impl<'a> PlainRunner<'a> {
         children: &[ContextNo],
     ) -> Result<(), AllocError>
         requires tree { IsTree setting.now.tree.now }
+        requires short { TestsAreShort (plan_in setting.now) }
         requires path { IsPathOf setting.now.tree.now at path.now }
         requires children { All (λ child. IsParentOf setting.now.tree.now at child) children.now }
         ensures { OnOk result (run_view self.new

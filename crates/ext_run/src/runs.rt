@@ -4,7 +4,7 @@ ghost use Rattle.std.specs.Io.KnownBytes.{Consumes, Appends};
 ghost use Rattle.ext_tree.specs.Trees.{IsTree};
 ghost use Rattle.ext_plan.specs.Plans.{keys_view, plan_view};
 ghost use Rattle.ext_plan.specs.KeyNumbers.{different_keys, numbering, HasParts};
-ghost use Rattle.ext_plan.specs.Laws.{HasFewCells, NamespacesHaveParts, NodesAreTree};
+ghost use Rattle.ext_plan.specs.Laws.{HasFewCells, NamespacesHaveParts, NodesAreTree, TestsAreShort};
 ghost use Rattle.ext_report.specs.Report.{results_view, report_of};
 ghost use Rattle.ext_run.specs.Answers.{input_limit, answer_of, answer_to_bytes, answer_to, RefusedAs};
 ghost use Rattle.ext_run.specs.Helpers.{output_view, AnswersAs};
@@ -13,8 +13,9 @@ use crate::fault::RunFault;
 use crate::input::read_input;
 use crate::plain::results_of;
 use ext_ids::UniqueId;
+use ext_lifecycle::NodeResult;
 use ext_plan::{KeyNumbers, Plan, PlanFault, PlanKey, PlanNode, read_plan};
-use ext_report::{NodeResult, any_failed};
+use ext_report::any_failed;
 use ext_tree::{Tree, TreeFault};
 use std::alloc::{AllocError, Global};
 use std::io::{Read, Write};
@@ -125,6 +126,7 @@ fn output_of(alloc: Global, plan: &Plan) -> Result<Output, RunFault>
     requires tree { NodesAreTree (plan_view plan.now) }
     requires namespaces { NamespacesHaveParts (plan_view plan.now) }
     requires few { HasFewCells (plan_view plan.now) }
+    requires short { TestsAreShort (plan_view plan.now) }
     ensures ok { IfOk result (λ o. output_view o ≡ answer_of (plan_view plan.now)) }
     ensures memory { IfErr result (λ e. e ≡ RunFault.Memory) }
 {

@@ -1,5 +1,5 @@
 //! The steps of a test.
-ghost use Rattle.std.specs.Prelude.{◌≡◌, IfOk, map, option_map};
+ghost use Rattle.std.specs.Prelude.{◌≡◌, ◌≤◌, IfOk, length, map, option_map};
 ghost use Rattle.ext_model.specs.declared.event.Act.TheVariants as act;
 ghost use Rattle.ext_plan.specs.Plans.{step_view};
 ghost use Rattle.ext_run.specs.Steps.{unless_refused, act_ends, put_step, step_run, steps_run};
@@ -8,7 +8,8 @@ ghost use Rattle.ext_run.specs.Helpers.{call_view, place_of_call, keys_in, value
 use crate::found::refused;
 use crate::run_keys::{RunKeys, StoreCall};
 use crate::value_store::{Value, ValueStore};
-use crate::verdict::{Outcome, Verdict};
+use crate::verdict::{aborted, failed};
+use ext_lifecycle::{Outcome, Verdict};
 use ext_model::ContextNo;
 use ext_plan::Step;
 use std::alloc::{AllocError, Global};
@@ -22,6 +23,7 @@ impl<'a> ValueStore<'a> {
         path: &[ContextNo],
         steps: &'a [Step],
     ) -> Result<Outcome, AllocError>
+        requires { length steps.now ≤ 4294967295 }
         ensures { IfOk result (λ o. end_view self.new o ≡ steps_run (keys_in keys.now) path.now (map step_view steps.now) (state_view self.old)) }
     {
         let mut computed = 0;
@@ -96,8 +98,8 @@ impl<'a> ValueStore<'a> {
             Step::ComputeFail { key, up, .. } => {
                 self.computefail(alloc, &keys.call("computefail", *key, path, *up))
             }
-            Step::Fail { text } => Ok(Outcome::of(Verdict::failed(text.clone()?))),
-            Step::Abort { text } => Ok(Outcome::of(Verdict::aborted(text.clone()?))),
+            Step::Fail { text } => Ok(Outcome::of(failed(text.clone()?))),
+            Step::Abort { text } => Ok(Outcome::of(aborted(text.clone()?))),
         }
     }
 

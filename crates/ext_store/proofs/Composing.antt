@@ -99,7 +99,7 @@ module _ (store : StoreView) (context : ℕ) (ancestors : List ℕ) (key claim :
 -- ---- the frame of a claim
 
 -- the events of a claim, or of one that was given up, or of none
-abbrev StoringNone : Limits → LaneView → LaneView → Type 0
+abbrev pub StoringNone : Limits → LaneView → LaneView → Type 0
 StoringNone limits a b = (acts : List (Act ℕ)) × All StoresNone acts × Calls limits a b acts
 
 module _ (store : StoreView) (context : ℕ) (ancestors : List ℕ) (key : ℕ) (a b : LaneView) where
@@ -116,7 +116,7 @@ module _ (store : StoreView) (context : ℕ) (ancestors : List ℕ) (key : ℕ) 
     | inr k ↦ given_up_acts k.0
   ]
 
-  claim_acts : (r : Result ℕ Unused) → ClaimsFrom store context ancestors key a b r → StoringNone store.id.cells.limits a b
+  pub claim_acts : (r : Result ℕ Unused) → ClaimsFrom store context ancestors key a b r → StoringNone store.id.cells.limits a b
   unfolding IsRefused
   claim_acts (Ok claim) m = (Claim (cell_in store key context) ∷ [], nor_this (Claim (cell_in store key context)) [] refl none_stored, m.2)
   claim_acts (Err (Found at number)) m = meets_acts (look.Found at number) m

@@ -12,3 +12,4 @@ pub mod Parts
 pub mod Missing
 pub mod Filling
 pub mod Composing
+pub mod Waited

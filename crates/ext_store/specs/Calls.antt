@@ -1,12 +1,13 @@
 -- What the contract of each call says of its result.
 -- Javadoc `ExtensionContext.Store`: `get`, `put` and `remove`; numbers, refusals and points are own rules. `Calls` of ext_model has the words: the events that a
 -- call made, its fronts, and the points at which its answer may be that of one thread.
-use Rattle.std.specs.Prelude.{ℕ, ◌≡◌, List, [], ◌∷◌, Option, None, Some, Result, Ok, Err}
+use Rattle.std.specs.Prelude.{ℕ, ◌≡◌, List, [], ◌∷◌, length, Option, None, Some, Result, Ok, Err}
 use Rattle.ext_model.specs.declared.event.Act.{Act}
 use Rattle.ext_model.specs.declared.event.Act.TheVariants.{Keep, Put, Remove}
 use Rattle.ext_model.specs.declared.look.Look.{Look}
 use Rattle.ext_model.specs.Events as events
 use Rattle.ext_model.specs.History.{History, reply_after}
+use Rattle.ext_history.specs.Views.{call_fronts}
 use Rattle.ext_model.specs.SecondLook.{look_after}
 use Rattle.ext_model.specs.Calls as model
 use Rattle.ext_tree.specs.Paths.{IsPathOf}
@@ -30,6 +31,10 @@ HoldsAtPoint before after acts Fact = model.HoldsAtPoint before.cells.limits bef
 -- what one thread replies to an act of the lane, directly after a history
 abbrev pub reply_to : Lane → Act ℕ → History → events.Reply
 reply_to lane act h = reply_after lane.cells.limits h lane.view.number act
+
+-- how many steps the lane made on the cells: each adds a front
+abbrev pub steps_of : Lane → Lane → ℕ
+steps_of before after = length (call_fronts before.view after.view)
 
 -- ---- get
 

@@ -7,3 +7,4 @@ pub mod Refusals
 pub mod Sealing
 pub mod Claiming
 pub mod Computing
+pub mod Waiting

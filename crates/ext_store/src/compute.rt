@@ -1,13 +1,16 @@
 //! Values that are computed where none is found.
-ghost use Rattle.std.specs.Prelude.{ℕ, ◌≡◌, ◌≢◌, ◌<◌, [], length, Contains, IfOk, MatchResult};
+ghost use Rattle.std.specs.Prelude.{ℕ, ◌≡◌, ◌≢◌, ◌+◌, ◌*◌, ◌<◌, ◌≤◌, [], length, Contains, IfOk, MatchResult};
 ghost use Rattle.std.specs.Fn.{FnOnceReturnsAt};
-ghost use Rattle.ext_model.specs.Calls.{IsHeld};
+ghost use Rattle.ext_model.specs.Calls.{IsHeld, MayStoreNow};
+ghost use Rattle.ext_model.specs.declared.event.Act.TheVariants as act_is;
 ghost use Rattle.ext_tree.specs.Keys.{HasNumber};
 ghost use Rattle.ext_values.specs.Known.{KeepsKnown, Learns};
+ghost use Rattle.ext_cells.specs.Calls.{EndsClaim};
 ghost use Rattle.ext_store.specs.declared.fault.Refusal.TheVariants.{UnknownKey};
 ghost use Rattle.ext_store.specs.declared.computed.Compute.TheVariants.{Refused};
 ghost use Rattle.ext_store.specs.Stores.{IsKeptBy, IsLaneOf, StillKeeps};
 ghost use Rattle.ext_store.specs.Frames.{Frame};
+ghost use Rattle.ext_store.specs.Calls.{steps_of};
 ghost use Rattle.ext_store.specs.Looking.{IsTrail};
 ghost use Rattle.ext_store.specs.Computing.{Computes, Fills, HandsBack, IfComputed, IsUnkept, Uses, without_factory};
 ghost use Rattle.ext_store.specs.Claiming.{ClaimsMissing, Stands};
@@ -59,6 +62,7 @@ impl<V: StoreValue + Drop> Store<V> {
         ensures kept { StillKeeps lane.old lane.new }
         ensures apart { IfComputed result (λ number. (m : ℕ) → IsKeptBy lane.old m → m ≢ number) }
         ensures frame { Frame self.now.id [] lane.old lane.new }
+        ensures steps { steps_of lane.old.cells lane.new.cells ≤ 34 * (self.now.tries + 1) + 2 }
     {
         let Some(number) = self.directory.number_of(key) else {
             return Compute::Refused {
@@ -73,7 +77,7 @@ impl<V: StoreValue + Drop> Store<V> {
         let value = match factory(key) {
             Ok(value) => value,
             Err(fault) => {
-                self.cells.abandon(&mut lane.cells, claim);
+                self.abandon(&mut lane.cells, claim);
                 return Compute::Failed(fault);
             }
         };
@@ -97,15 +101,16 @@ impl<V: StoreValue + Drop> Store<V> {
         ensures known { MatchResult result (λ number. Learns lane.old.known lane.new.known number value) (λ e. (e.0 ≡ value) × (lane.new.known ≡ lane.old.known)) }
         ensures apart { IfOk result (λ number. (m : ℕ) → IsKeptBy lane.old m → m ≢ number) }
         ensures frame { Frame self.now.id [] lane.old lane.new }
+        ensures steps { steps_of lane.old.cells lane.new.cells ≤ self.now.tries + 3 }
     {
         match self.keep(lane, value) {
             Ok(kept) => {
                 let number = kept.number;
-                self.cells.fill(&mut lane.cells, claim, number);
+                self.fill(&mut lane.cells, claim, number);
                 Ok(number)
             }
             Err(unkept) => {
-                self.cells.abandon(&mut lane.cells, claim);
+                self.abandon(&mut lane.cells, claim);
                 Err(unkept)
             }
         }
@@ -113,7 +118,7 @@ impl<V: StoreValue + Drop> Store<V> {
 
     // Claims the cell of the key in the context where a look-up from there finds nothing, so that a value can be
     // computed.
-    fn claim_missing(
+    pub(crate) fn claim_missing(
         &self,
         lane: &mut CellLane,
         context: ContextNo,
@@ -124,6 +129,7 @@ impl<V: StoreValue + Drop> Store<V> {
         requires key { key < length self.now.keys }
         ensures lane { lane.new.cells ≡ lane.old.cells }
         ensures claim { ClaimsMissing self.now context key lane.old.view lane.new.view result }
+        ensures steps { MatchResult result (λ _. steps_of lane.old lane.new ≤ 33 * (self.now.tries + 1)) (λ _. steps_of lane.old lane.new ≤ 33 * (self.now.tries + 1) + 2) }
     {
         let path = self.tree.path(context);
         let path = path.as_slice();
@@ -145,10 +151,35 @@ impl<V: StoreValue + Drop> Store<V> {
         match self.stands_along(lane, &path[1..], key) {
             None => Ok(claim),
             Some(unused) => {
-                self.cells.abandon(lane, claim);
+                self.abandon(lane, claim);
                 Err(unused)
             }
         }
+    }
+
+    // Stores the number in the claimed cell, which ends the claim, and then wakes the lanes that wait for that.
+    pub(crate) fn fill(&self, lane: &mut CellLane, claim: Claim, number: u32)
+        requires lane { lane.old.cells ≡ self.now.id.cells }
+        requires held { IsHeld lane.old.view claim }
+        requires number { MayStoreNow lane.old.view number }
+        ensures lane { lane.new.cells ≡ lane.old.cells }
+        ensures filled { EndsClaim lane.old lane.new (act_is.Fill claim number) }
+        ensures steps { steps_of lane.old lane.new ≡ 2 }
+    {
+        self.cells.fill(lane, claim, number);
+        self.waiters.wake_all();
+    }
+
+    // Gives the claim up, and then wakes the lanes that wait for that.
+    pub(crate) fn abandon(&self, lane: &mut CellLane, claim: Claim)
+        requires lane { lane.old.cells ≡ self.now.id.cells }
+        requires held { IsHeld lane.old.view claim }
+        ensures lane { lane.new.cells ≡ lane.old.cells }
+        ensures abandoned { EndsClaim lane.old lane.new (act_is.Abandon claim) }
+        ensures steps { steps_of lane.old lane.new ≡ 2 }
+    {
+        self.cells.abandon(lane, claim);
+        self.waiters.wake_all();
     }
 
     // What stands along the path, if anything does there, or why it can't be told.
@@ -158,6 +189,7 @@ impl<V: StoreValue + Drop> Store<V> {
         requires key { key < length self.now.keys }
         ensures lane { lane.new.cells ≡ lane.old.cells }
         ensures stands { Stands self.now path.now key lane.old lane.new result }
+        ensures steps { steps_of lane.old lane.new ≤ 16 * (self.now.tries + 1) }
     {
         match self.look_along(lane, path, key) {
             Ok(Look::Absent) => None,

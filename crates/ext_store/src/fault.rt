@@ -1,6 +1,7 @@
 //! Why calls are refused.
-ghost use Rattle.std.specs.Prelude.{◌≡◌};
+ghost use Rattle.std.specs.Prelude.{◌≡◌, ◌↔◌, IsTrue};
 ghost use Rattle.ext_store.specs.Refusals.{IsOfCell, IsOfCount, keep_fault, refusal_at};
+ghost use Rattle.ext_store.specs.Waiting.{IsDecided};
 
 use ext_cells::CellRefusal;
 use ext_model::ContextNo;
@@ -42,6 +43,16 @@ impl Refusal {
             CellRefusal::Contended => Refusal::Contended,
             CellRefusal::NumbersFull | CellRefusal::Memory | CellRefusal::BadLimit =>
                 unreachable!(),
+        }
+    }
+
+    // Whether a waiting form answers it, in place of trying again.
+    pub(crate) fn is_decided(self) -> bool
+        ensures { IsTrue result ↔ IsDecided self }
+    {
+        match self {
+            Refusal::Busy(_) | Refusal::Contended => false,
+            Refusal::Closed(_) | Refusal::UnknownKey | Refusal::Exhausted => true,
         }
     }
 }

@@ -4,9 +4,10 @@
 //! history, as the definitions of `ext_model` say it, and each answer but `Contended` is that of one thread at
 //! a point of the call. A value is kept first, which gives it a number, and the number is then stored under a
 //! key in a context; or it is computed where none is found. `specs/Stores`, `specs/Calls`, `specs/Computing` and `specs/Frames`
-//! have the words of the contracts.
+//! have the words of the contracts, and `specs/Waiting` those of the forms that wait.
 //!
-//! Each cell is a word of its own, and no call waits for another lane: look-ups do not stop one another.
+//! Each cell is a word of its own, and no call waits for another lane: look-ups do not stop one another. Only the waiting
+//! forms (`get_wait` and the others) do: where a factory is in their way they sleep until it has ended.
 #![tactic(auto)]
 
 mod closer;
@@ -21,6 +22,7 @@ mod opening;
 mod sealing;
 mod store;
 mod value;
+mod waiting;
 mod walk;
 
 pub use closer::Closer;

@@ -6,7 +6,8 @@ use thiserror::Error;
 pub struct Limits {
     /// How many lanes there are, for as many threads: 1 to 16.
     pub lanes: usize,
-    /// How many exchanges a call makes at most before it answers `Contended`: 1 to 64.
+    /// How many exchanges a change makes at most, and how many passes after its first a look-up, before the answer is
+    /// `Contended`: 1 to 64.
     pub tries: u32,
     /// How many values can be kept while the store lives: 1 to 65,535.
     pub numbers: u32,

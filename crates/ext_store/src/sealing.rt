@@ -1,8 +1,9 @@
 //! What the store gives to those who close a context.
-ghost use Rattle.std.specs.Prelude.{◌≡◌, ◌<◌, [], length, is_some};
+ghost use Rattle.std.specs.Prelude.{◌≡◌, ◌+◌, ◌<◌, ◌≤◌, [], length, is_some};
 ghost use Rattle.ext_values.specs.Known.{known_at};
 ghost use Rattle.ext_store.specs.Stores.{IsCloserOf, IsLaneOf, StillKeeps};
 ghost use Rattle.ext_store.specs.Frames.{Frame};
+ghost use Rattle.ext_store.specs.Calls.{steps_of};
 ghost use Rattle.ext_store.specs.Sealing.{SealsKey};
 
 use crate::{Closer, Lane, Refusal, Store};
@@ -29,6 +30,7 @@ impl<V> Store<V> {
         ensures lane { IsLaneOf self.now.id lane.new }
         ensures kept { StillKeeps lane.old lane.new }
         ensures frame { Frame self.now.id [] lane.old lane.new }
+        ensures steps { steps_of lane.old.cells lane.new.cells ≤ self.now.tries + 1 }
     {
         let cell = self.cell(closer.context, key);
         match self.cells.seal(&mut lane.cells, cell) {

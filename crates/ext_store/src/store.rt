@@ -1,5 +1,5 @@
 //! The store and its calls.
-ghost use Rattle.std.specs.Prelude.{ℕ, ◌≡◌, ◌≢◌, ◌↔◌, ◌*◌, ◌<◌, ◌≤◌, [], All, Contains, IfErr, IfNone, IfOk, IfSome, MatchResult, Ok, Err, length, map, take};
+ghost use Rattle.std.specs.Prelude.{ℕ, ◌≡◌, ◌≢◌, ◌↔◌, ◌+◌, ◌*◌, ◌<◌, ◌≤◌, [], All, Contains, IfErr, IfNone, IfOk, IfSome, MatchResult, Ok, Err, length, map, take};
 ghost use mathlib.Core.List.{IsPrefix};
 ghost use Rattle.ext_model.specs.Calls.{Calls, MayStoreNow};
 ghost use Rattle.ext_history.specs.Views.{seen_by};
@@ -10,16 +10,17 @@ ghost use Rattle.ext_store.specs.declared.limits.StoreFault.TheVariants as store
 ghost use Rattle.ext_store.specs.declared.fault.Refusal.TheVariants as refusal;
 ghost use Rattle.ext_store.specs.Stores.{AreStoreLimits, IsCloserOf, IsKeptBy, IsLaneOf, StillKeeps, StillKeepsBut, cell_in, closers_below, fresh_store_lane};
 ghost use Rattle.ext_store.specs.Frames.{Frame, stored_by};
-ghost use Rattle.ext_store.specs.Calls.{Gets, KeepsAs, KeepsNothing, Puts, Removes};
+ghost use Rattle.ext_store.specs.Calls.{Gets, KeepsAs, KeepsNothing, Puts, Removes, steps_of};
 ghost use Rattle.ext_store.specs.Looking.{IsTrail, Looks};
 
 use crate::opening::{closers_of, lanes_of};
 use crate::walk::walk;
 use crate::{Closer, KeepFault, Kept, Lane, Limits, Refusal, StoreFault, StoreValue};
-use ext_cells::{CellLane, Cells, are_limits};
+use ext_cells::{CellLane, CellRefusal, Cells, are_limits};
 use ext_model::{CellNo, ContextNo, KeyNo, Look};
 use ext_tree::{Directory, Key, Tree};
 use ext_values::Values;
+use ext_waiters::Waiters;
 use std::alloc::Global;
 use std::marker::Model;
 
@@ -36,8 +37,10 @@ pub struct Store<V> {
     pub(crate) tree: Tree,
     pub(crate) directory: Directory,
     pub(crate) cells: Cells,
-    values: Values<V>,
-    alloc: Global,
+    pub(crate) values: Values<V>,
+    // Who waits until a claim has ended. No contract speaks of them.
+    pub(crate) waiters: Waiters,
+    pub(crate) alloc: Global,
 }
 
 impl<V> Model for Store<V> {
@@ -65,7 +68,8 @@ impl<V> Store<V> {
         &self.directory
     }
 
-    /// How many exchanges a call makes at most, from 1 to 64, before it answers `Contended`. Takes no memory. Own rule.
+    /// How many exchanges a change makes at most, and how many passes after its first a look-up, from 1 to 64, before the
+    /// answer is `Contended`: the clause `steps` of each call counts by it. Takes no memory. Own rule.
     pub fn tries(&self) -> u32
         ensures tries { result ≡ self.now.tries }
         ensures within { (1 ≤ self.now.tries) × (self.now.tries ≤ 64) }
@@ -74,7 +78,7 @@ impl<V> Store<V> {
     }
 
     // What the calls rest on.
-    fn look_back(&self)
+    pub(crate) fn look_back(&self)
         ensures cells { self.now.id.cells.limits.cells ≡ length self.now.tree * length self.now.keys }
         ensures numbers { self.now.id.cells.limits.numbers ≡ length self.now.id.places }
         ensures few { self.now.id.cells.limits.numbers ≤ 65535 }
@@ -118,18 +122,27 @@ impl<V> Store<V> {
         requires key { key < length self.now.keys }
         ensures lane { lane.new.cells ≡ lane.old.cells }
         ensures look { Looks self.now path.now key lane.old lane.new result }
+        ensures steps { steps_of lane.old lane.new ≤ length path.now * (self.now.tries + 1) }
     {
         self.look_back();
         let cells = self.cells_on(path, key);
         match self.cells.collect(lane, &cells[..path.len()]) {
             Ok(words) => Ok(walk(path, &words)),
-            Err(_) => Err(Refusal::Contended),
+            Err(CellRefusal::Contended) => Err(Refusal::Contended),
+            Err(
+                CellRefusal::Busy
+                | CellRefusal::Closed
+                | CellRefusal::Exhausted
+                | CellRefusal::NumbersFull
+                | CellRefusal::Memory
+                | CellRefusal::BadLimit,
+            ) => unreachable!(),
         }
     }
 
     // Stores the kept number under the key in the context.
     #[tactic(auto, unfolding(crate::specs::Calls::Puts))]
-    fn put_at(
+    pub(crate) fn put_at(
         &self,
         lane: &mut CellLane,
         context: ContextNo,
@@ -143,6 +156,7 @@ impl<V> Store<V> {
         ensures lane { lane.new.cells ≡ lane.old.cells }
         ensures answer { Puts self.now context key kept lane.old lane.new result }
         ensures handed_back { IfErr result (λ e. e.0 ≡ kept) }
+        ensures steps { steps_of lane.old lane.new ≤ self.now.tries + 1 }
     {
         let cell = self.cell(context, key);
         match self.cells.put(lane, cell, kept.number) {
@@ -153,7 +167,7 @@ impl<V> Store<V> {
 
     // Takes out what stands under the key in the context.
     #[tactic(auto, unfolding(crate::specs::Calls::Removes))]
-    fn remove_at(
+    pub(crate) fn remove_at(
         &self,
         lane: &mut CellLane,
         context: ContextNo,
@@ -164,6 +178,7 @@ impl<V> Store<V> {
         requires key { key < length self.now.keys }
         ensures lane { lane.new.cells ≡ lane.old.cells }
         ensures answer { Removes self.now context key lane.old lane.new result }
+        ensures steps { steps_of lane.old lane.new ≤ self.now.tries + 1 }
     {
         let cell = self.cell(context, key);
         match self.cells.remove(lane, cell) {
@@ -176,8 +191,8 @@ impl<V> Store<V> {
 impl<V: StoreValue + Drop> Store<V> {
     /// Opens a store in which nothing stands, with its lanes, which are numbered from 0 in the order of the list, and
     /// with one closer for each context, in order. Takes all memory that the store needs but for the values
-    /// themselves. Nobody but these lanes makes an
-    /// event: where none of them has made one, the history is empty (`no_lane` of `history_laws` in ext_model). Own rule.
+    /// themselves. Nobody but these lanes makes an event: where none of them has made one, the history is empty (`no_lane`
+    /// of `history_laws` in ext_model). Own rule.
     ///
     /// Refused, in this order, as `BadLimit` unless there are 1 to 16 lanes, 1 to 64 tries and 1 to 65,535 numbers, as
     /// `TooManyCells` where the contexts times the keys are more than 4,096, and as `Memory`. A refused call drops the
@@ -235,6 +250,7 @@ impl<V: StoreValue + Drop> Store<V> {
             directory,
             cells,
             values,
+            waiters: Waiters::new(),
             alloc,
         };
         Ok((store, lanes, closers))
@@ -255,6 +271,7 @@ impl<V: StoreValue + Drop> Store<V> {
         ensures kept { StillKeeps lane.old lane.new }
         ensures apart { IfOk result (λ number. (m : ℕ) → IsKeptBy lane.old m → m ≢ number) }
         ensures frame { Frame self.now.id [] lane.old lane.new }
+        ensures steps { steps_of lane.old.cells lane.new.cells ≤ self.now.tries + 1 }
     {
         self.look_back();
         let boxed = match Box::new(self.alloc, value) {
@@ -288,6 +305,7 @@ impl<V: StoreValue + Drop> Store<V> {
         ensures lane { IsLaneOf self.now.id lane.new }
         ensures kept { StillKeeps lane.old lane.new }
         ensures frame { Frame self.now.id [] lane.old lane.new }
+        ensures steps { steps_of lane.old.cells lane.new.cells ≤ 16 * (self.now.tries + 1) }
     {
         let Some(key) = self.directory.number_of(key) else {
             return Err(Refusal::UnknownKey);
@@ -323,6 +341,7 @@ impl<V: StoreValue + Drop> Store<V> {
         ensures lane { IsLaneOf self.now.id lane.new }
         ensures kept { MatchResult result (λ _. StillKeepsBut kept lane.old lane.new) (λ _. StillKeeps lane.old lane.new) }
         ensures frame { Frame self.now.id (stored_by kept result) lane.old lane.new }
+        ensures steps { steps_of lane.old.cells lane.new.cells ≤ self.now.tries + 1 }
     {
         let Some(key) = self.directory.number_of(key) else {
             return Err((kept, Refusal::UnknownKey));
@@ -352,6 +371,7 @@ impl<V: StoreValue + Drop> Store<V> {
         ensures lane { IsLaneOf self.now.id lane.new }
         ensures kept { StillKeeps lane.old lane.new }
         ensures frame { Frame self.now.id [] lane.old lane.new }
+        ensures steps { steps_of lane.old.cells lane.new.cells ≤ self.now.tries + 1 }
     {
         let Some(key) = self.directory.number_of(key) else {
             return Err(Refusal::UnknownKey);

@@ -2,8 +2,9 @@
 ghost use Rattle.std.specs.Prelude.{◌≡◌, ◌<◌, IfErr, IfSome, length};
 ghost use Rattle.ext_store.specs.Stores.{IsKeptBy, IsLaneOf, StillKeeps};
 
+use crate::asked::{key, open_chain, same};
 use crate::chain::{Call, rows};
-use crate::opening::{Letter, Opened, contexts, key, keys, open_chain, plain, same};
+use crate::opening::{Letter, Opened, contexts, keys, plain};
 use ext_model::{ContextNo, Look};
 use ext_store::{KeepFault, Kept, Lane, Limits, Refusal, Store, StoreFault, StoreValue};
 use ext_tree::Key;
@@ -246,7 +247,9 @@ fn open_fault<R: Abort>(rt: &R, alloc: Global, count: usize, tries: u32) -> Opti
         tries,
         numbers: 8,
     };
-    let (tree, keys) = (contexts(rt, alloc), keys(rt, alloc, count));
+    let (Some(tree), Some(keys)) = (contexts(alloc), keys(alloc, count)) else {
+        panic!(rt; "no memory");
+    };
     let opened: Result<(Store<Letter>, _, _), StoreFault> = Store::open(alloc, tree, keys, limits);
     opened.err()
 }

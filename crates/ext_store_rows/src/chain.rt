@@ -2,8 +2,9 @@
 ghost use Rattle.std.specs.Prelude.{All};
 ghost use Rattle.ext_store.specs.Stores.{IsCloserOf};
 
+use crate::asked::{key, open_chain, same};
 use crate::closes::Recorder;
-use crate::opening::{Letter, Opened, key, open_chain, plain, same};
+use crate::opening::{Letter, Opened, plain};
 use ext_closing::{CloseFault, Closed, close};
 use ext_model::{ContextNo, Fault, Look};
 use ext_store::{Closer, Compute, KeepFault, Lane, Refusal, Store};

@@ -1,6 +1,7 @@
 //! Closes of a context of the chain.
+use crate::asked::same;
 use crate::chain::{Call, Chain, rows};
-use crate::opening::{Letter, closeable, plain, same};
+use crate::opening::{Letter, closeable, plain};
 use ext_closing::{CloseAction, CloseFault, Closed};
 use ext_model::{Fault, Look};
 use std::alloc::Global;

@@ -2,8 +2,9 @@
 ghost use Rattle.std.specs.Prelude.{◌<◌, length};
 ghost use Rattle.ext_store.specs.Stores.{IsLaneOf};
 
+use crate::asked::{key, open_chain, same};
 use crate::chain::{Call, Told, rows};
-use crate::opening::{Letter, key, open_chain, plain, same};
+use crate::opening::{Letter, plain};
 use ext_model::{Fault, Look};
 use ext_store::{Compute, KeepFault, Lane, Refusal, Store};
 use ext_tree::Key;

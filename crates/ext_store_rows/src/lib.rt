@@ -1,6 +1,9 @@
-//! Tests of the store that several lanes share: its calls, computes and closes, and the code of docs/GUIDE.md.
+//! Tests of the store that several lanes share: its calls, computes and closes. For the tests of other crates it has the chain's
+//! store (`open_chain`), and for its readers a caller of `close` that concludes what its action was given (`close_logged`).
 #![tactic(auto)]
 
+#[cfg(test)]
+mod asked;
 #[cfg(test)]
 mod calls;
 #[cfg(test)]
@@ -9,16 +12,10 @@ mod chain;
 mod closes;
 #[cfg(test)]
 mod computes;
-#[cfg(test)]
-mod guide;
-#[cfg(test)]
-mod held;
 mod logged;
-#[cfg(test)]
-mod moving;
-#[cfg(test)]
 mod opening;
 #[cfg(test)]
 mod wide;
 
 pub use logged::{Log, close_logged};
+pub use opening::{Letter, Opened, closeable, contexts, key, keys, open_chain, open_store, plain};

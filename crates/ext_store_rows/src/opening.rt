@@ -1,19 +1,19 @@
 //! The store of the tests: a chain of three contexts and the keys a, b and c, opened with two lanes.
-ghost use Rattle.std.specs.Prelude.{◌≡◌, ◌<◌, All, length};
+ghost use Rattle.std.specs.Prelude.{◌≡◌, ◌<◌, true, false, All, IfSome, length};
 ghost use Rattle.ext_store.specs.Stores.{IsCloserOf, IsLaneOf};
 
 use ext_ids::UniqueId;
 use ext_store::{Closer, Lane, Limits, Store, StoreValue};
 use ext_tree::{Directory, Key, Namespace, Tree};
 use std::alloc::Global;
-use std::fmt::Debug;
-use std::process::Abort;
 
 /// A value of the tests: a letter, and whether it is closeable.
 #[derive(Clone, Copy, Debug, PartialEq, Eq)]
-pub(crate) struct Letter {
-    pub(crate) letter: char,
-    pub(crate) closeable: bool,
+pub struct Letter {
+    /// The letter.
+    pub letter: char,
+    /// Whether it is closeable.
+    pub closeable: bool,
 }
 
 impl StoreValue for Letter {
@@ -25,7 +25,10 @@ impl StoreValue for Letter {
 }
 
 /// A letter that is not closeable.
-pub(crate) fn plain(letter: char) -> Letter {
+pub fn plain(letter: char) -> Letter
+    ensures letter { result.letter ≡ letter }
+    ensures plain { result.closeable ≡ false }
+{
     Letter {
         letter,
         closeable: false,
@@ -33,19 +36,19 @@ pub(crate) fn plain(letter: char) -> Letter {
 }
 
 /// A letter that is closeable.
-pub(crate) fn closeable(letter: char) -> Letter {
+pub fn closeable(letter: char) -> Letter
+    ensures letter { result.letter ≡ letter }
+    ensures closeable { result.closeable ≡ true }
+{
     Letter {
         letter,
         closeable: true,
     }
 }
 
-/// The global key of this name.
-pub(crate) fn key(rt: &impl Abort, alloc: Global, name: &str) -> Key {
-    let Ok(key) = Key::new(alloc, Namespace::global(), name) else {
-        panic!(rt; "no memory");
-    };
-    key
+/// The global key of this name; `None` where there is no memory.
+pub fn key(alloc: Global, name: &str) -> Option<Key> {
+    Key::new(alloc, Namespace::global(), name).ok()
 }
 
 /// The ids of an engine with one class with one method.
@@ -62,83 +65,82 @@ fn ids(alloc: Global) -> Option<Vec<UniqueId>> {
     Some(ids)
 }
 
-/// An engine with one class with one method: the contexts 0, 1 and 2.
-pub(crate) fn contexts(rt: &impl Abort, alloc: Global) -> Tree
-    ensures { 2 < length result }
+/// An engine with one class with one method: the contexts 0, 1 and 2; `None` where there is no memory.
+pub fn contexts(alloc: Global) -> Option<Tree>
+    ensures { IfSome result (λ tree. 2 < length tree) }
 {
-    let Some(ids) = ids(alloc) else {
-        panic!(rt; "no ids");
-    };
+    let ids = ids(alloc)?;
     let Ok(tree) = Tree::build(alloc, ids.as_slice()) else {
-        panic!(rt; "no tree");
+        return None;
     };
-    assert!(rt; tree.len() == 3);
-    tree
+    if tree.len() < 3 {
+        return None;
+    }
+    Some(tree)
 }
 
-/// So many keys: a, b, and so on.
-pub(crate) fn keys(rt: &impl Abort, alloc: Global, count: usize) -> Directory {
+/// So many keys, at most eleven: a, b, and so on; `None` where there is no memory.
+pub fn keys(alloc: Global, count: usize) -> Option<Directory> {
     let names = ["a", "b", "c", "d", "e", "f", "g", "h", "i", "j", "k"];
     let mut directory = Directory::new(alloc);
     for name in names.iter().take(count) {
-        let declared = directory.declare(key(rt, alloc, name));
-        assert!(rt; declared.is_ok());
+        let key = key(alloc, name)?;
+        directory.declare(key).ok()?;
     }
-    directory
+    Some(directory)
 }
 
 /// A store of the chain, its two lanes, and its closers.
 #[derive(Drop)]
-pub(crate) struct Opened<V> {
-    pub(crate) store: Store<V>,
-    pub(crate) first: Lane<V>,
-    pub(crate) second: Lane<V>,
-    pub(crate) closers: Vec<Closer>,
+pub struct Opened<V> {
+    /// The store.
+    pub store: Store<V>,
+    /// Lane 0.
+    pub first: Lane<V>,
+    /// Lane 1.
+    pub second: Lane<V>,
+    /// The closers of the contexts 0, 1 and 2.
+    pub closers: Vec<Closer>,
 }
 
-/// The store of the chain with these keys, where the limits have two lanes.
-pub(crate) fn open_store<V: StoreValue + Drop, R: Abort>(
-    rt: &R,
+/// The store of the chain with these keys, where the limits have two lanes; `None` where they have others, or where there is
+/// no memory.
+pub fn open_store<V: StoreValue + Drop>(
     alloc: Global,
     directory: Directory,
     limits: Limits,
-) -> Opened<V>
-    ensures first { IsLaneOf result.store.id result.first }
-    ensures second { IsLaneOf result.store.id result.second }
-    ensures closers { All (IsCloserOf result.store) result.closers.items }
-    ensures contexts { 2 < length result.store.tree }
+) -> Option<Opened<V>>
+    ensures first { IfSome result (λ o. IsLaneOf o.store.id o.first) }
+    ensures second { IfSome result (λ o. IsLaneOf o.store.id o.second) }
+    ensures closers { IfSome result (λ o. All (IsCloserOf o.store) o.closers.items) }
+    ensures contexts { IfSome result (λ o. 2 < length o.store.tree) }
 {
-    let tree = contexts(rt, alloc);
+    let tree = contexts(alloc)?;
     let Ok((store, mut lanes, closers)) = Store::open(alloc, tree, directory, limits) else {
-        panic!(rt; "no store");
+        return None;
     };
     let (Some(second), Some(first)) = (lanes.pop(), lanes.pop()) else {
-        panic!(rt; "there are no two lanes");
+        return None;
     };
-    Opened {
+    Some(Opened {
         store,
         first,
         second,
         closers,
-    }
+    })
 }
 
-/// The store of the chain with the keys a, b and c, eight tries and so many numbers.
-pub(crate) fn open_chain<R: Abort>(rt: &R, alloc: Global, numbers: u32) -> Opened<Letter>
-    ensures first { IsLaneOf result.store.id result.first }
-    ensures second { IsLaneOf result.store.id result.second }
-    ensures closers { All (IsCloserOf result.store) result.closers.items }
-    ensures contexts { 2 < length result.store.tree }
+/// The store of the chain with the keys a, b and c, eight tries and so many numbers; `None` where there is no memory.
+pub fn open_chain(alloc: Global, numbers: u32) -> Option<Opened<Letter>>
+    ensures first { IfSome result (λ o. IsLaneOf o.store.id o.first) }
+    ensures second { IfSome result (λ o. IsLaneOf o.store.id o.second) }
+    ensures closers { IfSome result (λ o. All (IsCloserOf o.store) o.closers.items) }
+    ensures contexts { IfSome result (λ o. 2 < length o.store.tree) }
 {
     let limits = Limits {
         lanes: 2,
         tries: 8,
         numbers,
     };
-    open_store(rt, alloc, keys(rt, alloc, 3), limits)
-}
-
-/// Asserts that this was answered. Tests assert by it, since a call is cheaper to prove than what `assert_eq!` writes.
-pub(crate) fn same<T: Debug + Drop + PartialEq>(rt: &impl Abort, answer: T, wanted: T, what: &str) {
-    assert_eq!(rt; answer, wanted, "{what}");
+    open_store(alloc, keys(alloc, 3)?, limits)
 }

@@ -1,5 +1,5 @@
 use Rattle.toml.specs.View.{table_view}
-use Rattle.ext_plan.specs.Laws.{NodesAreTree, TestsHaveNoChildren, HasFewCells, HasOwnLabels, NamespacesHaveParts, StepsNameLabels, StepsStayBelowRoot}
+use Rattle.ext_plan.specs.Laws.{NodesAreTree, TestsHaveNoChildren, HasFewCells, HasFewLocks, HasOwnLabels, NamespacesHaveParts, StepsNameLabels, StepsStayBelowRoot, TestsAreShort}
 use Rattle.ext_plan.proofs.Laws.{if_read}
 use Rattle.ext_plan.proofs.NeverNotUtf8.{never_not_utf8}
 use Rattle.ext_plan.proofs.read.read_plan.Goals as goal
@@ -27,3 +27,9 @@ returns-in-Ok-clause-keys c = if_read StepsNameLabels (λ plan laws. laws.keys) 
 
 pub returns-in-Ok-clause-up : goal.returns-in-Ok-clause-up
 returns-in-Ok-clause-up c = if_read StepsStayBelowRoot (λ plan laws. laws.up) c.plan_of.result (table_view c.in-Ok.top) c.plan_of.ensures
+
+pub returns-in-Ok-clause-short : goal.returns-in-Ok-clause-short
+returns-in-Ok-clause-short c = if_read TestsAreShort (λ plan laws. laws.short) c.plan_of.result (table_view c.in-Ok.top) c.plan_of.ensures
+
+pub returns-in-Ok-clause-locks : goal.returns-in-Ok-clause-locks
+returns-in-Ok-clause-locks c = if_read HasFewLocks (λ plan laws. laws.locks) c.plan_of.result (table_view c.in-Ok.top) c.plan_of.ensures

@@ -2,7 +2,7 @@ use Rattle.std.proofs.Common.{◌∙◌, ap, sym, subst}
 use Rattle.ext_model.specs.declared.event.Act.TheVariants.{Abandon, Fill}
 use Rattle.ext_run.specs.ValueStates.{after_act, keep_value}
 use Rattle.ext_run.specs.Steps.{StepEnd, or_refused}
-use Rattle.ext_run.specs.Tallies.{successful}
+use Rattle.ext_lifecycle.specs.Endings.{successful}
 use Rattle.ext_run.specs.Helpers.{Keeps, IsNotKept, call_view, place_of_call, value_view, state_view}
 use Rattle.ext_run.proofs.Acts.{outcome_ended}
 use Rattle.ext_run.proofs.value_store.ValueStore.fill_claim.Goals as goal

@@ -1,0 +1,117 @@
+//! What was spent on operations.
+use crate::fault::BenchFault;
+use std::fmt::{self, Display, Formatter, Write};
+use std::time::{Clock, CpuClock, Duration, Instant};
+
+/// What a thread spent on its operations, and from when to when.
+#[derive(Clone, Copy, Debug)]
+pub(crate) struct Span {
+    started: Instant,
+    ended: Instant,
+    processor: Duration,
+    operations: u64,
+}
+
+/// A thread's clocks, started.
+#[derive(Clone, Copy, Debug)]
+pub(crate) struct Started {
+    wall: Instant,
+    processor: Duration,
+}
+
+impl Started {
+    /// Reads the clocks.
+    pub(crate) fn now<R: Clock + CpuClock>(rt: &R) -> Result<Started, BenchFault> {
+        let processor = rt.thread_cpu_time().map_err(|_| BenchFault::Clock)?;
+        let wall = Instant::now(rt).map_err(|_| BenchFault::Clock)?;
+        Ok(Started { wall, processor })
+    }
+
+    /// Reads them again after so many operations.
+    pub(crate) fn end<R: Clock + CpuClock>(
+        self,
+        rt: &R,
+        operations: u64,
+    ) -> Result<Span, BenchFault> {
+        let ended = Instant::now(rt).map_err(|_| BenchFault::Clock)?;
+        let processor = rt.thread_cpu_time().map_err(|_| BenchFault::Clock)?;
+        Ok(Span {
+            started: self.wall,
+            ended,
+            processor: processor.saturating_sub(self.processor),
+            operations,
+        })
+    }
+}
+
+/// What threads spent in all.
+#[derive(Clone, Copy, Debug)]
+pub(crate) struct Spent {
+    wall: Duration,
+    processor: Duration,
+    operations: u64,
+}
+
+impl Spent {
+    /// Nothing.
+    pub(crate) fn nothing() -> Spent {
+        Spent {
+            wall: Duration::ZERO,
+            processor: Duration::ZERO,
+            operations: 0,
+        }
+    }
+
+    /// The same and what threads spent side by side: the wall's time is from the first start to the last end.
+    pub(crate) fn and(self, spans: &[Span]) -> Spent {
+        let Some(first) = spans.iter().map(|it| it.started).min() else {
+            return self;
+        };
+        let last = spans.iter().map(|it| it.ended).max().unwrap_or(first);
+        let mut all = self;
+        all.wall = all.wall.saturating_add(last.duration_since(first));
+        for span in spans {
+            all.processor = all.processor.saturating_add(span.processor);
+            all.operations = all.operations.saturating_add(span.operations);
+        }
+        all
+    }
+
+    /// Whether at least so many milliseconds of the wall's time were spent.
+    pub(crate) fn is_over(&self, millis: u32) -> bool {
+        self.wall >= Duration::from_millis(u64::from(millis))
+    }
+
+    /// Nanoseconds of the wall's time an operation.
+    pub(crate) fn wall_each(&self) -> Nanoseconds {
+        Nanoseconds::each(self.wall, self.operations)
+    }
+
+    /// Nanoseconds of processor time an operation.
+    pub(crate) fn processor_each(&self) -> Nanoseconds {
+        Nanoseconds::each(self.processor, self.operations)
+    }
+}
+
+/// Nanoseconds, in tenths.
+#[derive(Clone, Copy, Debug, PartialEq, Eq)]
+pub(crate) struct Nanoseconds {
+    tenths: u64,
+}
+
+impl Nanoseconds {
+    /// The time of one of so many operations, rounded down to a tenth.
+    fn each(time: Duration, operations: u64) -> Nanoseconds {
+        let tenths = time.as_nanos().saturating_mul(10) / u128::from(operations.max(1));
+        Nanoseconds {
+            tenths: u64::try_from(tenths).unwrap_or(u64::MAX),
+        }
+    }
+}
+
+impl Display for Nanoseconds {
+    fn fmt<W: Write>(&self, f: &mut Formatter<W>) -> fmt::Result {
+        let (whole, tenth) = (self.tenths / 10, self.tenths % 10);
+        write!(f, "{whole}.{tenth}")
+    }
+}

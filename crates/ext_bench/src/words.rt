@@ -1,0 +1,82 @@
+//! The words of the command line.
+use crate::case::Case;
+use std::alloc::AllocError;
+use std::rt::Env;
+
+/// What `--help` prints.
+pub(crate) const USAGE: &str = "\
+usage: ext_bench
+       ext_bench CASE THREADS ROUNDS MILLIS
+       ext_bench --help
+
+Without words a table of all cases, two seconds a case. Else a line for each of ROUNDS (1 to 1000)
+rounds, of MILLIS (1 to 600000) milliseconds each, on THREADS (1 to 14) threads:
+
+    ext_store CASE THREADS NANOSECONDS-OF-WALL-AN-OP NANOSECONDS-OF-PROCESSOR-AN-OP
+
+compute-fresh-and-close and open-256x16 run on one thread, whatever THREADS says.
+
+Cases: get-own-3 get-root-3 get-root-16 get-absent-3 put-over put-remove compute-fresh-and-close
+open-256x16 get-root-3-beside-other get-root-3-beside-same compute-hot
+";
+
+/// What the words ask for.
+#[derive(Clone, Copy, Debug, PartialEq, Eq)]
+pub(crate) enum Request {
+    /// The usage alone.
+    Usage,
+    /// The usage and the table of all cases.
+    Table,
+    /// So many rounds of a case, of so many milliseconds, on so many threads: 1 to 14.
+    Rounds {
+        case: Case,
+        threads: usize,
+        rounds: u32,
+        millis: u32,
+    },
+    /// They are not understood.
+    Refused,
+}
+
+/// What the command line asks for. Takes memory for the words. Own rule.
+pub(crate) fn request_of<R: Env + AllocGlobal>(rt: &R) -> Request {
+    match words_of(rt) {
+        Ok(Some(words)) => request_in(words.as_slice()),
+        _ => Request::Refused,
+    }
+}
+
+/// The words after the program's name, where they are texts.
+fn words_of<R: Env + AllocGlobal>(rt: &R) -> Result<Option<Vec<String>>, AllocError> {
+    let Ok(words) = std::env::args(rt) else {
+        return Ok(None);
+    };
+    Ok(Some(words.skip(1).collect(rt.alloc())?))
+}
+
+fn request_in(words: &[String]) -> Request {
+    match words {
+        [] => Request::Table,
+        [help] if help.as_str() == "--help" => Request::Usage,
+        [case, threads, rounds, millis] => {
+            rounds_in(case, threads, rounds, millis).unwrap_or(Request::Refused)
+        }
+        _ => Request::Refused,
+    }
+}
+
+fn rounds_in(case: &str, threads: &str, rounds: &str, millis: &str) -> Option<Request> {
+    let threads = number_in(threads, 14)?;
+    Some(Request::Rounds {
+        case: Case::named(case)?,
+        threads: usize::try_from(threads).ok()?,
+        rounds: number_in(rounds, 1_000)?,
+        millis: number_in(millis, 600_000)?,
+    })
+}
+
+/// The number that the word has, from 1 to the greatest.
+fn number_in(word: &str, greatest: u32) -> Option<u32> {
+    let number: u32 = word.parse().ok()?;
+    (1..=greatest).contains(&number).then_some(number)
+}

@@ -1,0 +1,81 @@
+-- What calls and closes come to does not depend on what a fault is: with other faults, as with their texts, it is the same with other faults.
+use Rattle.std.proofs.Common.{◌≡◌, ℕ, ◌+◌, Bool, List, [], ◌∷◌, ◌++◌, length, Option, Some, None, refl, ap, sym, ◌∙◌}
+use Rattle.std.specs.Prelude.{map, option_map}
+use Rattle.std.proofs.lemmas.List.{length-map, map-append}
+use Rattle.ext_lifecycle.specs.Endings.{Ending, successful, aborted, failed, is_successful, fault_in, abort_in, or_else, first_fault, first_abort, unsuccessful, total_by, total_of, with_fault, with_fault_in_total}
+use Rattle.ext_lifecycle.specs.Results.{close_ending, close_faults, result_of, with_fault_told}
+use Rattle.ext_lifecycle.proofs.EndingLaws.{weight, unsuccessful-cons, unsuccessful-closes}
+
+module _ {F G : Type 0} (to : F → G) where
+  or_else-to : (a b : Option F) → option_map to (or_else a b) ≡ or_else (option_map to a) (option_map to b)
+  or_else-to None b = refl
+  or_else-to (Some fault) b = refl
+
+  fault_in-to : (e : Ending F) → fault_in (with_fault to e) ≡ option_map to (fault_in e)
+  fault_in-to successful = refl
+  fault_in-to (aborted fault) = refl
+  fault_in-to (failed fault) = refl
+
+  abort_in-to : (e : Ending F) → abort_in (with_fault to e) ≡ option_map to (abort_in e)
+  abort_in-to successful = refl
+  abort_in-to (aborted fault) = refl
+  abort_in-to (failed fault) = refl
+
+  weight-to : (e : Ending F) → weight (with_fault to e) ≡ weight e
+  weight-to successful = refl
+  weight-to (aborted fault) = refl
+  weight-to (failed fault) = refl
+
+  pub is_successful-to : (e : Ending F) → is_successful (with_fault to e) ≡ is_successful e
+  is_successful-to successful = refl
+  is_successful-to (aborted fault) = refl
+  is_successful-to (failed fault) = refl
+
+  first_fault-to : (es : List (Ending F)) → first_fault (map (with_fault to) es) ≡ option_map to (first_fault es)
+  first_fault-to [] = refl
+  first_fault-to (e ∷ es) =
+      ap (λ f. or_else f (first_fault (map (with_fault to) es))) (fault_in-to e) ∙ ap (or_else (option_map to (fault_in e))) (first_fault-to es) ∙ sym (or_else-to (fault_in e) (first_fault es))
+
+  first_abort-to : (es : List (Ending F)) → first_abort (map (with_fault to) es) ≡ option_map to (first_abort es)
+  first_abort-to [] = refl
+  first_abort-to (e ∷ es) =
+      ap (λ f. or_else f (first_abort (map (with_fault to) es))) (abort_in-to e) ∙ ap (or_else (option_map to (abort_in e))) (first_abort-to es) ∙ sym (or_else-to (abort_in e) (first_abort es))
+
+  unsuccessful-to : (es : List (Ending F)) → unsuccessful (map (with_fault to) es) ≡ unsuccessful es
+  unsuccessful-to [] = refl
+  unsuccessful-to (e ∷ es) =
+      unsuccessful-cons (with_fault to e) (map (with_fault to) es) ∙ ap (λ n. n + unsuccessful (map (with_fault to) es)) (weight-to e) ∙ ap (λ n. weight e + n) (unsuccessful-to es)
+      ∙ sym (unsuccessful-cons e es)
+
+  total_by-to : (f a : Option F) (n : ℕ) → total_by (option_map to f) (option_map to a) n ≡ with_fault_in_total to (total_by f a n)
+  total_by-to None None n = refl
+  total_by-to None (Some x) n = refl
+  total_by-to (Some y) a n = refl
+
+  pub total_of-to : (es : List (Ending F)) → total_of (map (with_fault to) es) ≡ with_fault_in_total to (total_of es)
+  total_of-to es =
+      ap (λ f. total_by f (first_abort (map (with_fault to) es)) (unsuccessful (map (with_fault to) es))) (first_fault-to es)
+      ∙ ap (λ a. total_by (option_map to (first_fault es)) a (unsuccessful (map (with_fault to) es))) (first_abort-to es)
+      ∙ ap (total_by (option_map to (first_fault es)) (option_map to (first_abort es))) (unsuccessful-to es)
+      ∙ total_by-to (first_fault es) (first_abort es) (unsuccessful es)
+
+  -- ---- closes
+
+  close_ending-to : (c : Option F) → close_ending (option_map to c) ≡ with_fault to (close_ending c)
+  close_ending-to None = refl
+  close_ending-to (Some fault) = refl
+
+  closes-to : (cs : List (Option F)) → map close_ending (map (option_map to) cs) ≡ map (with_fault to) (map close_ending cs)
+  closes-to [] = refl
+  closes-to (c ∷ cs) = ap (λ e. e ∷ map close_ending (map (option_map to) cs)) (close_ending-to c) ∙ ap (λ es. with_fault to (close_ending c) ∷ es) (closes-to cs)
+
+  pub close_faults-to : (cs : List (Option F)) → close_faults (map (option_map to) cs) ≡ close_faults cs
+  close_faults-to cs = sym (unsuccessful-closes (map (option_map to) cs)) ∙ ap unsuccessful (closes-to cs) ∙ unsuccessful-to (map close_ending cs) ∙ unsuccessful-closes cs
+
+  pub result_of-to : (node : ℕ) (is_test : Bool) (es : List (Ending F)) (computed found : ℕ) (cs : List (Option F))
+      → result_of node is_test (map (with_fault to) es) computed found (map (option_map to) cs) ≡ with_fault_told to (result_of node is_test es computed found cs)
+  result_of-to node is_test es computed found cs =
+      let ends : map (with_fault to) es ++ map close_ending (map (option_map to) cs) ≡ map (with_fault to) (es ++ map close_ending cs) = ap (λ l. map (with_fault to) es ++ l) (closes-to cs) ∙ sym (map-append (with_fault to) es (map close_ending cs)) in
+      ap (λ t. record { node = node; is_test = is_test; status = t.status; fault = t.fault; more = t.more; computed = computed; found = found; closed = length (map (option_map to) cs); close_faults = close_faults (map (option_map to) cs) }) (ap total_of ends ∙ total_of-to (es ++ map close_ending cs))
+      ∙ ap (λ n. record { node = node; is_test = is_test; status = (total_of (es ++ map close_ending cs)).status; fault = option_map to (total_of (es ++ map close_ending cs)).fault; more = (total_of (es ++ map close_ending cs)).more; computed = computed; found = found; closed = n; close_faults = close_faults (map (option_map to) cs) }) (length-map cs (option_map to))
+      ∙ ap (λ n. record { node = node; is_test = is_test; status = (total_of (es ++ map close_ending cs)).status; fault = option_map to (total_of (es ++ map close_ending cs)).fault; more = (total_of (es ++ map close_ending cs)).more; computed = computed; found = found; closed = length cs; close_faults = n }) (close_faults-to cs)

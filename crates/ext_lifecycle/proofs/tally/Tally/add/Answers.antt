@@ -1,0 +1,19 @@
+use Rattle.std.proofs.Common.{ap, sym, ◌∙◌, arith}
+use Rattle.ext_lifecycle.specs.Helpers.{total_in, with_ending}
+use Rattle.ext_lifecycle.specs.Lifecycle.{ending_of}
+use Rattle.ext_lifecycle.proofs.Tallying.{tally_of-more}
+use Rattle.ext_lifecycle.proofs.tally.Tally.add.Goals as goal
+
+pub returns-in-Successful-clause-tally : goal.returns-in-Successful-clause-tally
+returns-in-Successful-clause-tally c = λ os is.
+    tally_of-more c.args.self.now _ os c.args.outcome is (ap (λ v. with_ending (total_in c.args.self.now) (ending_of v)) (sym c.in-Successful.is)) (omega (arith, c.from.ensures)) (omega (arith, c.from-2.ensures))
+
+pub returns-in-Aborted-clause-tally : goal.returns-in-Aborted-clause-tally
+returns-in-Aborted-clause-tally c = λ os is.
+    tally_of-more c.args.self.now _ os c.args.outcome is (c.add_abort.ensures.total ∙ ap (λ v. with_ending (total_in c.args.self.now) (ending_of v)) (sym c.in-Aborted.is))
+    (omega (arith, c.from.ensures, c.add_abort.ensures.computed)) (omega (arith, c.from-2.ensures, c.add_abort.ensures.found))
+
+pub returns-in-Failed-clause-tally : goal.returns-in-Failed-clause-tally
+returns-in-Failed-clause-tally c = λ os is.
+    tally_of-more c.args.self.now _ os c.args.outcome is (c.add_fault.ensures.total ∙ ap (λ v. with_ending (total_in c.args.self.now) (ending_of v)) (sym c.in-Failed.is))
+    (omega (arith, c.from.ensures, c.add_fault.ensures.computed)) (omega (arith, c.from-2.ensures, c.add_fault.ensures.found))

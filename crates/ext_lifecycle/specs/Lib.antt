@@ -1,0 +1,5 @@
+pub mod Endings
+pub mod Results
+pub mod Lifecycle
+pub mod Callbacks
+pub mod Helpers

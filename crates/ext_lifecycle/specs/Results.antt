@@ -1,0 +1,99 @@
+-- What is told of a node: how its calls ended and what they counted, and how the closes of its context ended, which come after them. A close fails or is
+-- successful. The fault of a close is told where no call failed; each other fault and abort is counted.
+--
+-- JUnit 5 User Guide, "Keeping State in Extensions", for closes at the end of a context; what is told of a node is an own rule.
+use Rattle.std.specs.Prelude.{ℕ, ◌-◌, Bool, List, [], ◌∷◌, ◌++◌, length, map, Option, Some, None, is_some, option_map}
+use Rattle.std.specs.List.{count_by}
+use Rattle.ext_model.specs.declared.look.Fault.{Fault}
+use Rattle.ext_lifecycle.specs.declared.closes.Closes.{Closes}
+use Rattle.ext_lifecycle.specs.declared.node_result.NodeResult.{NodeResult}
+use Rattle.ext_lifecycle.specs.declared.status.Status.{Status}
+use Rattle.ext_lifecycle.specs.declared.status.Status.TheVariants as statuses
+use Rattle.ext_lifecycle.specs.Endings.{Ending, successful, failed, or_else, total_of}
+
+-- a node's result, whose fault is an `F`
+pub record ResultOf (F : Type 0) : Type 0 where
+  pub node : ℕ
+  pub is_test : Bool
+  pub status : Status
+  pub fault : Option F
+  pub more : ℕ
+  pub computed : ℕ
+  pub found : ℕ
+  pub closed : ℕ
+  pub close_faults : ℕ
+
+-- what a result in memory tells
+abbrev pub told : NodeResult → ResultOf Fault
+told r = record {
+  node = r.node;
+  is_test = r.is_test;
+  status = r.status;
+  fault = r.fault;
+  more = r.more;
+  computed = r.computed;
+  found = r.found;
+  closed = r.closed;
+  close_faults = r.close_faults;
+}
+
+-- the same with another fault, as with its text
+abbrev pub with_fault_told : {F G : Type 0} → (F → G) → ResultOf F → ResultOf G
+with_fault_told to r = record {
+  node = r.node;
+  is_test = r.is_test;
+  status = r.status;
+  fault = option_map to r.fault;
+  more = r.more;
+  computed = r.computed;
+  found = r.found;
+  closed = r.closed;
+  close_faults = r.close_faults;
+}
+
+module _ {F : Type 0} where
+  -- how a close ended, by its fault if it had one
+  abbrev pub close_ending : Option F → Ending F
+  close_ending None = successful
+  close_ending (Some fault) = failed fault
+
+  -- the first close that failed
+  abbrev pub first_of : List (Option F) → Option F
+  first_of [] = None
+  first_of (close ∷ more) = or_else close (first_of more)
+
+  -- how many closes failed
+  abbrev pub close_faults : List (Option F) → ℕ
+  close_faults closes = count_by is_some closes
+
+  -- of a node that ran: by how its calls ended, how many values they computed and found, and by its closes
+  abbrev pub result_of : ℕ → Bool → List (Ending F) → ℕ → ℕ → List (Option F) → ResultOf F
+  result_of node is_test calls computed found closes = record {
+    node = node;
+    is_test = is_test;
+    status = (total_of (calls ++ map close_ending closes)).status;
+    fault = (total_of (calls ++ map close_ending closes)).fault;
+    more = (total_of (calls ++ map close_ending closes)).more;
+    computed = computed;
+    found = found;
+    closed = length closes;
+    close_faults = close_faults closes;
+  }
+
+  -- of a node that did not run
+  abbrev pub skipped_result : ℕ → Bool → ResultOf F
+  skipped_result node is_test = record {
+    node = node;
+    is_test = is_test;
+    status = statuses.Skipped;
+    fault = None;
+    more = 0;
+    computed = 0;
+    found = 0;
+    closed = 0;
+    close_faults = 0;
+  }
+
+-- closes, counted
+abbrev pub closes_of : List (Option Fault) → Closes
+closes_of closes = record { closed = length closes; first_fault = first_of closes; more_faults = close_faults closes - 1 }

@@ -1,0 +1,57 @@
+//! How a call ended.
+ghost use Rattle.std.specs.Prelude.{◌≡◌};
+
+use ext_model::Fault;
+
+/// How a call ended. Source: Javadoc type `TestExecutionResult`.
+#[derive(Debug, Drop, PartialEq, Eq)]
+pub enum Verdict {
+    /// It did what it should.
+    Successful,
+    /// It was given up, with this text.
+    Aborted(Fault),
+    /// It failed, with this fault.
+    Failed(Fault),
+}
+
+impl Verdict {
+    ghost use Rattle.ext_lifecycle.specs.Endings.{is_successful};
+    ghost use Rattle.ext_lifecycle.specs.Lifecycle.{ending_of};
+
+    /// Tests whether the call was successful. Takes no memory. Own rule.
+    pub fn is_successful(&self) -> bool
+        ensures { result ≡ is_successful (ending_of self.now) }
+    {
+        match self {
+            Verdict::Successful => true,
+            Verdict::Aborted(_) => false,
+            Verdict::Failed(_) => false,
+        }
+    }
+}
+
+/// What one call came to. Own rule.
+#[derive(Debug, Drop, PartialEq, Eq)]
+pub struct Outcome {
+    /// How it ended.
+    pub verdict: Verdict,
+    /// How many values it computed.
+    pub computed: u32,
+    /// How many values it found where it would have computed one.
+    pub found: u32,
+}
+
+impl Outcome {
+    /// Of a call that computed nothing, and found nothing in its place. Takes no memory. Own rule.
+    pub fn of(verdict: Verdict) -> Outcome
+        ensures verdict { result.verdict ≡ verdict }
+        ensures computed { result.computed ≡ 0 }
+        ensures found { result.found ≡ 0 }
+    {
+        Outcome {
+            verdict,
+            computed: 0,
+            found: 0,
+        }
+    }
+}

@@ -1,0 +1,69 @@
+//! Locks that a lane waits for, one after another.
+ghost use Rattle.std.specs.Prelude.{◌≡◌, ◌<◌, true, false, [], ◌∷◌};
+ghost use Rattle.ext_history.specs.Views.{seen};
+ghost use Rattle.ext_locks.specs.declared.event.LockMode.{LockMode};
+ghost use Rattle.ext_locks.specs.History.{event, holds};
+ghost use Rattle.ext_locks.specs.Sets.{locks_of, takes_of, HoldsNothing, HoldsExactly};
+ghost use Rattle.ext_locks.specs.Steps.{lane_at, IsLane, Makes, HeldBut, IsWithin};
+
+use crate::rule::{LaneSeat, LockWords};
+use crate::steps::take_key;
+use crate::{LockMode, LockNo, LockRefusal};
+use ext_waiters::Waiters;
+use std::sync::Wait;
+
+/// What all lanes share: the words of the locks, who waits for one, and how many exchanges a try makes at most.
+#[derive(Drop)]
+pub(crate) struct SharedLocks<'a> {
+    pub words: &'a LockWords,
+    pub waiters: &'a Waiters,
+    pub tries: u32,
+}
+
+/// Takes a lock, however often it has to try: what met another holder is done again after a wake, and what other lanes
+/// were in the way of at once.
+fn wait_for_key<R: Wait>(
+    rt: &R,
+    locks: &SharedLocks<'_>,
+    seat: &mut LaneSeat,
+    lane: usize,
+    key: LockNo,
+    mode: LockMode,
+)
+    requires lane { IsLane locks.now.words.now.table_id locks.now.words.now.key.locks seat.old lane }
+    requires key { key < locks.now.words.now.key.locks }
+    requires unheld { (held : LockMode) → holds (seen seat.old.me.0.fronts) key held lane ≡ false }
+    ensures taken { Makes seat.old seat.new lane (event lane key mode true ∷ []) }
+    ensures held { HeldBut seat.old.me.0.fronts seat.new.me.0.fronts lane key mode true }
+{
+    let mut waiting = locks.waiters.begin();
+    for _ in rt.forever() {
+        match take_key(locks.words, seat, lane, key, mode, locks.tries) {
+            Ok(()) => return,
+            Err(LockRefusal::Taken(_)) => waiting.announce_or_sleep(rt),
+            Err(LockRefusal::Contended(_)) => {}
+        }
+    }
+    unreachable!()
+}
+
+/// Takes all locks of a set, one after another, and waits for each until it is free.
+pub(crate) fn wait_for_keys<R: Wait>(
+    rt: &R,
+    locks: &SharedLocks<'_>,
+    seat: &mut LaneSeat,
+    lane: usize,
+    modes: &[Option<LockMode>],
+)
+    requires lane { IsLane locks.now.words.now.table_id locks.now.words.now.key.locks seat.old lane }
+    requires keys { IsWithin modes.now locks.now.words.now.key.locks }
+    requires nothing { HoldsNothing (lane_at seat.old lane) }
+    ensures taken { Makes seat.old seat.new lane (takes_of lane (locks_of modes.now)) }
+    ensures held { HoldsExactly (lane_at seat.new lane) (locks_of modes.now) }
+{
+    for key in 0..modes.len() {
+        if let Some(mode) = modes[key] {
+            wait_for_key(rt, locks, seat, lane, key, mode);
+        }
+    }
+}

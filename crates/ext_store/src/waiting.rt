@@ -1,0 +1,392 @@
+//! The waiting forms of the calls: what met a running factory is done again once a claim has ended, and what other lanes
+//! were in the way of at once.
+ghost use Rattle.std.specs.Prelude.{ℕ, ◌≡◌, ◌≢◌, ◌<◌, [], length, Contains, Err, IfErr, IfOk, MatchResult};
+ghost use Rattle.std.specs.Fn.{FnOnceReturnsAt};
+ghost use Rattle.ext_model.specs.Calls.{IsHeld, MayStoreNow};
+ghost use Rattle.ext_tree.specs.Keys.{HasNumber};
+ghost use Rattle.ext_values.specs.Known.{KeepsKnown, Learns};
+ghost use Rattle.ext_cells.specs.declared.refusal.CellRefusal.TheVariants as cell_refusal;
+ghost use Rattle.ext_cells.specs.Calls as cells;
+ghost use Rattle.ext_store.specs.declared.fault.Refusal.TheVariants as refusal;
+ghost use Rattle.ext_store.specs.declared.computed.Compute.TheVariants.{Refused};
+ghost use Rattle.ext_store.specs.Stores.{IsKeptBy, IsLaneOf, StillKeeps, StillKeepsBut};
+ghost use Rattle.ext_store.specs.Frames.{Frame, stored_by};
+ghost use Rattle.ext_store.specs.Calls.{Gets, KeepsAs, KeepsNothing, Puts, Removes};
+ghost use Rattle.ext_store.specs.Looking.{IsTrail, LooksAt};
+ghost use Rattle.ext_store.specs.Computing.{Fills, HandsBack, IfComputed, IsUnkept, Uses, without_factory};
+ghost use Rattle.ext_store.specs.Waiting.{ClaimsAfterWaits, ComputesAfterWaits, IsDecided, IsDecidedCompute, IsDecidedFault, IsDecidedLook, IsDecidedUnused};
+
+use crate::computed::Unused;
+use crate::{Compute, KeepFault, Kept, Lane, Refusal, Store, StoreValue};
+use ext_cells::{CellLane, CellRefusal, Claim};
+use ext_model::{ContextNo, Fault, KeyNo, Look};
+use ext_tree::Key;
+use ext_waiters::Waiting;
+use std::sync::Wait;
+
+// What a lane does before it tries again: where it met a running factory it announces that it waits, or sleeps; where
+// other lanes were in the way, nothing.
+fn pause<R: Wait>(rt: &R, waiting: &mut Waiting<'_>, met: Refusal) {
+    if matches!(met, Refusal::Busy(_)) {
+        waiting.announce_or_sleep(rt);
+    }
+}
+
+impl<V: StoreValue + Drop> Store<V> {
+    /// As `get`, but where a context that computes a value decides, it waits, parked, until a claim has ended, and looks
+    /// again; and where other lanes were in the way it looks again at once. So it never answers `Look::Busy`, and is
+    /// refused as `UnknownKey` alone. Takes no memory. It may wait: it promises its clauses if it returns.
+    ///
+    /// Javadoc `ExtensionContext.Store`, `get`, which waits for a running factory too.
+    #[tactic(auto, unfolding(crate::specs::Frames::Frame))]
+    pub fn get_wait<R: Wait>(
+        &self,
+        rt: &R,
+        lane: &mut Lane<V>,
+        context: ContextNo,
+        key: &Key,
+    ) -> Result<Look, Refusal>
+        requires lane { IsLaneOf self.now.id lane.old }
+        requires context { context < length self.now.tree }
+        ensures unknown { ¬ Contains self.now.keys key.now → (result ≡ Err refusal.UnknownKey) × (lane.new ≡ lane.old) }
+        ensures answer { (number : ℕ) → HasNumber self.now.keys key.now number → Gets self.now context number lane.old.cells lane.new.cells result }
+        ensures decided { MatchResult result IsDecidedLook IsDecided }
+        ensures known { lane.new.known ≡ lane.old.known }
+        ensures lane { IsLaneOf self.now.id lane.new }
+        ensures kept { StillKeeps lane.old lane.new }
+        ensures frame { Frame self.now.id [] lane.old lane.new }
+    {
+        let Some(key) = self.directory.number_of(key) else {
+            return Err(Refusal::UnknownKey);
+        };
+        let path = self.tree.path(context);
+        Ok(self.wait_along(rt, &mut lane.cells, path.as_slice(), key))
+    }
+
+    /// As `put`, but where a lane computes a value for the context it waits, parked, until a claim has ended, and tries
+    /// again; and where other lanes were in the way it tries again at once. So it is never refused as `Busy` or
+    /// `Contended`, and else as `put` is, with the kept number handed back. Takes no memory. It may wait: it promises its
+    /// clauses if it returns.
+    ///
+    /// Javadoc `ExtensionContext.Store`, `put`. That it waits for a running factory is an own rule: JUnit 5 replaces at
+    /// once.
+    #[tactic(auto, unfolding(crate::specs::Frames::Frame))]
+    pub fn put_wait<R: Wait>(
+        &self,
+        rt: &R,
+        lane: &mut Lane<V>,
+        context: ContextNo,
+        key: &Key,
+        kept: Kept,
+    ) -> Result<Option<u32>, (Kept, Refusal)>
+        requires lane { IsLaneOf self.now.id lane.old }
+        requires context { context < length self.now.tree }
+        requires kept { IsKeptBy lane.old kept }
+        ensures unknown { ¬ Contains self.now.keys key.now → (result ≡ Err (kept, refusal.UnknownKey)) × (lane.new ≡ lane.old) }
+        ensures answer { (number : ℕ) → HasNumber self.now.keys key.now number → Puts self.now context number kept lane.old.cells lane.new.cells result }
+        ensures decided { IfErr result (λ e. IsDecided e.1) }
+        ensures handed_back { IfErr result (λ e. e.0 ≡ kept) }
+        ensures known { lane.new.known ≡ lane.old.known }
+        ensures lane { IsLaneOf self.now.id lane.new }
+        ensures kept { MatchResult result (λ _. StillKeepsBut kept lane.old lane.new) (λ _. StillKeeps lane.old lane.new) }
+        ensures frame { Frame self.now.id (stored_by kept result) lane.old lane.new }
+    {
+        let Some(key) = self.directory.number_of(key) else {
+            return Err((kept, Refusal::UnknownKey));
+        };
+        self.wait_to_put(rt, &mut lane.cells, context, key, kept)
+    }
+
+    /// As `remove`, but where a lane computes a value for the context it waits, parked, until a claim has ended, and
+    /// tries again; and where other lanes were in the way it tries again at once. So it is never refused as `Busy` or
+    /// `Contended`, and else as `remove` is. Takes no memory. It may wait: it promises its clauses if it returns.
+    ///
+    /// Javadoc `ExtensionContext.Store`, `remove`. That it waits for a running factory is an own rule: JUnit 5 takes the
+    /// entry at once.
+    #[tactic(auto, unfolding(crate::specs::Frames::Frame))]
+    pub fn remove_wait<R: Wait>(
+        &self,
+        rt: &R,
+        lane: &mut Lane<V>,
+        context: ContextNo,
+        key: &Key,
+    ) -> Result<Option<u32>, Refusal>
+        requires lane { IsLaneOf self.now.id lane.old }
+        requires context { context < length self.now.tree }
+        ensures unknown { ¬ Contains self.now.keys key.now → (result ≡ Err refusal.UnknownKey) × (lane.new ≡ lane.old) }
+        ensures answer { (number : ℕ) → HasNumber self.now.keys key.now number → Removes self.now context number lane.old.cells lane.new.cells result }
+        ensures decided { IfErr result IsDecided }
+        ensures known { lane.new.known ≡ lane.old.known }
+        ensures lane { IsLaneOf self.now.id lane.new }
+        ensures kept { StillKeeps lane.old lane.new }
+        ensures frame { Frame self.now.id [] lane.old lane.new }
+    {
+        let Some(key) = self.directory.number_of(key) else {
+            return Err(Refusal::UnknownKey);
+        };
+        self.wait_to_remove(rt, &mut lane.cells, context, key)
+    }
+
+    /// As `keep`, but where other lanes were in the way it draws again at once. So it is never refused as `Contended`,
+    /// and else as `keep` is, with the value handed back. Takes memory for the value. It may wait: it promises its clauses
+    /// if it returns. It does not sleep, since no factory is in the way of a number. Own rule.
+    #[tactic(auto, unfolding(crate::specs::Calls::KeepFails, crate::specs::Frames::Frame))]
+    pub fn keep_wait<R: Wait>(
+        &self,
+        rt: &R,
+        lane: &mut Lane<V>,
+        value: V,
+    ) -> Result<Kept, (V, KeepFault)>
+        requires lane { IsLaneOf self.now.id lane.old }
+        ensures answer { MatchResult result (KeepsAs value lane.old lane.new) (λ e. KeepsNothing self.now value lane.old lane.new e.0 e.1) }
+        ensures decided { IfErr result (λ e. IsDecidedFault e.1) }
+        ensures lane { IsLaneOf self.now.id lane.new }
+        ensures known { KeepsKnown lane.old.known lane.new.known }
+        ensures kept { StillKeeps lane.old lane.new }
+        ensures apart { IfOk result (λ number. (m : ℕ) → IsKeptBy lane.old m → m ≢ number) }
+        ensures frame { Frame self.now.id [] lane.old lane.new }
+    {
+        self.look_back();
+        let boxed = match Box::new(self.alloc, value) {
+            Ok(boxed) => boxed,
+            Err(failed) => return Err((failed.value, KeepFault::Memory)),
+        };
+        let number = match self.wait_to_draw(rt, &mut lane.cells) {
+            Ok(number) => number,
+            Err(why) => return Err((Box::into_inner(boxed), KeepFault::of(why))),
+        };
+        if let Err(back) = lane.notes.place(&self.values, number, boxed) {
+            return Err((Box::into_inner(back), KeepFault::Unplaced));
+        }
+        Ok(Kept { number })
+    }
+
+    /// As `compute`, but where a running factory decides a look-up or the claim it waits, parked, until a claim has ended,
+    /// and begins anew; and where other lanes were in the way it begins anew at once, or draws again where its own
+    /// factory has run. So it is never refused as `Busy` or `Contended`, nor is its value `Unkept` as `Contended`, and
+    /// else it answers as `compute` does. Before that it may claim the context's cell and give it up several times; it
+    /// holds no claim while it sleeps, so that no two lanes wait for each other. The factory is called at most once. Takes
+    /// memory for the value. It may wait: it promises its clauses if it returns.
+    ///
+    /// Javadoc `ExtensionContext.Store`, `getOrComputeIfAbsent`, which waits for a running factory too.
+    #[tactic(auto, unfolding(crate::specs::Frames::Frame))]
+    pub fn compute_wait<R: Wait, F: FnOnce(&Key) -> Result<V, Fault>>(
+        &self,
+        rt: &R,
+        lane: &mut Lane<V>,
+        context: ContextNo,
+        key: &Key,
+        factory: F,
+    ) -> Compute<V, F>
+        requires lane { IsLaneOf self.now.id lane.old }
+        requires context { context < length self.now.tree }
+        requires factory { F.IsAlwaysCallable factory }
+        ensures unknown { ¬ Contains self.now.keys key.now → (result ≡ Refused refusal.UnknownKey factory) × (lane.new ≡ lane.old) }
+        ensures answer { (number : ℕ) → HasNumber self.now.keys key.now number → ComputesAfterWaits self.now context number lane.old.cells lane.new.cells (without_factory result) }
+        ensures decided { IsDecidedCompute result }
+        ensures factory { Uses (λ answer. FnOnceReturnsAt F.FnOnce factory key.now answer) lane.old.known lane.new.known (without_factory result) }
+        ensures handed_back { HandsBack factory result }
+        ensures known { KeepsKnown lane.old.known lane.new.known }
+        ensures lane { IsLaneOf self.now.id lane.new }
+        ensures kept { StillKeeps lane.old lane.new }
+        ensures apart { IfComputed result (λ number. (m : ℕ) → IsKeptBy lane.old m → m ≢ number) }
+        ensures frame { Frame self.now.id [] lane.old lane.new }
+    {
+        let Some(number) = self.directory.number_of(key) else {
+            return Compute::Refused {
+                refusal: Refusal::UnknownKey,
+                unused: factory,
+            };
+        };
+        let claim = match self.wait_to_claim(rt, &mut lane.cells, context, number) {
+            Ok(claim) => claim,
+            Err(why) => return why.hand_back(factory),
+        };
+        let value = match factory(key) {
+            Ok(value) => value,
+            Err(fault) => {
+                self.abandon(&mut lane.cells, claim);
+                return Compute::Failed(fault);
+            }
+        };
+        match self.wait_to_fill(rt, lane, claim, value) {
+            Ok(number) => Compute::Computed { number },
+            Err((value, cause)) => Compute::Unkept { value, cause },
+        }
+    }
+
+    // Keeps the value and stores its number in the claimed cell, or gives the claim up.
+    #[tactic(auto, unfolding(crate::specs::Frames::Frame))]
+    fn wait_to_fill<R: Wait>(
+        &self,
+        rt: &R,
+        lane: &mut Lane<V>,
+        claim: Claim,
+        value: V,
+    ) -> Result<u32, (V, KeepFault)>
+        requires lane { IsLaneOf self.now.id lane.old }
+        requires held { IsHeld lane.old.cells.view claim }
+        ensures events { MatchResult result (Fills self.now.id.cells.limits [] claim lane.old.cells.view lane.new.cells.view) (λ e. IsUnkept self.now.id.cells.limits self.now.tries [] claim lane.old.cells.view lane.new.cells.view e.1) }
+        ensures decided { IfErr result (λ e. IsDecidedFault e.1) }
+        ensures known { MatchResult result (λ number. Learns lane.old.known lane.new.known number value) (λ e. (e.0 ≡ value) × (lane.new.known ≡ lane.old.known)) }
+        ensures apart { IfOk result (λ number. (m : ℕ) → IsKeptBy lane.old m → m ≢ number) }
+        ensures frame { Frame self.now.id [] lane.old lane.new }
+    {
+        match self.keep_wait(rt, lane, value) {
+            Ok(kept) => {
+                let number = kept.number;
+                self.fill(&mut lane.cells, claim, number);
+                Ok(number)
+            }
+            Err(unkept) => {
+                self.abandon(&mut lane.cells, claim);
+                Err(unkept)
+            }
+        }
+    }
+
+    // Claims the cell of the key in the context where a look-up from there finds nothing, once no factory is in the
+    // way. What meets a factory in an ancestor has given its claim up before it waits.
+    fn wait_to_claim<R: Wait>(
+        &self,
+        rt: &R,
+        lane: &mut CellLane,
+        context: ContextNo,
+        key: KeyNo,
+    ) -> Result<Claim, Unused>
+        requires lane { lane.old.cells ≡ self.now.id.cells }
+        requires context { context < length self.now.tree }
+        requires key { key < length self.now.keys }
+        ensures lane { lane.new.cells ≡ lane.old.cells }
+        ensures claim { ClaimsAfterWaits self.now context key lane.old.view lane.new.view result }
+        ensures decided { IfErr result IsDecidedUnused }
+    {
+        let mut waiting = self.waiters.begin();
+        for _ in rt.forever() {
+            let met = match self.claim_missing(lane, context, key) {
+                Ok(claim) => return Ok(claim),
+                Err(Unused::Found { at, number }) => return Err(Unused::Found { at, number }),
+                Err(Unused::Refused(why)) => why,
+            };
+            if met.is_decided() {
+                return Err(Unused::Refused(met));
+            }
+            pause(rt, &mut waiting, met);
+        }
+        unreachable!()
+    }
+}
+
+impl<V> Store<V> {
+    // The look-up of the key along the path, once no factory decides it.
+    fn wait_along<R: Wait>(
+        &self,
+        rt: &R,
+        lane: &mut CellLane,
+        path: &[ContextNo],
+        key: KeyNo,
+    ) -> Look
+        requires lane { lane.old.cells ≡ self.now.id.cells }
+        requires path { IsTrail self.now path.now }
+        requires key { key < length self.now.keys }
+        ensures lane { lane.new.cells ≡ lane.old.cells }
+        ensures look { LooksAt self.now path.now key lane.old lane.new result }
+        ensures decided { IsDecidedLook result }
+    {
+        let mut waiting = self.waiters.begin();
+        for _ in rt.forever() {
+            let met = match self.look_along(lane, path, key) {
+                Ok(Look::Absent) => return Look::Absent,
+                Ok(Look::Found { at, number }) => return Look::Found { at, number },
+                Ok(Look::Closed(at)) => return Look::Closed(at),
+                Ok(Look::Busy(at)) => Refusal::Busy(at),
+                Err(why) => why,
+            };
+            pause(rt, &mut waiting, met);
+        }
+        unreachable!()
+    }
+
+    // Stores the kept number, once no factory is in the way.
+    fn wait_to_put<R: Wait>(
+        &self,
+        rt: &R,
+        lane: &mut CellLane,
+        context: ContextNo,
+        key: KeyNo,
+        kept: Kept,
+    ) -> Result<Option<u32>, (Kept, Refusal)>
+        requires lane { lane.old.cells ≡ self.now.id.cells }
+        requires context { context < length self.now.tree }
+        requires key { key < length self.now.keys }
+        requires kept { MayStoreNow lane.old.view kept }
+        ensures lane { lane.new.cells ≡ lane.old.cells }
+        ensures answer { Puts self.now context key kept lane.old lane.new result }
+        ensures decided { IfErr result (λ e. IsDecided e.1) }
+        ensures handed_back { IfErr result (λ e. e.0 ≡ kept) }
+    {
+        let mut kept = kept;
+        let mut waiting = self.waiters.begin();
+        for _ in rt.forever() {
+            let (back, met) = match self.put_at(lane, context, key, kept) {
+                Ok(stood) => return Ok(stood),
+                Err(refused) => refused,
+            };
+            if met.is_decided() {
+                return Err((back, met));
+            }
+            kept = back;
+            pause(rt, &mut waiting, met);
+        }
+        unreachable!()
+    }
+
+    // Takes out what stands, once no factory is in the way.
+    fn wait_to_remove<R: Wait>(
+        &self,
+        rt: &R,
+        lane: &mut CellLane,
+        context: ContextNo,
+        key: KeyNo,
+    ) -> Result<Option<u32>, Refusal>
+        requires lane { lane.old.cells ≡ self.now.id.cells }
+        requires context { context < length self.now.tree }
+        requires key { key < length self.now.keys }
+        ensures lane { lane.new.cells ≡ lane.old.cells }
+        ensures answer { Removes self.now context key lane.old lane.new result }
+        ensures decided { IfErr result IsDecided }
+    {
+        let mut waiting = self.waiters.begin();
+        for _ in rt.forever() {
+            let met = match self.remove_at(lane, context, key) {
+                Ok(stood) => return Ok(stood),
+                Err(why) => why,
+            };
+            if met.is_decided() {
+                return Err(met);
+            }
+            pause(rt, &mut waiting, met);
+        }
+        unreachable!()
+    }
+
+    // Draws the next number, however often other lanes are in the way.
+    fn wait_to_draw<R: Wait>(&self, rt: &R, lane: &mut CellLane) -> Result<u32, CellRefusal>
+        requires lane { lane.old.cells ≡ self.now.id.cells }
+        ensures lane { lane.new.cells ≡ lane.old.cells }
+        ensures reply { cells.Answers self.now.tries lane.old lane.new cells.number_acts (cells.number_reply lane.old) result }
+        ensures storable { IfOk result (MayStoreNow lane.new.view) }
+        ensures decided { result ≢ Err cell_refusal.Contended }
+    {
+        for _ in rt.forever() {
+            let why = match self.cells.next_number(lane) {
+                Ok(number) => return Ok(number),
+                Err(why) => why,
+            };
+            if why != CellRefusal::Contended {
+                return Err(why);
+            }
+        }
+        unreachable!()
+    }
+}

@@ -1,0 +1,175 @@
+//! The code of docs/GUIDE.md: its first hour, and a server that is made once.
+ghost use Rattle.std.specs.Prelude.{◌≡◌, ◌<◌, true, length};
+ghost use Rattle.ext_store.specs.Stores.{IsLaneOf};
+
+use crate::same::same;
+use ext_model::{Fault, Look};
+use ext_store::{Compute, Lane, Limits, Refusal, Store, StoreValue};
+use ext_store_rows::{Opened, open_store};
+use ext_tree::{Directory, Key, Namespace};
+use std::alloc::Global;
+use std::process::Abort;
+use std::sync::Wait;
+use std::test::Fail;
+use std::thread;
+
+/// A value: what an extension makes once, and all tests below find.
+#[derive(Debug, Drop, PartialEq, Eq)]
+struct Server {
+    port: u16,
+}
+
+impl StoreValue for Server {
+    ghost is_closeable = { λ _. true };
+
+    fn closeable(&self) -> bool {
+        true
+    }
+}
+
+/// The key of the server.
+fn server_key(alloc: Global) -> Result<Key, Fail> {
+    Ok(Key::new(alloc, Namespace::create(alloc, &["web"])?, "server")?)
+}
+
+/// The declared keys of the run.
+fn server_keys(alloc: Global) -> Result<Directory, Fail> {
+    let mut directory = Directory::new(alloc);
+    directory.declare(server_key(alloc)?)?;
+    Ok(directory)
+}
+
+/// A store for the chain's server, with a lane for each of two threads.
+fn open_for_servers<R: Abort>(rt: &R, alloc: Global, directory: Directory) -> Opened<Server>
+    ensures first { IsLaneOf result.store.id result.first }
+    ensures second { IsLaneOf result.store.id result.second }
+    ensures contexts { 2 < length result.store.tree }
+{
+    let limits = Limits {
+        lanes: 2,
+        tries: 64,
+        numbers: 1_000,
+    };
+    let Some(opened) = open_store(alloc, directory, limits) else {
+        panic!(rt; "no store");
+    };
+    opened
+}
+
+/// A thread with a lane of its own: it makes the server and stores it in the engine's context.
+fn start_server(store: &Store<Server>, mut lane: Lane<Server>, key: &Key) -> Lane<Server>
+    requires lane { IsLaneOf store.now.id lane }
+    requires engine { 0 < length store.now.tree }
+    ensures { IsLaneOf store.now.id result }
+{
+    if let Ok(kept) = store.keep(&mut lane, Server { port: 8080 }) {
+        let _stood = store.put(&mut lane, 0, key, kept).is_ok();
+    }
+    lane
+}
+
+#[test]
+fn first_hour(rt: HostRuntime) -> Result<(), Fail> {
+    let key = &server_key(rt.alloc())?;
+    let Opened {
+        store,
+        first,
+        mut second,
+        ..
+    } = open_for_servers(&rt, rt.alloc(), server_keys(rt.alloc())?);
+
+    let shared = &store;
+    let (mut first, _) = thread::join(
+        &rt,
+        move || -> Lane<Server>
+            requires lane { IsLaneOf shared.now.id first }
+            requires engine { 0 < length shared.now.tree }
+            ensures { IsLaneOf shared.entry.now.id result }
+        { start_server(shared, first, key) },
+        || (),
+    );
+
+    let found = Look::Found { at: 0, number: 1 };
+    same(
+        &rt,
+        store.get(&mut second, 2, key),
+        Ok(found),
+        "the look-up",
+    );
+    let server = store.show(&mut second, 1);
+    same(&rt, server, Some(&Server { port: 8080 }), "the server");
+    store.meet(&mut first, &mut second);
+    Ok(())
+}
+
+/// A test that needs the server: it finds the server or makes it, and asks again while another test makes it. Answers the
+/// server's number, where there is one.
+fn find_or_start<R: Wait>(
+    rt: &R,
+    store: &Store<Server>,
+    lane: &mut Lane<Server>,
+    key: &Key,
+) -> Option<u32>
+    requires lane { IsLaneOf store.now.id lane.old }
+    requires engine { 0 < length store.now.tree }
+    ensures { IsLaneOf store.now.id lane.new }
+{
+    for _ in rt.forever() {
+        let start = |_key: &Key| -> Result<Server, Fault> { Ok(Server { port: 8080 }) };
+        match store.compute(lane, 0, key, start) {
+            Compute::Computed { number } | Compute::Found { number, .. } => return Some(number),
+            Compute::Refused {
+                refusal: Refusal::Busy(_) | Refusal::Contended,
+                ..
+            } => {}
+            _ => return None,
+        }
+    }
+    None
+}
+
+/// The port of the server that a test with a lane of its own finds or makes, and its number.
+fn ask<R: Wait>(
+    rt: &R,
+    store: &Store<Server>,
+    mut lane: Lane<Server>,
+    key: &Key,
+) -> Option<(u32, u16)>
+    requires lane { IsLaneOf store.now.id lane }
+    requires engine { 0 < length store.now.tree }
+{
+    let number = find_or_start(rt, store, &mut lane, key)?;
+    let server = store.show(&mut lane, number)?;
+    Some((number, server.port))
+}
+
+#[test]
+fn server_made_once(rt: HostRuntime) -> Result<(), Fail> {
+    let key = &server_key(rt.alloc())?;
+    let Opened {
+        store,
+        first,
+        second,
+        ..
+    } = open_for_servers(&rt, rt.alloc(), server_keys(rt.alloc())?);
+
+    let (runtime, shared) = (&rt, &store);
+    let asked = thread::join(
+        &rt,
+        move || -> Option<(u32, u16)>
+            requires lane { IsLaneOf shared.now.id first }
+            requires engine { 0 < length shared.now.tree }
+        { ask(runtime, shared, first, key) },
+        move || -> Option<(u32, u16)>
+            requires lane { IsLaneOf shared.now.id second }
+            requires engine { 0 < length shared.now.tree }
+        { ask(runtime, shared, second, key) },
+    );
+    same(
+        &rt,
+        asked,
+        (Some((1, 8080)), Some((1, 8080))),
+        "what both have",
+    );
+    Ok(())
+}

@@ -1,0 +1,11 @@
+//! Tests of the store by lanes in threads of their own, and the code of docs/GUIDE.md.
+#![tactic(auto)]
+
+#[cfg(test)]
+mod guide;
+#[cfg(test)]
+mod held;
+#[cfg(test)]
+mod moving;
+#[cfg(test)]
+mod same;

@@ -1,0 +1,114 @@
+//! The waiting forms where nobody else is at work.
+ghost use Rattle.std.specs.Prelude.{◌<◌, length};
+ghost use Rattle.ext_store.specs.Stores.{IsLaneOf};
+
+use crate::held::same;
+use crate::opening::{Letter, key_a, open_pair};
+use ext_model::{ContextNo, Fault, Look};
+use ext_store::{Compute, Lane, Store};
+use ext_tree::Key;
+use std::process::Abort;
+use std::sync::Wait;
+use std::test::Fail;
+
+/// The number under which a letter is kept, where it is stored at the root over nothing.
+fn store_first<R: Wait>(
+    rt: &R,
+    store: &Store<Letter>,
+    lane: &mut Lane<Letter>,
+    key: &Key,
+) -> Option<u32>
+    requires lane { IsLaneOf store.now.id lane.old }
+    requires context { 0 < length store.now.tree }
+    ensures { IsLaneOf store.now.id lane.new }
+{
+    let Ok(kept) = store.keep_wait(rt, lane, Letter { letter: 'x' }) else {
+        return None;
+    };
+    let number = kept.number();
+    match store.put_wait(rt, lane, 0, key, kept) {
+        Ok(None) => Some(number),
+        _ => None,
+    }
+}
+
+/// What a compute from the method told.
+#[derive(Clone, Copy, Debug, PartialEq, Eq)]
+enum Told {
+    Computed(u32),
+    /// The factory came back unused, and gave its letter then.
+    Found(ContextNo, u32),
+    Other,
+}
+
+/// What a compute from the method tells.
+fn compute<R: Wait>(
+    rt: &R,
+    store: &Store<Letter>,
+    lane: &mut Lane<Letter>,
+    key: &Key,
+    letter: char,
+) -> Told
+    requires lane { IsLaneOf store.now.id lane.old }
+    requires context { 2 < length store.now.tree }
+    ensures { IsLaneOf store.now.id lane.new }
+{
+    let make = |_key: &Key| -> Result<Letter, Fault> { Ok(Letter { letter }) };
+    match store.compute_wait(rt, lane, 2, key, make) {
+        Compute::Computed { number } => Told::Computed(number),
+        Compute::Found { at, number, unused } => match unused(key) {
+            Ok(made) if made.letter == letter => Told::Found(at, number),
+            Ok(_) => Told::Other,
+            Err(_fault) => Told::Other,
+        },
+        _ => Told::Other,
+    }
+}
+
+/// Finds the number at the root, and takes it out there.
+fn find_and_remove<R: Abort + Wait>(
+    rt: &R,
+    store: &Store<Letter>,
+    lane: &mut Lane<Letter>,
+    key: &Key,
+)
+    requires lane { IsLaneOf store.now.id lane.old }
+    requires context { 2 < length store.now.tree }
+    ensures { IsLaneOf store.now.id lane.new }
+{
+    let found = Look::Found { at: 0, number: 1 };
+    same(
+        rt,
+        store.get_wait(rt, lane, 2, key),
+        Ok(found),
+        "the look-up",
+    );
+    same(
+        rt,
+        compute(rt, store, lane, key, 'y'),
+        Told::Found(0, 1),
+        "what is found",
+    );
+    same(
+        rt,
+        store.remove_wait(rt, lane, 0, key),
+        Ok(Some(1)),
+        "the remove",
+    );
+}
+
+#[test]
+fn waiting_forms_row(rt: HostRuntime) -> Result<(), Fail> {
+    let a = key_a(rt.alloc())?;
+    let mut pair = open_pair(rt.alloc())?;
+    let (store, lane) = (&pair.store, &mut pair.first);
+    same(&rt, store_first(&rt, store, lane, &a), Some(1), "the put");
+    find_and_remove(&rt, store, lane, &a);
+    same(
+        &rt,
+        compute(&rt, store, lane, &a, 'z'),
+        Told::Computed(2),
+        "the compute",
+    );
+    Ok(())
+}

@@ -1,0 +1,131 @@
+//! A factory that is held at a gate, and threads that look for one another in bounded turns.
+ghost use Rattle.std.specs.Prelude.{◌<◌, length};
+ghost use Rattle.ext_store.specs.Stores.{IsLaneOf};
+
+use crate::opening::Letter;
+use ext_model::Fault;
+use ext_store::{Compute, Lane, Store};
+use ext_tree::Key;
+use std::fmt::Debug;
+use std::process::Abort;
+use std::sync::atomic::{AtomicU64, Ordering};
+use std::thread::sleep;
+use std::time::{Clock, Duration};
+
+// How often a thread looks for another one, a thousandth of a second apart.
+const TURNS: u64 = 20_000;
+
+/// Whether the word came to be this number in time.
+fn reaches(clock: &impl Clock, word: &AtomicU64, number: u64) -> bool {
+    for _ in 0..TURNS {
+        if word.load(Ordering::SeqCst) == number {
+            return true;
+        }
+        sleep(clock, Duration::from_millis(1));
+    }
+    false
+}
+
+/// Looks until so many lanes have ended. Where they have not in time the test fails: it never hangs.
+pub(crate) fn watch<R: Abort + Clock>(rt: &R, ended: &AtomicU64, lanes: u64) {
+    assert!(rt; reaches(rt, ended, lanes), "a lane is left asleep");
+}
+
+/// Holds a factory from its start until another lane has begun to wait for it.
+#[derive(Drop)]
+pub(crate) struct Gate {
+    runs: AtomicU64,
+    begun: AtomicU64,
+    ended: AtomicU64,
+}
+
+impl Gate {
+    pub(crate) fn new() -> Gate {
+        Gate {
+            runs: AtomicU64::new(0),
+            begun: AtomicU64::new(0),
+            ended: AtomicU64::new(0),
+        }
+    }
+
+    /// Of the factory: tells that it runs, and ends some time after the other lane began to wait. Says whether that one did.
+    fn pass(&self, clock: &impl Clock) -> bool {
+        self.runs.store(1, Ordering::SeqCst);
+        let begun = reaches(clock, &self.begun, 1);
+        sleep(clock, Duration::from_millis(20));
+        begun
+    }
+
+    /// Of the other lane: comes once the factory runs, and tells that it begins to wait. Says whether the factory runs.
+    pub(crate) fn come(&self, clock: &impl Clock) -> bool {
+        let runs = reaches(clock, &self.runs, 1);
+        self.begun.store(1, Ordering::SeqCst);
+        runs
+    }
+
+    /// Of the other lane: tells that it was answered.
+    pub(crate) fn end(&self) {
+        self.ended.store(1, Ordering::SeqCst);
+    }
+
+    /// Fails the test where the other lane was not answered in time.
+    pub(crate) fn watch<R: Abort + Clock>(&self, rt: &R) {
+        watch(rt, &self.ended, 1);
+    }
+}
+
+/// Computes in the class, by a factory that is held, and answers `made` where that one passed its gate. Says whether it was
+/// computed, and its number.
+pub(crate) fn compute_held<C: Clock>(
+    clock: &C,
+    store: &Store<Letter>,
+    lane: &mut Lane<Letter>,
+    key: &Key,
+    gate: &Gate,
+) -> Option<u32>
+    requires lane { IsLaneOf store.now.id lane.old }
+    requires context { 1 < length store.now.tree }
+    ensures { IsLaneOf store.now.id lane.new }
+{
+    let factory = |_key: &Key| -> Result<Letter, Fault> {
+        if gate.pass(clock) {
+            Ok(Letter { letter: 'x' })
+        } else {
+            Err(Fault::Memory)
+        }
+    };
+    match store.compute(lane, 1, key, factory) {
+        Compute::Computed { number } => Some(number),
+        _ => None,
+    }
+}
+
+/// The same by a factory that is held and then fails. Says whether it did.
+pub(crate) fn fail_held<C: Clock>(
+    clock: &C,
+    store: &Store<Letter>,
+    lane: &mut Lane<Letter>,
+    key: &Key,
+    gate: &Gate,
+) -> bool
+    requires lane { IsLaneOf store.now.id lane.old }
+    requires context { 1 < length store.now.tree }
+    ensures { IsLaneOf store.now.id lane.new }
+{
+    let factory = |_key: &Key| -> Result<Letter, Fault> {
+        if gate.pass(clock) {
+            Err(Fault::Memory)
+        } else {
+            Ok(Letter { letter: 'x' })
+        }
+    };
+    matches!(
+        store.compute(lane, 1, key, factory),
+        Compute::Failed(Fault::Memory)
+    )
+}
+
+/// Asserts that this was answered. Tests assert by it, since a call is cheaper to prove than what `assert_eq!` writes.
+pub(crate) fn same<T: Debug + Drop + PartialEq>(rt: &impl Abort, answer: T, wanted: T, what: &str) {
+    assert_eq!(rt; answer, wanted, "{what}");
+}

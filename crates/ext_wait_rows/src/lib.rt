@@ -1,0 +1,17 @@
+//! Tests of the store's waiting forms: alone, beside a factory that is held, and of sixteen lanes at once.
+//!
+//! `scripts/wait-stress` runs them over many more rounds.
+#![tactic(auto)]
+
+#[cfg(test)]
+mod alone;
+#[cfg(test)]
+mod beside;
+#[cfg(test)]
+mod closing;
+#[cfg(test)]
+mod crowd;
+#[cfg(test)]
+mod held;
+#[cfg(test)]
+mod opening;

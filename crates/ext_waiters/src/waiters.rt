@@ -1,0 +1,72 @@
+//! Who waits, and a wait that has begun.
+ghost use Rattle.std.specs.Prelude.{◌≡◌, false, not};
+
+use crossbeam_utils::sync::{EventCount, Key};
+use std::marker::Model;
+use std::sync::Wait;
+
+/// The lanes that wait for something, shared by reference between those that wait and those that end it. Own rule.
+#[derive(Drop)]
+pub struct Waiters {
+    ended: EventCount,
+}
+
+impl Waiters {
+    /// Nobody waits. Takes no memory. Own rule.
+    pub const fn new() -> Waiters {
+        Waiters {
+            ended: EventCount::new(),
+        }
+    }
+
+    /// Wakes all lanes that sleep, and keeps those that have announced themselves from falling asleep. To be called after
+    /// what they wait for has ended. Where nobody has announced himself it is one atomic load. Takes no memory and never
+    /// waits. Own rule.
+    pub fn wake_all(&self) {
+        self.ended.notify_all();
+    }
+
+    /// Begins a wait, in which nothing is announced yet. Takes no memory and never waits. Own rule.
+    pub fn begin(&self) -> Waiting<'_>
+        ensures { result ≡ false }
+    {
+        Waiting {
+            waiters: self,
+            announced: None,
+        }
+    }
+}
+
+/// A lane's wait, from its first look to its last. Where it is dropped the lane waits no longer. In contracts it is
+/// whether the lane has announced that it waits, and is to look once more before it sleeps. Own rule.
+#[derive(Drop)]
+pub struct Waiting<'a> {
+    waiters: &'a Waiters,
+    announced: Option<Key<'a>>,
+}
+
+impl<'a> Model for Waiting<'a> {
+    ghost use Rattle.std.specs.Prelude.{Bool, is_some};
+
+    ghost Value = { Bool };
+
+    ghost view = { λ w. is_some w.announced };
+}
+
+impl<'a> Waiting<'a> {
+    /// What a lane does each time that it has looked in vain: it announces that it waits, and returns at once; or,
+    /// where it has announced that, and has looked once more since, it sleeps until somebody calls `wake_all`, if nobody
+    /// has since it announced itself. Takes no memory. It may wait: it promises its clause if it returns.
+    ///
+    /// That second look is why no wake is missed. Who ends something ends it first, and then looks whether anybody has
+    /// announced himself. So either it finds this lane, and keeps it from sleeping or wakes it; or this lane announced
+    /// itself later than that, and its second look finds that the thing has ended. Own rule.
+    pub fn announce_or_sleep<R: Wait>(&mut self, rt: &R)
+        ensures { self.new ≡ not self.old }
+    {
+        match self.announced.take() {
+            Some(key) => key.wait(rt),
+            None => self.announced = Some(self.waiters.ended.prepare_wait()),
+        }
+    }
+}
