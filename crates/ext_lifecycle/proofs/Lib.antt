@@ -1,5 +1,5 @@
 pub mod EndingLaws
-mod Calling
+pub mod Calling
 pub mod Tallying
 mod CallLists
 pub mod OtherFaults

@@ -4,14 +4,15 @@
 //! A node's before-callbacks are called up to the first that isn't successful (`run_befores`), then its body where
 //! there is no such one (`run_body`; of a container that is its children), then all its after-callbacks (`run_afters`).
 //! Their outcomes make the node's `Tally`, and the closes of its context its `NodeResult`. `befores_of` and
-//! `afters_of` give the callbacks in the order in which they are called. What each call does is the `Caller`'s. Own
-//! rule.
+//! `afters_of` give the callbacks in the order in which they are called. What each call does is the `Caller`'s. Whether
+//! a node may be run beside its siblings is its `Mode`. Own rule.
 #![tactic(auto)]
 
 mod call;
 mod callbacks;
 mod closes;
 mod lifecycle;
+mod mode;
 mod node_result;
 mod outcome;
 mod status;
@@ -21,6 +22,7 @@ pub use call::{Call, Kind};
 pub use callbacks::{Callbacks, afters_of, befores_of};
 pub use closes::Closes;
 pub use lifecycle::{Caller, run_afters, run_befores, run_body, run_calls};
+pub use mode::Mode;
 pub use node_result::NodeResult;
 pub use outcome::{Outcome, Verdict};
 pub use status::Status;

@@ -3,6 +3,8 @@
 #![tactic(auto)]
 
 #[cfg(test)]
+mod callbacks;
+#[cfg(test)]
 mod ids;
 #[cfg(test)]
 mod keys;

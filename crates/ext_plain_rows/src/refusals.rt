@@ -96,12 +96,12 @@ test = [1]
 plan: P3 node 0
 [[node]]
 id = \"[a:b]\"
-mode = \"concurrent\"
+parallel = true
 
 plan: P3 node 0
 [[node]]
 id = \"[a:b]\"
-before_all = []
+before = []
 
 plan: P6 node 0
 [[node]]

@@ -9,15 +9,16 @@ use Rattle.std.proofs.lemmas.List.Folds.{list_any_at}
 use Rattle.std.specs.List.{AllPairs}
 use Rattle.std.specs.Str.{bytes_eq}
 use Rattle.toml.specs.Data.{Members, get_member}
+use Rattle.ext_plan_model.specs.Plans.{KeyText}
+use Rattle.ext_plan_model.specs.KeyNumbers.{HasParts}
+use Rattle.ext_plan_model.specs.Keys.{labels_of, is_label, is_word}
+use Rattle.ext_plan_model.proofs.Lists.{map-push}
 use Rattle.ext_plan.specs.declared.fault.PlanFault.TheVariants as faults
 use Rattle.ext_plan.specs.declared.fault.Place.TheVariants as places
-use Rattle.ext_plan.specs.Plans.{KeyText}
 use Rattle.ext_plan.specs.Faults.{some_or, check}
 use Rattle.ext_plan.specs.Fields.{has_only, text_at, text_or_none, texts_or_none}
-use Rattle.ext_plan.specs.KeyNumbers.{HasParts}
-use Rattle.ext_plan.specs.Keys.{key_fields, labels_of, is_label, is_word, has_parts, key_at, keys_after}
+use Rattle.ext_plan.specs.Keys.{key_fields, has_parts, key_at, keys_after}
 use Rattle.ext_plan.proofs.Gave.{ok_value, both_gave, passed}
-use Rattle.ext_plan.proofs.Lists.{map-push}
 
 differs : (labels : List (List ℕ)) (label : List ℕ) → is_label labels label ≡ false → (k : ℕ) (d : List ℕ) → k < length labels → get_or labels k d ≢ label
 differs labels label new k d h same =

@@ -4,8 +4,9 @@ use Rattle.std.specs.Prelude.{if◌then◌else◌, is_ok}
 use Rattle.std.specs.List.{list_any}
 use Rattle.std.specs.Str.{bytes_eq}
 use Rattle.indexmap.specs.IndexSet.{insert_key}
-use Rattle.ext_plan.specs.Keys.{is_label}
-use Rattle.ext_plan.proofs.Lists.{map-push, list_any-map}
+use Rattle.ext_plan_model.specs.Keys.{is_label}
+use Rattle.ext_plan_model.proofs.Lists.{map-push}
+use Rattle.ext_plan.proofs.Lists.{list_any-map}
 
 -- the labels with one more, if it is new
 abbrev pub with_label : List (List ℕ) → List ℕ → List (List ℕ)

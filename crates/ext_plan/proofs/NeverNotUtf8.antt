@@ -1,24 +1,30 @@
 -- Reading a text never gives the fault `NotUtf8`: each part has other faults.
-use Rattle.std.proofs.Common.{◌≢◌, ℕ, Bool, true, false, ◌&&◌, not, List, [], ◌∷◌, ◌++◌, length, Option, Some, None, is_some, codes, Result, Ok, Err, refl}
+use Rattle.std.proofs.Common.{◌≢◌, ℕ, Bool, true, false, ◌&&◌, not, List, [], ◌∷◌, ◌++◌, length, Option, Some, None, codes, Result, Ok, Err, refl}
 use Rattle.std.specs.Prelude.{nat_lt, nat_le}
 use Rattle.toml.specs.Data.{Data, Members, get_member, as_bool, as_str}
 use Rattle.ext_ids.specs.declared.fault.IdFault.{IdFault}
 use Rattle.ext_ids.specs.Grammar.{Pair}
 use Rattle.ext_ids.specs.Reading.{read_id}
 use Rattle.ext_tree.specs.Decided.{is_tree}
-use Rattle.ext_tree.specs.Trees.{Id}
+use Rattle.ext_plan_model.specs.declared.plan.Plan.{Plan}
+use Rattle.ext_plan_model.specs.Plans.{KeyText, LockText, StepText, NodeText, plan_view}
+use Rattle.ext_plan_model.specs.Locks.{lock_names, lock_limit}
+use Rattle.ext_plan_model.specs.KeyNumbers.{different_keys}
+use Rattle.ext_plan_model.specs.Keys.{labels_of, is_label, is_word}
+use Rattle.ext_plan_model.specs.Steps.{height, step_limit, callback_limit}
 use Rattle.ext_plan.specs.declared.fault.PlanFault.{PlanFault}
 use Rattle.ext_plan.specs.declared.fault.PlanFault.TheVariants as faults
 use Rattle.ext_plan.specs.declared.fault.Place.TheVariants as places
-use Rattle.ext_plan.specs.declared.plan.Plan.{Plan}
-use Rattle.ext_plan.specs.Plans.{KeyText, LockText, StepText, NodeText, plan_view}
 use Rattle.ext_plan.specs.Faults.{some_or, check, Gives, ◌>>=◌}
-use Rattle.ext_plan.specs.Fields.{has_only, text_at, texts_in, tables_in, text_or_none, texts_or_none, tables_or_none, truth_or_false}
-use Rattle.ext_plan.specs.Locks.{lock_at, lock_of, lock_names, lock_limit, locks_after, locks_at}
-use Rattle.ext_plan.specs.KeyNumbers.{different_keys}
-use Rattle.ext_plan.specs.Keys.{key_fields, labels_of, is_label, is_word, has_parts, key_at, keys_after}
-use Rattle.ext_plan.specs.Nodes.{Sketch, node_fields, id_or, sketch_at, sketches_after, ids_of, has_children, test_at, node_at, nodes_after}
-use Rattle.ext_plan.specs.Steps.{step_of, height, step_at, steps_after, steps_at, step_limit}
+use Rattle.ext_plan.specs.Fields.{has_only, text_at, texts_in, tables_in, text_or_none, texts_or_none, text_lists_in, text_lists_or_none, tables_or_none, truth_or_false}
+use Rattle.ext_plan.specs.Callbacks.{CallbackTexts, callback_texts_at, callbacks_after, callbacks_at, node_callbacks_at}
+use Rattle.ext_plan.specs.Depths.{least_test_depth}
+use Rattle.ext_plan.specs.Modes.{mode_at, mode_of}
+use Rattle.ext_lifecycle.specs.declared.mode.Mode.TheVariants as modes
+use Rattle.ext_plan.specs.Locks.{lock_at, lock_of, locks_after, locks_at}
+use Rattle.ext_plan.specs.Keys.{key_fields, has_parts, key_at, keys_after}
+use Rattle.ext_plan.specs.Nodes.{Sketch, node_fields, id_or, sketch_at, sketches_after, ids_of, outlines_of, has_children, is_bad_test, test_at, node_at, nodes_after}
+use Rattle.ext_plan.specs.Steps.{step_of, step_at, steps_after, steps_at}
 use Rattle.ext_plan.specs.Reading.{top_fields, are_few, plan_of}
 
 -- the reading has another end than the fault `NotUtf8`
@@ -80,6 +86,10 @@ texts_other : (e : PlanFault) (found : Option Data) → IsOther {A = ℕ} (Err e
 texts_other e None other = value None
 texts_other e (Some found) other = then_other (some_or e (texts_in found)) _ (or_fault e _ (same_other e other)) (λ texts. value _)
 
+lists_other : (e : PlanFault) (found : Option Data) → IsOther {A = ℕ} (Err e) → IsOther (text_lists_or_none e found)
+lists_other e None other = value None
+lists_other e (Some found) other = then_other (some_or e (text_lists_in found)) _ (or_fault e _ (same_other e other)) (λ lists. value _)
+
 -- ---- keys
 
 key_other : (number : ℕ) (labels : List (List ℕ)) (fields : Members) → IsOther (key_at number labels fields)
@@ -102,15 +112,25 @@ id_other : (node : ℕ) (read : Result (List Pair) IdFault) → IsOther (id_or (
 id_other node (Ok id) h = absurd cc
 id_other node (Err e) h = absurd cc
 
+callback_texts_other : (node : ℕ) (fields : Members) → IsOther (callback_texts_at node fields)
+unfolding callback_texts_at
+callback_texts_other node fields =
+    then_other (text_lists_or_none (faults.BadField (places.Node node)) (get_member (codes "before_all") fields)) _ (lists_other (faults.BadField (places.Node node)) (get_member (codes "before_all") fields) (λ h. absurd cc)) (λ before_all.
+    then_other (text_lists_or_none (faults.BadField (places.Node node)) (get_member (codes "after_all") fields)) _ (lists_other (faults.BadField (places.Node node)) (get_member (codes "after_all") fields) (λ h. absurd cc)) (λ after_all.
+    then_other (text_lists_or_none (faults.BadField (places.Node node)) (get_member (codes "before_each") fields)) _ (lists_other (faults.BadField (places.Node node)) (get_member (codes "before_each") fields) (λ h. absurd cc)) (λ before_each.
+    then_other (text_lists_or_none (faults.BadField (places.Node node)) (get_member (codes "after_each") fields)) _ (lists_other (faults.BadField (places.Node node)) (get_member (codes "after_each") fields) (λ h. absurd cc)) (λ after_each. value _))))
+
 sketch_other : (node : ℕ) (fields : Members) → IsOther (sketch_at node fields)
 unfolding sketch_at
 sketch_other node fields =
     then_other (check (faults.UnknownField (places.Node node)) (has_only node_fields fields)) _ (checked _ _ (λ h. absurd cc)) (λ _.
     then_other (some_or (faults.BadField (places.Node node)) (text_at (codes "id") fields)) _ (or_fault _ _ (λ h. absurd cc)) (λ text.
+    then_other (text_or_none (faults.BadField (places.Node node)) (get_member (codes "mode") fields)) _ (text_other (faults.BadField (places.Node node)) (get_member (codes "mode") fields) (λ h. absurd cc)) (λ mode.
     then_other (truth_or_false (faults.BadField (places.Node node)) (get_member (codes "isolated") fields)) _ (truth_other (faults.BadField (places.Node node)) (get_member (codes "isolated") fields) (λ h. absurd cc)) (λ isolated.
     then_other (texts_or_none (faults.BadField (places.Node node)) (get_member (codes "locks") fields)) _ (texts_other (faults.BadField (places.Node node)) (get_member (codes "locks") fields) (λ h. absurd cc)) (λ locks.
+    then_other (callback_texts_at node fields) _ (callback_texts_other node fields) (λ callbacks.
     then_other (texts_or_none (faults.BadField (places.Node node)) (get_member (codes "test") fields)) _ (texts_other (faults.BadField (places.Node node)) (get_member (codes "test") fields) (λ h. absurd cc)) (λ test.
-    then_other (id_or (faults.BadId node) (read_id text)) _ (id_other node (read_id text)) (λ id. value _))))))
+    then_other (id_or (faults.BadId node) (read_id text)) _ (id_other node (read_id text)) (λ id. value _))))))))
 
 sketches_other : (before : List Sketch) (tables : List Members) → IsOther (sketches_after before tables)
 unfolding sketches_after
@@ -148,18 +168,43 @@ unfolding locks_at
 all_locks_other node None = value []
 all_locks_other node (Some texts) = locks_other node [] texts
 
-node_other : (labels : List (List ℕ)) (node : ℕ) (parent : Bool) (sketch : Sketch) → IsOther (node_at labels node parent sketch)
-unfolding node_at
-node_other labels node parent sketch =
-    then_other (check (faults.BadTest node) (not (is_some sketch.test && parent))) _ (checked _ _ (λ h. absurd cc)) (λ _.
-    then_other (locks_at node sketch.locks) _ (all_locks_other node sketch.locks) (λ locks.
-    then_other (test_at labels (length sketch.id) node sketch.test) _ (test_other labels (length sketch.id) node sketch.test) (λ test. value _)))
+mode_other : (node : ℕ) (text : Option (List ℕ)) → IsOther (mode_at node text)
+mode_other node None = value modes.SameThread
+mode_other node (Some text) = or_fault _ (mode_of text) (λ h. absurd cc)
 
-nodes_other : (labels : List (List ℕ)) (ids : List Id) (before : List NodeText) (sketches : List Sketch) → IsOther (nodes_after labels ids before sketches)
+callbacks_other : (labels : List (List ℕ)) (depth node : ℕ) (before : List (List StepText)) (lists : List (List (List ℕ))) → IsOther (callbacks_after labels depth node before lists)
+unfolding callbacks_after
+callbacks_other labels depth node before [] = value before
+callbacks_other labels depth node before (texts ∷ more) = then_other (steps_at labels depth node texts) _ (short_other labels depth node texts) (λ steps. callbacks_other labels depth node (before ++ steps ∷ []) more)
+
+few_other : (labels : List (List ℕ)) (depth node : ℕ) (lists : Option (List (List (List ℕ)))) → IsOther (callbacks_at labels depth node lists)
+unfolding callbacks_at
+few_other labels depth node None = value []
+few_other labels depth node (Some lists) =
+    then_other (check (faults.BadStep node) (nat_le (length lists) callback_limit)) _ (checked _ _ (λ h. absurd cc)) (λ _. callbacks_other labels depth node [] lists)
+
+all_callbacks_other : (labels : List (List ℕ)) (own least node : ℕ) (texts : CallbackTexts) → IsOther (node_callbacks_at labels own least node texts)
+unfolding node_callbacks_at
+all_callbacks_other labels own least node texts =
+    then_other (callbacks_at labels own node texts.before_all) _ (few_other labels own node texts.before_all) (λ before_all.
+    then_other (callbacks_at labels own node texts.after_all) _ (few_other labels own node texts.after_all) (λ after_all.
+    then_other (callbacks_at labels least node texts.before_each) _ (few_other labels least node texts.before_each) (λ before_each.
+    then_other (callbacks_at labels least node texts.after_each) _ (few_other labels least node texts.after_each) (λ after_each. value _))))
+
+node_other : (labels : List (List ℕ)) (node : ℕ) (parent : Bool) (least : ℕ) (sketch : Sketch) → IsOther (node_at labels node parent least sketch)
+unfolding node_at
+node_other labels node parent least sketch =
+    then_other (check (faults.BadTest node) (not (is_bad_test parent sketch))) _ (checked _ _ (λ h. absurd cc)) (λ _.
+    then_other (mode_at node sketch.mode) _ (mode_other node sketch.mode) (λ mode.
+    then_other (locks_at node sketch.locks) _ (all_locks_other node sketch.locks) (λ locks.
+    then_other (node_callbacks_at labels (length sketch.id) least node sketch.callbacks) _ (all_callbacks_other labels (length sketch.id) least node sketch.callbacks) (λ callbacks.
+    then_other (test_at labels (length sketch.id) node sketch.test) _ (test_other labels (length sketch.id) node sketch.test) (λ test. value _)))))
+
+nodes_other : (labels : List (List ℕ)) (all : List Sketch) (before : List NodeText) (sketches : List Sketch) → IsOther (nodes_after labels all before sketches)
 unfolding nodes_after
-nodes_other labels ids before [] = value before
-nodes_other labels ids before (sketch ∷ more) =
-    then_other (node_at labels (length before) (has_children ids (length before)) sketch) _ (node_other labels _ _ sketch) (λ node. nodes_other labels ids (before ++ node ∷ []) more)
+nodes_other labels all before [] = value before
+nodes_other labels all before (sketch ∷ more) =
+    then_other (node_at labels (length before) (has_children (ids_of all) (length before)) (least_test_depth (outlines_of all) sketch.id) sketch) _ (node_other labels _ _ _ sketch) (λ node. nodes_other labels all (before ++ node ∷ []) more)
 
 -- ---- plans
 
@@ -176,7 +221,7 @@ plan_other top =
     then_other (keys_after [] key_tables) _ (keys_other [] key_tables) (λ keys.
     then_other (sketches_after [] node_tables) _ (sketches_other [] node_tables) (λ sketches.
     then_other (check faults.BadTree (is_tree (ids_of sketches))) _ (checked _ _ (λ h. absurd cc)) (λ _.
-    then_other (nodes_after (labels_of keys) (ids_of sketches) [] sketches) _ (nodes_other _ _ [] sketches) (λ nodes.
+    then_other (nodes_after (labels_of keys) sketches [] sketches) _ (nodes_other _ _ [] sketches) (λ nodes.
     then_other (check faults.TooMany (are_few (length (different_keys keys)) (length nodes))) _ (checked _ _ (λ h. absurd cc)) (λ _.
     then_other (check faults.TooMany (nat_le (length (lock_names nodes)) lock_limit)) _ (checked _ _ (λ h. absurd cc)) (λ _. value _)))))))))
 

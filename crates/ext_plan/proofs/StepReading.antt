@@ -4,14 +4,15 @@ use Rattle.std.specs.Prelude.{if◌then◌else◌, ◌==◌, nat_le, nat_lt}
 use Rattle.std.specs.List.{slice_split}
 use Rattle.std.specs.Str.{bytes_eq}
 use Rattle.std.proofs.lemmas.Bool.{leb-true, ltb-true}
-use Rattle.std.proofs.lemmas.List.Elements.{All-push}
+use Rattle.std.proofs.lemmas.List.Elements.{All-push, All-nil}
 use Rattle.std.proofs.lemmas.List.Quantifiers.{position-Some}
+use Rattle.ext_plan_model.specs.Plans.{StepText, put, put_closeable, want, nothing, remove, compute, compute_closeable, compute_fail, fail, abort}
+use Rattle.ext_plan_model.specs.Laws.{NamesLabelBelow, StayOnPath}
+use Rattle.ext_plan_model.specs.Steps.{label_of_step, height, step_limit}
 use Rattle.ext_plan.specs.declared.fault.PlanFault.TheVariants as faults
-use Rattle.ext_plan.specs.Plans.{StepText, put, put_closeable, want, nothing, remove, compute, compute_closeable, compute_fail, fail, abort}
 use Rattle.ext_plan.specs.Faults.{some_or, check}
 use Rattle.ext_plan.specs.Keys.{label_number}
-use Rattle.ext_plan.specs.Laws.{label_of_step, NamesLabelBelow}
-use Rattle.ext_plan.specs.Steps.{height_of, key_step, text_step, labelled_key_step, labelled_text_step, step_of_words, step_of, height, step_at, steps_after, steps_at, step_limit}
+use Rattle.ext_plan.specs.Steps.{height_of, key_step, text_step, labelled_key_step, labelled_text_step, step_of_words, step_of, step_at, steps_after, steps_at}
 use Rattle.ext_plan.proofs.Gave.{ok_value, both_gave, was_some, passed}
 
 -- ---- the label that a step names
@@ -94,8 +95,8 @@ text_below labels text step h = words_below labels (slice_split (λ b. b == 32) 
 
 -- ---- steps
 
--- a step that names one of so many labels, and stays below the root of a path of so many contexts
-pub record IsFitting (labels depth : ℕ) (step : StepText) : Type 0 where
+-- a step that names one of so many labels, and stays on a path of so many contexts
+record IsFitting (labels depth : ℕ) (step : StepText) : Type 0 where
   pub names : NamesLabelBelow labels step
   pub stays : height step < depth
 
@@ -108,7 +109,7 @@ step_fits labels depth node text step h =
     let stays = ltb-true _ _ (passed _ (nat_lt (height read.0) depth) low.0 low.1) in
     rw (← ok_value read.0 step _ refl low.2) (record { names = names; stays = stays })
 
-pub steps_fit : (labels : List (List ℕ)) (depth node : ℕ) (before : List StepText) (texts : List (List ℕ)) (steps : List StepText)
+steps_fit : (labels : List (List ℕ)) (depth node : ℕ) (before : List StepText) (texts : List (List ℕ)) (steps : List StepText)
     → All (IsFitting (length labels) depth) before → steps_after labels depth node before texts ≡ Ok steps → All (IsFitting (length labels) depth) steps
 unfolding steps_after
 steps_fit labels depth node before [] steps all h = rw (← ok_value before steps _ refl h) all
@@ -117,7 +118,7 @@ steps_fit labels depth node before (text ∷ more) steps all h =
     let fits = step_fits labels depth node text step.0 step.1 in
     steps_fit labels depth node (before ++ step.0 ∷ []) more steps (All-push (IsFitting (length labels) depth) before step.0 all fits) step.2
 
-pub steps_counted : (labels : List (List ℕ)) (depth node : ℕ) (before : List StepText) (texts : List (List ℕ)) (steps : List StepText)
+steps_counted : (labels : List (List ℕ)) (depth node : ℕ) (before : List StepText) (texts : List (List ℕ)) (steps : List StepText)
     → steps_after labels depth node before texts ≡ Ok steps → length steps ≡ length before + length texts
 unfolding steps_after
 steps_counted labels depth node before [] steps h = let same = ap length (ok_value before steps _ refl h) in omega (arith, same)
@@ -126,11 +127,22 @@ steps_counted labels depth node before (text ∷ more) steps h =
     let rest = steps_counted labels depth node (before ++ step.0 ∷ []) more steps step.2 in
     omega (arith, rest, length-append before (step.0 ∷ []))
 
--- the steps of a test, of which there are not too many
-pub steps_short : (labels : List (List ℕ)) (depth node : ℕ) (texts : List (List ℕ)) (steps : List StepText) → steps_at labels depth node texts ≡ Ok steps
-    → (steps_after labels depth node [] texts ≡ Ok steps) × (length steps ≤ step_limit)
+-- steps that name labels and stay on a path, and of which there are not too many
+pub record AreFitting (labels depth : ℕ) (steps : List StepText) : Type 0 where
+  pub names : All (NamesLabelBelow labels) steps
+  pub stays : StayOnPath depth steps
+  pub short : length steps ≤ step_limit
+
+-- the steps of a test or a callback
+pub steps_read : (labels : List (List ℕ)) (depth node : ℕ) (texts : List (List ℕ)) (steps : List StepText) → steps_at labels depth node texts ≡ Ok steps
+    → AreFitting (length labels) depth steps
 unfolding steps_at
-steps_short labels depth node texts steps h =
+steps_read labels depth node texts steps h =
     let few = both_gave (check (faults.BadStep node) (nat_le (length texts) step_limit)) _ _ h in
     let count = steps_counted labels depth node [] texts steps few.2 in
-    (few.2, omega (arith, count, leb-true _ _ (passed _ (nat_le (length texts) step_limit) few.0 few.1)))
+    let fit = steps_fit labels depth node [] texts steps (All-nil (IsFitting (length labels) depth)) few.2 in
+    record {
+      names = λ k d less. (fit k d less).names;
+      stays = λ k d less. (fit k d less).stays;
+      short = omega (arith, count, leb-true _ _ (passed _ (nat_le (length texts) step_limit) few.0 few.1));
+    }

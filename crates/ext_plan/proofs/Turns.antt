@@ -1,15 +1,17 @@
 -- One key, one node or one step after another: a turn that goes on, one that stops, and the end.
 use Rattle.std.proofs.Common.{◌≡◌, ℕ, List, [], ◌∷◌, ◌++◌, length, Result, Ok, Err, refl}
 use Rattle.toml.specs.Data.{Members}
-use Rattle.ext_tree.specs.Trees.{Id}
+use Rattle.ext_plan_model.specs.Plans.{KeyText, LockText, StepText, NodeText}
+use Rattle.ext_plan_model.specs.Keys.{labels_of}
 use Rattle.ext_plan.specs.declared.fault.PlanFault.{PlanFault}
 use Rattle.ext_plan.specs.declared.fault.PlanFault.TheVariants as faults
-use Rattle.ext_plan.specs.Plans.{KeyText, LockText, StepText, NodeText}
 use Rattle.ext_plan.specs.Locks.{lock_at, locks_after}
 use Rattle.ext_plan.specs.Faults.{Fails}
-use Rattle.ext_plan.specs.Keys.{key_at, keys_after, labels_of}
-use Rattle.ext_plan.specs.Nodes.{Sketch, sketch_at, sketches_after, has_children, node_at, nodes_after}
-use Rattle.ext_plan.specs.Steps.{step_at, steps_after}
+use Rattle.ext_plan.specs.Keys.{key_at, keys_after}
+use Rattle.ext_plan.specs.Callbacks.{callbacks_after}
+use Rattle.ext_plan.specs.Depths.{least_test_depth}
+use Rattle.ext_plan.specs.Nodes.{Sketch, sketch_at, sketches_after, ids_of, outlines_of, has_children, node_at, nodes_after}
+use Rattle.ext_plan.specs.Steps.{step_at, steps_after, steps_at}
 
 -- what fails a part fails the whole
 pub Fails-whole : {A B : Type 0} (e : PlanFault) (part : Result A PlanFault) (whole : Result B PlanFault) → (part ≡ Err e → whole ≡ Err e) → Fails e part → Fails e whole
@@ -82,16 +84,34 @@ pub locks_end : (node : ℕ) (before : List LockText) → locks_after node befor
 unfolding locks_after
 locks_end node before = refl
 
+-- ---- callbacks
+
+pub callbacks_go : (labels : List (List ℕ)) (depth node : ℕ) (before : List (List StepText)) (x : List (List ℕ)) (more : List (List (List ℕ))) (steps : List StepText) → steps_at labels depth node x ≡ Ok steps → callbacks_after labels depth node before (x ∷ more) ≡ callbacks_after labels depth node (before ++ steps ∷ []) more
+unfolding callbacks_after
+callbacks_go labels depth node before x more steps e = rw e refl
+
+pub callbacks_stop : (labels : List (List ℕ)) (depth node : ℕ) (before : List (List StepText)) (x : List (List ℕ)) (more : List (List (List ℕ))) (fault : PlanFault) → steps_at labels depth node x ≡ Err fault → callbacks_after labels depth node before (x ∷ more) ≡ Err fault
+unfolding callbacks_after
+callbacks_stop labels depth node before x more fault e = rw e refl
+
+pub callbacks_end : (labels : List (List ℕ)) (depth node : ℕ) (before : List (List StepText)) → callbacks_after labels depth node before [] ≡ Ok before
+unfolding callbacks_after
+callbacks_end labels depth node before = refl
+
 -- ---- nodes with their steps
 
-pub nodes_go : (labels : List (List ℕ)) (ids : List Id) (before : List NodeText) (x : Sketch) (more : List Sketch) (node : NodeText) → node_at labels (length before) (has_children ids (length before)) x ≡ Ok node → nodes_after labels ids before (x ∷ more) ≡ nodes_after labels ids (before ++ node ∷ []) more
-unfolding nodes_after
-nodes_go labels ids before x more node e = rw e refl
+-- the node of a sketch, which stands behind those before it
+abbrev pub node_in : List (List ℕ) → List Sketch → List NodeText → Sketch → Result NodeText PlanFault
+node_in labels all before x = node_at labels (length before) (has_children (ids_of all) (length before)) (least_test_depth (outlines_of all) x.id) x
 
-pub nodes_stop : (labels : List (List ℕ)) (ids : List Id) (before : List NodeText) (x : Sketch) (more : List Sketch) (fault : PlanFault) → node_at labels (length before) (has_children ids (length before)) x ≡ Err fault → nodes_after labels ids before (x ∷ more) ≡ Err fault
+pub nodes_go : (labels : List (List ℕ)) (all : List Sketch) (before : List NodeText) (x : Sketch) (more : List Sketch) (node : NodeText) → node_in labels all before x ≡ Ok node → nodes_after labels all before (x ∷ more) ≡ nodes_after labels all (before ++ node ∷ []) more
 unfolding nodes_after
-nodes_stop labels ids before x more fault e = rw e refl
+nodes_go labels all before x more node e = rw e refl
 
-pub nodes_end : (labels : List (List ℕ)) (ids : List Id) (before : List NodeText) → nodes_after labels ids before [] ≡ Ok before
+pub nodes_stop : (labels : List (List ℕ)) (all : List Sketch) (before : List NodeText) (x : Sketch) (more : List Sketch) (fault : PlanFault) → node_in labels all before x ≡ Err fault → nodes_after labels all before (x ∷ more) ≡ Err fault
 unfolding nodes_after
-nodes_end labels ids before = refl
+nodes_stop labels all before x more fault e = rw e refl
+
+pub nodes_end : (labels : List (List ℕ)) (all : List Sketch) (before : List NodeText) → nodes_after labels all before [] ≡ Ok before
+unfolding nodes_after
+nodes_end labels all before = refl

@@ -35,6 +35,16 @@ abbrev pub tables_in : Data → Option (List Members)
 tables_in (array items) = tables_after [] items
 tables_in _ = None
 
+-- these lists and then the items, if each of them is an array of texts
+abbrev pub text_lists_after : List (List (List ℕ)) → Items → Option (List (List (List ℕ)))
+text_lists_after before no_items = Some before
+text_lists_after before (item value more) = option_and_then (λ texts. text_lists_after (before ++ texts ∷ []) more) (texts_in value)
+
+-- the lists of an array of arrays of texts
+abbrev pub text_lists_in : Data → Option (List (List (List ℕ)))
+text_lists_in (array items) = text_lists_after [] items
+text_lists_in _ = None
+
 -- the tables of a field that may be left out, or this fault where it has another type
 abbrev pub tables_or_none : PlanFault → Option Data → Result (List Members) PlanFault
 tables_or_none e None = Ok []
@@ -49,6 +59,11 @@ text_or_none e (Some value) = some_or e (as_str value) >>= (λ text. Ok (Some te
 abbrev pub texts_or_none : PlanFault → Option Data → Result (Option (List (List ℕ))) PlanFault
 texts_or_none e None = Ok None
 texts_or_none e (Some value) = some_or e (texts_in value) >>= (λ texts. Ok (Some texts))
+
+-- the lists of texts of a field that may be left out, or this fault where it has another type
+abbrev pub text_lists_or_none : PlanFault → Option Data → Result (Option (List (List (List ℕ)))) PlanFault
+text_lists_or_none e None = Ok None
+text_lists_or_none e (Some value) = some_or e (text_lists_in value) >>= (λ lists. Ok (Some lists))
 
 -- the truth of a field that may be left out, and is false then, or this fault where it has another type
 abbrev pub truth_or_false : PlanFault → Option Data → Result Bool PlanFault

@@ -1,35 +1,21 @@
 -- The keys of a plan: each has a label, a word that no key before it has, and may have a name and a namespace. Own rule.
-use Rattle.std.specs.Prelude.{ℕ, ◌==◌, Bool, true, not, ◌&&◌, codes, List, [], ◌∷◌, ◌++◌, length, map, position, Result, Ok, Option, Some, None, unwrap_or}
-use Rattle.std.specs.List.{list_any}
+use Rattle.std.specs.Prelude.{ℕ, ◌==◌, Bool, true, not, ◌&&◌, codes, List, [], ◌∷◌, ◌++◌, length, position, Result, Ok, Option, Some, None, unwrap_or}
 use Rattle.std.specs.Str.{bytes_eq}
 use Rattle.toml.specs.Data.{Members, get_member}
+use Rattle.ext_plan_model.specs.Keys.{labels_of, is_label, is_word}
+use Rattle.ext_plan_model.specs.Plans.{KeyText}
 use Rattle.ext_plan.specs.declared.fault.PlanFault.{PlanFault}
 use Rattle.ext_plan.specs.declared.fault.PlanFault.TheVariants as faults
 use Rattle.ext_plan.specs.declared.fault.Place.TheVariants as places
-use Rattle.ext_plan.specs.Plans.{KeyText}
 use Rattle.ext_plan.specs.Faults.{some_or, check, ◌>>=◌}
 use Rattle.ext_plan.specs.Fields.{has_only, text_at, text_or_none, texts_or_none}
 
 abbrev pub key_fields : List (List ℕ)
 key_fields = codes "label" ∷ codes "name" ∷ codes "namespace" ∷ []
 
-abbrev pub labels_of : List KeyText → List (List ℕ)
-labels_of keys = map (λ k. k.label) keys
-
 -- the place of a label among the labels
 abbrev pub label_number : List (List ℕ) → List ℕ → Option ℕ
 label_number labels text = position (bytes_eq text) labels
-
--- the text is one of the labels
-abbrev pub is_label : List (List ℕ) → List ℕ → Bool
-is_label labels text = list_any (bytes_eq text) labels
-
-abbrev pub has_space : List ℕ → Bool
-has_space text = list_any (λ b. b == 32) text
-
--- a text of at least one character, without a space
-abbrev pub is_word : List ℕ → Bool
-is_word text = not (length text == 0) && not (has_space text)
 
 -- a namespace that is given has a part
 abbrev pub has_parts : Option (List (List ℕ)) → Bool

@@ -1,11 +1,11 @@
-pub mod Plans
 pub mod Faults
 pub mod Fields
 pub mod Keys
-pub mod KeyNumbers
 pub mod Steps
 pub mod Locks
+pub mod Modes
+pub mod Callbacks
+pub mod Depths
 pub mod Nodes
 pub mod Reading
-pub mod Laws
 pub mod Helpers

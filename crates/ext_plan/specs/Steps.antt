@@ -1,16 +1,17 @@
--- The steps of a test: texts of words with exactly one space between two. The first word is the step's name, KEY is a label of the plan, TEXT a word:
+-- The steps of a test or a callback: texts of words with exactly one space between two. The first word is the step's name, KEY is a label of the plan, TEXT a word:
 --
 --     none KEY      put KEY TEXT      want KEY TEXT       computefail KEY TEXT      fail TEXT
 --     remove KEY    put! KEY TEXT     compute KEY TEXT    compute! KEY TEXT         abort TEXT
 --
--- Behind all but `fail` and `abort` two more words, `up N`, may stand, with N from 1 to 15: the step acts on the N-th ancestor of the test's context.
+-- Behind all but `fail` and `abort` two more words, `up N`, may stand, with N from 1 to 15: the step acts on the N-th ancestor of the context in which it runs.
 -- The number of words tells which step it is, so that a label or a text may be any word, also `up`. Own rule.
 use Rattle.std.specs.Prelude.{ℕ, suc, ◌==◌, nat_le, nat_lt, codes, List, [], ◌∷◌, ◌++◌, length, position, Option, Some, None, option_map, option_and_then, Result, Ok, if◌then◌else◌}
 use Rattle.std.specs.List.{slice_split, list_any}
 use Rattle.std.specs.Str.{bytes_eq}
+use Rattle.ext_plan_model.specs.Plans.{StepText, put, put_closeable, want, nothing, remove, compute, compute_closeable, compute_fail, fail, abort}
+use Rattle.ext_plan_model.specs.Steps.{height, step_limit}
 use Rattle.ext_plan.specs.declared.fault.PlanFault.{PlanFault}
 use Rattle.ext_plan.specs.declared.fault.PlanFault.TheVariants as faults
-use Rattle.ext_plan.specs.Plans.{StepText, put, put_closeable, want, nothing, remove, compute, compute_closeable, compute_fail, fail, abort}
 use Rattle.ext_plan.specs.Faults.{some_or, check, ◌>>=◌}
 use Rattle.ext_plan.specs.Keys.{label_number}
 
@@ -69,20 +70,7 @@ step_of labels text =
     let words = slice_split (λ b. b == 32) text in
     if list_any (λ word. length word == 0) words then None else step_of_words labels words
 
--- to which ancestor a step goes up
-abbrev pub height : StepText → ℕ
-height (put key text up) = up
-height (put_closeable key text up) = up
-height (want key text up) = up
-height (nothing key up) = up
-height (remove key up) = up
-height (compute key text up) = up
-height (compute_closeable key text up) = up
-height (compute_fail key text up) = up
-height (fail text) = 0
-height (abort text) = 0
-
--- the step of a text in the node of this number, whose context has so many contexts on its path: none goes up past the root
+-- the step of a text in the node of this number, which runs on contexts with at least so many contexts on their paths: none goes up past the root
 unfoldable pub step_at : List (List ℕ) → ℕ → ℕ → List ℕ → Result StepText PlanFault
 step_at labels depth node text = do
   step ← some_or (faults.BadStep node) (step_of labels text)
@@ -96,11 +84,7 @@ steps_after labels depth node before (text ∷ more) = do
   step ← step_at labels depth node text
   steps_after labels depth node (before ++ step ∷ []) more
 
--- A test has at most so many steps, so that what they compute and find is counted in 32 bits. Own rule: a text with more has over 16 GB
-abbrev pub step_limit : ℕ
-step_limit = 4294967295
-
--- the steps that the texts of this node are, in order, if they are not too many
+-- the steps that the texts of a test or a callback are, in order, if they are not too many
 unfoldable pub steps_at : List (List ℕ) → ℕ → ℕ → List (List ℕ) → Result (List StepText) PlanFault
 steps_at labels depth node texts = do
   _ ← check (faults.BadStep node) (nat_le (length texts) step_limit)

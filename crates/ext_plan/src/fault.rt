@@ -49,12 +49,13 @@ pub enum PlanFault {
     /// P2: the text is no TOML document.
     #[error("plan: P2")]
     NotToml,
-    /// P3: a field other than `key` and `node` at the top, `label`, `name` and `namespace` in a key, `id`, `test`,
-    /// `isolated` and `locks` in a node.
+    /// P3: a field other than `key` and `node` at the top, `label`, `name` and `namespace` in a key, `id`, `test`, `mode`,
+    /// `isolated`, `locks`, `before_all`, `after_all`, `before_each` and `after_each` in a node.
     #[error("plan: P3{0}")]
     UnknownField(Place),
-    /// P4: `key` or `node` is no array of tables; `label` or `id` is missing or no text; `name` is no text; `namespace`,
-    /// `test` or `locks` is no array of texts; `isolated` is neither true nor false.
+    /// P4: `key` or `node` is no array of tables; `label` or `id` is missing or no text; `name` or `mode` is no text;
+    /// `namespace`, `test` or `locks` is no array of texts; `isolated` is neither true nor false; `before_all`, `after_all`,
+    /// `before_each` or `after_each` is no array of arrays of texts.
     #[error("plan: P4{0}")]
     BadField(Place),
     /// P5: a key's label is empty, has a space or is that of a key before, or its namespace is an empty array.
@@ -67,14 +68,16 @@ pub enum PlanFault {
     /// further one stands twice, has one segment or has no parent before it.
     #[error("plan: P7")]
     BadTree,
-    /// P8: a text in the `test` of a node is no step, names no label of the plan, or goes up past the root; or there
-    /// are 2^32 of them or more, which takes a text of over 16 GB.
+    /// P8: a text in the `test` or in a callback of a node is no step, names no label of the plan, or goes up past the root
+    /// from a test or container in which it will run; or a test or a callback has 2^32 steps or more, or a node more than
+    /// 1,048,576 callbacks of a kind, which takes a text of over 16 GB or 4 MB.
     #[error("plan: P8 node {0}")]
     BadStep(usize),
-    /// P9: a text in the `locks` of a node is not `READ NAME` or `READ_WRITE NAME`, with one space and one word NAME.
+    /// P9: a text in the `locks` of a node is not `READ NAME` or `READ_WRITE NAME`, with one space and one word NAME, or its
+    /// `mode` is another text than `same_thread` and `concurrent`.
     #[error("plan: P9 node {0}")]
     BadLock(usize),
-    /// P10: a node is a test and has children.
+    /// P10: a node is a test and has children, or has `before_all` or `after_all`, be it an empty array.
     #[error("plan: P10 node {0}")]
     BadTest(usize),
     /// P11: there are more than 64 different keys, or more than 4,096 cells, of which each node has one for each

@@ -5,7 +5,8 @@ ghost use Rattle.std.specs.List.{list_any};
 ghost use Rattle.toml.specs.View.{view, table_view, items_view};
 ghost use Rattle.toml.specs.Data.{get_member};
 ghost use Rattle.ext_plan.specs.Faults.{Gives, GivesAll};
-ghost use Rattle.ext_plan.specs.Fields.{has_only, text_at, texts_in, tables_in, texts_after, tables_after, text_or_none, texts_or_none, tables_or_none, truth_or_false};
+ghost use Rattle.ext_plan.specs.Fields.{has_only, text_at, texts_in, tables_in, texts_after, tables_after, text_or_none, texts_or_none, text_lists_in, text_lists_after, text_lists_or_none, tables_or_none, truth_or_false};
+ghost use Rattle.ext_plan.specs.Helpers.{lists_view};
 
 use crate::fault::PlanFault;
 use std::alloc::Global;
@@ -88,6 +89,24 @@ pub fn texts_at<'a>(
     }
 }
 
+/// The lists of texts at a name, which may be left out, or the fault where something else is there.
+pub fn text_lists_at<'a>(
+    alloc: Global,
+    table: &'a Table,
+    name: &str,
+    fault: PlanFault,
+) -> Result<Option<Vec<Vec<&'a str>>>, PlanFault>
+    ensures { Gives (option_map lists_view) result (text_lists_or_none fault (get_member name.now (table_view table.now))) }
+{
+    match field(table, name) {
+        None => Ok(None),
+        Some(value) => match text_lists_in(alloc, value)? {
+            None => Err(fault),
+            Some(lists) => Ok(Some(lists)),
+        },
+    }
+}
+
 /// The tables at a name, which may be left out, or the fault where something else is there.
 pub fn tables_at<'a>(
     alloc: Global,
@@ -116,6 +135,19 @@ fn texts_in<'a>(alloc: Global, value: &'a Value) -> Result<Option<Vec<&'a str>>,
     }
 }
 
+/// The lists of texts of a value, if it is an array of arrays of texts.
+fn text_lists_in<'a>(
+    alloc: Global,
+    value: &'a Value,
+) -> Result<Option<Vec<Vec<&'a str>>>, PlanFault>
+    ensures { GivesAll (option_map lists_view) result (text_lists_in (view value.now)) }
+{
+    match value {
+        Value::Array(items) => text_lists_of(alloc, items.as_slice()),
+        _ => Ok(None),
+    }
+}
+
 /// The tables of a value, if it is an array of tables.
 fn tables_in<'a>(alloc: Global, value: &'a Value) -> Result<Option<Vec<&'a Table>>, PlanFault>
     ensures { GivesAll (option_map (λ v. map (λ t. table_view t.now) v.items)) result (tables_in (view value.now)) }
@@ -138,6 +170,23 @@ fn texts_of<'a>(alloc: Global, items: &'a [Value]) -> Result<Option<Vec<&'a str>
         texts.push(text)?;
     }
     Ok(Some(texts))
+}
+
+/// The lists of texts that the items are, if each is one.
+fn text_lists_of<'a>(
+    alloc: Global,
+    items: &'a [Value],
+) -> Result<Option<Vec<Vec<&'a str>>>, PlanFault>
+    ensures { GivesAll (option_map lists_view) result (text_lists_after [] (items_view items.now)) }
+{
+    let mut lists = Vec::new(alloc);
+    for item in items {
+        let Some(texts) = texts_in(alloc, item)? else {
+            return Ok(None);
+        };
+        lists.push(texts)?;
+    }
+    Ok(Some(lists))
 }
 
 /// The tables that the items are, if each is one.

@@ -1,15 +1,16 @@
 //! The keys of a plan.
 ghost use Rattle.std.specs.Prelude.{◌≡◌, [], ◌++◌, ◌∷◌, All, map, option_map, IfOk, string_bytes};
 ghost use Rattle.toml.specs.View.{table_view};
-ghost use Rattle.ext_plan.specs.Plans.{texts_view, key_view, keys_view};
+ghost use Rattle.ext_plan_model.specs.Plans.{texts_view, key_view, keys_view};
+ghost use Rattle.ext_plan_model.specs.KeyNumbers.{HasParts};
+ghost use Rattle.ext_plan_model.specs.Keys.{is_word, labels_of};
 ghost use Rattle.ext_plan.specs.Faults.{Gives};
-ghost use Rattle.ext_plan.specs.KeyNumbers.{HasParts};
-ghost use Rattle.ext_plan.specs.Keys.{is_word, has_parts, labels_of, key_at, keys_after};
+ghost use Rattle.ext_plan.specs.Keys.{has_parts, key_at, keys_after};
 
 use crate::fault::{Place, PlanFault};
 use crate::fields::{has_only, text_at, text_if_given, texts_at};
 use crate::labels::Labels;
-use crate::plan::PlanKey;
+use ext_plan_model::PlanKey;
 use std::alloc::{AllocError, Global};
 use toml::Table;
 

@@ -1,6 +1,7 @@
 //! The labels of a plan's keys, each found without going over the others.
 ghost use Rattle.std.specs.Prelude.{◌≡◌, ◌++◌, ◌∷◌, [], not, length, if◌then◌else◌, is_ok, IfOk, IfSome, ◌<◌};
-ghost use Rattle.ext_plan.specs.Keys.{label_number, is_label};
+ghost use Rattle.ext_plan_model.specs.Keys.{is_label};
+ghost use Rattle.ext_plan.specs.Keys.{label_number};
 
 use indexmap::IndexSet;
 use std::alloc::{AllocFailed, Global};

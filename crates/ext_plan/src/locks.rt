@@ -1,13 +1,14 @@
 //! The resource locks that the nodes of a plan name.
 ghost use Rattle.std.specs.Prelude.{◌≡◌, [], map, fold, option_map, length, nat_le, IfErr, OnOk};
-ghost use Rattle.ext_plan.specs.Plans.{lock_view, locks_view, nodes_view};
+ghost use Rattle.ext_plan_model.specs.Plans.{lock_view, locks_view, nodes_view};
+ghost use Rattle.ext_plan_model.specs.Locks.{lock_limit, lock_name, lock_names, with_name};
 ghost use Rattle.ext_plan.specs.Faults.{Gives, GivesAll};
-ghost use Rattle.ext_plan.specs.Locks.{lock_at, lock_limit, lock_name, lock_named, lock_names, lock_of, lock_of_words, locks_after, locks_at, with_name};
+ghost use Rattle.ext_plan.specs.Locks.{lock_at, lock_named, lock_of, lock_of_words, locks_after, locks_at};
 
 use crate::fault::PlanFault;
 use crate::labels::Labels;
-use crate::plan::{PlanLock, PlanNode};
 use crate::steps::words_of;
+use ext_plan_model::{PlanLock, PlanNode};
 use std::alloc::Global;
 
 /// How many different names of locks there may be.

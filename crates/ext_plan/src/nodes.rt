@@ -3,29 +3,47 @@ ghost use Rattle.std.specs.Prelude.{◌≡◌, [], length, map, option_map, IfOk
 ghost use Rattle.toml.specs.View.{table_view};
 ghost use Rattle.ext_ids.specs.Reading.{read_id};
 ghost use Rattle.ext_tree.specs.Decided.{is_tree};
-ghost use Rattle.ext_plan.specs.Plans.{node_view, nodes_view, steps_view};
+ghost use Rattle.ext_plan_model.specs.Plans.{node_view, nodes_view, steps_view};
 ghost use Rattle.ext_plan.specs.Helpers.{sketch_view};
 ghost use Rattle.ext_plan.specs.Faults.{check, Gives};
-ghost use Rattle.ext_plan.specs.Nodes.{id_or, sketch_at, sketches_after, ids_of, test_at, node_at, nodes_after};
+ghost use Rattle.ext_plan.specs.Nodes.{id_or, sketch_at, sketches_after, ids_of, is_bad_test, test_at, node_at, nodes_after};
 
+use crate::callbacks::CallbackSketch;
+use crate::depths::least_test_depth;
 use crate::fault::{Place, PlanFault};
-use crate::fields::{has_only, text_at, texts_at, truth_at};
+use crate::fields::{has_only, text_at, text_if_given, texts_at, truth_at};
 use crate::labels::Labels;
 use crate::locks::locks_of;
-use crate::plan::{PlanNode, Step};
+use crate::modes::mode_at;
 use crate::steps::steps_of;
 use ext_ids::{IdFault, UniqueId};
+use ext_plan_model::{PlanNode, Step};
 use ext_tree::{Tree, TreeFault};
 use std::alloc::{AllocError, Global};
 use toml::Table;
 
-/// A node after the first pass: its fields have their types and its id is one, and its locks and steps are still texts.
-#[derive(Debug, Drop)]
+/// The names of the fields of a node.
+const NODE_FIELDS: [&str; 9] = [
+    "id",
+    "test",
+    "mode",
+    "isolated",
+    "locks",
+    "before_all",
+    "after_all",
+    "before_each",
+    "after_each",
+];
+
+/// A node after the first pass: its fields have their types and its id is one, and its mode, locks and steps are still texts.
+#[derive(Drop)]
 pub struct NodeSketch<'a> {
-    id: UniqueId,
+    pub id: UniqueId,
+    mode: Option<&'a str>,
     isolated: bool,
     locks: Option<Vec<&'a str>>,
-    test: Option<Vec<&'a str>>,
+    callbacks: CallbackSketch<'a>,
+    pub test: Option<Vec<&'a str>>,
 }
 
 /// The first pass: the nodes that the tables write, in order.
@@ -48,25 +66,25 @@ pub fn sketches_of<'a>(
 fn sketch_of<'a>(alloc: Global, node: usize, table: &'a Table) -> Result<NodeSketch<'a>, PlanFault>
     ensures { Gives sketch_view result (sketch_at node (table_view table.now)) }
 {
-    if !has_only(&["id", "test", "isolated", "locks"], table) {
+    if !has_only(&NODE_FIELDS, table) {
         return Err(PlanFault::UnknownField(Place::Node(node)));
     }
+    let fault = PlanFault::BadField(Place::Node(node));
     let Some(text) = text_at(table, "id") else {
-        return Err(PlanFault::BadField(Place::Node(node)));
+        return Err(fault);
     };
-    let isolated = truth_at(table, "isolated", PlanFault::BadField(Place::Node(node)))?;
-    let locks = texts_at(
-        alloc,
-        table,
-        "locks",
-        PlanFault::BadField(Place::Node(node)),
-    )?;
-    let test = texts_at(alloc, table, "test", PlanFault::BadField(Place::Node(node)))?;
+    let mode = text_if_given(table, "mode", fault)?;
+    let isolated = truth_at(table, "isolated", fault)?;
+    let locks = texts_at(alloc, table, "locks", fault)?;
+    let callbacks = CallbackSketch::of(alloc, node, table)?;
+    let test = texts_at(alloc, table, "test", fault)?;
     let id = id_of(alloc, node, text)?;
     Ok(NodeSketch {
         id,
+        mode,
         isolated,
         locks,
+        callbacks,
         test,
     })
 }
@@ -113,44 +131,62 @@ pub fn nodes_of(
     alloc: Global,
     labels: &Labels<'_>,
     tree: &Tree,
-    sketches: Vec<NodeSketch<'_>>,
+    sketches: &[NodeSketch<'_>],
 ) -> Result<Vec<PlanNode>, PlanFault>
-    requires { tree.now ≡ ids_of (map sketch_view sketches.items) }
-    ensures exact { Gives (λ v. nodes_view v.items) result (nodes_after labels.now tree.now [] (map sketch_view sketches.entry.items)) }
-    ensures count { IfOk result (λ v. length v.items ≡ length sketches.entry.items) }
+    requires { tree.now ≡ ids_of (map sketch_view sketches.now) }
+    ensures exact { Gives (λ v. nodes_view v.items) result (nodes_after labels.now (map sketch_view sketches.now) [] (map sketch_view sketches.now)) }
+    ensures count { IfOk result (λ v. length v.items ≡ length sketches.now) }
 {
     let mut nodes = Vec::new(alloc);
     for sketch in sketches {
         let number = nodes.len();
         let is_parent = !tree.children(number).is_empty();
-        let node = node_of(alloc, labels, number, is_parent, sketch)?;
+        let least = least_test_depth(sketches, &sketch.id);
+        let node = node_of(alloc, labels, number, is_parent, least, sketch)?;
         nodes.push(node)?;
     }
     Ok(nodes)
 }
 
-/// The node of a sketch. A test that is a parent is refused before its locks are read, and these before its steps.
+/// The node of a sketch, where `least` is how many segments the id of a test at or below it has at least. A test that is a
+/// parent or has callbacks of one is refused before its mode and locks are read, and these before its steps.
 #[tactic(auto, unfolding(crate::specs::Nodes::node_at))]
 fn node_of(
     alloc: Global,
     labels: &Labels<'_>,
     node: usize,
     is_parent: bool,
-    sketch: NodeSketch<'_>,
+    least: usize,
+    sketch: &NodeSketch<'_>,
 ) -> Result<PlanNode, PlanFault>
-    ensures { Gives node_view result (node_at labels.now node is_parent (sketch_view sketch.entry)) }
+    ensures { Gives node_view result (node_at labels.now node is_parent least (sketch_view sketch.now)) }
 {
-    if sketch.test.is_some() && is_parent {
+    if is_bad_test(is_parent, sketch) {
         return Err(PlanFault::BadTest(node));
     }
+    let own = sketch.id.len();
+    let mode = mode_at(node, sketch.mode)?;
     let locks = locks_of(alloc, node, &sketch.locks)?;
-    let test = test_of(alloc, labels, sketch.id.len(), node, &sketch.test)?;
+    let callbacks = sketch.callbacks.read(alloc, labels, own, least, node)?;
+    let test = test_of(alloc, labels, own, node, &sketch.test)?;
     Ok(PlanNode {
-        id: sketch.id,
+        id: sketch.id.clone()?,
+        mode,
         isolated: sketch.isolated,
         locks,
+        before_all: callbacks.before_all,
+        after_all: callbacks.after_all,
+        before_each: callbacks.before_each,
+        after_each: callbacks.after_each,
         test,
     })
+}
+
+/// Tests whether a node is a test, but has children or callbacks round them.
+fn is_bad_test(is_parent: bool, sketch: &NodeSketch<'_>) -> bool
+    ensures { result ≡ is_bad_test is_parent (sketch_view sketch.now) }
+{
+    sketch.test.is_some() && (is_parent || sketch.callbacks.are_of_container())
 }
 
 /// The steps of a node, if it is a test. `depth` is how many segments its id has.

@@ -1,31 +1,36 @@
 //! Reading a plan from its text.
 ghost use Rattle.std.specs.Prelude.{◌≡◌, ◌≢◌, ◌≤◌, Err, All, length, IfOk};
 ghost use Rattle.toml.specs.View.{table_view};
-ghost use Rattle.ext_plan.specs.Plans.{keys_view, plan_view};
+ghost use Rattle.ext_plan_model.specs.Plans.{keys_view, plan_view};
+ghost use Rattle.ext_plan_model.specs.KeyNumbers.{different_keys, HasParts};
+ghost use Rattle.ext_plan_model.specs.Laws.{NodesAreTree, TestsHaveNoChildren, HasFewCells, HasFewLocks, HasOwnLabels, NamespacesHaveParts, StepsNameLabels, StepsStayBelowRoot, StepListsAreShort, CallbacksAreFew, TestsHaveNoContainerCallbacks};
 ghost use Rattle.ext_plan.specs.Faults.{Gives, GivesAll};
-ghost use Rattle.ext_plan.specs.KeyNumbers.{different_keys, HasParts};
 ghost use Rattle.ext_plan.specs.Reading.{are_few, plan_of, plan_of_text};
-ghost use Rattle.ext_plan.specs.Laws.{NodesAreTree, TestsHaveNoChildren, HasFewCells, HasFewLocks, HasOwnLabels, NamespacesHaveParts, StepsNameLabels, StepsStayBelowRoot, TestsAreShort};
 
 use crate::fault::{Place, PlanFault};
 use crate::fields::{has_only, tables_at};
 use crate::keys::keys_of;
 use crate::locks::locks_are_few;
 use crate::nodes::{nodes_of, sketches_of, tree_of};
-use crate::numbers::KeyNumbers;
-use crate::plan::{Plan, PlanKey};
+use ext_plan_model::{KeyNumbers, Plan, PlanKey};
 use ext_tree::TreeFault;
 use std::alloc::Global;
 use toml::Table;
 
 /// Reads the plan that the text of a TOML document writes. Own rule.
 ///
-/// The plan has the text's keys, nodes and steps, each in the order of the text. The document has two arrays of
-/// tables, which may be left out: `key`, each with a `label` and, where they are given, a `name`, in place of the label,
-/// and a `namespace`, an array of texts; and `node`, each with an `id` and, where it is a test, with `test`, an array of
-/// steps, and, where they are given, with `isolated`, true or false, and `locks`, an array of texts `READ NAME` or
-/// `READ_WRITE NAME`, with at most 63 different names in the plan. The ids are those of a tree (`ext_tree::Tree::build`): the first has one segment, and the parent of each
-/// further one stands before it. A test has no children. A step is one of
+/// The plan has the text's keys, nodes, callbacks and steps, each in the order of the text. The document has two arrays of
+/// tables, which may be left out.
+///
+/// Each `key` has a `label` and, where they are given, a `name`, in place of the label, and a `namespace`, an array of
+/// texts.
+///
+/// Each `node` has an `id` and, where it is a test, `test`, an array of steps. It may have `mode`, which is `same_thread`
+/// or `concurrent` and else `SameThread`; `isolated`, true or false; `locks`, an array of texts `READ NAME` or
+/// `READ_WRITE NAME`, with at most 63 different names in the plan; and `before_all`, `after_all`, `before_each` and
+/// `after_each`, each an array of at most 1,048,576 callbacks, which are arrays of steps. The ids are those of a tree
+/// (`ext_tree::Tree::build`): the first has one segment, and the parent of each further one stands before it. A test has
+/// no children, and neither `before_all` nor `after_all` is given in it, be it an empty array. A step is one of
 ///
 /// ```text
 /// none KEY      put KEY TEXT      want KEY TEXT       computefail KEY TEXT      fail TEXT
@@ -33,8 +38,9 @@ use toml::Table;
 /// ```
 ///
 /// with one space between two words, where KEY is a label of the plan and TEXT a word; all but `fail` and `abort` may
-/// end with ` up N`, where N is from 1 to 15 and less than the number of segments of the node's id. A test has at most
-/// 2^32 - 1 steps.
+/// end with ` up N`. There N is from 1 to 15, and less than the number of segments of the node's id; in `before_each` and
+/// `after_each` it is less than that of the id of each test at or below the node, which are the ones that these callbacks
+/// run round. A test and a callback have at most 2^32 - 1 steps.
 ///
 /// Everything else is refused with its first fault. In order: `NotToml`; `UnknownField`, then `BadField`, of the top
 /// fields; for each key `UnknownField`, `BadField`, `BadLabel`; for each node `UnknownField`, `BadField`, `BadId`;
@@ -58,7 +64,9 @@ pub fn read_plan(alloc: Global, text: &str) -> Result<Plan, PlanFault>
     ensures keys { IfOk result (λ p. StepsNameLabels (plan_view p)) }
     ensures up { IfOk result (λ p. StepsStayBelowRoot (plan_view p)) }
     ensures locks { IfOk result (λ p. HasFewLocks (plan_view p)) }
-    ensures short { IfOk result (λ p. TestsAreShort (plan_view p)) }
+    ensures containers { IfOk result (λ p. TestsHaveNoContainerCallbacks (plan_view p)) }
+    ensures few { IfOk result (λ p. CallbacksAreFew (plan_view p)) }
+    ensures short { IfOk result (λ p. StepListsAreShort (plan_view p)) }
 {
     match toml::table_from_str(alloc, text) {
         Ok(top) => plan_of(alloc, &top),
@@ -80,7 +88,7 @@ fn plan_of(alloc: Global, top: &Table) -> Result<Plan, PlanFault>
     let keys = keys_of(alloc, key_tables.as_slice())?;
     let sketches = sketches_of(alloc, node_tables.as_slice())?;
     let tree = tree_of(alloc, sketches.as_slice())?;
-    let nodes = nodes_of(alloc, &keys.labels, &tree, sketches)?;
+    let nodes = nodes_of(alloc, &keys.labels, &tree, sketches.as_slice())?;
     if !are_few(alloc, keys.keys.as_slice(), tree.len())? {
         return Err(PlanFault::TooMany);
     }

@@ -1,14 +1,15 @@
-//! The steps of a test.
+//! The steps of a test or of a callback.
 ghost use Rattle.std.specs.Prelude.{◌≡◌, ◌==◌, [], map, length, option_map, IfOk, IfSome, position, ◌<◌};
 ghost use Rattle.std.specs.List.{slice_split, list_any};
 ghost use Rattle.std.specs.Str.{bytes_eq};
-ghost use Rattle.ext_plan.specs.Plans.{step_view, steps_view};
+ghost use Rattle.ext_plan_model.specs.Plans.{step_view, steps_view};
+ghost use Rattle.ext_plan_model.specs.Steps.{height};
 ghost use Rattle.ext_plan.specs.Faults.{Gives, GivesAll};
-ghost use Rattle.ext_plan.specs.Steps.{height_of, key_step, text_step, labelled_key_step, labelled_text_step, short_step, step_of_words, step_of, height, step_at, steps_after, steps_at};
+ghost use Rattle.ext_plan.specs.Steps.{height_of, key_step, text_step, labelled_key_step, labelled_text_step, short_step, step_of_words, step_of, step_at, steps_after, steps_at};
 
 use crate::fault::PlanFault;
 use crate::labels::Labels;
-use crate::plan::{LabelNo, Step};
+use ext_plan_model::{LabelNo, Step};
 use std::alloc::{AllocError, Global};
 
 /// The numbers behind `up`, as they are written: from 1 to 15, in order.
@@ -16,12 +17,12 @@ const HEIGHTS: [&str; 15] = [
     "1", "2", "3", "4", "5", "6", "7", "8", "9", "10", "11", "12", "13", "14", "15",
 ];
 
-/// The greatest number of steps of a test, so that what they compute and find is counted in 32 bits. A text with more
-/// has over 16 GB.
+/// The greatest number of steps of a test or a callback, so that what they compute and find is counted in 32 bits. A text
+/// with more has over 16 GB.
 const STEP_LIMIT: usize = 4_294_967_295;
 
-/// The steps that the texts of a node are, in order, if they are not too many. `node` is its place in the plan, and
-/// `depth` how many segments its id has.
+/// The steps that the texts of a test or a callback are, in order, if they are not too many. `node` is the place of its
+/// node in the plan, and `depth` how many segments the id of a test or container in which it runs has at least.
 #[tactic(auto, unfolding(crate::specs::Steps::steps_at))]
 pub fn steps_of(
     alloc: Global,
@@ -38,7 +39,7 @@ pub fn steps_of(
     steps_in_order(alloc, labels, depth, node, texts)
 }
 
-/// The steps that the texts of a node are, in order, however many there are.
+/// The steps that the texts of a test or a callback are, in order, however many there are.
 fn steps_in_order(
     alloc: Global,
     labels: &Labels<'_>,

@@ -17,35 +17,15 @@
 --     computed N found N closed N close faults N
 --
 -- Each line ends with one line feed. Numbers are decimal. The format is an own rule.
-use Rattle.std.specs.Prelude.{ℕ, Bool, true, false, ◌&&◌, ◌==◌, codes, List, [], ◌++◌, map, Option, Some, None, string_bytes, if◌then◌else◌}
+use Rattle.std.specs.Prelude.{ℕ, Bool, true, false, ◌&&◌, ◌==◌, codes, List, [], ◌++◌, Option, Some, None, if◌then◌else◌}
 use Rattle.std.specs.List.{flat_map, slice_index_or, sum_by, count_by, list_any}
 use Rattle.std.specs.Fmt.{decimal}
 use Rattle.ext_ids.specs.Grammar.{Pair, id_text}
-use Rattle.ext_model.specs.declared.look.Fault.{Fault}
-use Rattle.ext_model.specs.declared.look.Fault.TheVariants as faults
-use Rattle.ext_lifecycle.specs.declared.node_result.NodeResult.{NodeResult}
 use Rattle.ext_lifecycle.specs.declared.status.Status.{Status}
 use Rattle.ext_lifecycle.specs.declared.status.Status.TheVariants as statuses
-use Rattle.ext_lifecycle.specs.Results.{ResultOf, told, with_fault_told}
+use Rattle.ext_lifecycle.specs.FaultTexts.{NodeOutcome}
 use Rattle.ext_report.specs.declared.totals.TestCounts.{TestCounts}
 use Rattle.ext_report.specs.declared.totals.NodeSums.{NodeSums}
-
--- a node's result, with its fault as it is written
-abbrev pub NodeOutcome : Type 0
-NodeOutcome = ResultOf (List ℕ)
-
--- a fault as it is written
-abbrev pub fault_text : Fault → List ℕ
-fault_text (faults.Text text) = string_bytes text
-fault_text faults.Memory = codes "no memory"
-
--- what a report reads of a result
-abbrev pub result_view : NodeResult → NodeOutcome
-result_view r = with_fault_told fault_text (told r)
-
--- the same of each result
-abbrev pub results_view : List NodeResult → List NodeOutcome
-results_view results = map result_view results
 
 -- a status as it is written
 abbrev pub status_text : Status → List ℕ

@@ -1,6 +1,7 @@
 //! The line of a node in a report.
 ghost use Rattle.std.specs.Prelude.{◌≡◌, ◌++◌, string_bytes, OnOk, Some};
-ghost use Rattle.ext_report.specs.Report.{result_view, status_text, fault_text, fault_part, fault_and_further, line_of};
+ghost use Rattle.ext_lifecycle.specs.FaultTexts.{fault_text, result_view};
+ghost use Rattle.ext_report.specs.Report.{status_text, fault_part, fault_and_further, line_of};
 
 use ext_ids::UniqueId;
 use ext_lifecycle::{NodeResult, Status};

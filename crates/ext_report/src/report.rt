@@ -1,6 +1,7 @@
 //! The report of a run.
 ghost use Rattle.std.specs.Prelude.{◌≡◌, ◌<◌, length, string_bytes, IfOk, All};
-ghost use Rattle.ext_report.specs.Report.{results_view, report_of, any_failed};
+ghost use Rattle.ext_lifecycle.specs.FaultTexts.{results_view};
+ghost use Rattle.ext_report.specs.Report.{report_of, any_failed};
 
 use crate::is_status::is_status;
 use crate::line::write_line;

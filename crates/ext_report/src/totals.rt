@@ -1,7 +1,8 @@
 //! The two lines of totals at the end of a report.
 ghost use Rattle.std.specs.Prelude.{◌≡◌, ◌++◌, string_bytes, OnOk};
 ghost use Rattle.std.specs.List.{count_by};
-ghost use Rattle.ext_report.specs.Report.{results_view, tests_with, counts_of, sums_of, counts_line, sums_line};
+ghost use Rattle.ext_lifecycle.specs.FaultTexts.{results_view};
+ghost use Rattle.ext_report.specs.Report.{tests_with, counts_of, sums_of, counts_line, sums_line};
 
 use crate::is_status::is_status;
 use ext_lifecycle::{NodeResult, Status};

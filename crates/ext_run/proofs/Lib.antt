@@ -1,12 +1,3 @@
 pub mod ReadBytes
-pub mod Outcomes
+pub mod Elements
 pub mod RunAnswers
-pub mod Stepping
-pub mod Sealing
-pub mod Acts
-pub mod Nodes
-pub mod Kept
-pub mod Seals
-pub mod Values
-pub mod Sound
-pub mod Reached

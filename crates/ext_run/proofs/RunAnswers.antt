@@ -4,7 +4,7 @@ use Rattle.std.specs.Str.{IsUtf8, is_utf8}
 use Rattle.std.proofs.lemmas.Str.{IsUtf8-from_is_utf8, is_utf8-from_IsUtf8}
 use Rattle.ext_plan.specs.declared.fault.PlanFault.{PlanFault}
 use Rattle.ext_plan.specs.declared.fault.PlanFault.TheVariants as plan
-use Rattle.ext_plan.specs.Plans.{PlanText}
+use Rattle.ext_plan_model.specs.Plans.{PlanText}
 use Rattle.ext_plan.specs.Faults.{Fails}
 use Rattle.ext_plan.specs.Reading.{plan_of_text}
 use Rattle.ext_run.specs.declared.fault.RunFault.{RunFault}

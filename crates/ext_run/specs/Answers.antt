@@ -4,11 +4,11 @@ use Rattle.std.specs.Prelude.{◌≡◌, ℕ, Bool, List, length, nat_lt, Result
 use Rattle.std.specs.Str.{is_utf8}
 use Rattle.ext_plan.specs.declared.fault.PlanFault.{PlanFault}
 use Rattle.ext_plan.specs.declared.fault.PlanFault.TheVariants as plan
-use Rattle.ext_plan.specs.Plans.{PlanText}
+use Rattle.ext_plan_model.specs.Plans.{PlanText}
 use Rattle.ext_plan.specs.Reading.{plan_of_text}
-use Rattle.ext_plan.specs.Laws.{ids_of_nodes}
+use Rattle.ext_plan_model.specs.Laws.{ids_of_nodes}
 use Rattle.ext_report.specs.Report.{report_of, any_failed}
-use Rattle.ext_run.specs.PlainRun.{plain_run}
+use Rattle.ext_plain.specs.PlainRun.{plain_run}
 use Rattle.ext_run.specs.declared.fault.RunFault.{RunFault}
 use Rattle.ext_run.specs.declared.fault.RunFault.TheVariants as faults
 

@@ -1,9 +1,3 @@
-pub mod StepTexts
-pub mod ValueStates
-pub mod Steps
-pub mod Closes
-pub mod PlainRun
 pub mod Answers
 pub mod IdText
-pub mod Laws
 pub mod Helpers

@@ -2,18 +2,19 @@
 ghost use Rattle.std.specs.Prelude.{◌≡◌, ◌≢◌, ◌≤◌, ◌<◌, ◌+◌, ℕ, List, length, map, string_bytes, IfOk, IfErr, IfSome, OnOk, All, Ok};
 ghost use Rattle.std.specs.Io.KnownBytes.{Consumes, Appends};
 ghost use Rattle.ext_tree.specs.Trees.{IsTree};
-ghost use Rattle.ext_plan.specs.Plans.{keys_view, plan_view};
-ghost use Rattle.ext_plan.specs.KeyNumbers.{different_keys, numbering, HasParts};
-ghost use Rattle.ext_plan.specs.Laws.{HasFewCells, NamespacesHaveParts, NodesAreTree, TestsAreShort};
-ghost use Rattle.ext_report.specs.Report.{results_view, report_of};
+ghost use Rattle.ext_plan_model.specs.Plans.{keys_view, plan_view};
+ghost use Rattle.ext_plan_model.specs.KeyNumbers.{different_keys, numbering, HasParts};
+ghost use Rattle.ext_plan_model.specs.Laws.{CallbacksAreFew, HasFewCells, NamespacesHaveParts, NodesAreTree, StepListsAreShort};
+ghost use Rattle.ext_lifecycle.specs.FaultTexts.{results_view};
+ghost use Rattle.ext_report.specs.Report.{report_of};
 ghost use Rattle.ext_run.specs.Answers.{input_limit, answer_of, answer_to_bytes, answer_to, RefusedAs};
 ghost use Rattle.ext_run.specs.Helpers.{output_view, AnswersAs};
 
 use crate::fault::RunFault;
 use crate::input::read_input;
-use crate::plain::results_of;
 use ext_ids::UniqueId;
 use ext_lifecycle::NodeResult;
+use ext_plain::run_plain;
 use ext_plan::{KeyNumbers, Plan, PlanFault, PlanKey, PlanNode, read_plan};
 use ext_report::any_failed;
 use ext_tree::{Tree, TreeFault};
@@ -126,13 +127,14 @@ fn output_of(alloc: Global, plan: &Plan) -> Result<Output, RunFault>
     requires tree { NodesAreTree (plan_view plan.now) }
     requires namespaces { NamespacesHaveParts (plan_view plan.now) }
     requires few { HasFewCells (plan_view plan.now) }
-    requires short { TestsAreShort (plan_view plan.now) }
+    requires short { StepListsAreShort (plan_view plan.now) }
+    requires called { CallbacksAreFew (plan_view plan.now) }
     ensures ok { IfOk result (λ o. output_view o ≡ answer_of (plan_view plan.now)) }
     ensures memory { IfErr result (λ e. e ≡ RunFault.Memory) }
 {
     let keys = numbers_of(alloc, plan.keys.as_slice())?;
     let tree = tree_of(alloc, plan.nodes.as_slice())?;
-    let results = results_of(alloc, plan, &keys, &tree)?;
+    let results = run_plain(alloc, plan, &keys, &tree)?;
     let report = report_text(alloc, &tree, results.as_slice())?;
     Ok(Output {
         report,

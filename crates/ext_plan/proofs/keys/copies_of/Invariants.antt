@@ -1,5 +1,5 @@
 use Rattle.std.proofs.Common.{◌≡◌, map, take}
-use Rattle.ext_plan.specs.Plans.{texts_view}
+use Rattle.ext_plan_model.specs.Plans.{texts_view}
 use Rattle.ext_plan.proofs.keys.copies_of.Given as goal
 
 abbrev pub invariant-loop-text : goal.invariant-loop-text

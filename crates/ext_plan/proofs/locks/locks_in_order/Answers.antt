@@ -1,7 +1,8 @@
 use Rattle.std.proofs.Common.{◌∙◌, arith, refl, []}
 use Rattle.std.proofs.lemmas.List.{drop_all}
 use Rattle.std.proofs.lemmas.Result.{err_from_is_err_and}
-use Rattle.ext_plan.proofs.Lists.{map-push, map-at}
+use Rattle.ext_plan_model.proofs.Lists.{map-push}
+use Rattle.ext_plan.proofs.Lists.{map-at}
 use Rattle.ext_plan.proofs.Turns.{locks_go, locks_stop, locks_end, Fails-whole}
 use Rattle.ext_plan.proofs.locks.locks_in_order.Goals as goal
 

@@ -1,5 +1,5 @@
 use Rattle.std.proofs.Common.{◌≡◌, drop, map, []}
-use Rattle.ext_plan.specs.Plans.{locks_view}
+use Rattle.ext_plan_model.specs.Plans.{locks_view}
 use Rattle.ext_plan.specs.Locks.{locks_after}
 use Rattle.ext_plan.proofs.locks.locks_in_order.Given as goal
 

@@ -2,8 +2,8 @@ use Rattle.std.proofs.Common.{◌≡◌, ◌∙◌, arith, length, rules, refl, 
 use Rattle.std.proofs.lemmas.List.{drop_all, length-map}
 use Rattle.std.proofs.lemmas.Result.{err_from_is_err_and}
 use Rattle.toml.specs.View.{table_view}
+use Rattle.ext_plan_model.proofs.Lists.{map-push, map-drop}
 use Rattle.ext_plan.specs.Helpers.{sketch_view}
-use Rattle.ext_plan.proofs.Lists.{map-push, map-drop}
 use Rattle.ext_plan.proofs.Turns.{sketches_go, sketches_stop, sketches_end, Fails-whole}
 use Rattle.ext_plan.proofs.nodes.sketches_of.Goals as goal
 

@@ -1,5 +1,5 @@
 use Rattle.toml.specs.View.{table_view}
-use Rattle.ext_plan.specs.Laws.{NodesAreTree, TestsHaveNoChildren, HasFewCells, HasFewLocks, HasOwnLabels, NamespacesHaveParts, StepsNameLabels, StepsStayBelowRoot, TestsAreShort}
+use Rattle.ext_plan_model.specs.Laws.{NodesAreTree, TestsHaveNoChildren, HasFewCells, HasFewLocks, HasOwnLabels, NamespacesHaveParts, StepsNameLabels, StepsStayBelowRoot, StepListsAreShort, CallbacksAreFew, TestsHaveNoContainerCallbacks}
 use Rattle.ext_plan.proofs.Laws.{if_read}
 use Rattle.ext_plan.proofs.NeverNotUtf8.{never_not_utf8}
 use Rattle.ext_plan.proofs.read.read_plan.Goals as goal
@@ -29,7 +29,13 @@ pub returns-in-Ok-clause-up : goal.returns-in-Ok-clause-up
 returns-in-Ok-clause-up c = if_read StepsStayBelowRoot (λ plan laws. laws.up) c.plan_of.result (table_view c.in-Ok.top) c.plan_of.ensures
 
 pub returns-in-Ok-clause-short : goal.returns-in-Ok-clause-short
-returns-in-Ok-clause-short c = if_read TestsAreShort (λ plan laws. laws.short) c.plan_of.result (table_view c.in-Ok.top) c.plan_of.ensures
+returns-in-Ok-clause-short c = if_read StepListsAreShort (λ plan laws. laws.short) c.plan_of.result (table_view c.in-Ok.top) c.plan_of.ensures
 
 pub returns-in-Ok-clause-locks : goal.returns-in-Ok-clause-locks
 returns-in-Ok-clause-locks c = if_read HasFewLocks (λ plan laws. laws.locks) c.plan_of.result (table_view c.in-Ok.top) c.plan_of.ensures
+
+pub returns-in-Ok-clause-containers : goal.returns-in-Ok-clause-containers
+returns-in-Ok-clause-containers c = if_read TestsHaveNoContainerCallbacks (λ plan laws. laws.containers) c.plan_of.result (table_view c.in-Ok.top) c.plan_of.ensures
+
+pub returns-in-Ok-clause-few : goal.returns-in-Ok-clause-few
+returns-in-Ok-clause-few c = if_read CallbacksAreFew (λ plan laws. laws.few) c.plan_of.result (table_view c.in-Ok.top) c.plan_of.ensures

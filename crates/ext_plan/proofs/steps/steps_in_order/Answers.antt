@@ -1,7 +1,8 @@
 use Rattle.std.proofs.Common.{◌∙◌, arith, refl, []}
 use Rattle.std.proofs.lemmas.List.{drop_all}
 use Rattle.std.proofs.lemmas.Result.{err_from_is_err_and}
-use Rattle.ext_plan.proofs.Lists.{map-push, map-at}
+use Rattle.ext_plan_model.proofs.Lists.{map-push}
+use Rattle.ext_plan.proofs.Lists.{map-at}
 use Rattle.ext_plan.proofs.Turns.{steps_go, steps_stop, steps_end, Fails-whole}
 use Rattle.ext_plan.proofs.steps.steps_in_order.Goals as goal
 

@@ -1,5 +1,5 @@
 use Rattle.std.proofs.Common.{◌≡◌, drop, map, []}
-use Rattle.ext_plan.specs.Plans.{steps_view}
+use Rattle.ext_plan_model.specs.Plans.{steps_view}
 use Rattle.ext_plan.specs.Steps.{steps_after}
 use Rattle.ext_plan.proofs.steps.steps_in_order.Given as goal
 

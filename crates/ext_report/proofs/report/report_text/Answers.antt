@@ -1,5 +1,6 @@
 use Rattle.std.proofs.Common.{◌∙◌, ◌++◌, ap, sym, rules}
-use Rattle.ext_report.specs.Report.{line_of, result_view}
+use Rattle.ext_lifecycle.specs.FaultTexts.{result_view}
+use Rattle.ext_report.specs.Report.{line_of}
 use Rattle.ext_report.proofs.Lines.{lines_of-more}
 use Rattle.ext_report.proofs.report.report_text.Goals as goal
 

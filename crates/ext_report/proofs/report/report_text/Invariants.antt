@@ -1,5 +1,6 @@
 use Rattle.std.proofs.Common.{◌≡◌, take, string_bytes}
-use Rattle.ext_report.specs.Report.{lines_of, results_view}
+use Rattle.ext_lifecycle.specs.FaultTexts.{results_view}
+use Rattle.ext_report.specs.Report.{lines_of}
 use Rattle.ext_report.proofs.report.report_text.Given as goal
 
 abbrev pub invariant-loop-node : goal.invariant-loop-node

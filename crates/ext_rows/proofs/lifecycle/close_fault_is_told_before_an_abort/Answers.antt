@@ -1,4 +1,4 @@
-use Rattle.std.proofs.Common.{◌+◌, arith}
+use Rattle.std.proofs.Common.{arith}
 use Rattle.ext_rows.proofs.lifecycle.close_fault_is_told_before_an_abort.Goals as goal
 
 pub result-requires : goal.result-requires

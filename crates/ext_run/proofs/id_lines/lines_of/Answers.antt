@@ -1,5 +1,5 @@
 use Rattle.std.proofs.Common.{append_assoc}
-use Rattle.ext_run.proofs.Outcomes.{drop_found}
+use Rattle.ext_run.proofs.Elements.{drop_found}
 use Rattle.ext_run.proofs.id_lines.lines_of.Goals as goal
 
 pub loop-i-preserved : goal.loop-i-preserved

@@ -1,0 +1,186 @@
+-- What holds of the run of a node, from what holds of its parts.
+use Rattle.std.proofs.Common.{◌≡◌, ℕ, ◌+◌, ◌-◌, ◌<◌, ◌≤◌, Bool, false, true, min, zero, suc, List, [], ◌∷◌, ◌++◌, length, map, drop, ap, ◌∙◌, sym, refl, subst, arith, append-nil, length-drop, length-take}
+use Rattle.std.specs.Prelude.{All, Option, option_map, filter, not, Some, Ok, Err, Result, Vec, IfOk, IsOk, slice_get, slice_set, slice_index_or}
+use Rattle.std.specs.declared.alloc.Global.{Global}
+use Rattle.std.specs.List.{flat_map}
+use Rattle.std.proofs.lemmas.Fn.{FoldsTo-push}
+use Rattle.std.proofs.lemmas.Grind.{flat_map-append}
+use Rattle.std.proofs.lemmas.List.{map-append}
+use Rattle.std.proofs.lemmas.List.Elements.{All-take, All-drop}
+use Rattle.std.proofs.lemmas.Option.{slice_get_within, get_or_from_slice_get, slice_get-map}
+use Rattle.ext_tree.specs.Paths.{IsPathOf, children_of}
+use Rattle.ext_store.specs.Stores.{StoreView, StoreLane, IsLaneOf}
+use Rattle.ext_closing.specs.Closing.{Answer}
+use Rattle.ext_locks.specs.Opening.{LocksView}
+use Rattle.ext_locks.specs.Views.{Lane}
+use Rattle.ext_locks.specs.Sets.{HeldView}
+use Rattle.ext_crew.specs.Dealing.{Share, front, back, RunByDealing}
+use Rattle.ext_crew.proofs.Runs.{run-map}
+use Rattle.ext_crew.proofs.RunLaws.{run-outcome}
+use Rattle.ext_model.specs.declared.look.Fault.{Fault}
+use Rattle.ext_lifecycle.specs.Results.{ResultOf, told}
+use Rattle.ext_lifecycle.specs.declared.call.Call.{Call}
+use Rattle.ext_lifecycle.specs.declared.outcome.Outcome.{Outcome}
+use Rattle.ext_lifecycle.specs.Lifecycle.{MakesAll, MakesBefores, MakesCalls}
+use Rattle.ext_engine.specs.declared.closers.Item.{Item}
+use Rattle.ext_engine.specs.declared.results.RanNode.{RanNode}
+use Rattle.ext_engine.specs.Helpers.{ran_view, ran_in}
+use Rattle.ext_engine.specs.TreeRun.{Ran, TreeSetting, Lanes, OnFirst, IsUsable, IsIdle, TreeRun, TestRun, ContainerRun, BodyRun, RanInTurn}
+
+-- ---- shares that can be used
+
+pub usable_part : {V : Type 0} (store : StoreView) (locks : LocksView) (s : Lanes V) (from size : ℕ) → IsUsable store locks s → 0 < size → from + size ≤ length s.first → IsUsable store locks (front size (back from s))
+usable_part {V} store locks s from size h some_here room =
+    let a = length-take size (drop from s.first) in
+    let b = length-drop from s.first in
+    let c = length-take size (drop from s.second) in
+    let d = length-drop from s.second in
+    let f = h.few in
+    let e = h.same in
+    record {
+      some = omega arith;
+      same = omega arith;
+      few = omega arith;
+      lanes = All-take (IsLaneOf store.id) size (drop from s.first) (All-drop (IsLaneOf store.id) from s.first h.lanes);
+      idle = All-take (IsIdle locks) size (drop from s.second) (All-drop (IsIdle locks) from s.second h.idle);
+    }
+
+-- as references show it
+pub usable-shown : {V : Type 0} (store : StoreView) (locks : LocksView) (s : Lanes V) (first : List (StoreLane V)) (second : List Lane)
+    → first ≡ s.first → second ≡ s.second → IsUsable store locks s → IsUsable store locks (record { first = first; second = second })
+usable-shown {V} store locks s first second e f h =
+    let P : List (StoreLane V) → Type 0 = λ l. IsUsable store locks (record { first = l; second = s.second }) in
+    let Q : List Lane → Type 0 = λ l. IsUsable store locks (record { first = first; second = l }) in
+    subst Q (sym f) (subst P (sym e) h)
+
+-- after jobs that keep each lane's facts
+pub usable-then : {V : Type 0} (store : StoreView) (locks : LocksView) (s t : Lanes V) → IsUsable store locks s → length t.first ≡ length s.first → length t.second ≡ length s.second
+    → All (IsLaneOf store.id) t.first × All (IsIdle locks) t.second → IsUsable store locks t
+usable-then store locks s t h m n kept =
+    let a = h.some in let b = h.same in let c = h.few in
+    record { some = omega (arith, m); same = omega (arith, m, n); few = omega (arith, m); lanes = kept.0; idle = kept.1 }
+
+-- ---- jobs
+
+-- a fact of each item, at the item of a job
+pub at_item : {X : Type 0} (P : X → Type 0) (items : List X) (job : ℕ) (item : X) → All P items → slice_get items job ≡ Some item → P item
+at_item P items job item all is = subst P (get_or_from_slice_get items job item item is) (all job item (slice_get_within items job item is))
+
+pub node_at : (items : List Item) (job : ℕ) (item : Item) → slice_get items job ≡ Some item → slice_index_or (map (λ i. i.node) items) job 0 ≡ item.node
+node_at items job item is = get_or_from_slice_get (map (λ i. i.node) items) job item.node 0 (slice_get-map (λ i. i.node) items job ∙ ap (λ o. option_map (λ i. i.node) o) is)
+
+-- what each job's outcome meets, all outcomes meet
+pub outcomes-meet : {A B O : Type 0} (runs : ℕ → Share A B → O → Share A B → Type 0) (P : O → Type 0) (jobs workers : ℕ) (s t : Share A B) (outcomes : List O)
+    → ((job : ℕ) (u : Share A B) (o : O) (v : Share A B) → job < jobs → runs job u o v → P o) → RunByDealing runs jobs workers s outcomes t → All P outcomes
+outcomes-meet runs P jobs workers s t outcomes at run k d less =
+    let below : k < jobs = (let e = run.outcome_count in omega (arith, less, e)) in
+    let h = run-outcome runs outcomes jobs workers s t run k below in
+    subst P (sym (get_or_from_slice_get outcomes k h.outcome d h.stands)) (at k h.before h.outcome h.after below h.run)
+
+-- ---- answers
+
+-- what is said of the nodes in an answer
+pub answer-ok : {E : Type 0} (Q : List Ran → Type 0) (outcomes : List (Result (Vec RanNode Global) E)) (job : ℕ) (r : Result (Vec RanNode Global) E)
+    → All IsOk outcomes → slice_get outcomes job ≡ Some r → IfOk r (λ u. Q (map ran_view u.items)) → Q (ran_in r)
+answer-ok Q outcomes job (Ok v) all at run = run
+answer-ok {E} Q outcomes job (Err e) all at run =
+    let inside = slice_get_within outcomes job (Err e) at in
+    let bad : Result (Vec RanNode Global) E = Err e in
+    let P : Result (Vec RanNode Global) E → Type 0 = λ r. IsOk r in
+    let wrong : false ≡ true = subst P (get_or_from_slice_get outcomes job bad bad at) (all job bad inside) in cc
+
+flat-lists : {E : Type 0} (outcomes : List (Result (Vec RanNode Global) E)) → flat_map ran_in outcomes ≡ flat_map (λ ran. ran) (map ran_in outcomes)
+flat-lists [] = refl
+flat-lists (r ∷ outcomes) = ap (λ l. ran_in r ++ l) (flat-lists outcomes)
+
+-- a node's result, and what ran below it
+pub ran-first : (x : RanNode) (result : ResultOf Fault) (went_on : Bool) (items below : List RanNode) → items ≡ x ∷ below → told x.result ≡ result → x.went_on ≡ went_on
+    → map ran_view items ≡ record { result = result; went_on = went_on } ∷ map ran_view below
+ran-first x result went_on items below is told_is went_on_is =
+    let first : ResultOf Fault → Bool → Ran = λ r w. record { result = r; went_on = w } in
+    ap (map ran_view) is ∙ (ap (λ r. first r x.went_on ∷ map ran_view below) told_is ∙ ap (λ w. first result w ∷ map ran_view below) went_on_is)
+
+-- ---- the first of some lanes
+
+pub on-first : {X : Type 0} (R : X → X → Type 0) (xs : List X) (d left : X) → 0 < length xs → R (slice_index_or xs 0 d) left → OnFirst R xs (slice_set xs 0 left)
+on-first R [] d left some_here change = absurd (omega arith)
+on-first R (x ∷ xs) d left some_here change = record { lane = x; left = left; rest = xs; first_was = refl; change = change; first_is = refl }
+
+pub calls-on : {X : Type 0} (makes : X → Call → Outcome → X → Type 0) (xs : List X) (d left : X) {befores : List Call} (befores' : List Call) (body : Call) {afters : List Call} (afters' : List Call) (os : List Outcome)
+    → befores ≡ befores' → afters ≡ afters' → 0 < length xs → MakesCalls makes befores body afters (slice_index_or xs 0 d) os left → OnFirst (λ a b. MakesCalls makes befores' body afters' a os b) xs (slice_set xs 0 left)
+calls-on {X} makes xs d left {befores} befores' body {afters} afters' os e f some_here made =
+    let P : List Call → Type 0 = λ l. MakesCalls makes l body afters (slice_index_or xs 0 d) os left in
+    let Q : List Call → Type 0 = λ l. MakesCalls makes befores' body l (slice_index_or xs 0 d) os left in
+    on-first (λ a b. MakesCalls makes befores' body afters' a os b) xs d left some_here (subst Q f (subst P e made))
+
+pub befores-on : {X : Type 0} (makes : X → Call → Outcome → X → Type 0) (xs : List X) (d left : X) {befores : List Call} (befores' : List Call) (os : List Outcome)
+    → befores ≡ befores' → 0 < length xs → MakesBefores makes befores (slice_index_or xs 0 d) os left → OnFirst (λ a b. MakesBefores makes befores' a os b) xs (slice_set xs 0 left)
+befores-on {X} makes xs d left {befores} befores' os e some_here made =
+    let P : List Call → Type 0 = λ l. MakesBefores makes l (slice_index_or xs 0 d) os left in
+    on-first (λ a b. MakesBefores makes befores' a os b) xs d left some_here (subst P e made)
+
+pub afters-on : {X : Type 0} (makes : X → Call → Outcome → X → Type 0) (xs : List X) (d left : X) {afters : List Call} (afters' : List Call) (os : List Outcome)
+    → afters ≡ afters' → 0 < length xs → MakesAll makes afters (slice_index_or xs 0 d) os left → OnFirst (λ a b. MakesAll makes afters' a os b) xs (slice_set xs 0 left)
+afters-on {X} makes xs d left {afters} afters' os e some_here made =
+    let P : List Call → Type 0 = λ l. MakesAll makes l (slice_index_or xs 0 d) os left in
+    on-first (λ a b. MakesAll makes afters' a os b) xs d left some_here (subst P e made)
+
+-- ---- nodes one after another
+
+pub ran-none : {A B : Type 0} (Run : ℕ → Share A B → List Ran → Share A B → Type 0) (s : Share A B) (ran : List Ran) → ran ≡ [] → RanInTurn Run [] s ran s
+ran-none Run s ran is = record { done = []; each = refl; runs = refl; ran_are = is }
+
+pub ran-push : {A B : Type 0} (Run : ℕ → Share A B → List Ran → Share A B → Type 0) (items : List Item) (item : Item) (before between after : Share A B) (ran more all : List Ran)
+    → RanInTurn Run (map (λ i. i.node) items) before ran between → Run item.node between more after → all ≡ ran ++ more
+    → RanInTurn Run (map (λ i. i.node) (items ++ item ∷ [])) before all after
+ran-push Run items item before between after ran more all so_far run is = record {
+  done = so_far.done ++ (item.node, more) ∷ [];
+  each = map-append (λ d. d.0) so_far.done ((item.node, more) ∷ []) ∙ (ap (λ l. l ++ item.node ∷ []) so_far.each ∙ sym (map-append (λ i. i.node) items (item ∷ [])));
+  runs = FoldsTo-push (λ s d t. Run d.0 s d.1 t) before so_far.done between (item.node, more) after so_far.runs run;
+  ran_are = is ∙ (ap (λ l. l ++ more) so_far.ran_are ∙ (ap (λ l. flat_map (λ d. d.1) so_far.done ++ l) (sym (append-nil more)) ∙ sym (flat_map-append (λ d. d.1) so_far.done ((item.node, more) ∷ []))));
+}
+
+-- ---- parts of the definition
+
+module _ {V A : Type 0} (t : TreeSetting V) (makes : ℕ → Call → Option HeldView → StoreLane V → Outcome → StoreLane V → Type 0) (actions : ℕ → A → Type 0)
+    (gives : A → ℕ → V → Answer → A → Type 0) where
+  abbrev pub Tree : ℕ → ℕ → Lanes V → List Ran → Lanes V → Type 0
+  Tree = TreeRun t makes actions gives
+
+  pub tree-of-test : (depth node : ℕ) (s : Lanes V) (ran : List Ran) (u : Lanes V) → 1 ≤ depth → t.suite.is_test node ≡ true
+      → (path : List ℕ) × IsPathOf t.store.tree node path × TestRun t makes actions gives node path s ran u → Tree depth node s ran u
+  tree-of-test zero node s ran u some_depth test run = absurd (omega (arith, some_depth))
+  tree-of-test (suc depth) node s ran u some_depth test run =
+      (run.0, run.1, (λ _. run.2), (λ bad. absurd (let e : true ≡ false = sym test ∙ bad in cc)))
+
+  pub tree-of-container : (depth node : ℕ) (s : Lanes V) (ran : List Ran) (u : Lanes V) → 1 ≤ depth → t.suite.is_test node ≡ false
+      → (path : List ℕ) × IsPathOf t.store.tree node path × ContainerRun t makes actions gives (Tree (depth - 1)) node path s ran u → Tree depth node s ran u
+  tree-of-container zero node s ran u some_depth container run = absurd (omega (arith, some_depth))
+  tree-of-container (suc depth) node s ran u some_depth container run =
+      let e : suc depth - 1 ≡ depth = omega arith in
+      let P : ℕ → Type 0 = λ n. ContainerRun t makes actions gives (Tree n) node run.0 s ran u in
+      (run.0, run.1, (λ good. absurd (let f : true ≡ false = sym good ∙ container in cc)), (λ _. subst P e run.2))
+
+  module _ (Child : ℕ → Lanes V → List Ran → Lanes V → Type 0) where
+    -- the children beside one another, and then the others
+    pub body-of : {E : Type 0} (node : ℕ) (nodes others : List ℕ) (s between u : Lanes V) (outcomes : List (Result (Vec RanNode Global) E)) (alone ran first : List Ran) (count : ℕ)
+        → length nodes ≡ count
+        → nodes ≡ filter t.suite.is_concurrent (children_of t.store.tree node) → others ≡ filter (λ c. not (t.suite.is_concurrent c)) (children_of t.store.tree node)
+        → RunByDealing (λ i v r w. IfOk r (λ l. Child (slice_index_or nodes i 0) v (map ran_view l.items) w)) count (min (length s.first) count) s outcomes between
+        → All IsOk outcomes → first ≡ flat_map ran_in outcomes → RanInTurn Child others between alone u → ran ≡ first ++ alone
+        → BodyRun t makes actions gives Child node s ran u
+    body-of {E} node nodes others s between u outcomes alone ran first count size conc same run all are turn is =
+        let R : ℕ → Lanes V → Result (Vec RanNode Global) E → Lanes V → Type 0 = λ i v r w. IfOk r (λ l. Child (slice_index_or nodes i 0) v (map ran_view l.items) w) in
+        let S : ℕ → Lanes V → List Ran → Lanes V → Type 0 = λ i v rs w. Child (slice_index_or nodes i 0) v rs w in
+        let lists = run-map ran_in R S outcomes (λ job v r w at h. answer-ok (λ l. Child (slice_index_or nodes job 0) v l w) outcomes job r all at h) count (min (length s.first) count) s between run in
+        let C : ℕ → Type 0 = λ n. RunByDealing S n (min (length s.first) n) s (map ran_in outcomes) between in
+        let D : List ℕ → Type 0 = λ l. RunByDealing (λ i v rs w. Child (slice_index_or l i 0) v rs w) (length l) (min (length s.first) (length l)) s (map ran_in outcomes) between in
+        let T : List ℕ → Type 0 = λ l. RanInTurn Child l between alone u in
+        record {
+          beside = map ran_in outcomes;
+          between = between;
+          dealt = subst D conc (subst C (sym size) lists);
+          alone = alone;
+          in_turn = subst T same turn;
+          below_are = is ∙ ap (λ l. l ++ alone) (are ∙ flat-lists outcomes);
+        }

@@ -1,0 +1,101 @@
+-- Laws of runs of trees, which `engine_laws` proves: which nodes ran, which were skipped, and what a run leaves of its lanes.
+-- JUnit 5 User Guide, "Relative Execution Order of User Code and Extensions" and "Parallel Execution"; that a node is skipped where one above it did not run its
+-- children is an own rule.
+use Rattle.std.specs.Prelude.{◌≡◌, ◌≢◌, ◌↔◌, ℕ, ◌<◌, Bool, true, false, Option, Some, List, length, map, All, AllPairs, Contains, slice_get}
+use Rattle.std.specs.List.{range_with_len}
+use Rattle.ext_model.specs.declared.look.Fault.{Fault}
+use Rattle.ext_lifecycle.specs.declared.call.Call.{Call}
+use Rattle.ext_lifecycle.specs.declared.call.Kind.{Kind}
+use Rattle.ext_lifecycle.specs.declared.outcome.Outcome.{Outcome}
+use Rattle.ext_lifecycle.specs.declared.status.Status.TheVariants as statuses
+use Rattle.ext_lifecycle.specs.Results.{ResultOf, skipped_result}
+use Rattle.ext_tree.specs.Trees.{Id, IsTree}
+use Rattle.ext_tree.specs.Paths.{IsPathOf}
+use Rattle.ext_store.specs.Stores.{StoreView, StoreLane}
+use Rattle.ext_closing.specs.Closing.{Answer}
+use Rattle.ext_locks.specs.Opening.{LocksView}
+use Rattle.ext_locks.specs.Sets.{HeldView}
+use Rattle.ext_engine.specs.Suites.{SuiteView}
+use Rattle.ext_engine.specs.TreeRun.{Ran, Lanes, TreeRun, IsFit, IsUsable, setting_of, all_results}
+
+-- ---- nodes
+
+-- the node is this one, or below it
+pub record IsAtOrBelow (ids : List Id) (top node : ℕ) : Type 0 where
+  pub path : List ℕ
+  pub path_is : IsPathOf ids node path
+  pub on_path : Contains path top
+
+-- the first is above the second: an ancestor of it, at or below `top`
+pub record IsBetween (ids : List Id) (top above node : ℕ) : Type 0 where
+  pub within : IsAtOrBelow ids top above
+  pub below : IsAtOrBelow ids above node
+  pub other_node : above ≢ node
+
+abbrev pub nodes_of : List Ran → List ℕ
+nodes_of ran = map (λ r. r.result.node) ran
+
+abbrev pub HasRun : List Ran → ℕ → Type 0
+HasRun ran node = Contains (nodes_of ran) node
+
+-- the node ran, and the nodes below it were to run, or not
+pub record RanAs (ran : List Ran) (node : ℕ) (went_on : Bool) : Type 0 where
+  pub one : Ran
+  pub among : Contains ran one
+  pub node_is : one.result.node ≡ node
+  pub on_is : one.went_on ≡ went_on
+
+-- ---- what a run of the tree at `top` gives
+
+-- each node at or below it stands at most once among those that ran, and no other node does
+pub record IsRunOnce (ids : List Id) (top : ℕ) (ran : List Ran) : Type 0 where
+  pub once : AllPairs (λ a b. a ≢ b) (nodes_of ran)
+  pub none_else : All (IsAtOrBelow ids top) (nodes_of ran)
+
+-- A node ran exactly where each node above it ran and went on; and it was skipped exactly where one above it ran and did not go on
+pub record IsSkippedExactly (ids : List Id) (top : ℕ) (ran : List Ran) (node : ℕ) : Type 0 where
+  pub runs : HasRun ran node ↔ ((above : ℕ) → IsBetween ids top above node → RanAs ran above true)
+  pub skipped : (¬ HasRun ran node) ↔ ((above : ℕ) × IsBetween ids top above node × RanAs ran above false)
+
+-- one result a node, in order: that of its run where it ran, and `skipped` else
+pub record IsOneEach (suite : SuiteView) (count : ℕ) (ran : List Ran) (results : List (ResultOf Fault)) : Type 0 where
+  pub nodes : map (λ r. r.node) results ≡ range_with_len 0 count
+  pub tests : map (λ r. r.is_test) results ≡ map suite.is_test (range_with_len 0 count)
+  pub of_run : (r : Ran) → Contains ran r → slice_get results r.result.node ≡ Some r.result
+  pub of_skipped : (node : ℕ) → node < count → ¬ HasRun ran node → slice_get results node ≡ Some (skipped_result node (suite.is_test node))
+  pub status : (node : ℕ) (result : ResultOf Fault) → slice_get results node ≡ Some result → (result.status ≡ statuses.Skipped) ↔ (¬ HasRun ran node)
+
+-- ---- the laws, for suites of a type
+
+module _ {V S A : Type 0} (is_closeable : V → Bool) (nodes : S → SuiteView) (registered : S → Kind → ℕ → ℕ)
+    (call_gives : S → StoreView → ℕ → Call → Option HeldView → StoreLane V → Outcome → StoreLane V → Type 0) (action_gives : S → ℕ → A → Type 0) (close_gives : A → ℕ → V → Answer → A → Type 0) where
+  -- a run of the tree at a node
+  pub record IsRun (suite : S) (store : StoreView) (locks : LocksView) (top : ℕ) (before : Lanes V) (ran : List Ran) (after : Lanes V) : Type 0 where
+    pub tree : IsTree store.tree
+    pub fit : IsFit store locks (nodes suite)
+    pub depth : ℕ
+    pub run : TreeRun (setting_of store locks (nodes suite) (registered suite) is_closeable) (call_gives suite store) (action_gives suite) close_gives depth top before ran after
+
+  abbrev pub RunsOnce : Type 0
+  RunsOnce = (suite : S) (store : StoreView) (locks : LocksView) (top : ℕ) (before : Lanes V) (ran : List Ran) (after : Lanes V)
+      → IsRun suite store locks top before ran after → IsRunOnce store.tree top ran
+
+  abbrev pub SkipsExactly : Type 0
+  SkipsExactly = (suite : S) (store : StoreView) (locks : LocksView) (top : ℕ) (before : Lanes V) (ran : List Ran) (after : Lanes V)
+      → IsRun suite store locks top before ran after → (node : ℕ) → IsAtOrBelow store.tree top node → IsSkippedExactly store.tree top ran node
+
+  -- the results that a run of the whole tree gives
+  abbrev pub OneResultEach : Type 0
+  OneResultEach = (suite : S) (store : StoreView) (locks : LocksView) (before : Lanes V) (ran : List Ran) (after : Lanes V)
+      → IsRun suite store locks 0 before ran after → IsOneEach (nodes suite) (length store.tree) ran (all_results (nodes suite) (length store.tree) ran)
+
+  -- among which a node is skipped exactly where one above it ran and did not run the nodes below it
+  abbrev pub SkippedBelow : Type 0
+  SkippedBelow = (suite : S) (store : StoreView) (locks : LocksView) (before : Lanes V) (ran : List Ran) (after : Lanes V)
+      → IsRun suite store locks 0 before ran after → (node : ℕ) (result : ResultOf Fault) → slice_get (all_results (nodes suite) (length store.tree) ran) node ≡ Some result
+      → (result.status ≡ statuses.Skipped) ↔ ((above : ℕ) × IsBetween store.tree 0 above node × RanAs ran above false)
+
+  -- a run leaves as many lanes of the store as there were, and as many lock lanes that hold nothing
+  abbrev pub KeepsLanes : Type 0
+  KeepsLanes = (suite : S) (store : StoreView) (locks : LocksView) (top : ℕ) (before : Lanes V) (ran : List Ran) (after : Lanes V)
+      → IsRun suite store locks top before ran after → IsUsable store locks before → IsUsable store locks after × (length after.first ≡ length before.first)

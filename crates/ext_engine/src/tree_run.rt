@@ -1,0 +1,360 @@
+//! The run of a tree.
+ghost use Rattle.std.specs.Prelude.{◌≡◌, ℕ, ◌+◌, ◌-◌, ◌<◌, ◌≤◌, List, length, min, map, IfOk, IfErr, All, not, filter, true, false, slice_index_or, vec_len};
+ghost use denote.Param.Send.{IsSync, IsSend};
+ghost use Rattle.ext_tree.specs.Paths.{IsPathOf, children_of};
+ghost use Rattle.ext_lifecycle.specs.Results.{told};
+ghost use Rattle.ext_store.specs.Stores.{closers_below};
+ghost use Rattle.ext_crew.specs.Dealing.{RunByDealing};
+ghost use Rattle.ext_engine.specs.Closers.{IsNode};
+ghost use Rattle.ext_engine.specs.TreeRun.{Ran, setting_of, IsUsable, IsFit, IsFault, TreeRun, TestRun, ContainerRun, BodyMade, RanInTurn, all_results};
+ghost use Rattle.ext_engine.specs.Helpers.{ran_view};
+
+use crate::closers::{Item, items_of_children, take_own};
+use crate::closing::close_node;
+use crate::locking::{give_locks, take_locks, test_set};
+use crate::node_calls::{call_afters, call_befores, call_test};
+use crate::results::{RanNode, all_skipped, gathered, place};
+use crate::runner::TreeRunner;
+use crate::{EngineFault, Suite};
+use ext_crew::{Gate, run_children};
+use ext_lifecycle::{Call, Kind, NodeResult, afters_of, befores_of};
+use ext_locks::{LockLane, Locks};
+use ext_model::ContextNo;
+use ext_store::{Closer, Lane, Store, StoreValue};
+use std::alloc::Global;
+use std::sync::Wait;
+use std::thread::Threads;
+
+/// How many levels a tree has at most.
+const LEVELS: usize = 16;
+
+/// Runs all nodes of the store's tree, and gives one result a node, in the order of their contexts.
+///
+/// A container's before-callbacks are called, its children are run where all of these were successful, then its after-callbacks are
+/// called, and its context is closed. Its concurrent children are drawn by as many workers as there are lanes, each with its own
+/// share of the lanes; when all of them have ended, the others are run one after another, each with all lanes. A test takes the global
+/// lock and those named at itself and at its ancestors, all its calls are lent them, and they are given back once its context is closed.
+/// The calls of a node are made on the first lane of its share. A node is skipped exactly where a node above it did not run its
+/// children: then nothing of it is called, and its context is not closed. `gate` is told round each child that runs beside others.
+///
+/// There are 1 to 16 lanes of the store and as many of the locks, which hold nothing. The closers are those of all contexts, in
+/// order. The locks have every name that a node asks for, and no node is below a test. The store is one that the suite may be run
+/// over.
+///
+/// Refused as `Memory` where memory for the lists of a run is refused, and as `Unjoined` where a context can't be closed, as no lane in
+/// hand knows a value that remains in it. Nodes may have run then, contexts that are not closed stay open, and their closers are
+/// dropped; the lock lanes hold nothing. `NoThread` is never answered. Takes memory, and may wait: it promises its clauses if it returns.
+///
+/// JUnit 5 User Guide, sections "Relative Execution Order of User Code and Extensions", "Parallel Execution" and "Synchronization"; shares,
+/// lanes, modes and locks of ancestors are own rules.
+pub fn run_tree<
+    R: Threads + Wait + Sync,
+    V: StoreValue + Drop + Send + Sync,
+    S: Suite<V> + Sync,
+    G: Gate + Sync,
+>(
+    rt: &R,
+    alloc: Global,
+    suite: &S,
+    store: &Store<V>,
+    locks: &Locks,
+    lanes: &mut [Lane<V>],
+    lock_lanes: &mut [LockLane],
+    closers: Vec<Closer>,
+    gate: &G,
+) -> Result<Vec<NodeResult>, EngineFault>
+    requires lanes { IsUsable store.now locks.now (record { first = lanes.old; second = lock_lanes.old }) }
+    requires closers { closers.items ≡ closers_below store.now.id.cells (length store.now.tree) }
+    requires fit { IsFit store.now locks.now (S.nodes suite.now) }
+    requires suite_fits { S.fits suite.now store.now }
+    ensures lanes { IsUsable store.now locks.now (record { first = lanes.new; second = lock_lanes.new }) }
+    ensures run { IfOk result (λ results. (ran : List Ran)
+        × TreeRun (setting_of store.now locks.now (S.nodes suite.now) (S.registered suite.now) V.is_closeable) (S.call_gives suite.now store.now) (S.action_gives suite.now) S.Action.close_gives 16 0 (record { first = lanes.old; second = lock_lanes.old }) ran (record { first = lanes.new; second = lock_lanes.new })
+        × (map told results.items ≡ all_results (S.nodes suite.now) (length store.now.tree) ran)) }
+    ensures fault { IfErr result (IsFault (setting_of store.now locks.now (S.nodes suite.now) (S.registered suite.now) V.is_closeable) (S.action_gives suite.now) S.Action.close_gives) }
+{
+    let runner = TreeRunner {
+        rt,
+        suite,
+        store,
+        locks,
+        gate,
+    };
+    let mut results = all_skipped(alloc, suite, store.tree().len())?;
+    let item = Item { node: 0, closers };
+    let ran = runner.run_node(alloc, LEVELS, item, lanes, lock_lanes)?;
+    place(&mut results, ran);
+    Ok(results)
+}
+
+impl<
+    'a,
+    R: Threads + Wait + Sync,
+    V: StoreValue + Drop + Send + Sync,
+    S: Suite<V> + Sync,
+    G: Gate + Sync,
+> TreeRunner<'a, R, V, S, G> {
+    /// A node and all below it.
+    #[cycle(tree)]
+    fn run_node(
+        &self,
+        alloc: Global,
+        depth: usize,
+        item: Item,
+        lanes: &mut [Lane<V>],
+        lock_lanes: &mut [LockLane],
+    ) -> Result<Vec<RanNode>, EngineFault>
+        requires item { IsNode self.now.store.now depth item }
+        requires fit { IsFit self.now.store.now self.now.locks.now (S.nodes self.now.suite.now) }
+        requires suite_fits { S.fits self.now.suite.now self.now.store.now }
+        requires lanes { IsUsable self.now.store.now self.now.locks.now (record { first = lanes.old; second = lock_lanes.old }) }
+        ensures lanes { IsUsable self.now.store.now self.now.locks.now (record { first = lanes.new; second = lock_lanes.new }) }
+        ensures count { length lanes.new ≡ length lanes.old }
+        ensures run { IfOk result (λ ran. TreeRun (setting_of self.now.store.now self.now.locks.now (S.nodes self.now.suite.now) (S.registered self.now.suite.now) V.is_closeable) (S.call_gives self.now.suite.now self.now.store.now) (S.action_gives self.now.suite.now) S.Action.close_gives depth item.node
+            (record { first = lanes.old; second = lock_lanes.old }) (map ran_view ran.items) (record { first = lanes.new; second = lock_lanes.new })) }
+        ensures fault { IfErr result (IsFault (setting_of self.now.store.now self.now.locks.now (S.nodes self.now.suite.now) (S.registered self.now.suite.now) V.is_closeable) (S.action_gives self.now.suite.now) S.Action.close_gives) }
+    {
+        let _path = self.store.tree().path(item.node);
+        if self.suite.is_test(item.node) {
+            self.run_test(alloc, depth, item, lanes, lock_lanes)
+        } else {
+            self.run_container(alloc, depth, item, lanes, lock_lanes)
+        }
+    }
+
+    /// A test, with its locks from before its calls until its context is closed. Memory is taken before the locks, so that these are
+    /// given back whatever happens.
+    fn run_test(
+        &self,
+        alloc: Global,
+        depth: usize,
+        item: Item,
+        lanes: &mut [Lane<V>],
+        lock_lanes: &mut [LockLane],
+    ) -> Result<Vec<RanNode>, EngineFault>
+        requires item { IsNode self.now.store.now depth item }
+        requires fit { IsFit self.now.store.now self.now.locks.now (S.nodes self.now.suite.now) }
+        requires suite_fits { S.fits self.now.suite.now self.now.store.now }
+        requires test { (S.nodes self.now.suite.now).is_test item.node ≡ true }
+        requires lanes { IsUsable self.now.store.now self.now.locks.now (record { first = lanes.old; second = lock_lanes.old }) }
+        ensures lanes { IsUsable self.now.store.now self.now.locks.now (record { first = lanes.new; second = lock_lanes.new }) }
+        ensures count { length lanes.new ≡ length lanes.old }
+        ensures run { IfOk result (λ ran. (path : List ℕ) × IsPathOf self.now.store.now.tree item.node path × TestRun (setting_of self.now.store.now self.now.locks.now (S.nodes self.now.suite.now) (S.registered self.now.suite.now) V.is_closeable) (S.call_gives self.now.suite.now self.now.store.now) (S.action_gives self.now.suite.now) S.Action.close_gives item.node path
+            (record { first = lanes.old; second = lock_lanes.old }) (map ran_view ran.items) (record { first = lanes.new; second = lock_lanes.new })) }
+        ensures fault { IfErr result (IsFault (setting_of self.now.store.now self.now.locks.now (S.nodes self.now.suite.now) (S.registered self.now.suite.now) V.is_closeable) (S.action_gives self.now.suite.now) S.Action.close_gives) }
+    {
+        let Item { node, mut closers } = item;
+        let closer = take_own(self.store, node, &mut closers);
+        let path = self.store.tree().path(node);
+        let befores = befores_of(alloc, self.suite, true, node, path.as_slice())?;
+        let afters = afters_of(alloc, self.suite, true, node, path.as_slice())?;
+        let set = test_set(alloc, self.suite, self.locks, path.as_slice())?;
+        let mut ran = Vec::with_capacity(alloc, 1)?;
+        let body = Call {
+            kind: Kind::Test,
+            from: node,
+            index: 0,
+        };
+        let held = take_locks(self.rt, self.locks, &mut lock_lanes[0], &set);
+        let tally = call_test(
+            self.rt,
+            self.suite,
+            self.store,
+            node,
+            &held,
+            &mut lanes[0],
+            befores.as_slice(),
+            body,
+            afters.as_slice(),
+        );
+        let closed = close_node(self, node, closer, lanes);
+        give_locks(self.locks, &mut lock_lanes[0], held);
+        match closed {
+            Ok(closes) => {
+                ran.push_reserved(RanNode {
+                    result: tally.result(node, true, closes),
+                    went_on: true,
+                });
+                Ok(ran)
+            }
+            Err(number) => Err(EngineFault::Unjoined(node, number)),
+        }
+    }
+
+    /// A container: its before-callbacks, its children where these were all successful, its after-callbacks, and its close.
+    #[cycle(tree)]
+    fn run_container(
+        &self,
+        alloc: Global,
+        depth: usize,
+        item: Item,
+        lanes: &mut [Lane<V>],
+        lock_lanes: &mut [LockLane],
+    ) -> Result<Vec<RanNode>, EngineFault>
+        requires item { IsNode self.now.store.now depth item }
+        requires fit { IsFit self.now.store.now self.now.locks.now (S.nodes self.now.suite.now) }
+        requires suite_fits { S.fits self.now.suite.now self.now.store.now }
+        requires container { (S.nodes self.now.suite.now).is_test item.node ≡ false }
+        requires lanes { IsUsable self.now.store.now self.now.locks.now (record { first = lanes.old; second = lock_lanes.old }) }
+        ensures lanes { IsUsable self.now.store.now self.now.locks.now (record { first = lanes.new; second = lock_lanes.new }) }
+        ensures count { length lanes.new ≡ length lanes.old }
+        ensures run { IfOk result (λ ran. (path : List ℕ) × IsPathOf self.now.store.now.tree item.node path × ContainerRun (setting_of self.now.store.now self.now.locks.now (S.nodes self.now.suite.now) (S.registered self.now.suite.now) V.is_closeable) (S.call_gives self.now.suite.now self.now.store.now) (S.action_gives self.now.suite.now) S.Action.close_gives (TreeRun (setting_of self.now.store.now self.now.locks.now (S.nodes self.now.suite.now) (S.registered self.now.suite.now) V.is_closeable) (S.call_gives self.now.suite.now self.now.store.now) (S.action_gives self.now.suite.now) S.Action.close_gives (depth - 1)) item.node path
+            (record { first = lanes.old; second = lock_lanes.old }) (map ran_view ran.items) (record { first = lanes.new; second = lock_lanes.new })) }
+        ensures fault { IfErr result (IsFault (setting_of self.now.store.now self.now.locks.now (S.nodes self.now.suite.now) (S.registered self.now.suite.now) V.is_closeable) (S.action_gives self.now.suite.now) S.Action.close_gives) }
+    {
+        let Item { node, mut closers } = item;
+        let closer = take_own(self.store, node, &mut closers);
+        let path = self.store.tree().path(node);
+        let befores = befores_of(alloc, self.suite, false, node, path.as_slice())?;
+        let afters = afters_of(alloc, self.suite, false, node, path.as_slice())?;
+        let (beside, in_turn) = items_of_children(alloc, self.suite, self.store, node, closers)?;
+        let mut ran = Vec::with_capacity(alloc, 1)?;
+        let mut tally = call_befores(
+            self.rt,
+            self.suite,
+            self.store,
+            node,
+            &mut lanes[0],
+            befores.as_slice(),
+        );
+        let went_on = tally.is_successful();
+        let mut below = self.run_body(
+            alloc,
+            depth - 1,
+            went_on,
+            node,
+            beside,
+            in_turn,
+            lanes,
+            lock_lanes,
+        )?;
+        call_afters(
+            self.rt,
+            self.suite,
+            self.store,
+            node,
+            &mut lanes[0],
+            afters.as_slice(),
+            &mut tally,
+        );
+        match close_node(self, node, closer, lanes) {
+            Ok(closes) => {
+                ran.push_reserved(RanNode {
+                    result: tally.result(node, false, closes),
+                    went_on,
+                });
+                ran.append(&mut below)?;
+                Ok(ran)
+            }
+            Err(number) => Err(EngineFault::Unjoined(node, number)),
+        }
+    }
+
+    /// The children of a container, where they are to be run: those that run beside one another, and then the others.
+    #[cycle(tree)]
+    fn run_body(
+        &self,
+        alloc: Global,
+        depth: usize,
+        go: bool,
+        node: ContextNo,
+        beside: Vec<Item>,
+        in_turn: Vec<Item>,
+        lanes: &mut [Lane<V>],
+        lock_lanes: &mut [LockLane],
+    ) -> Result<Vec<RanNode>, EngineFault>
+        requires beside { All (IsNode self.now.store.now depth) beside.items }
+        requires few { vec_len beside ≤ 256 }
+        requires in_turn { All (IsNode self.now.store.now depth) in_turn.items }
+        requires concurrent { map (λ i. i.node) beside.items ≡ filter (S.nodes self.now.suite.now).is_concurrent (children_of self.now.store.now.tree node) }
+        requires same_thread { map (λ i. i.node) in_turn.items ≡ filter (λ c. not ((S.nodes self.now.suite.now).is_concurrent c)) (children_of self.now.store.now.tree node) }
+        requires fit { IsFit self.now.store.now self.now.locks.now (S.nodes self.now.suite.now) }
+        requires suite_fits { S.fits self.now.suite.now self.now.store.now }
+        requires lanes { IsUsable self.now.store.now self.now.locks.now (record { first = lanes.old; second = lock_lanes.old }) }
+        ensures lanes { IsUsable self.now.store.now self.now.locks.now (record { first = lanes.new; second = lock_lanes.new }) }
+        ensures count { length lanes.new ≡ length lanes.old }
+        ensures run { IfOk result (λ ran. BodyMade (setting_of self.now.store.now self.now.locks.now (S.nodes self.now.suite.now) (S.registered self.now.suite.now) V.is_closeable) (S.call_gives self.now.suite.now self.now.store.now) (S.action_gives self.now.suite.now) S.Action.close_gives (TreeRun (setting_of self.now.store.now self.now.locks.now (S.nodes self.now.suite.now) (S.registered self.now.suite.now) V.is_closeable) (S.call_gives self.now.suite.now self.now.store.now) (S.action_gives self.now.suite.now) S.Action.close_gives depth) go node
+            (record { first = lanes.old; second = lock_lanes.old }) (map ran_view ran.items) (record { first = lanes.new; second = lock_lanes.new })) }
+        ensures fault { IfErr result (IsFault (setting_of self.now.store.now self.now.locks.now (S.nodes self.now.suite.now) (S.registered self.now.suite.now) V.is_closeable) (S.action_gives self.now.suite.now) S.Action.close_gives) }
+    {
+        if !go {
+            return Ok(Vec::new(alloc));
+        }
+        let outcomes = self.run_beside(alloc, depth, beside, lanes, lock_lanes)?;
+        let mut ran = gathered(alloc, outcomes)?;
+        let mut others = self.run_in_turn(alloc, depth, in_turn, lanes, lock_lanes)?;
+        ran.append(&mut others)?;
+        Ok(ran)
+    }
+
+    /// The children that run one after another, each with the whole share of the lanes.
+    #[cycle(tree)]
+    fn run_in_turn(
+        &self,
+        alloc: Global,
+        depth: usize,
+        items: Vec<Item>,
+        lanes: &mut [Lane<V>],
+        lock_lanes: &mut [LockLane],
+    ) -> Result<Vec<RanNode>, EngineFault>
+        requires items { All (IsNode self.now.store.now depth) items.items }
+        requires fit { IsFit self.now.store.now self.now.locks.now (S.nodes self.now.suite.now) }
+        requires suite_fits { S.fits self.now.suite.now self.now.store.now }
+        requires lanes { IsUsable self.now.store.now self.now.locks.now (record { first = lanes.old; second = lock_lanes.old }) }
+        ensures lanes { IsUsable self.now.store.now self.now.locks.now (record { first = lanes.new; second = lock_lanes.new }) }
+        ensures count { length lanes.new ≡ length lanes.old }
+        ensures run { IfOk result (λ ran. RanInTurn (TreeRun (setting_of self.now.store.now self.now.locks.now (S.nodes self.now.suite.now) (S.registered self.now.suite.now) V.is_closeable) (S.call_gives self.now.suite.now self.now.store.now) (S.action_gives self.now.suite.now) S.Action.close_gives depth) (map (λ i. i.node) items.items)
+            (record { first = lanes.old; second = lock_lanes.old }) (map ran_view ran.items) (record { first = lanes.new; second = lock_lanes.new })) }
+        ensures fault { IfErr result (IsFault (setting_of self.now.store.now self.now.locks.now (S.nodes self.now.suite.now) (S.registered self.now.suite.now) V.is_closeable) (S.action_gives self.now.suite.now) S.Action.close_gives) }
+    {
+        let mut ran = Vec::new(alloc);
+        for item in items {
+            let mut below = self.run_node(alloc, depth, item, lanes, lock_lanes)?;
+            ran.append(&mut below)?;
+        }
+        Ok(ran)
+    }
+
+    /// The children that run beside one another, each with a share of the lanes.
+    #[cycle(tree)]
+    fn run_beside(
+        &self,
+        alloc: Global,
+        depth: usize,
+        items: Vec<Item>,
+        lanes: &mut [Lane<V>],
+        lock_lanes: &mut [LockLane],
+    ) -> Result<Vec<Result<Vec<RanNode>, EngineFault>>, EngineFault>
+        requires items { All (IsNode self.now.store.now depth) items.items }
+        requires few { vec_len items ≤ 256 }
+        requires fit { IsFit self.now.store.now self.now.locks.now (S.nodes self.now.suite.now) }
+        requires suite_fits { S.fits self.now.suite.now self.now.store.now }
+        requires lanes { IsUsable self.now.store.now self.now.locks.now (record { first = lanes.old; second = lock_lanes.old }) }
+        ensures lanes { IsUsable self.now.store.now self.now.locks.now (record { first = lanes.new; second = lock_lanes.new }) }
+        ensures count { length lanes.new ≡ length lanes.old }
+        ensures run { IfOk result (λ outcomes. RunByDealing
+            (λ i s ran u. IfOk ran (λ v. TreeRun (setting_of self.now.store.now self.now.locks.now (S.nodes self.now.suite.now) (S.registered self.now.suite.now) V.is_closeable) (S.call_gives self.now.suite.now self.now.store.now) (S.action_gives self.now.suite.now) S.Action.close_gives depth (slice_index_or (map (λ i. i.node) items.items) i 0) s (map ran_view v.items) u))
+            (length items.items) (min (length lanes.old) (length items.items))
+            (record { first = lanes.old; second = lock_lanes.old }) outcomes.items (record { first = lanes.new; second = lock_lanes.new })) }
+        ensures faults { IfOk result (λ outcomes. All (λ ran. IfErr ran (IsFault (setting_of self.now.store.now self.now.locks.now (S.nodes self.now.suite.now) (S.registered self.now.suite.now) V.is_closeable) (S.action_gives self.now.suite.now) S.Action.close_gives)) outcomes.items) }
+        ensures fault { IfErr result (IsFault (setting_of self.now.store.now self.now.locks.now (S.nodes self.now.suite.now) (S.registered self.now.suite.now) V.is_closeable) (S.action_gives self.now.suite.now) S.Action.close_gives) }
+    {
+        let run = |_index: usize, item: Item, lanes: &mut [Lane<
+            V,
+        >], lock_lanes: &mut [LockLane]| -> Result<Vec<RanNode>, EngineFault>
+            requires { IsSync R.row × IsSync S.row × IsSync G.row × IsSync V.row × IsSend V.row × IsSync S.Action.row × IsSend S.Action.row × IsNode self.now.store.now depth item
+                × IsFit self.now.store.now self.now.locks.now (S.nodes self.now.suite.now)
+                × S.fits self.now.suite.now self.now.store.now
+                × IsUsable self.now.store.now self.now.locks.now (record { first = lanes.old; second = lock_lanes.old }) }
+            ensures { IsUsable self.entry.now.store.now self.entry.now.locks.now (record { first = lanes.new; second = lock_lanes.new })
+                × (length lanes.new ≡ length lanes.old)
+                × IfOk result (λ ran. TreeRun (setting_of self.entry.now.store.now self.entry.now.locks.now (S.nodes self.entry.now.suite.now) (S.registered self.entry.now.suite.now) V.is_closeable) (S.call_gives self.entry.now.suite.now self.entry.now.store.now) (S.action_gives self.entry.now.suite.now) S.Action.close_gives depth item.node
+                (record { first = lanes.old; second = lock_lanes.old }) (map ran_view ran.items) (record { first = lanes.new; second = lock_lanes.new }))
+                × IfErr result (IsFault (setting_of self.entry.now.store.now self.entry.now.locks.now (S.nodes self.entry.now.suite.now) (S.registered self.entry.now.suite.now) V.is_closeable) (S.action_gives self.entry.now.suite.now) S.Action.close_gives) }
+        { self.run_node(alloc, depth, item, lanes, lock_lanes) };
+        match run_children(self.rt, alloc, lanes, lock_lanes, items, &run, self.gate) {
+            Ok(outcomes) => Ok(outcomes),
+            Err(fault) => Err(EngineFault::from(fault)),
+        }
+    }
+}

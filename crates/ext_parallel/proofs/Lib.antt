@@ -1,0 +1,4 @@
+-- Lemmas of this crate.
+mod Names
+mod MetLanes
+mod Usable

@@ -1,0 +1,68 @@
+use Rattle.std.proofs.Common.{◌≡◌, ◌∙◌, ℕ, List, length, map, ap, sym, subst}
+use Rattle.std.proofs.lemmas.List.Sorted.{Contains-permutation}
+use Rattle.ext_plan_model.specs.Locks.{lock_names}
+use Rattle.ext_lifecycle.specs.Results.{told}
+use Rattle.ext_plan_model.specs.Plans.{PlanText, plan_view}
+use Rattle.ext_store.specs.Stores.{StoreLane}
+use Rattle.ext_store_steps.specs.declared.stored_value.StoredValue.{StoredValue}
+use Rattle.ext_locks.specs.Views.{Lane}
+use Rattle.std.proofs.lemmas.List.{length-map}
+use Rattle.ext_plan_model.specs.PlanCalls.{registered}
+use Rattle.ext_engine.specs.TreeRun.{IsFit, IsUsable, Lanes, TreeRun, all_results, setting_of}
+use Rattle.ext_suite.specs.PlanSuites.{HasKeys, suite_of}
+use Rattle.ext_suite.proofs.Fitting.{keys_fit, tree_fits}
+use Rattle.ext_parallel.specs.ParallelRun.{MakesCall, IsAction, ClosesValue}
+use Rattle.ext_parallel.proofs.Usable.{fresh_usable}
+use Rattle.ext_parallel.proofs.parallel.parallel_results.Goals as goal
+
+pub run_tree-requires-clause-lanes : goal.run_tree-requires-clause-lanes
+run_tree-requires-clause-lanes g c κs inside =
+    let st = c.in_ok-store.store in let lk = c.in_ok-locks.locks in
+    let usable = fresh_usable st lk c.args.lanes c.in_ok-store.store_lanes.items c.in_ok-locks.lock_lanes.items c.requires.lanes c.in_ok-store.ensures.lanes c.in_ok-store.ensures.own_lanes c.in_ok-locks.ensures.lanes in
+    let P : List (StoreLane StoredValue) → Type 0 = λ l. IsUsable st lk (record { first = l; second = c.in_ok-locks.lock_lanes.items }) in
+    let Q : List Lane → Type 0 = λ l. IsUsable st lk (record { first = c.as_mut_slice-all_lanes.result.now; second = l }) in
+    subst Q (sym c.as_mut_slice.ensures.value) (subst P (sym c.as_mut_slice-all_lanes.ensures.value) usable)
+
+pub run_tree-requires-clause-fit : goal.run_tree-requires-clause-fit
+run_tree-requires-clause-fit g c κs inside =
+    let st = c.in_ok-store.store in let lk = c.in_ok-locks.locks in
+    let plan = plan_view c.args.plan.now in
+    let fits = tree_fits plan st lk c.in_ok-store.ensures.store.tree (λ name there. Contains-permutation (lock_names plan.nodes) lk.names name c.in_ok-locks.ensures.locks.names there) c.requires.tests in
+    let P : PlanText → Type 0 = λ p. IsFit st lk (suite_of p) in
+    subst P (sym c.in_ok-suite.ensures) fits
+
+pub run_tree-requires-clause-suite_fits : goal.run_tree-requires-clause-suite_fits
+run_tree-requires-clause-suite_fits g c κs inside =
+    let P : PlanText → Type 0 = λ p. HasKeys p c.in_ok-store.store in
+    subst P (sym c.in_ok-suite.ensures) (keys_fit (plan_view c.args.plan.now) c.in_ok-store.store c.in_ok-store.ensures.store.keys)
+
+pub meet_all-requires : goal.meet_all-requires
+meet_all-requires g c = record { lanes = c.in_ok-results.ensures.lanes.lanes }
+
+pub returns-clause-run : goal.returns-clause-run
+returns-clause-run g c =
+    let st = c.in_ok-store.store in let lk = c.in_ok-locks.locks in
+    let plan = plan_view c.args.plan.now in
+    let ran = c.in_ok-results.ensures.run in
+    let first : Lanes StoredValue = record { first = c.as_mut_slice-all_lanes.result.now; second = c.as_mut_slice.result.now } in
+    let after : Lanes StoredValue = record { first = c.run_tree.new.lanes; second = c.run_tree.new.lock_lanes } in
+    let P : PlanText → Type 0 = λ p. TreeRun (setting_of st lk (suite_of p) (registered p) (λ (value : StoredValue). value.value.closeable)) (MakesCall p st) IsAction ClosesValue 16 0 first ran.0 after in
+    let Q : PlanText → Type 0 = λ p. map told c.in_ok-results.results.items ≡ all_results (suite_of p) (length st.tree) ran.0 in
+    let R : ℕ → Type 0 = λ count. map told c.in_ok-results.results.items ≡ all_results (suite_of plan) count ran.0 in
+    let count : length st.tree ≡ length plan.nodes = ap length c.in_ok-store.ensures.store.tree ∙ length-map plan.nodes (λ n. n.id) in
+    record {
+      store = st;
+      store_is = c.in_ok-store.ensures.store;
+      locks = lk;
+      locks_are = c.in_ok-locks.ensures.locks;
+      first = first;
+      fresh = c.as_mut_slice-all_lanes.ensures.value ∙ c.in_ok-store.ensures.lanes;
+      fresh_locks = c.as_mut_slice.ensures.value ∙ c.in_ok-locks.ensures.lanes;
+      ran = ran.0;
+      after = after;
+      run = subst P c.in_ok-suite.ensures ran.1;
+      results_are = subst R count (subst Q c.in_ok-suite.ensures ran.2);
+      met = c.meet_all.new.lanes;
+      only_met = c.meet_all.ensures.only_met;
+      shared = c.meet_all.ensures.shared;
+    }

@@ -1,0 +1,50 @@
+-- The store and the locks that a run of a plan opens, and the one history of lanes that met.
+-- Own rule. JUnit 5 User Guide, "Keeping State in Extensions" and "Synchronization", for stores and locks.
+use Rattle.std.specs.Prelude.{◌≡◌, ℕ, ◌*◌, List, [], length, All, IsPermutation}
+use mathlib.Core.List.{IsPrefix}
+use Rattle.ext_model.specs.History.{History, IsLegal}
+use Rattle.ext_plan_model.specs.Plans.{PlanText}
+use Rattle.ext_plan_model.specs.KeyNumbers.{different_keys}
+use Rattle.ext_plan_model.specs.Laws.{ids_of_nodes}
+use Rattle.ext_plan_model.specs.Locks.{lock_names}
+use Rattle.ext_history.specs.Views.{Follow, seen_by}
+use Rattle.ext_model.specs.Calls.{Calls}
+use Rattle.ext_store.specs.Stores.{StoreView, StoreLane, IsLaneOf}
+use Rattle.ext_locks.specs.Opening.{LocksView}
+
+-- how many numbers a run's store draws at most
+abbrev pub run_numbers : ℕ
+run_numbers = 65535
+
+-- how many exchanges a call makes at most before it waits or begins anew
+abbrev pub run_tries : ℕ
+run_tries = 64
+
+-- a store of the plan's contexts and different keys, for so many lanes
+pub record IsStoreOf (plan : PlanText) (lanes : ℕ) (store : StoreView) : Type 0 where
+  pub tree : store.tree ≡ ids_of_nodes plan.nodes
+  pub keys : store.keys ≡ different_keys plan.keys
+  pub limits : store.id.cells.limits ≡ record { cells = length plan.nodes * length (different_keys plan.keys); lanes = lanes; numbers = run_numbers }
+  pub tries : store.tries ≡ run_tries
+
+-- locks of the names that the plan's nodes name, for so many lanes
+pub record IsLocksOf (plan : PlanText) (lanes : ℕ) (locks : LocksView) : Type 0 where
+  pub names : IsPermutation (lock_names plan.nodes) locks.names
+  pub same_lanes : locks.lanes ≡ lanes
+  pub tries : locks.tries ≡ run_tries
+
+-- the lane stayed one of the store and made no event
+pub record OnlyMeets {V : Type 0} (store : StoreView) (before after : StoreLane V) : Type 0 where
+  pub lane : IsLaneOf store.id after
+  pub calls : Calls store.id.cells.limits before.cells.view after.cells.view []
+
+-- what is true of each lane in hand: what it has seen is legal, and each of its fronts goes on from the one before it
+pub record HasLooked {V : Type 0} (lane : StoreLane V) : Type 0 where
+  pub legal : IsLegal lane.cells.cells.limits (seen_by lane.cells.view)
+  pub follow : Follow [] lane.cells.view.fronts
+
+-- all fronts of these lanes are parts of one legal history
+pub record ShareHistory {V : Type 0} (store : StoreView) (lanes : List (StoreLane V)) : Type 0 where
+  pub history : History
+  pub legal : IsLegal store.id.cells.limits history
+  pub parts : All (λ lane. All (λ front. IsPrefix front history) lane.cells.view.fronts) lanes

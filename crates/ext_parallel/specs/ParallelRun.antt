@@ -1,0 +1,58 @@
+-- The run of a plan on several lanes: a store with the plan's contexts and keys and locks with its names are opened, the tree of its nodes is run over them, and then
+-- each lane meets the next.
+--
+-- JUnit 5 User Guide, "Parallel Execution", "Synchronization" and "Keeping State in Extensions", by the definitions of the engine. What numbers and tries a run's
+-- store has, and that lanes meet at its end, are own rules.
+use Rattle.std.specs.Prelude.{◌≡◌, ℕ, List, length, map, Option, Result}
+use Rattle.std.specs.List.{AllZip}
+use Rattle.ext_model.specs.declared.look.Fault.{Fault}
+use Rattle.ext_lifecycle.specs.declared.call.Call.{Call}
+use Rattle.ext_lifecycle.specs.declared.outcome.Outcome.{Outcome}
+use Rattle.ext_lifecycle.specs.Results.{ResultOf}
+use Rattle.ext_plan_model.specs.Plans.{PlanText}
+use Rattle.ext_plan_model.specs.PlanCalls.{registered}
+use Rattle.ext_cells.specs.Lanes.{fresh_lanes}
+use Rattle.ext_store.specs.Stores.{StoreView, StoreLane, fresh_store_lane}
+use Rattle.ext_locks.specs.Opening as locking
+use Rattle.ext_locks.specs.Opening.{LocksView}
+use Rattle.ext_locks.specs.Sets.{HeldView}
+use Rattle.ext_engine.specs.TreeRun.{Lanes, Ran, TreeRun, all_results, setting_of}
+use Rattle.ext_store_steps.specs.declared.stored_value.StoredValue.{StoredValue}
+use Rattle.ext_parallel.specs.Opened.{IsStoreOf, IsLocksOf, OnlyMeets, ShareHistory}
+use Rattle.ext_steps.specs.Values.{close_fault}
+use Rattle.ext_store_steps.specs.StoreCalls.{PlanLane, stored_view}
+use Rattle.ext_suite.specs.declared.plan_action.PlanAction.{PlanAction}
+use Rattle.ext_suite.specs.PlanActions.{AnswersClose}
+use Rattle.ext_suite.specs.PlanSuites.{suite_of, RunsCall}
+
+-- what a call of a node does, whatever it is lent
+abbrev pub MakesCall : PlanText → StoreView → ℕ → Call → Option HeldView → PlanLane → Outcome → PlanLane → Type 0
+MakesCall plan store node call held before outcome after = RunsCall plan store node call before outcome after
+
+-- any close action may be a node's
+abbrev pub IsAction : ℕ → PlanAction → Type 0
+IsAction node action = Unit {0}
+
+-- what a close action does with a value
+abbrev pub ClosesValue : PlanAction → ℕ → StoredValue → Result (Unit {0}) Fault → PlanAction → Type 0
+ClosesValue action number value answer left = AnswersClose (close_fault (stored_view value)) answer × (left ≡ action)
+
+-- A run of the plan on so many lanes, and what it tells of its nodes, in the order of the plan
+pub record ParallelRun (plan : PlanText) (lanes : ℕ) (results : List (ResultOf Fault)) : Type 0 where
+  pub store : StoreView
+  pub store_is : IsStoreOf plan lanes store
+  pub locks : LocksView
+  pub locks_are : IsLocksOf plan lanes locks
+  -- the lanes have seen nothing before the run
+  pub first : Lanes StoredValue
+  pub fresh : first.first ≡ map (fresh_store_lane store.id.places) (fresh_lanes store.id.cells 0 lanes)
+  pub fresh_locks : first.second ≡ locking.fresh_lanes locks.table lanes lanes
+  -- the run of the tree, and its results
+  pub ran : List Ran
+  pub after : Lanes StoredValue
+  pub run : TreeRun (setting_of store locks (suite_of plan) (registered plan) (λ (value : StoredValue). value.value.closeable)) (MakesCall plan store) IsAction ClosesValue 16 0 first ran after
+  pub results_are : results ≡ all_results (suite_of plan) (length plan.nodes) ran
+  -- what all lanes have seen is one history: they only met one another after the run
+  pub met : List (StoreLane StoredValue)
+  pub only_met : AllZip (OnlyMeets store) after.first met
+  pub shared : ShareHistory store met

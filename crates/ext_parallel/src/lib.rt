@@ -1,0 +1,12 @@
+//! Runs plans on several lanes: over a store for several threads and resource locks, by the engine.
+//!
+//! `parallel_results` opens a store with a plan's contexts and keys and locks with its names, runs the tree of its nodes over them, and gives
+//! one result a node. What such a run is stands in `specs/ParallelRun`, by the definitions of `ext_engine` and `ext_suite`. Own rule.
+#![tactic(auto)]
+
+mod meeting;
+mod opening;
+mod parallel;
+
+pub use ext_engine::EngineFault;
+pub use parallel::parallel_results;

@@ -1,0 +1,78 @@
+//! The store and the locks of a run.
+ghost use Rattle.std.specs.Prelude.{◌≡◌, ◌≤◌, ◌*◌, map, length, All, IfOk};
+ghost use Rattle.ext_cells.specs.Lanes.{fresh_lanes};
+ghost use Rattle.ext_plan_model.specs.Plans.{plan_view};
+ghost use Rattle.ext_plan_model.specs.Laws.{HasFewCells, HasFewLocks, NamespacesHaveParts, NodesAreTree};
+ghost use Rattle.ext_store.specs.Stores.{IsLaneOf, closers_below, fresh_store_lane};
+ghost use Rattle.ext_locks.specs.Opening as locking;
+ghost use Rattle.ext_parallel.specs.Opened.{IsLocksOf, IsStoreOf};
+
+use ext_locks::{LockFault, LockLane, Locks};
+use ext_plan_model::{KeyNumbers, Plan};
+use ext_store::{Closer, Lane, Limits, Store, StoreFault, StoreValue};
+use ext_tree::TreeFault;
+use std::alloc::{AllocError, Global};
+
+/// How many exchanges a call makes at most before it waits or begins anew.
+const TRIES: u32 = 64;
+
+/// How many numbers the store of a run draws at most.
+const NUMBERS: u32 = 65_535;
+
+/// A store of the plan's contexts and keys, its lanes, and a closer for each context.
+pub(crate) fn open_store<V: StoreValue + Drop>(
+    alloc: Global,
+    plan: &Plan,
+    lanes: usize,
+) -> Result<(Store<V>, Vec<Lane<V>>, Vec<Closer>), AllocError>
+    requires lanes { (1 ≤ lanes) × (lanes ≤ 16) }
+    requires tree { NodesAreTree (plan_view plan.now) }
+    requires cells { HasFewCells (plan_view plan.now) }
+    requires namespaces { NamespacesHaveParts (plan_view plan.now) }
+    ensures store { IfOk result (λ r. IsStoreOf (plan_view plan.now) lanes r.0) }
+    ensures lanes { IfOk result (λ r. r.1.items ≡ map (fresh_store_lane r.0.id.places) (fresh_lanes r.0.id.cells 0 lanes)) }
+    ensures own_lanes { IfOk result (λ r. All (IsLaneOf r.0.id) r.1.items) }
+    ensures closers { IfOk result (λ r. r.2.items ≡ closers_below r.0.id.cells (length r.0.tree)) }
+{
+    let tree = plan.tree(alloc)?;
+    let keys = match KeyNumbers::of(alloc, plan.keys.as_slice()) {
+        Ok(keys) => keys,
+        Err(TreeFault::Memory) => return Err(AllocError),
+        // The plan has few keys.
+        Err(_) => unreachable!(),
+    };
+    let limits = Limits {
+        lanes,
+        tries: TRIES,
+        numbers: NUMBERS,
+    };
+    match Store::open(alloc, tree, keys.into_directory(), limits) {
+        Ok(opened) => Ok(opened),
+        Err(StoreFault::Memory) => Err(AllocError),
+        // The limits are within their ranges, and the plan has few cells.
+        Err(_) => unreachable!(),
+    }
+}
+
+/// Locks of the names that the plan's nodes name, and their lanes.
+pub(crate) fn open_locks(
+    alloc: Global,
+    plan: &Plan,
+    lanes: usize,
+) -> Result<(Locks, Vec<LockLane>), AllocError>
+    requires lanes { (1 ≤ lanes) × (lanes ≤ 16) }
+    requires few { HasFewLocks (plan_view plan.now) }
+    ensures locks { IfOk result (λ r. IsLocksOf (plan_view plan.now) lanes r.0) }
+    ensures lanes { IfOk result (λ r. r.1.items ≡ locking.fresh_lanes r.0.table lanes lanes) }
+{
+    let names = plan.lock_names(alloc)?;
+    match Locks::open(alloc, names.as_slice(), lanes, TRIES) {
+        Ok(opened) => Ok(opened),
+        Err(LockFault::Memory) => Err(AllocError),
+        // The limits are within their ranges, and the names are few and different; a request's key is no fault of opening.
+        Err(LockFault::BadLimit) => unreachable!(),
+        Err(LockFault::TooMany) => unreachable!(),
+        Err(LockFault::Twice(_)) => unreachable!(),
+        Err(LockFault::UnknownKey(_)) => unreachable!(),
+    }
+}

@@ -1,0 +1,62 @@
+-- A store's replies and a step's end, from what the calls of the one-thread store ensure.
+use Rattle.ext_steps.specs.declared.plan_value.PlanValue.{PlanValue}
+use Rattle.std.proofs.Common.{true, false, ◌≡◌, ℕ, List, Option, Some, None, Result, Ok, Err, IfOk, refl, ap, ◌∙◌}
+use Rattle.ext_model.specs.Events.{Reply, Happens, Answers, Refuses, NumbersFull, Busy, Closed, Standing, Exhausted, Barred}
+use Rattle.ext_model.specs.State.{State, lookup}
+use Rattle.ext_model.specs.Plain.{Place, result_of, under}
+use Rattle.ext_plain.specs.declared.value_store.ValueStore.{ValueStore}
+use Rattle.ext_lifecycle.specs.declared.outcome.Outcome.{Outcome}
+use Rattle.ext_lifecycle.specs.declared.outcome.Verdict.{Verdict}
+use Rattle.ext_plain.specs.ValueStates.{ValueState, refusal}
+use Rattle.ext_plain.specs.Steps.{StepEnd, ended, compute_looked, computefail_looked}
+use Rattle.ext_plain.specs.Helpers.{state_view, end_view}
+use Rattle.ext_lifecycle.specs.FaultTexts.{VerdictText, verdict_text}
+use Rattle.ext_steps.specs.Values.{ValueText, value_view}
+use Rattle.ext_steps.specs.Calls.{start_of, CallText}
+
+pub state_is : (a b : State Place) (v w : List ValueText) → a ≡ b → v ≡ w
+    → (let old : ValueState = record { store = a; values = v } in let new : ValueState = record { store = b; values = w } in old ≡ new)
+state_is a b v w e f = ap (λ s. record { store = s; values = v }) e ∙ ap (λ u. record { store = b; values = u }) f
+
+-- an answer that isn't a fault is none of the refusals
+pub reply_ok : {A : Type 0} (value : Option ℕ → A) (r : Reply) (x : A) → result_of value r ≡ Some (Ok x) → refusal r ≡ None
+reply_ok value (Happens answer) x h = refl
+reply_ok value (Answers answer) x h = refl
+reply_ok value (Refuses NumbersFull) x h = absurd cc
+reply_ok value (Refuses Busy) x h = absurd cc
+reply_ok value (Refuses Closed) x h = absurd cc
+reply_ok value (Refuses (Standing number)) x h = absurd cc
+reply_ok value (Refuses Exhausted) x h = absurd cc
+reply_ok value (Refuses Barred) x h = absurd cc
+
+-- a step that computed and found nothing
+pub outcome_ended : (store : ValueStore) (s : ValueState) (o : Outcome) (verdict : Verdict) (v : VerdictText) → state_view store ≡ s → o.verdict ≡ verdict → o.computed ≡ 0 → o.found ≡ 0 → verdict_text verdict ≡ v
+    → end_view store o ≡ ended v s
+outcome_ended store s o verdict v state is computed found told =
+    ap (λ t. record { state = t; verdict = verdict_text o.verdict; computed = o.computed; found = o.found }) state
+    ∙ ap (λ w. record { state = s; verdict = w; computed = o.computed; found = o.found }) (ap verdict_text is ∙ told)
+    ∙ ap (λ n. record { state = s; verdict = v; computed = n; found = o.found }) computed
+    ∙ ap (λ n. record { state = s; verdict = v; computed = 0; found = n }) found
+
+-- ---- a step by the call that it makes
+
+pub IfOk-into : {A B E : Type 0} (view : A → B) (a b : B) (r : Result A E) → IfOk r (λ x. view x ≡ a) → a ≡ b → IfOk r (λ x. view x ≡ b)
+IfOk-into view a b (Ok x) h is = h ∙ is
+IfOk-into view a b (Err e) h is = tt
+
+abbrev pub computes_by : CallText → ValueText → ValueState → StepEnd
+computes_by call value s = compute_looked call.name call.label (start_of call.path, call.key) value s (lookup (under s.store call.key) call.path)
+
+pub computes_as : (a b : CallText) (v w : ValueText) (s : ValueState) → a ≡ b → v ≡ w → computes_by a v s ≡ computes_by b w s
+computes_as a b v w s e f = ap (λ call. computes_by call v s) e ∙ ap (λ value. computes_by b value s) f
+
+abbrev pub computefails_by : CallText → ValueState → StepEnd
+computefails_by call s = computefail_looked call.name call.label (start_of call.path, call.key) s (lookup (under s.store call.key) call.path)
+
+-- ---- the value that a step gives
+
+pub opened : (v : PlanValue) (a b : List ℕ) → value_view v ≡ record { text = a; closeable = false } → a ≡ b → value_view v ≡ record { text = b; closeable = false }
+opened v a b is same = is ∙ ap (λ t. record { text = t; closeable = false }) same
+
+pub made_closeable : (v : PlanValue) (a b : List ℕ) → value_view v ≡ record { text = a; closeable = true } → a ≡ b → value_view v ≡ record { text = b; closeable = true }
+made_closeable v a b is same = is ∙ ap (λ t. record { text = t; closeable = true }) same

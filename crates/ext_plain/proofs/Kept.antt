@@ -1,0 +1,149 @@
+-- What each act of a plain run keeps true of its store, the whole run keeps true.
+use Rattle.std.proofs.Common.{◌≡◌, ℕ, zero, suc, Bool, true, false, List, [], ◌∷◌, Option, Some, None, is_some, refl, sym, subst}
+use Rattle.std.specs.Prelude.{fold, drop, if◌then◌else◌}
+use Rattle.ext_model.specs.declared.event.Act.TheVariants.{Put, Remove, Claim, Fill, Abandon, Seal}
+use Rattle.ext_model.specs.declared.look.Look.{Look}
+use Rattle.ext_model.specs.declared.look.Look.TheVariants as look
+use Rattle.ext_model.specs.Plain.{Place}
+use Rattle.ext_plan_model.specs.Plans.{KeyText, StepText, put, put_closeable, want, nothing, remove, compute, compute_closeable, compute_fail, fail, abort, PlanText}
+use Rattle.ext_plan_model.specs.Laws.{ids_of_nodes}
+use Rattle.ext_tree.specs.Paths.{children_of}
+use Rattle.ext_lifecycle.specs.declared.call.Call.{Call}
+use Rattle.ext_lifecycle.specs.Callbacks.{afters_of, befores_of, test_call}
+use Rattle.ext_lifecycle.specs.Endings.{all_successful, successful, aborted, failed}
+use Rattle.ext_lifecycle.specs.FaultTexts.{VerdictText}
+use Rattle.ext_lifecycle.specs.Modes.{in_run_order}
+use Rattle.ext_steps.specs.declared.reason.Reason.{Reason}
+use Rattle.ext_steps.specs.Calls.{start_of}
+use Rattle.ext_steps.specs.Values.{ValueText}
+use Rattle.ext_plain.specs.ValueStates.{ValueState, after_act, why_refused, next_number, keep_value}
+use Rattle.ext_plain.specs.Steps.{StepEnd, found_along, or_refused, put_step, put_kept, factory_gave, factory_failed, compute_looked, computefail_looked, step_run, unless_ended, steps_run}
+use Rattle.ext_plain.specs.Closes.{seal_keys}
+use Rattle.ext_plan_model.specs.PlanCalls.{registered, steps_of_call, test_of}
+use Rattle.ext_plain.specs.NodeCalls.{CallsEnd, befores_run, call_run, make, make_all, make_befores, make_if_successful, no_calls, test_run}
+use Rattle.ext_plan_model.specs.PlanCalls.{concurrent_of}
+use Rattle.ext_plain.specs.PlainRun.{RunState, body_run, container_run, key_count, node_run, test_node_run}
+use Rattle.ext_plain.proofs.Ends.{container_end, test_end}
+use Rattle.ext_plain.proofs.Stepping.{steps_run-nil, steps_run-cons}
+
+-- the fact is kept by each act, where a claim and the draw of a number were not refused
+pub record IsKept (P : ValueState → Type 0) : Type 0 where
+  pub puts : (place : Place) (number : ℕ) (s : ValueState) → P s → P (after_act (Put place number) s)
+  pub removes : (place : Place) (s : ValueState) → P s → P (after_act (Remove place) s)
+  pub seals : (place : Place) (s : ValueState) → P s → P (after_act (Seal place) s)
+  pub keeps : (value : ValueText) (s : ValueState) → why_refused (next_number s) s ≡ None → P s → P (keep_value value s)
+  pub abandons : (place : Place) (s : ValueState) → why_refused (Claim place) s ≡ None → P s → P (after_act (Abandon place) (after_act (Claim place) s))
+  pub fills : (place : Place) (value : ValueText) (s : ValueState) → why_refused (Claim place) s ≡ None → why_refused (next_number (after_act (Claim place) s)) (after_act (Claim place) s) ≡ None → P s
+      → P (after_act (Fill place (keep_value value (after_act (Claim place) s)).store.drawn) (keep_value value (after_act (Claim place) s)))
+
+or_refused-kept : (P : ValueState → Type 0) (name label : List ℕ) (why : Option Reason) (s : ValueState) (goes_on : StepEnd) → P s → (why ≡ None → P goes_on.state) → P (or_refused name label why s goes_on).state
+or_refused-kept P name label None s goes_on h go = go refl
+or_refused-kept P name label (Some why) s goes_on h go = h
+
+module _ (P : ValueState → Type 0) (kept : IsKept P) where
+  put-kept : (name label : List ℕ) (place : Place) (value : ValueText) (s : ValueState) → P s → P (put_step name label place value s).state
+  put-kept name label place value s h =
+      or_refused-kept P name label (why_refused (next_number s) s) s (put_kept name label place (keep_value value s)) h
+      (λ room. kept.puts place (keep_value value s).store.drawn (keep_value value s) (kept.keeps value s room h))
+
+  compute-kept : (name label : List ℕ) (place : Place) (value : ValueText) (s : ValueState) (found : Look) → P s → P (compute_looked name label place value s found).state
+  compute-kept name label place value s (look.Found at number) h = h
+  compute-kept name label place value s look.Absent h =
+      let claimed = after_act (Claim place) s in
+      or_refused-kept P name label (why_refused (Claim place) s) s (factory_gave name label place value claimed) h
+      (λ won. or_refused-kept P name label (why_refused (next_number claimed) claimed) (after_act (Abandon place) claimed) _ (kept.abandons place s won h) (λ room. kept.fills place value s won room h))
+  compute-kept name label place value s (look.Busy at) h = h
+  compute-kept name label place value s (look.Closed at) h = h
+
+  computefail-kept : (name label : List ℕ) (place : Place) (s : ValueState) (found : Look) → P s → P (computefail_looked name label place s found).state
+  computefail-kept name label place s (look.Found at number) h = h
+  computefail-kept name label place s look.Absent h =
+      or_refused-kept P name label (why_refused (Claim place) s) s (factory_failed place (after_act (Claim place) s)) h (λ won. kept.abandons place s won h)
+  computefail-kept name label place s (look.Busy at) h = h
+  computefail-kept name label place s (look.Closed at) h = h
+
+  step-kept : (keys : List KeyText) (path : List ℕ) (step : StepText) (s : ValueState) → P s → P (step_run keys path step s).state
+  step-kept keys path (put key text up) s h = put-kept _ _ _ _ s h
+  step-kept keys path (put_closeable key text up) s h = put-kept _ _ _ _ s h
+  step-kept keys path (want key text up) s h = h
+  step-kept keys path (nothing key up) s h = h
+  step-kept keys path (remove key up) s h = kept.removes _ s h
+  step-kept keys path (compute key text up) s h = compute-kept _ _ _ _ s (found_along keys key (drop up path) s) h
+  step-kept keys path (compute_closeable key text up) s h = compute-kept _ _ _ _ s (found_along keys key (drop up path) s) h
+  step-kept keys path (compute_fail key text up) s h = computefail-kept _ _ _ s (found_along keys key (drop up path) s) h
+  step-kept keys path (fail text) s h = h
+  step-kept keys path (abort text) s h = h
+
+  ended-kept : (v : VerdictText) (first : StepEnd) (go_on : ValueState → StepEnd) → P first.state → ((s : ValueState) → P s → P (go_on s).state) → P (unless_ended v first go_on).state
+  ended-kept successful first go_on h go = go first.state h
+  ended-kept (aborted text) first go_on h go = h
+  ended-kept (failed text) first go_on h go = h
+
+  pub steps-kept : (keys : List KeyText) (path : List ℕ) (steps : List StepText) (s : ValueState) → P s → P (steps_run keys path steps s).state
+  steps-kept keys path [] s h = subst (λ (end : StepEnd). P end.state) (sym (steps_run-nil keys path s)) h
+  steps-kept keys path (step ∷ more) s h =
+      subst (λ (end : StepEnd). P end.state) (sym (steps_run-cons keys path step more s))
+      (ended-kept (step_run keys path step s).verdict (step_run keys path step s) (steps_run keys path more) (step-kept keys path step s h) (steps-kept keys path more))
+
+  pub seals-kept : (keys at : ℕ) (s : ValueState) → P s → P (seal_keys keys at s)
+  unfolding seal_keys
+  seals-kept zero at s h = h
+  seals-kept (suc key) at s h = kept.seals (at, key) (seal_keys key at s) (seals-kept key at s h)
+
+  -- ---- calls
+
+  call-kept : (plan : PlanText) (path : List ℕ) (call : Call) (s : ValueState) → P s → P (call_run plan path call s).state
+  call-kept plan path call s h = steps-kept plan.keys path (steps_of_call plan call) s h
+
+  if-kept : (b : Bool) (x y : CallsEnd) → P x.state → P y.state → P (if b then x else y).state
+  if-kept true x y p q = p
+  if-kept false x y p q = q
+
+  all-kept : (run : Call → ValueState → StepEnd) → ((call : Call) (s : ValueState) → P s → P (run call s).state) → (calls : List Call) (before : CallsEnd) → P before.state → P (make_all run calls before).state
+  all-kept run each [] before h = h
+  all-kept run each (call ∷ calls) before h = all-kept run each calls (make run before call) (each call before.state h)
+
+  befores-kept : (run : Call → ValueState → StepEnd) → ((call : Call) (s : ValueState) → P s → P (run call s).state) → (calls : List Call) (before : CallsEnd) → P before.state → P (make_befores run calls before).state
+  befores-kept run each [] before h = h
+  befores-kept run each (call ∷ calls) before h =
+      befores-kept run each calls (make_if_successful run before call) (if-kept (all_successful before.calls) (make run before call) before (each call before.state h) h)
+
+  -- ---- nodes
+
+  fold-kept : (path_run : List ℕ → RunState → RunState) → ((path : List ℕ) (run : RunState) → P run.state → P (path_run path run).state)
+      → (above children : List ℕ) (run : RunState) → P run.state → P (fold (λ r child. path_run (child ∷ above) r) run children).state
+  fold-kept path_run each above [] run h = h
+  fold-kept path_run each above (child ∷ more) run h = fold-kept path_run each above more (path_run (child ∷ above) run) (each (child ∷ above) run h)
+
+  body-kept : (plan : PlanText) (path_run : List ℕ → RunState → RunState) → ((path : List ℕ) (run : RunState) → P run.state → P (path_run path run).state)
+      → (go : Bool) (path : List ℕ) (run : RunState) → P run.state → P (body_run plan path_run go path run).state
+  body-kept plan path_run each true path run h = fold-kept path_run each path (in_run_order (concurrent_of plan) (children_of (ids_of_nodes plan.nodes) (start_of path))) run h
+  body-kept plan path_run each false path run h = h
+
+  -- what the calls of a node leave, before its context is closed
+  pub container-open : (plan : PlanText) (path_run : List ℕ → RunState → RunState) → ((path : List ℕ) (run : RunState) → P run.state → P (path_run path run).state)
+      → (at : ℕ) (path : List ℕ) (run : RunState) → P run.state → P (container_end plan path_run at path run).state
+  container-open plan path_run each at path run h =
+      let before = befores_run plan false at path run.state in
+      all-kept (call_run plan path) (call-kept plan path) (afters_of (registered plan) false at path) _
+      (body-kept plan path_run each (all_successful before.calls) path (record { state = before.state; results = run.results }) (befores-kept (call_run plan path) (call-kept plan path) (befores_of (registered plan) false at path) (no_calls run.state) h))
+
+  pub test-open : (plan : PlanText) (at : ℕ) (path : List ℕ) (run : RunState) → P run.state → P (test_end plan at path run).state
+  test-open plan at path run h =
+      let before = befores_run plan true at path run.state in
+      let opened = befores-kept (call_run plan path) (call-kept plan path) (befores_of (registered plan) true at path) (no_calls run.state) h in
+      all-kept (call_run plan path) (call-kept plan path) (afters_of (registered plan) true at path) (test_run plan at path before)
+      (if-kept (all_successful before.calls) (make (call_run plan path) before (test_call at)) before (call-kept plan path (test_call at) before.state opened) opened)
+
+  node-by-kept : (b : Bool) (x y : RunState) → P x.state → P y.state → P (if b then x else y).state
+  node-by-kept true x y p q = p
+  node-by-kept false x y p q = q
+
+  pub node-kept : (plan : PlanText) (levels : ℕ) (path : List ℕ) (run : RunState) → P run.state → P (node_run plan levels path run).state
+  unfolding node_run
+  node-kept plan zero path run h = h
+  node-kept plan (suc levels) path run h =
+      let at = start_of path in
+      node-by-kept (is_some (test_of plan at)) (test_node_run plan at path run) (container_run plan (node_run plan levels) at path run)
+      (seals-kept (key_count plan) at (test_end plan at path run).state (test-open plan at path run h))
+      (seals-kept (key_count plan) at (container_end plan (node_run plan levels) at path run).state (container-open plan (node_run plan levels) (node-kept plan levels) at path run h))

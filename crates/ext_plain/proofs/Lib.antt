@@ -1,0 +1,15 @@
+pub mod Outcomes
+pub mod Stepping
+pub mod Sealing
+pub mod Acts
+pub mod NodeCalls
+pub mod CallsDone
+pub mod Nodes
+pub mod Runs
+pub mod Ends
+pub mod Kept
+pub mod Seals
+pub mod Values
+pub mod Sound
+pub mod Reached
+pub mod Below

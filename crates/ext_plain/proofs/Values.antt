@@ -1,0 +1,116 @@
+-- Each number that a plain run draws has a value, and what was put is found.
+use Rattle.std.proofs.Common.{◌≡◌, ℕ, suc, ◌+◌, Bool, true, false, List, [], ◌∷◌, ◌++◌, length, drop, Option, Some, None, refl, ap, sym, subst, ◌∙◌, arith, add-one}
+use Rattle.std.specs.Prelude.{codes, slice_get, nat_lt, if◌then◌else◌}
+use Rattle.std.proofs.lemmas.Cmp.{nat_list_eq_equiv}
+use Rattle.ext_model.specs.declared.event.Act.{Act}
+use Rattle.ext_model.specs.declared.event.Act.TheVariants.{Put, Remove, Claim, Fill, Abandon, Seal}
+use Rattle.ext_model.specs.declared.look.Look.TheVariants as look
+use Rattle.ext_model.specs.declared.slot.Slot.{Slot}
+use Rattle.ext_model.specs.declared.slot.Slot.TheVariants as slot
+use Rattle.ext_model.specs.State.{State, lookup}
+use Rattle.ext_model.specs.Events.{Reply, Happens, Answers, Refuses, NumbersFull, put_reply, drawn_after}
+use Rattle.ext_model.specs.Plain.{Place, under, any_lane, state_by}
+use Rattle.ext_model.proofs.Lookups.{put_found}
+use Rattle.ext_plan_model.specs.Plans.{KeyText, PlanText, put, want}
+use Rattle.ext_lifecycle.specs.Endings.{successful, failed}
+use Rattle.ext_plain.specs.ValueStates.{run_numbers, ValueState, refusal, reply_to, after_act, why_refused, next_number, keep_value, value_of}
+use Rattle.ext_plain.specs.Steps.{or_refused, put_kept, put_step, seen_by, shown, step_run}
+use Rattle.ext_plain.specs.PlainRun.{RunState, node_run}
+use Rattle.ext_plain.specs.Laws.{HasValues}
+use Rattle.ext_plain.proofs.Kept.{IsKept, node-kept}
+use Rattle.ext_steps.specs.Calls.{label_of, start_of, key_number}
+use Rattle.ext_steps.specs.declared.reason.Reason.{Reason}
+use Rattle.ext_steps.specs.StepTexts.{other_text}
+use Rattle.ext_steps.specs.Values.{ValueText}
+use Rattle.ext_steps.specs.Verdicts.{unless_refused, want_verdict}
+
+-- ---- a number is drawn where the draw isn't refused, and by no other act
+
+drawn_by : (r : Reply) (s : State Place) (act : Act Place) → drawn_after act s.drawn ≡ s.drawn → (state_by r s (record { lane = any_lane; act = act })).drawn ≡ s.drawn
+drawn_by (Happens answer) s act same = same
+drawn_by (Answers answer) s act same = refl
+drawn_by (Refuses why) s act same = refl
+
+act-values : (act : Act Place) (s : ValueState) → drawn_after act s.store.drawn ≡ s.store.drawn → HasValues s → HasValues (after_act act s)
+act-values act s same h = h ∙ sym (drawn_by (reply_to act s) s.store act same)
+
+drawn_if : (b : Bool) (answer : Option ℕ) (s : ValueState) → refusal (if b then Happens answer else Refuses NumbersFull) ≡ None
+    → (state_by (if b then Happens answer else Refuses NumbersFull) s.store (record { lane = any_lane; act = next_number s })).drawn ≡ suc s.store.drawn
+drawn_if true answer s room = add-one s.store.drawn
+drawn_if false answer s room = absurd cc
+
+keep-drawn : (value : ValueText) (s : ValueState) → why_refused (next_number s) s ≡ None → (keep_value value s).store.drawn ≡ suc s.store.drawn
+keep-drawn value s room = drawn_if (nat_lt s.store.drawn run_numbers) (Some (s.store.drawn + 1)) s room
+
+-- ---- each number has a value
+
+one_more : (values : List ValueText) (value : ValueText) → length (values ++ value ∷ []) ≡ suc (length values)
+one_more [] value = refl
+one_more (v ∷ values) value = ap suc (one_more values value)
+
+keep-values : (value : ValueText) (s : ValueState) → why_refused (next_number s) s ≡ None → HasValues s → HasValues (keep_value value s)
+keep-values value s room h = one_more s.values value ∙ ap suc h ∙ sym (keep-drawn value s room)
+
+valued : IsKept HasValues
+valued = record {
+  puts = λ place number s h. act-values (Put place number) s refl h;
+  removes = λ place s h. act-values (Remove place) s refl h;
+  seals = λ place s h. act-values (Seal place) s refl h;
+  keeps = keep-values;
+  abandons = λ place s won h. act-values (Abandon place) (after_act (Claim place) s) refl (act-values (Claim place) s refl h);
+  fills = λ place value s won room h.
+      let claimed = after_act (Claim place) s in
+      let kept = keep_value value claimed in
+      act-values (Fill place kept.store.drawn) kept refl (keep-values value claimed room (act-values (Claim place) s refl h));
+}
+
+pub node-values : (plan : PlanText) (levels : ℕ) (path : List ℕ) (run : RunState) → HasValues run.state → HasValues (node_run plan levels path run).state
+node-values = node-kept HasValues valued
+
+-- ---- what was put is found
+
+last_value : (values : List ValueText) (value : ValueText) → slice_get (values ++ value ∷ []) (length values) ≡ Some value
+last_value [] value = refl
+last_value (v ∷ values) value = last_value values value
+
+wanted : (name label text : List ℕ) (closeable : Bool) → want_verdict name label text (shown (Some (record { text = text; closeable = closeable }))) ≡ successful
+wanted name label text closeable = ap (λ b. if b then successful else failed (other_text label text text)) (nat_list_eq_equiv.refl text)
+
+put-happens : (x : Option Slot) (name label : List ℕ) → unless_refused name label (refusal (put_reply false x)) ≡ successful → (stood : Option ℕ) × (put_reply false x ≡ Happens stood)
+put-happens None name label passed = (None, refl)
+put-happens (Some (slot.Entry number)) name label passed = (Some number, refl)
+put-happens (Some (slot.Claim lane)) name label passed = absurd cc
+put-happens (Some (slot.Sealed kept)) name label passed = absurd cc
+
+-- from the state that has kept the value
+kept-wanted : (label : List ℕ) (at key : ℕ) (above : List ℕ) (text : List ℕ) (kept : ValueState) (values : List ValueText) → kept.values ≡ values ++ record { text = text; closeable = false } ∷ [] → kept.store.drawn ≡ suc (length values)
+    → (put_kept (codes "put") label (at, key) kept).verdict ≡ successful
+    → want_verdict (codes "want") label text (seen_by kept.values (lookup (under (after_act (Put (at, key) kept.store.drawn) kept).store key) (at ∷ above))) ≡ successful
+kept-wanted label at key above text kept values are drawn passed =
+    let number = kept.store.drawn in
+    let stored = put-happens (kept.store.slots (at, key)) (codes "put") label passed in
+    let found : lookup (under (after_act (Put (at, key) number) kept).store key) (at ∷ above) ≡ look.Found at number =
+    put_found run_numbers kept.store any_lane at key number stored.0 [] above (λ k d within. absurd (omega (arith, within))) stored.1 in
+    ap (λ found. want_verdict (codes "want") label text (seen_by kept.values found)) found
+    ∙ ap (λ vs. want_verdict (codes "want") label text (shown (value_of vs number))) are
+    ∙ ap (λ n. want_verdict (codes "want") label text (shown (value_of (values ++ record { text = text; closeable = false } ∷ []) n))) drawn
+    ∙ ap (λ v. want_verdict (codes "want") label text (shown v)) (last_value values (record { text = text; closeable = false }))
+    ∙ wanted (codes "want") label text false
+
+put-wanted : (label : List ℕ) (at key : ℕ) (above : List ℕ) (text : List ℕ) (s : ValueState) (why : Option Reason) → why_refused (next_number s) s ≡ why → HasValues s
+    → (let value : ValueText = record { text = text; closeable = false } in let end = or_refused (codes "put") label why s (put_kept (codes "put") label (at, key) (keep_value value s)) in
+    end.verdict ≡ successful → want_verdict (codes "want") label text (seen_by end.state.values (lookup (under end.state.store key) (at ∷ above))) ≡ successful)
+put-wanted label at key above text s None room h =
+    let value : ValueText = record { text = text; closeable = false } in
+    λ passed. kept-wanted label at key above text (keep_value value s) s.values refl (keep-drawn value s room ∙ ap suc (sym h)) passed
+put-wanted label at key above text s (Some why) room h = λ passed. absurd cc
+
+pub put_is_found : (keys : List KeyText) (path : List ℕ) (at : ℕ) (above : List ℕ) (key up : ℕ) (text : List ℕ) (s : ValueState) → drop up path ≡ at ∷ above → HasValues s
+    → (step_run keys path (put key text up) s).verdict ≡ successful
+    → (step_run keys path (want key text up) (step_run keys path (put key text up) s).state).verdict ≡ successful
+put_is_found keys path at above key up text s is h =
+    let value : ValueText = record { text = text; closeable = false } in
+    let label = label_of keys key in
+    let k = key_number keys key in
+    subst (λ p. (put_step (codes "put") label (start_of p, k) value s).verdict ≡ successful → want_verdict (codes "want") label text (seen_by (put_step (codes "put") label (start_of p, k) value s).state.values (lookup (under (put_step (codes "put") label (start_of p, k) value s).state.store k) p)) ≡ successful) (sym is)
+    (put-wanted label at k above text s (why_refused (next_number s) s) refl h)

@@ -1,0 +1,23 @@
+use Rattle.std.proofs.Common.{refl}
+use Rattle.ext_plain.proofs.Below.{runs_below}
+use Rattle.ext_plain.proofs.Sound.{result_of_each_node, tests_of_plan}
+use Rattle.ext_plain.proofs.Reached.{each_node_runs, runs_body, runs_node, skips_body}
+use Rattle.ext_plain.proofs.Seals.{node-free, node-sealed}
+use Rattle.ext_plain.proofs.Values.{node-values, put_is_found}
+use Rattle.ext_plain.proofs.laws.plain_run_laws.Goals as goal
+
+pub returns : goal.returns
+returns c = record {
+  results = result_of_each_node;
+  tests = tests_of_plan;
+  each_node = each_node_runs;
+  runs = runs_node;
+  body = runs_body;
+  skipped = skips_body;
+  parents = runs_below;
+  opening = (λ place claimed. claimed, refl);
+  unclaimed = node-free;
+  sealed = node-sealed;
+  values = node-values;
+  found = put_is_found;
+}

@@ -1,0 +1,136 @@
+-- What the contracts of private functions cite, and nothing else: no public clause needs it.
+use Rattle.std.specs.Prelude.{◌≡◌, ◌<◌, ◌≤◌, ℕ, Bool, true, false, not, List, length, map, Option, Some, None, option_map, Result, Ok, Err, if◌then◌else◌}
+use Rattle.ext_model.specs.declared.look.Fault.{Fault}
+use Rattle.ext_model.specs.declared.plain_fault.PlainFault.{PlainFault}
+use Rattle.ext_model.specs.declared.plain_fault.PlainFault.TheVariants as plain
+use Rattle.ext_model.specs.Events.{NumbersFull, Busy, Closed, Standing}
+use Rattle.ext_model.specs.Plain.{Place, state_of}
+use Rattle.ext_lifecycle.specs.declared.call.Call.{Call}
+use Rattle.ext_lifecycle.specs.declared.closes.Closes.{Closes}
+use Rattle.ext_lifecycle.specs.declared.outcome.Outcome.{Outcome}
+use Rattle.ext_lifecycle.specs.declared.tally.Tally.{Tally}
+use Rattle.ext_lifecycle.specs.Endings.{with_fault}
+use Rattle.ext_lifecycle.specs.FaultTexts.{fault_text, results_view, verdict_text}
+use Rattle.ext_lifecycle.specs.Lifecycle.{computed_in, endings_of, found_in, tally_of}
+use Rattle.ext_lifecycle.specs.Results.{closes_of}
+use Rattle.ext_plan_model.specs.Plans.{PlanText, plan_view}
+use Rattle.ext_steps.specs.declared.reason.Reason.{Reason}
+use Rattle.ext_steps.specs.declared.step_keys.StepCall.{StepCall}
+use Rattle.ext_steps.specs.Calls.{start_of}
+use Rattle.ext_steps.specs.Values.{ValueText, value_view}
+use Rattle.ext_plain.specs.declared.callers.NodeCaller.{NodeCaller}
+use Rattle.ext_plain.specs.declared.plain.PlainRunner.{PlainRunner}
+use Rattle.ext_plain.specs.declared.setting.Setting.{Setting}
+use Rattle.ext_plain.specs.declared.value_store.ValueStore.{ValueStore}
+use Rattle.ext_plain.specs.NodeCalls.{CallsEnd, call_run}
+use Rattle.ext_tree.specs.Trees.{IsTree}
+use Rattle.ext_tree.specs.Paths.{IsPathOf}
+use Rattle.ext_plain.specs.PlainRun.{RunState, key_count, node_end}
+use Rattle.ext_plain.specs.Steps.{StepEnd}
+use Rattle.ext_plain.specs.ValueStates.{ValueState, reason, why_refused, next_number, keep_value}
+
+-- ---- the store and its values
+
+abbrev pub state_view : ValueStore → ValueState
+state_view s = record { store = state_of s.store; values = map value_view s.values.items }
+
+-- why a call of the store was refused, where it was not for want of memory, which ends the run
+abbrev pub IsReasonOf : PlainFault → Reason → Type 0
+IsReasonOf plain.Busy why = why ≡ reason Busy
+IsReasonOf plain.Closed why = why ≡ reason Closed
+IsReasonOf (plain.Taken number) why = why ≡ reason (Standing number)
+IsReasonOf plain.NumbersFull why = why ≡ reason NumbersFull
+IsReasonOf plain.Memory why = ⊥
+
+-- why a call of the store was refused, if it was
+abbrev pub Told : {A : Type 0} → Result A PlainFault → Option Reason → Type 0
+Told (Ok x) why = why ≡ None
+Told (Err plain.Busy) why = why ≡ Some (reason Busy)
+Told (Err plain.Closed) why = why ≡ Some (reason Closed)
+Told (Err (plain.Taken number)) why = why ≡ Some (reason (Standing number))
+Told (Err plain.NumbersFull) why = why ≡ Some (reason NumbersFull)
+Told (Err plain.Memory) why = ⊥
+
+-- the value is kept under this number
+pub record IsKeptAs (value : ValueText) (old new : ValueState) (number : ℕ) : Type 0 where
+  pub state : new ≡ keep_value value old
+  pub drawn : number ≡ new.store.drawn
+  pub allowed : why_refused (next_number old) old ≡ None
+  pub slots : (place : Place) → new.store.slots place ≡ old.store.slots place
+
+-- no number is left, and nothing was changed
+pub record IsNotKept (old new : ValueState) (why : Reason) : Type 0 where
+  pub state : new ≡ old
+  pub refused : why_refused (next_number old) old ≡ Some why
+
+abbrev pub Keeps : ValueText → ValueState → ValueState → Result ℕ Reason → Type 0
+Keeps value old new (Ok number) = IsKeptAs value old new number
+Keeps value old new (Err why) = IsNotKept old new why
+
+-- ---- the steps
+
+abbrev pub place_of_call : StepCall → Place
+place_of_call c = (start_of c.path.now, c.key)
+
+abbrev pub step_end : ValueState → Outcome → StepEnd
+step_end s o = record { state = s; verdict = verdict_text o.verdict; computed = o.computed; found = o.found }
+
+abbrev pub end_view : ValueStore → Outcome → StepEnd
+end_view s o = step_end (state_view s) o
+
+-- one step computes or finds one value at most
+pub record AreFew (o : Outcome) : Type 0 where
+  pub computed : o.computed ≤ 1
+  pub found : o.found ≤ 1
+
+-- ---- the calls of a node
+
+abbrev pub plan_in : Setting → PlanText
+plan_in s = plan_view s.plan.now
+
+-- the node is one of the tree
+pub record IsReady (caller : NodeCaller) : Type 0 where
+  pub tree : IsTree caller.setting.tree.now
+  pub within : caller.node < length caller.setting.tree.now
+
+-- what a call does, where memory for it was not refused: its steps in the context of the node
+pub record DoesCall (before : NodeCaller) (call : Call) (outcome : Outcome) (after : NodeCaller) : Type 0 where
+  pub setting : after.setting ≡ before.setting
+  pub node : after.node ≡ before.node
+  pub fed : after.starved ≡ false → before.starved ≡ false
+  pub end : after.starved ≡ false → (path : List ℕ) → IsPathOf before.setting.tree.now before.node path
+      → end_view after.store outcome ≡ call_run (plan_in before.setting) path call (state_view before.store)
+
+-- what calls with these outcomes leave
+abbrev pub calls_end : ValueState → List Outcome → CallsEnd
+calls_end s outcomes = record { state = s; calls = map (with_fault fault_text) (endings_of outcomes); computed = computed_in outcomes; found = found_in outcomes }
+
+-- ---- the end of a node
+
+abbrev pub only_closeable : Option ValueText → Option ValueText
+only_closeable None = None
+only_closeable (Some value) = if value.closeable then Some value else None
+
+-- these closes were counted, with the texts of their faults
+pub record HasClosed (closes : Closes) (told : List (Option (List ℕ))) : Type 0 where
+  pub faults : List (Option Fault)
+  pub counted : closes ≡ closes_of faults
+  pub texts : map (option_map fault_text) faults ≡ told
+
+-- ---- the plain run
+
+abbrev pub run_view : PlainRunner → RunState
+run_view r = record { state = state_view r.caller.store; results = results_view r.results.items }
+
+-- those children that are concurrent, or those that aren't
+abbrev pub chosen : Bool → (ℕ → Bool) → ℕ → Bool
+chosen true concurrent = concurrent
+chosen false concurrent = λ child. not (concurrent child)
+
+-- for the node of this number, whose path it goes by, the run became what this makes of it
+pub record RunsAs (setting : Setting) (at : ℕ) (by : List ℕ → RunState → RunState) (old new : RunState) : Type 0 where
+  pub each : (path : List ℕ) → IsPathOf setting.tree.now at path → new ≡ by path old
+
+-- the end of a node whose calls came to this tally
+pub record EndsNode (setting : Setting) (at : ℕ) (is_test : Bool) (tally : Tally) (old new : RunState) : Type 0 where
+  pub each : (outcomes : List Outcome) → tally ≡ tally_of outcomes → new ≡ node_end (key_count (plan_in setting)) at is_test (calls_end old.state outcomes) old.results

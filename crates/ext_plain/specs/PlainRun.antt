@@ -1,0 +1,88 @@
+-- The plain run of a plan: one thread goes through the tree from its root. A node's before-callbacks are called, then comes its body, where all of them were
+-- successful, and then its after-callbacks; then its context is closed. The body of a test is its steps, that of a container its children: first those that are
+-- concurrent, in order, and then the others, in order.
+--
+-- JUnit 5 User Guide, "Relative Execution Order of User Code and Extensions", and "Keeping State in Extensions": a store is bound to the life of its context, and
+-- is closed when that ends, so after the contexts below it. Which statuses there are, that the nodes below a body that is skipped run nothing, aren't closed and are
+-- skipped, and that a container's status does not depend on its children's, are own rules.
+use Rattle.std.specs.Prelude.{ℕ, zero, suc, ◌+◌, Bool, true, false, List, [], ◌∷◌, length, fold, Option, Some, None, is_some, slice_get, slice_set, if◌then◌else◌}
+use Rattle.ext_lifecycle.specs.Endings.{all_successful}
+use Rattle.ext_lifecycle.specs.FaultTexts.{NodeOutcome}
+use Rattle.ext_lifecycle.specs.Modes.{is_concurrent, in_run_order}
+use Rattle.ext_lifecycle.specs.Results.{result_of, skipped_result}
+use Rattle.ext_plan_model.specs.Plans.{NodeText, PlanText}
+use Rattle.ext_plan_model.specs.KeyNumbers.{different_keys}
+use Rattle.ext_plan_model.specs.Laws.{ids_of_nodes}
+use Rattle.ext_steps.specs.Calls.{start_of}
+use Rattle.ext_tree.specs.Paths.{children_of}
+use Rattle.ext_plain.specs.ValueStates.{ValueState, value_opening}
+use Rattle.ext_plain.specs.Closes.{seal_keys, closes}
+use Rattle.ext_plan_model.specs.PlanCalls.{concurrent_of, test_of}
+use Rattle.ext_plain.specs.NodeCalls.{CallsEnd, befores_run, test_run, afters_run}
+
+-- a run between two nodes: its store, and the nodes' results so far
+pub record RunState : Type 0 where
+  pub state : ValueState
+  pub results : List NodeOutcome
+
+-- ---- the end of a node
+
+-- by how its calls ended, and how the closes of its context did
+abbrev pub outcome_of : ℕ → Bool → CallsEnd → List (Option (List ℕ)) → NodeOutcome
+outcome_of at is_test end closed = result_of at is_test end.calls end.computed end.found closed
+
+-- the results with this one in its node's place
+abbrev pub with_result : NodeOutcome → List NodeOutcome → List NodeOutcome
+with_result outcome results = slice_set results outcome.node outcome
+
+-- all keys are sealed in the node's context, its closeable values are closed, and its result stands in its place
+abbrev pub node_end : ℕ → ℕ → Bool → CallsEnd → List NodeOutcome → RunState
+node_end keys at is_test end results =
+    let sealed = seal_keys keys at end.state in
+    record { state = sealed; results = with_result (outcome_of at is_test end (closes keys at sealed)) results }
+
+-- ---- the tree
+
+module _ (plan : PlanText) where
+  -- how many different keys there are
+  abbrev pub key_count : ℕ
+  key_count = length (different_keys plan.keys)
+
+  -- the children of the path's first context, in the order of one lane, each by what runs a path
+  abbrev pub children_run : (List ℕ → RunState → RunState) → List ℕ → RunState → RunState
+  children_run path_run path run = fold (λ r child. path_run (child ∷ path) r) run (in_run_order (concurrent_of plan) (children_of (ids_of_nodes plan.nodes) (start_of path)))
+
+  -- the body of a container: its children, if it isn't skipped
+  abbrev pub body_run : (List ℕ → RunState → RunState) → Bool → List ℕ → RunState → RunState
+  body_run path_run go path run = if go then children_run path_run path run else run
+
+  -- a container: its body between its calls
+  abbrev pub container_run : (List ℕ → RunState → RunState) → ℕ → List ℕ → RunState → RunState
+  container_run path_run at path run =
+      let before = befores_run plan false at path run.state in
+      let body = body_run path_run (all_successful before.calls) path (record { state = before.state; results = run.results }) in
+      node_end key_count at false (afters_run plan false at path (record before { state = body.state })) body.results
+
+  -- a test, whose body is one of its calls
+  abbrev pub test_node_run : ℕ → List ℕ → RunState → RunState
+  test_node_run at path run = node_end key_count at true (afters_run plan true at path (test_run plan at path (befores_run plan true at path run.state))) run.results
+
+  -- the node that a path to the root begins with, and what is below it, so many levels deep
+  unfoldable pub node_run : ℕ → List ℕ → RunState → RunState
+  node_run zero path run = run
+  node_run (suc levels) path run =
+      if is_some (test_of plan (start_of path)) then test_node_run (start_of path) path run else container_run (node_run levels) (start_of path) path run
+
+-- ---- the whole run
+
+-- before the run each node is skipped; these are the nodes from number `at` on
+abbrev pub skipped_from : ℕ → List NodeText → List NodeOutcome
+skipped_from at [] = []
+skipped_from at (node ∷ more) = skipped_result at (is_some node.test) ∷ skipped_from (at + 1) more
+
+abbrev pub run_opening : PlanText → RunState
+run_opening plan = record { state = value_opening; results = skipped_from 0 plan.nodes }
+
+-- The results of the nodes, in the order of the plan. The root is node 0, and no tree is deeper than it has nodes
+abbrev pub plain_run : PlanText → List NodeOutcome
+plain_run plan = (node_run plan (length plan.nodes) (0 ∷ []) (run_opening plan)).results

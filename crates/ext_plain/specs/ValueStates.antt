@@ -1,0 +1,65 @@
+-- The store of a run and the values of its numbers, and what an act does to it. Javadoc `NamespacedHierarchicalStore`, for one thread, by the definitions of the
+-- store's state; that values are seen by numbers is an own rule.
+use Rattle.std.specs.Prelude.{ℕ, zero, suc, ◌+◌, List, [], ◌∷◌, ◌++◌, Option, Some, None, slice_get}
+use Rattle.ext_model.specs.declared.event.Act.{Act}
+use Rattle.ext_model.specs.declared.event.Act.TheVariants.{Keep}
+use Rattle.ext_model.specs.State.{State, opening}
+use Rattle.ext_model.specs.Events.{Reply, Happens, Answers, Refuses, Refusal, NumbersFull, Busy, Closed, Standing, Exhausted, Barred}
+use Rattle.ext_model.specs.Plain.{Place, any_lane, plain_reply, next_state}
+use Rattle.ext_steps.specs.declared.reason.Reason.{Reason}
+use Rattle.ext_steps.specs.declared.reason.Reason.TheVariants as reasons
+use Rattle.ext_steps.specs.Values.{ValueText}
+
+-- how many numbers a run's store draws at most
+abbrev pub run_numbers : ℕ
+run_numbers = 65535
+
+-- the store of a run: its state, and the values that were kept, the first of which has number 1
+pub record ValueState : Type 0 where
+  pub store : State Place
+  pub values : List ValueText
+
+-- ---- an act on the store
+
+abbrev pub value_opening : ValueState
+value_opening = record { store = opening; values = [] }
+
+-- what the store answers to an act
+abbrev pub reply_to : Act Place → ValueState → Reply
+reply_to act s = plain_reply run_numbers s.store any_lane act
+
+-- the store after an act, whether the act is an event or refused
+abbrev pub after_act : Act Place → ValueState → ValueState
+after_act act s = record s { store = next_state run_numbers s.store any_lane act }
+
+-- Why a step's call of the store was refused. In a plain run only the first comes: a step acts on contexts that are not sealed yet, a claim follows a look-up
+-- that found nothing, and one thread between two steps has no claims, and no versions that could run out
+abbrev pub reason : Refusal → Reason
+reason NumbersFull = reasons.NumbersFull
+reason Busy = reasons.Busy
+reason Closed = reasons.Closed
+reason (Standing number) = reasons.Busy
+reason Exhausted = reasons.Exhausted
+reason Barred = reasons.Busy
+
+-- why an act is refused, where it is
+abbrev pub refusal : Reply → Option Reason
+refusal (Happens answer) = None
+refusal (Answers answer) = None
+refusal (Refuses why) = Some (reason why)
+
+abbrev pub why_refused : Act Place → ValueState → Option Reason
+why_refused act s = refusal (reply_to act s)
+
+-- a number is drawn: the next one
+abbrev pub next_number : ValueState → Act Place
+next_number s = Keep (s.store.drawn + 1)
+
+-- a value is kept under the number that is drawn for it
+abbrev pub keep_value : ValueText → ValueState → ValueState
+keep_value value s = record s { store = next_state run_numbers s.store any_lane (next_number s); values = s.values ++ value ∷ [] }
+
+-- the value of a number, which numbers count from 1
+abbrev pub value_of : List ValueText → ℕ → Option ValueText
+value_of values zero = None
+value_of values (suc n) = slice_get values n

@@ -1,0 +1,54 @@
+//! The end of a context.
+ghost use Rattle.std.specs.Prelude.{◌≡◌, ◌≤◌, length, map, option_map, IfOk, OnOk};
+ghost use Rattle.ext_steps.specs.Values.{close_fault, value_view};
+ghost use Rattle.ext_plain.specs.ValueStates.{value_of};
+ghost use Rattle.ext_plain.specs.Closes.{seal_keys, numbers_left, closeables};
+ghost use Rattle.ext_plain.specs.Helpers.{state_view, only_closeable, HasClosed};
+
+use crate::value_store::ValueStore;
+use ext_lifecycle::Closes;
+use ext_model::{ContextNo, FallingNumbers};
+use ext_steps::{PlanValue, close_fault};
+use std::alloc::{AllocError, Global};
+
+impl<'a> ValueStore<'a> {
+    /// Seals the first so many keys of a context, in order, and answers the numbers that the seals keep, the greatest
+    /// first.
+    pub fn seal_keys(&mut self, keys: usize, at: ContextNo) -> Result<FallingNumbers, AllocError>
+        requires { keys ≤ 64 }
+        ensures state { OnOk result (state_view self.new ≡ seal_keys keys at (state_view self.old)) }
+        ensures numbers { IfOk result (λ numbers. numbers ≡ numbers_left keys at (state_view self.new)) }
+    {
+        let mut numbers = FallingNumbers::new();
+        for key in 0..keys {
+            let kept = self.seal(at, key)?;
+            numbers.put_in_kept(kept);
+        }
+        Ok(numbers)
+    }
+
+    /// Closes the closeable ones among the values of these numbers, in order, each once, and counts them. A close that
+    /// fails does not stop the others.
+    pub fn close_values(&self, alloc: Global, numbers: &[u32]) -> Result<Closes, AllocError>
+        requires { length numbers.now ≤ 64 }
+        ensures { IfOk result (λ closes. HasClosed closes (map close_fault (closeables (state_view self.now).values numbers.now))) }
+    {
+        let mut closes = Closes::new();
+        for number in numbers {
+            if let Some(value) = self.closeable(*number) {
+                closes.add(close_fault(alloc, &value)?);
+            }
+        }
+        Ok(closes)
+    }
+
+    /// The value of a number, if it is closeable.
+    fn closeable(&self, number: u32) -> Option<PlanValue<'a>>
+        ensures { option_map value_view result ≡ only_closeable (value_of (state_view self.now).values number) }
+    {
+        match self.value_of(number) {
+            Some(value) if value.closeable => Some(value),
+            _ => None,
+        }
+    }
+}

@@ -1,0 +1,21 @@
+//! What is true of the plain run of every plan, as the contract of a function that does nothing.
+ghost use Rattle.ext_plain.specs.Laws.{HasResultOfEachNode, HasTestsOfPlan, RunsEachNode, RunsNode, RunsBody, SkipsBody, RunsParents, OpensClear, MakesNoClaims, SealsContexts, KeepsValues, FindsWhatWasPut};
+
+/// Proves laws of the plain run. It does nothing when it runs.
+///
+/// JUnit 5 User Guide, section "Keeping State in Extensions", for closed contexts; the order of results, and
+/// which nodes are skipped, are own rules.
+pub fn plain_run_laws()
+    ensures results { HasResultOfEachNode }
+    ensures tests { HasTestsOfPlan }
+    ensures each_node { RunsEachNode }
+    ensures runs { RunsNode }
+    ensures body { RunsBody }
+    ensures skipped { SkipsBody }
+    ensures parents { RunsParents }
+    ensures opening { OpensClear }
+    ensures unclaimed { MakesNoClaims }
+    ensures sealed { SealsContexts }
+    ensures values { KeepsValues }
+    ensures found { FindsWhatWasPut }
+{}

@@ -1,0 +1,23 @@
+//! The plain run of a plan: on one thread, over the one-thread store.
+//!
+//! `run_plain` goes through the tree from its root: a node's before-callbacks, its body and its after-callbacks, and then
+//! its context is closed. Each call is the steps that the plan has for it, run in the context of the node. What steps do
+//! stands in `specs/Steps.antt`, which calls a node has in `specs/NodeCalls.antt`, how its context is closed in
+//! `specs/Closes.antt`, the run of a plan in `specs/PlainRun.antt`, and what is true of every plain run in
+//! `specs/Laws.antt`, which `plain_run_laws` proves. Own rule.
+#![tactic(auto)]
+
+mod callers;
+mod closing;
+mod computes;
+mod found;
+mod laws;
+mod plain;
+mod reasons;
+mod setting;
+mod skipped;
+mod steps;
+mod value_store;
+
+pub use laws::plain_run_laws;
+pub use plain::run_plain;

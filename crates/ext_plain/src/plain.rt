@@ -1,0 +1,234 @@
+//! The plain run of a plan, on one thread over the one-thread store.
+ghost use Rattle.std.specs.Prelude.{◌≡◌, ◌<◌, ◌∷◌, false, length, map, filter, fold, All, IfOk, OnOk};
+ghost use Rattle.ext_lifecycle.specs.FaultTexts.{result_view, results_view};
+ghost use Rattle.ext_lifecycle.specs.Lifecycle.{IsRoomy};
+ghost use Rattle.ext_tree.specs.Trees.{IsTree};
+ghost use Rattle.ext_tree.specs.Paths.{children_of};
+ghost use Rattle.ext_plan_model.specs.Plans.{keys_view, plan_view};
+ghost use Rattle.ext_plan_model.specs.KeyNumbers.{numbering};
+ghost use Rattle.ext_plan_model.specs.Laws.{CallbacksAreFew, StepListsAreShort};
+ghost use Rattle.ext_plain.specs.PlainRun.{plain_run};
+
+use crate::callers::NodeCaller;
+use crate::setting::Setting;
+use crate::skipped::skipped;
+use crate::value_store::ValueStore;
+use ext_lifecycle::{
+    Call, Kind, NodeResult, Tally, afters_of, befores_of, run_afters, run_befores, run_calls,
+};
+use ext_model::ContextNo;
+use ext_plan_model::{KeyNumbers, Plan};
+use ext_tree::Tree;
+use std::alloc::{AllocError, Global};
+
+/// A plain run between two nodes.
+#[derive(Drop)]
+pub struct PlainRunner<'a> {
+    pub caller: NodeCaller<'a>,
+    /// A result for each node, skipped until it has run.
+    pub results: Vec<NodeResult>,
+}
+
+/// The results of the plain run of a plan, in the order of its nodes, which are the contexts of the tree.
+///
+/// Takes memory for the lists of calls, the values, the texts of faults and the results. `AllocError` comes only where that
+/// is refused, in a step as elsewhere. Source: JUnit 5 User Guide, sections "Keeping State in Extensions" and "Relative
+/// Execution Order of User Code and Extensions"; what is run in which order, and what is told of a node, are own rules.
+pub fn run_plain(
+    alloc: Global,
+    plan: &Plan,
+    keys: &KeyNumbers,
+    tree: &Tree,
+) -> Result<Vec<NodeResult>, AllocError>
+    requires keys { keys.now ≡ numbering (keys_view plan.now.keys.items) }
+    requires tree { IsTree tree.now }
+    requires nodes { tree.now ≡ map (λ n. n.id) plan.now.nodes.items }
+    requires short { StepListsAreShort (plan_view plan.now) }
+    requires called { CallbacksAreFew (plan_view plan.now) }
+    ensures results { IfOk result (λ results. results_view results.items ≡ plain_run (plan_view plan.now)) }
+    ensures in_tree { IfOk result (λ results. All (λ r. r.node < length tree.now) results.items) }
+{
+    let caller = NodeCaller {
+        alloc,
+        setting: Setting::of(plan, keys, tree),
+        store: ValueStore::new(alloc),
+        node: 0,
+        starved: false,
+    };
+    let mut runner = PlainRunner {
+        caller,
+        results: skipped(alloc, plan.nodes.as_slice())?,
+    };
+    // No tree is deeper than it has nodes, so that as many levels reach all of them.
+    let levels = plan.nodes.len();
+    runner.run_node(alloc, levels, 0)?;
+    Ok(runner.results)
+}
+
+impl<'a> PlainRunner<'a> {
+    ghost use Rattle.ext_plan_model.specs.PlanCalls.{test_of};
+    ghost use Rattle.ext_plan_model.specs.PlanCalls.{concurrent_of};
+    ghost use Rattle.ext_plain.specs.PlainRun.{body_run, container_run, node_run, test_node_run, with_result};
+    ghost use Rattle.ext_plain.specs.Helpers.{EndsNode, RunsAs, chosen, plan_in, run_view};
+
+    /// Runs a node and what is below it, so many levels deep.
+    #[cycle(nodes)]
+    fn run_node(&mut self, alloc: Global, levels: usize, at: ContextNo) -> Result<(), AllocError>
+        requires within { at < length self.old.caller.setting.tree.now }
+        requires tree { IsTree self.old.caller.setting.tree.now }
+        requires fed { self.old.caller.starved ≡ false }
+        ensures run { OnOk result (RunsAs self.old.caller.setting at (node_run (plan_in self.old.caller.setting) levels) (run_view self.old) (run_view self.new)) }
+        ensures setting { OnOk result (self.new.caller.setting ≡ self.old.caller.setting) }
+        ensures fed { OnOk result (self.new.caller.starved ≡ false) }
+    {
+        if levels == 0 {
+            return Ok(());
+        }
+        if self.caller.setting.is_test(at) {
+            return self.run_test(alloc, at);
+        }
+        self.run_container(alloc, levels - 1, at)
+    }
+
+    /// Runs a test: its before-callbacks, its steps and its after-callbacks, and then the end of its context.
+    fn run_test(&mut self, alloc: Global, at: ContextNo) -> Result<(), AllocError>
+        requires within { at < length self.old.caller.setting.tree.now }
+        requires tree { IsTree self.old.caller.setting.tree.now }
+        requires fed { self.old.caller.starved ≡ false }
+        ensures run { OnOk result (RunsAs self.old.caller.setting at (test_node_run (plan_in self.old.caller.setting) at) (run_view self.old) (run_view self.new)) }
+        ensures setting { OnOk result (self.new.caller.setting ≡ self.old.caller.setting) }
+        ensures fed { OnOk result (self.new.caller.starved ≡ false) }
+    {
+        let path = self.caller.setting.tree.path(at);
+        let befores = befores_of(alloc, &self.caller.setting, true, at, path.as_slice())?;
+        let afters = afters_of(alloc, &self.caller.setting, true, at, path.as_slice())?;
+        let body = Call {
+            kind: Kind::Test,
+            from: at,
+            index: 0,
+        };
+        self.caller.node = at;
+        let tally = run_calls(
+            befores.as_slice(),
+            body,
+            afters.as_slice(),
+            &mut self.caller,
+        );
+        self.caller.check_fed()?;
+        self.end_node(alloc, at, true, tally)
+    }
+
+    /// Runs a container: its before-callbacks, its children so many levels deep, where these were all successful, and
+    /// its after-callbacks, and then the end of its context.
+    #[cycle(nodes)]
+    fn run_container(
+        &mut self,
+        alloc: Global,
+        levels: usize,
+        at: ContextNo,
+    ) -> Result<(), AllocError>
+        requires within { at < length self.old.caller.setting.tree.now }
+        requires tree { IsTree self.old.caller.setting.tree.now }
+        requires fed { self.old.caller.starved ≡ false }
+        ensures run { OnOk result (RunsAs self.old.caller.setting at (container_run (plan_in self.old.caller.setting) (node_run (plan_in self.old.caller.setting) levels) at) (run_view self.old) (run_view self.new)) }
+        ensures setting { OnOk result (self.new.caller.setting ≡ self.old.caller.setting) }
+        ensures fed { OnOk result (self.new.caller.starved ≡ false) }
+    {
+        let path = self.caller.setting.tree.path(at);
+        let befores = befores_of(alloc, &self.caller.setting, false, at, path.as_slice())?;
+        let afters = afters_of(alloc, &self.caller.setting, false, at, path.as_slice())?;
+        self.caller.node = at;
+        let mut tally = run_befores(befores.as_slice(), &mut self.caller);
+        self.caller.check_fed()?;
+        self.run_body(alloc, levels, at, tally.is_successful())?;
+        self.caller.node = at;
+        run_afters(afters.as_slice(), &mut self.caller, &mut tally);
+        self.caller.check_fed()?;
+        self.end_node(alloc, at, false, tally)
+    }
+
+    /// Runs the children of a container, so many levels deep, unless its body is skipped: first the concurrent ones, then
+    /// the others.
+    #[cycle(nodes)]
+    fn run_body(
+        &mut self,
+        alloc: Global,
+        levels: usize,
+        at: ContextNo,
+        go: bool,
+    ) -> Result<(), AllocError>
+        requires within { at < length self.old.caller.setting.tree.now }
+        requires tree { IsTree self.old.caller.setting.tree.now }
+        requires fed { self.old.caller.starved ≡ false }
+        ensures run { OnOk result (RunsAs self.old.caller.setting at (body_run (plan_in self.old.caller.setting) (node_run (plan_in self.old.caller.setting) levels) go) (run_view self.old) (run_view self.new)) }
+        ensures setting { OnOk result (self.new.caller.setting ≡ self.old.caller.setting) }
+        ensures fed { OnOk result (self.new.caller.starved ≡ false) }
+    {
+        if !go {
+            return Ok(());
+        }
+        self.run_children(alloc, levels, at, true)?;
+        self.run_children(alloc, levels, at, false)
+    }
+
+    /// Runs those children of a container that are concurrent, or those that aren't, in order, so many levels deep.
+    #[cycle(nodes)]
+    fn run_children(
+        &mut self,
+        alloc: Global,
+        levels: usize,
+        at: ContextNo,
+        concurrent: bool,
+    ) -> Result<(), AllocError>
+        requires within { at < length self.old.caller.setting.tree.now }
+        requires tree { IsTree self.old.caller.setting.tree.now }
+        requires fed { self.old.caller.starved ≡ false }
+        ensures run { OnOk result (RunsAs self.old.caller.setting at
+            (λ path run. fold (λ r child. node_run (plan_in self.old.caller.setting) levels (child ∷ path) r) run
+            (filter (chosen concurrent (concurrent_of (plan_in self.old.caller.setting))) (children_of self.old.caller.setting.tree.now at)))
+            (run_view self.old) (run_view self.new)) }
+        ensures setting { OnOk result (self.new.caller.setting ≡ self.old.caller.setting) }
+        ensures fed { OnOk result (self.new.caller.starved ≡ false) }
+    {
+        let tree: &'a Tree = self.caller.setting.tree;
+        let children = tree.children(at);
+        for child in children {
+            if self.caller.setting.is_concurrent(*child) == concurrent {
+                self.run_node(alloc, levels, *child)?;
+            }
+        }
+        Ok(())
+    }
+
+    /// Seals all keys in the context of a node, closes the closeable values that the seals kept, and puts the node's result
+    /// in its place.
+    fn end_node(
+        &mut self,
+        alloc: Global,
+        at: ContextNo,
+        is_test: bool,
+        tally: Tally,
+    ) -> Result<(), AllocError>
+        requires room { IsRoomy 1 tally }
+        ensures end { OnOk result (EndsNode self.old.caller.setting at is_test tally (run_view self.old) (run_view self.new)) }
+        ensures setting { OnOk result (self.new.caller.setting ≡ self.old.caller.setting) }
+        ensures fed { OnOk result (self.new.caller.starved ≡ self.old.caller.starved) }
+    {
+        let keys = self.caller.setting.key_count;
+        let numbers = self.caller.store.seal_keys(keys, at)?;
+        let closes = self.caller.store.close_values(alloc, numbers.as_slice())?;
+        self.set_result(tally.result(at, is_test, closes));
+        Ok(())
+    }
+
+    /// Puts the result of a node in its place, where there is one.
+    fn set_result(&mut self, ended: NodeResult)
+        ensures results { results_view self.new.results.items ≡ with_result (result_view ended) (results_view self.old.results.items) }
+        ensures caller { self.new.caller ≡ self.old.caller }
+    {
+        let node = ended.node;
+        if node < self.results.len() {
+            self.results[node] = ended;
+        }
+    }
+}

@@ -1,0 +1,97 @@
+//! What a plain run reads of its plan.
+ghost use Rattle.std.specs.Prelude.{◌≡◌, ◌≤◌, Some, is_some, length, map};
+ghost use Rattle.std.proofs.Props.{props};
+ghost use Rattle.ext_lifecycle.specs.Modes.{is_concurrent};
+ghost use Rattle.ext_plan_model.specs.Plans.{keys_view, node_view, plan_view, step_view};
+ghost use Rattle.ext_plan_model.specs.KeyNumbers.{different_keys, numbering};
+ghost use Rattle.ext_plan_model.specs.Laws.{CallbacksAreFew, StepListsAreShort};
+ghost use Rattle.ext_plan_model.specs.Steps.{step_limit};
+ghost use Rattle.ext_plan_model.specs.PlanCalls.{steps_called};
+
+use ext_lifecycle::{Call, Callbacks, Kind, Mode};
+use ext_model::ContextNo;
+use ext_plan_model::{KeyNumbers, Plan, Step};
+use ext_steps::StepKeys;
+use ext_tree::Tree;
+
+/// A plan, the numbers of its keys and the tree of its nodes.
+#[derive(Drop)]
+pub struct Setting<'a> {
+    pub plan: &'a Plan,
+    pub keys: StepKeys<'a>,
+    pub key_count: usize,
+    pub tree: &'a Tree,
+    ghost keyed: { keys_view keys.keys.now ≡ keys_view plan.now.keys.items },
+    ghost counted: { key_count ≡ length (different_keys (keys_view plan.now.keys.items)) },
+    ghost few: { key_count ≤ 64 },
+    ghost planted: { tree.now ≡ map (λ n. n.id) plan.now.nodes.items },
+    ghost short: { StepListsAreShort (plan_view plan.now) } by { Prim.hlevel props },
+    ghost called: { CallbacksAreFew (plan_view plan.now) },
+}
+
+impl<'a> Setting<'a> {
+    ghost use Rattle.ext_plain.specs.Helpers.{plan_in};
+    ghost use Rattle.ext_plan_model.specs.PlanCalls.{steps_of_call, test_of};
+    ghost use Rattle.ext_plan_model.specs.PlanCalls.{concurrent_of};
+
+    /// The plan with its tree, and with its keys under their numbers.
+    pub fn of(plan: &'a Plan, keys: &'a KeyNumbers, tree: &'a Tree) -> Setting<'a>
+        requires keys { keys.now ≡ numbering (keys_view plan.now.keys.items) }
+        requires nodes { tree.now ≡ map (λ n. n.id) plan.now.nodes.items }
+        requires short { StepListsAreShort (plan_view plan.now) }
+        requires called { CallbacksAreFew (plan_view plan.now) }
+        ensures plan { plan_in result ≡ plan_view plan.now }
+        ensures tree { result.tree.now ≡ tree.now }
+    {
+        Setting {
+            plan,
+            keys: StepKeys::of(plan.keys.as_slice(), keys),
+            key_count: keys.len(),
+            tree,
+        }
+    }
+
+    /// Tests whether a node is a test.
+    pub fn is_test(&self, at: ContextNo) -> bool
+        ensures { result ≡ is_some (test_of (plan_in self.now) at) }
+    {
+        self.plan.is_test(at)
+    }
+
+    /// Tests whether a node may be run beside its siblings.
+    pub fn is_concurrent(&self, at: ContextNo) -> bool
+        ensures { result ≡ concurrent_of (plan_in self.now) at }
+    {
+        is_concurrent(self.plan.mode(at))
+    }
+
+    /// The steps of a call.
+    pub fn steps_of(&self, call: &Call) -> &'a [Step]
+        ensures steps { map step_view result.now ≡ steps_of_call (plan_in self.now) call.now }
+        ensures short { length result.now ≤ step_limit }
+    {
+        let plan: &'a Plan = self.plan;
+        plan.steps_of(call)
+    }
+}
+
+impl Callbacks for Setting<'_> {
+    ghost use Rattle.ext_plain.specs.Helpers.{plan_in};
+    ghost use Rattle.ext_plan_model.specs.PlanCalls.{registered};
+
+    ghost registered = { λ s kind node. registered (plan_in s) kind node };
+
+    fn count(&self, kind: Kind, node: ContextNo) -> usize {
+        self.plan.callback_count(kind, node)
+    }
+}
+
+/// Tests whether a node of this mode may be run beside its siblings.
+fn is_concurrent(mode: Mode) -> bool
+    ensures { result ≡ is_concurrent mode }
+{
+    match mode {
+        Mode::SameThread => false,
+        Mode::Concurrent => true,
+    }
+}

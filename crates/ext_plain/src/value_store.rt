@@ -1,0 +1,134 @@
+//! The store of a plain run, with the values of its numbers.
+ghost use Rattle.std.specs.Prelude.{◌≡◌, None, Some, option_map, IfOk, OnOk};
+ghost use Rattle.ext_model.specs.declared.event.Act.TheVariants as act;
+ghost use Rattle.ext_model.specs.declared.slot.Slot.TheVariants as slot;
+ghost use Rattle.ext_model.specs.State.{lookup};
+ghost use Rattle.ext_model.specs.Plain.{any_lane, under};
+ghost use Rattle.ext_model.specs.Closing.{kept_by};
+ghost use Rattle.ext_steps.specs.Values.{value_view};
+ghost use Rattle.ext_plain.specs.ValueStates.{after_act, why_refused, value_of, value_opening};
+
+use crate::reasons::{reason_of, told};
+use ext_model::{ContextNo, KeyNo, LaneNo, Look, PlainFault, PlainStore};
+use ext_steps::{PlanValue, Reason};
+use std::alloc::{AllocError, Global};
+
+/// How many numbers a run's store draws at most.
+const NUMBERS: u32 = 65_535;
+
+/// The one lane of a plain run.
+const LANE: LaneNo = 0;
+
+/// The store of a plain run. A call that is refused answers why; want of memory ends the run instead.
+#[derive(Drop)]
+pub struct ValueStore<'a> {
+    store: PlainStore,
+    /// The values that were kept: the first has number 1.
+    values: Vec<PlanValue<'a>>,
+    ghost limit: { store.numbers ≡ 65535 },
+}
+
+impl<'a> ValueStore<'a> {
+    ghost use Rattle.ext_plain.specs.Helpers.{state_view, Keeps};
+
+    /// An empty store.
+    pub fn new(alloc: Global) -> ValueStore<'a>
+        ensures { state_view result ≡ value_opening }
+    {
+        ValueStore {
+            store: PlainStore::new(alloc, NUMBERS),
+            values: Vec::new(alloc),
+        }
+    }
+
+    /// Keeps a value, and answers the number that is drawn for it.
+    pub fn keep(&mut self, value: PlanValue<'a>) -> Result<Result<u32, Reason>, AllocError>
+        ensures { IfOk result (Keeps (value_view value.entry) (state_view self.old) (state_view self.new)) }
+    {
+        match self.store.keep() {
+            Ok(number) => {
+                // The first number is 1: the value of number n is the n-th that was pushed.
+                self.values.push(value)?;
+                Ok(Ok(number))
+            }
+            Err(fault) => Ok(Err(reason_of(fault)?)),
+        }
+    }
+
+    /// What is found along a path.
+    pub fn look(&self, path: &[ContextNo], key: KeyNo) -> Look
+        ensures { result ≡ lookup (under (state_view self.now).store key) path.now }
+    {
+        self.store.get(path, key)
+    }
+
+    /// The value of a number, from 1; `None` for a number that was never drawn.
+    pub fn value_of(&self, number: u32) -> Option<PlanValue<'a>>
+        ensures { option_map value_view result ≡ value_of (state_view self.now).values number }
+    {
+        match number.checked_sub(1) {
+            None => None,
+            Some(place) => self.values.get(place as usize).copied(),
+        }
+    }
+
+    /// Stores a number, or tells why not.
+    pub fn put(
+        &mut self,
+        at: ContextNo,
+        key: KeyNo,
+        number: u32,
+    ) -> Result<Option<Reason>, AllocError>
+        ensures state { OnOk result (state_view self.new ≡ after_act (act.Put (at, key) number) (state_view self.old)) }
+        ensures why { IfOk result (λ why. why ≡ why_refused (act.Put (at, key) number) (state_view self.old)) }
+    {
+        told(self.store.put(at, key, number))
+    }
+
+    /// Removes the number that stands there, or tells why not.
+    pub fn remove(&mut self, at: ContextNo, key: KeyNo) -> Result<Option<Reason>, AllocError>
+        ensures state { OnOk result (state_view self.new ≡ after_act (act.Remove (at, key)) (state_view self.old)) }
+        ensures why { IfOk result (λ why. why ≡ why_refused (act.Remove (at, key)) (state_view self.old)) }
+    {
+        told(self.store.remove(at, key))
+    }
+
+    /// Claims an empty place, or tells why not.
+    pub fn claim(&mut self, at: ContextNo, key: KeyNo) -> Result<Option<Reason>, AllocError>
+        ensures state { OnOk result (state_view self.new ≡ after_act (act.Claim (at, key)) (state_view self.old)) }
+        ensures why { IfOk result (λ why. why ≡ why_refused (act.Claim (at, key)) (state_view self.old)) }
+        ensures won { IfOk result (λ why. why ≡ None → under (state_view self.new).store key at ≡ Some (slot.Claim any_lane)) }
+    {
+        told(self.store.claim(at, key, LANE))
+    }
+
+    /// Stores a number in the place of the claim.
+    pub fn fill(&mut self, at: ContextNo, key: KeyNo, number: u32)
+        requires { under (state_view self.old).store key at ≡ Some (slot.Claim any_lane) }
+        ensures { state_view self.new ≡ after_act (act.Fill (at, key) number) (state_view self.old) }
+    {
+        // A fill is never refused: the place is in use already, so that it takes no memory.
+        let _ = self.store.fill(at, key, LANE, number);
+    }
+
+    /// Ends the claim: the place is empty.
+    pub fn abandon(&mut self, at: ContextNo, key: KeyNo)
+        requires { under (state_view self.old).store key at ≡ Some (slot.Claim any_lane) }
+        ensures { state_view self.new ≡ after_act (act.Abandon (at, key)) (state_view self.old) }
+    {
+        self.store.abandon(at, key, LANE);
+    }
+
+    /// Seals a place, and answers the number that the seal keeps.
+    pub fn seal(&mut self, at: ContextNo, key: KeyNo) -> Result<Option<u32>, AllocError>
+        ensures state { OnOk result (state_view self.new ≡ after_act (act.Seal (at, key)) (state_view self.old)) }
+        ensures kept { IfOk result (λ kept. kept ≡ kept_by (under (state_view self.new).store key at)) }
+    {
+        match self.store.seal(at, key) {
+            Ok(kept) => Ok(kept),
+            Err(PlainFault::Memory) => Err(AllocError),
+            // By a claim, which never comes: one thread has no claims between two steps.
+            Err(_) => Ok(None),
+        }
+    }
+}

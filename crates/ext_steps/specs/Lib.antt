@@ -1,0 +1,4 @@
+pub mod StepTexts
+pub mod Calls
+pub mod Values
+pub mod Verdicts

@@ -1,0 +1,66 @@
+//! What a look-up shows a step, and what the step makes of it.
+ghost use Rattle.std.specs.Prelude.{◌≡◌, false, IfErr, IfOk};
+ghost use Rattle.ext_lifecycle.specs.Endings.{is_successful};
+ghost use Rattle.ext_lifecycle.specs.FaultTexts.{verdict_text};
+ghost use Rattle.ext_steps.specs.Calls.{call_view};
+ghost use Rattle.ext_steps.specs.Verdicts.{none_verdict, seen_view, want_verdict};
+
+use crate::step_text::{got_text, missing_text, other_text};
+use crate::{Reason, StepCall, failed, refused};
+use ext_lifecycle::Verdict;
+use std::alloc::{AllocError, Global};
+
+/// What a look-up shows a step. Source: Javadoc type `ExtensionContext.Store`, `get`; that a look-up may be refused is an
+/// own rule.
+#[derive(Clone, Copy, Debug, PartialEq, Eq)]
+pub enum Seen<'a> {
+    /// A value of this text was found.
+    Value(&'a str),
+    /// Nothing was found.
+    Nothing,
+    /// The look-up was refused, or the value of the number that it found is not shown.
+    Refused(Reason),
+}
+
+/// How a step `want` of this text ends: successful where a value of that text was found. It fails with
+/// `want LABEL TEXT: got OTHER`, with `want LABEL TEXT: none` or, where the look-up was refused, with `NAME LABEL: REASON`.
+///
+/// Takes memory for the text of a failure; `AllocError` comes only where that is refused, and so never in place of a success.
+/// Own rule.
+pub fn want_verdict(
+    alloc: Global,
+    call: &StepCall<'_>,
+    text: &str,
+    seen: Seen<'_>,
+) -> Result<Verdict, AllocError>
+    ensures verdict { IfOk result (λ v. verdict_text v ≡ want_verdict (call_view call.now).name (call_view call.now).label text.now (seen_view seen.entry)) }
+    ensures memory { IfErr result (λ _. is_successful (want_verdict (call_view call.now).name (call_view call.now).label text.now (seen_view seen.entry)) ≡ false) }
+{
+    match seen {
+        Seen::Value(other) if other == text => Ok(Verdict::Successful),
+        Seen::Value(other) => Ok(failed(other_text(alloc, call.label, text, other)?)),
+        Seen::Nothing => Ok(failed(missing_text(alloc, call.label, text)?)),
+        Seen::Refused(why) => refused(alloc, call, why),
+    }
+}
+
+/// How a step ends that is to find nothing, as `none`, and as `computefail`, whose factory runs and fails only where nothing
+/// is found: successful where nothing was found. It fails with `NAME LABEL: got OTHER` or, where the look-up was refused,
+/// with `NAME LABEL: REASON`.
+///
+/// Takes memory for the text of a failure; `AllocError` comes only where that is refused, and so never in place of a success.
+/// Own rule.
+pub fn none_verdict(
+    alloc: Global,
+    call: &StepCall<'_>,
+    seen: Seen<'_>,
+) -> Result<Verdict, AllocError>
+    ensures verdict { IfOk result (λ v. verdict_text v ≡ none_verdict (call_view call.now).name (call_view call.now).label (seen_view seen.entry)) }
+    ensures memory { IfErr result (λ _. is_successful (none_verdict (call_view call.now).name (call_view call.now).label (seen_view seen.entry)) ≡ false) }
+{
+    match seen {
+        Seen::Value(other) => Ok(failed(got_text(alloc, call.name, call.label, other)?)),
+        Seen::Nothing => Ok(Verdict::Successful),
+        Seen::Refused(why) => refused(alloc, call, why),
+    }
+}

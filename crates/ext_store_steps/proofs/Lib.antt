@@ -1,0 +1,4 @@
+pub mod KnownKeys
+pub mod Ends
+pub mod Steps
+pub mod Framed

@@ -1,0 +1,36 @@
+use Rattle.std.proofs.Common.{refl}
+use Rattle.ext_model.specs.declared.look.Look.TheVariants as look
+use Rattle.ext_store_steps.proofs.KnownKeys.{number_of_key, look_is_ok}
+use Rattle.ext_store_steps.proofs.Ends.{sees_shown}
+use Rattle.std.proofs.Common.{[]}
+use Rattle.ext_store_steps.proofs.Framed.{then_framed}
+use Rattle.ext_store_steps.proofs.looks.see.Goals as goal
+
+pub unreachable-requires-in-Err : goal.unreachable-requires-in-Err
+unreachable-requires-in-Err g c =
+    let n = number_of_key c.args.store.now c.args.key.now c.requires.key in
+    look_is_ok _ _ n.0 _ _ _ (c.in-Err.ensures.answer n.0 n.1) c.in-Err.ensures.decided
+
+pub returns-in-Ok-Found-clause-sees : goal.returns-in-Ok-Found-clause-sees
+returns-in-Ok-Found-clause-sees g c =
+    let n = number_of_key c.args.store.now c.args.key.now c.requires.key in
+    (n.0, n.1, sees_shown _ _ n.0 _ _ _ _ (look.Found c.in-Ok-Found.field-0-0 c.in-Ok-Found.number) _ c.in-Ok-Found.field-0-is (c.in-Ok-Found.ensures.answer n.0 n.1) c.in-Ok-Found.ensures.known c.show.ensures.steps c.show.ensures.shows)
+
+pub returns-in-Ok-Absent-clause-sees : goal.returns-in-Ok-Absent-clause-sees
+returns-in-Ok-Absent-clause-sees g c =
+    let n = number_of_key c.args.store.now c.args.key.now c.requires.key in
+    (n.0, n.1, sees_shown _ _ n.0 _ _ _ _ look.Absent _ c.in-Ok-Absent.field-0-is (c.in-Ok-Absent.ensures.answer n.0 n.1) c.in-Ok-Absent.ensures.known refl (refl, refl))
+
+pub returns-in-Ok-Closed-clause-sees : goal.returns-in-Ok-Closed-clause-sees
+returns-in-Ok-Closed-clause-sees g c =
+    let n = number_of_key c.args.store.now c.args.key.now c.requires.key in
+    (n.0, n.1, sees_shown _ _ n.0 _ _ _ _ (look.Closed c.in-Ok-Closed.field-0-0) _ c.in-Ok-Closed.field-0-is (c.in-Ok-Closed.ensures.answer n.0 n.1) c.in-Ok-Closed.ensures.known refl (refl, refl))
+
+pub returns-in-Ok-Found-clause-frame : goal.returns-in-Ok-Found-clause-frame
+returns-in-Ok-Found-clause-frame g c = then_framed c.args.store.now c.args.lane.now c.get_wait.new.lane c.show.new.lane ([], c.in-Ok-Found.ensures.frame) c.show.ensures.frame
+
+pub returns-in-Ok-Absent-clause-frame : goal.returns-in-Ok-Absent-clause-frame
+returns-in-Ok-Absent-clause-frame g c = ([], c.in-Ok-Absent.ensures.frame)
+
+pub returns-in-Ok-Closed-clause-frame : goal.returns-in-Ok-Closed-clause-frame
+returns-in-Ok-Closed-clause-frame g c = ([], c.in-Ok-Closed.ensures.frame)

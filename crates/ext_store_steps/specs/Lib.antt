@@ -1,0 +1,4 @@
+pub mod Saying
+pub mod StoreCalls
+pub mod StoreSteps
+pub mod PlanKeys

@@ -1,0 +1,53 @@
+-- What a step on a store for several threads says: its verdict has the text of what happened, or memory for that text ran out.
+-- Own rule.
+use Rattle.std.specs.Prelude.{◌≡◌, ◌⊎◌, ℕ, List}
+use Rattle.ext_model.specs.declared.look.Fault.TheVariants as faults
+use Rattle.ext_lifecycle.specs.declared.outcome.Outcome.{Outcome}
+use Rattle.ext_lifecycle.specs.declared.outcome.Verdict.{Verdict}
+use Rattle.ext_lifecycle.specs.declared.outcome.Verdict.TheVariants as verdicts
+use Rattle.ext_lifecycle.specs.Endings.{successful, aborted, failed}
+use Rattle.ext_lifecycle.specs.FaultTexts.{VerdictText, verdict_text}
+use Rattle.ext_steps.specs.declared.reason.Reason.{Reason}
+use Rattle.ext_steps.specs.declared.reason.Reason.TheVariants as reasons
+use Rattle.ext_steps.specs.Verdicts.{refused}
+use Rattle.ext_store.specs.declared.fault.Refusal.{Refusal}
+use Rattle.ext_store.specs.declared.fault.Refusal.TheVariants as refusal
+use Rattle.ext_store.specs.declared.fault.KeepFault.{KeepFault}
+use Rattle.ext_store.specs.declared.fault.KeepFault.TheVariants as keep_fault
+
+-- memory ran out
+abbrev pub no_memory : Verdict
+no_memory = verdicts.Failed faults.Memory
+
+-- the verdict says this, or that memory for its text ran out; a success has no text
+abbrev pub Says : VerdictText → Verdict → Type 0
+Says successful verdict = verdict_text verdict ≡ successful
+Says (aborted text) verdict = (verdict_text verdict ≡ aborted text) ⊎ (verdict ≡ no_memory)
+Says (failed text) verdict = (verdict_text verdict ≡ failed text) ⊎ (verdict ≡ no_memory)
+
+-- the outcome says this, and counts so many values that were computed, and that were found
+pub record Ends (said : VerdictText) (computed found : ℕ) (outcome : Outcome) : Type 0 where
+  pub says : Says said outcome.verdict
+  pub computed_are : outcome.computed ≡ computed
+  pub found_are : outcome.found ≡ found
+
+-- ---- refusals of the waiting forms, for a key that the store has
+
+-- why a call was refused, in a step's words
+abbrev pub IsReason : Refusal → Reason → Type 0
+IsReason (refusal.Busy at) reason = ⊥
+IsReason (refusal.Closed at) reason = reason ≡ reasons.Closed
+IsReason refusal.Contended reason = ⊥
+IsReason refusal.UnknownKey reason = ⊥
+IsReason refusal.Exhausted reason = reason ≡ reasons.Exhausted
+
+-- a step NAME with this label whose call was refused so
+abbrev pub EndsRefused : List ℕ → List ℕ → Refusal → Outcome → Type 0
+EndsRefused name label why outcome = (reason : Reason) × IsReason why reason × Ends (refused name label reason) 0 0 outcome
+
+-- and one whose value was not kept
+abbrev pub EndsUnkept : List ℕ → List ℕ → KeepFault → Outcome → Type 0
+EndsUnkept name label keep_fault.Memory outcome = (outcome.verdict ≡ no_memory) × (outcome.computed ≡ 0) × (outcome.found ≡ 0)
+EndsUnkept name label keep_fault.NumbersFull outcome = Ends (refused name label reasons.NumbersFull) 0 0 outcome
+EndsUnkept name label keep_fault.Contended outcome = ⊥
+EndsUnkept name label keep_fault.Unplaced outcome = Ends (refused name label reasons.Unplaced) 0 0 outcome

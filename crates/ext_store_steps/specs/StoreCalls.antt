@@ -1,0 +1,143 @@
+-- What the calls of a step do on a lane of a store for several threads, and how the step ends by that: each by what the contract of the store's waiting form says of
+-- its result, and of what the lane knows of values afterwards.
+--
+-- JUnit 5 User Guide, "Keeping State in Extensions", and Javadoc `ExtensionContext.Store`, `get`, `put`, `remove` and `getOrComputeIfAbsent`. What a step says is an
+-- own rule.
+use Rattle.std.specs.Prelude.{◌≡◌, ◌⊎◌, ℕ, List, Option, None, Result, Ok, Err, String, string_bytes}
+use Rattle.std.specs.declared.alloc.Global.{Global}
+use Rattle.ext_model.specs.declared.look.Fault.TheVariants as faults
+use Rattle.ext_model.specs.declared.look.Look.{Look}
+use Rattle.ext_model.specs.declared.look.Look.TheVariants as look
+use Rattle.ext_lifecycle.specs.declared.outcome.Outcome.{Outcome}
+use Rattle.ext_lifecycle.specs.Endings.{successful}
+use Rattle.ext_values.specs.Known.{Known, Learns, known_at}
+use Rattle.ext_store.specs.declared.fault.Refusal.{Refusal}
+use Rattle.ext_store.specs.declared.fault.KeepFault.{KeepFault}
+use Rattle.ext_store.specs.declared.computed.Compute.{Compute}
+use Rattle.ext_store.specs.declared.computed.Compute.TheVariants as computes
+use Rattle.ext_store.specs.Stores.{StoreView, StoreLane}
+use Rattle.ext_store.specs.Frames.{Frame}
+use Rattle.ext_store.specs.Calls.{Gets, Puts, Removes, KeepsAs, KeepsNothing}
+use Rattle.ext_store.specs.Computing.{Uses}
+use Rattle.ext_store.specs.Waiting.{ComputesAfterWaits}
+use Rattle.ext_steps.specs.declared.reason.Reason.TheVariants as reasons
+use Rattle.ext_steps.specs.Values.{ValueText, value_view}
+use Rattle.ext_steps.specs.Verdicts.{SeenText, seen_value, seen_nothing, seen_refused, none_verdict}
+use Rattle.ext_store_steps.specs.declared.stored_value.StoredValue.{StoredValue}
+use Rattle.ext_store_steps.specs.Saying.{Ends, EndsRefused, EndsUnkept}
+
+-- what a reader sees of a stored value
+abbrev pub stored_view : StoredValue → ValueText
+stored_view v = value_view v.value
+
+-- a lane of a store of a plan's values
+abbrev pub PlanLane : Type 0
+PlanLane = StoreLane StoredValue
+
+-- what such a lane knows of the values of numbers
+abbrev pub PlanNotes : Type 0
+PlanNotes = List (Known StoredValue)
+
+-- What some calls do to a lane in all, by which some numbers were stored: it is a lane of the store, it made some events and no others, it knows what it knew, and it
+-- keeps what it kept, but for those numbers
+abbrev pub HasFrame : StoreView → PlanLane → PlanLane → Type 0
+HasFrame store before after = (stored : List ℕ) × Frame store.id stored before after
+
+-- ---- what a look-up shows
+
+-- the lane is shown the value of a number, and the step its text; or it does not know the value, and the step is told that it is not shown
+abbrev pub ShowsNumber : ℕ → PlanNotes → SeenText → PlanNotes → Type 0
+ShowsNumber number before seen after =
+    ((value : StoredValue) × Learns before after number value × (seen ≡ seen_value (stored_view value).text))
+    ⊎ ((known_at before number ≡ None) × (after ≡ before) × (seen ≡ seen_refused reasons.NotShown))
+
+-- what a look-up that answers this shows
+abbrev pub Shows : Look → PlanNotes → SeenText → PlanNotes → Type 0
+Shows (look.Found at number) before seen after = ShowsNumber number before seen after
+Shows look.Absent before seen after = (after ≡ before) × (seen ≡ seen_nothing)
+Shows (look.Busy at) before seen after = ⊥
+Shows (look.Closed at) before seen after = (after ≡ before) × (seen ≡ seen_refused reasons.Closed)
+
+-- ---- the calls
+
+module _ (store : StoreView) (context key : ℕ) where
+  -- a look-up from the context, and what it shows
+  pub record Sees (before : PlanLane) (seen : SeenText) (after : PlanLane) : Type 0 where
+    pub answer : Look
+    pub looked : Gets store context key before.cells after.cells (Ok answer)
+    pub shown : Shows answer before.known seen after.known
+
+  -- the calls that end a step of this name whose key has this label
+  module _ (name label : List ℕ) where
+    -- a change that is refused ends the step with why, and each other one is a success
+    abbrev pub EndsChange : Result (Option ℕ) Refusal → Outcome → Type 0
+    EndsChange (Ok stood) outcome = Ends successful 0 0 outcome
+    EndsChange (Err why) outcome = EndsRefused name label why outcome
+
+    -- the same of a put, which hands the number back
+    abbrev pub EndsPut : Result (Option ℕ) (ℕ × Refusal) → Outcome → Type 0
+    EndsPut (Ok stood) outcome = Ends successful 0 0 outcome
+    EndsPut (Err refused) outcome = EndsRefused name label refused.1 outcome
+
+    -- the value is kept under a number, and then the number is stored in the context, or that is refused
+    pub record PutsKept (value : ValueText) (before : PlanLane) (outcome : Outcome) (after : PlanLane) : Type 0 where
+      pub kept_value : StoredValue
+      pub value_is : stored_view kept_value ≡ value
+      pub number : ℕ
+      pub between : PlanLane
+      pub keeps : KeepsAs kept_value before between number
+      pub result : Result (Option ℕ) (ℕ × Refusal)
+      pub puts : Puts store context key number between.cells after.cells result
+      pub known : after.known ≡ between.known
+      pub ends : EndsPut result outcome
+
+    -- the value is not kept, and nothing is stored
+    pub record PutsNothing (value : ValueText) (before : PlanLane) (outcome : Outcome) (after : PlanLane) : Type 0 where
+      pub lost_value : StoredValue
+      pub value_is : stored_view lost_value ≡ value
+      pub why : KeepFault
+      pub keeps_nothing : KeepsNothing store lost_value before after lost_value why
+      pub ends : EndsUnkept name label why outcome
+
+    -- what stands in the context itself is taken out, or nothing stands there, or that is refused
+    pub record RemovesThere (before : PlanLane) (outcome : Outcome) (after : PlanLane) : Type 0 where
+      pub result : Result (Option ℕ) Refusal
+      pub removes : Removes store context key before.cells after.cells result
+      pub known : after.known ≡ before.known
+      pub ends : EndsChange result outcome
+
+    -- how a compute ends whose factory gives a value
+    abbrev pub EndsCompute : Compute StoredValue (Unit {0}) → Outcome → Type 0
+    EndsCompute (computes.Computed number) outcome = Ends successful 1 0 outcome
+    EndsCompute (computes.Found at number unused) outcome = Ends successful 0 1 outcome
+    EndsCompute (computes.Failed why) outcome = ⊥
+    EndsCompute (computes.Unkept value cause) outcome = EndsUnkept name label cause outcome
+    EndsCompute (computes.Refused why unused) outcome = EndsRefused name label why outcome
+
+    -- a compute with a factory that gives this value, and nothing else
+    pub record ComputesValue (value : ValueText) (before : PlanLane) (outcome : Outcome) (after : PlanLane) : Type 0 where
+      pub given : StoredValue
+      pub value_is : stored_view given ≡ value
+      pub result : Compute StoredValue (Unit {0})
+      pub computed : ComputesAfterWaits store context key before.cells after.cells result
+      pub uses : Uses (λ answer. answer ≡ Ok given) before.known after.known result
+      pub ends : EndsCompute result outcome
+
+    -- How a compute ends whose factory fails: that its fault comes back is the success. A value that is found in its place is shown
+    abbrev pub EndsComputeFail : Compute StoredValue (Unit {0}) → PlanNotes → Outcome → PlanNotes → Type 0
+    EndsComputeFail (computes.Computed number) before outcome after = ⊥
+    EndsComputeFail (computes.Found at number unused) before outcome after =
+        (seen : SeenText) × ShowsNumber number before seen after × Ends (none_verdict name label seen) 0 1 outcome
+    EndsComputeFail (computes.Failed why) before outcome after = (after ≡ before) × Ends successful 0 0 outcome
+    EndsComputeFail (computes.Unkept value cause) before outcome after = ⊥
+    EndsComputeFail (computes.Refused why unused) before outcome after = (after ≡ before) × EndsRefused name label why outcome
+
+    -- a compute with a factory that fails with this text, and after it, where a value is found, the call that shows it
+    pub record ComputesFault (text : List ℕ) (before : PlanLane) (outcome : Outcome) (after : PlanLane) : Type 0 where
+      pub message : String Global
+      pub message_is : string_bytes message ≡ text
+      pub result : Compute StoredValue (Unit {0})
+      pub computed : ComputesAfterWaits store context key before.cells after.cells result
+      pub known : PlanNotes
+      pub uses : Uses (λ answer. answer ≡ Err (faults.Text message)) before.known known result
+      pub ends : EndsComputeFail result known outcome after.known

@@ -1,0 +1,70 @@
+//! The steps that change what stands in a context: `put`, `put!` and `remove`.
+ghost use Rattle.std.specs.Prelude.{◌≡◌, ◌<◌, Contains, length};
+ghost use Rattle.ext_store.specs.Stores.{IsLaneOf};
+ghost use Rattle.ext_steps.specs.Calls.{call_view, start_of};
+ghost use Rattle.ext_store_steps.specs.StoreCalls.{HasFrame, stored_view};
+ghost use Rattle.ext_store_steps.specs.StoreSteps.{StepPuts, StepRemoves};
+
+use crate::StoredValue;
+use crate::reasons::{end_refused, end_unkept};
+use ext_lifecycle::{Outcome, Verdict};
+use ext_steps::StepCall;
+use ext_store::{Lane, Store};
+use ext_tree::Key;
+use std::alloc::Global;
+use std::sync::Wait;
+
+/// The steps `put` and `put!`: keeps the value, and stores it in the context.
+pub(crate) fn put_value<'a, R: Wait>(
+    alloc: Global,
+    rt: &R,
+    store: &Store<StoredValue<'a>>,
+    lane: &mut Lane<StoredValue<'a>>,
+    call: &StepCall<'_>,
+    key: &Key,
+    value: StoredValue<'a>,
+) -> Outcome
+    requires lane { IsLaneOf store.now.id lane.old }
+    requires context { start_of (call_view call.now).path < length store.now.tree }
+    requires key { Contains store.now.keys key.now }
+    ensures puts { StepPuts store.now key.now (start_of (call_view call.now).path) (call_view call.now).name (call_view call.now).label (stored_view value.entry) lane.old result lane.new }
+    ensures computed { result.computed ≡ 0 }
+    ensures found { result.found ≡ 0 }
+    ensures lane { IsLaneOf store.now.id lane.new }
+    ensures frame { HasFrame store.now lane.old lane.new }
+{
+    let kept = match store.keep_wait(rt, lane, value) {
+        Ok(kept) => kept,
+        Err((_, why)) => return end_unkept(alloc, call, why),
+    };
+    let context = call.at();
+    match store.put_wait(rt, lane, context, key, kept) {
+        Ok(_) => Outcome::of(Verdict::Successful),
+        Err((_, why)) => end_refused(alloc, call, why),
+    }
+}
+
+/// The step `remove`: takes out what stands in the context itself, if anything does.
+pub(crate) fn remove_value<'a, R: Wait>(
+    alloc: Global,
+    rt: &R,
+    store: &Store<StoredValue<'a>>,
+    lane: &mut Lane<StoredValue<'a>>,
+    call: &StepCall<'_>,
+    key: &Key,
+) -> Outcome
+    requires lane { IsLaneOf store.now.id lane.old }
+    requires context { start_of (call_view call.now).path < length store.now.tree }
+    requires key { Contains store.now.keys key.now }
+    ensures removes { StepRemoves store.now key.now (start_of (call_view call.now).path) (call_view call.now).name (call_view call.now).label lane.old result lane.new }
+    ensures computed { result.computed ≡ 0 }
+    ensures found { result.found ≡ 0 }
+    ensures lane { IsLaneOf store.now.id lane.new }
+    ensures frame { HasFrame store.now lane.old lane.new }
+{
+    let context = call.at();
+    match store.remove_wait(rt, lane, context, key) {
+        Ok(_) => Outcome::of(Verdict::Successful),
+        Err(why) => end_refused(alloc, call, why),
+    }
+}

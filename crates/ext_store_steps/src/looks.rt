@@ -1,0 +1,105 @@
+//! The steps that look up: `want` and `none`.
+ghost use Rattle.std.specs.Prelude.{◌≡◌, ◌<◌, Contains, length};
+ghost use Rattle.ext_store.specs.Stores.{IsLaneOf};
+ghost use Rattle.ext_steps.specs.Calls.{call_view, start_of};
+ghost use Rattle.ext_steps.specs.Verdicts.{none_verdict, seen_view, want_verdict};
+ghost use Rattle.ext_store_steps.specs.StoreCalls.{HasFrame, Sees, ShowsNumber};
+ghost use Rattle.ext_store_steps.specs.StoreSteps.{OfNumber, StepLooks};
+
+use crate::StoredValue;
+use crate::reasons::or_no_memory;
+use ext_lifecycle::Outcome;
+use ext_model::{ContextNo, Look};
+use ext_steps::{Reason, Seen, StepCall, none_verdict, want_verdict};
+use ext_store::{Lane, Store};
+use ext_tree::Key;
+use std::alloc::Global;
+use std::sync::Wait;
+
+/// The step `want`: looks up, and wants a value of this text.
+pub(crate) fn want<'a, R: Wait>(
+    alloc: Global,
+    rt: &R,
+    store: &Store<StoredValue<'a>>,
+    lane: &mut Lane<StoredValue<'a>>,
+    call: &StepCall<'_>,
+    key: &Key,
+    text: &str,
+) -> Outcome
+    requires lane { IsLaneOf store.now.id lane.old }
+    requires context { start_of (call_view call.now).path < length store.now.tree }
+    requires key { Contains store.now.keys key.now }
+    ensures looks { StepLooks store.now key.now (start_of (call_view call.now).path) (want_verdict (call_view call.now).name (call_view call.now).label text.now) lane.old result lane.new }
+    ensures computed { result.computed ≡ 0 }
+    ensures found { result.found ≡ 0 }
+    ensures lane { IsLaneOf store.now.id lane.new }
+    ensures frame { HasFrame store.now lane.old lane.new }
+{
+    let seen = see(rt, store, lane, call.at(), key);
+    Outcome::of(or_no_memory(want_verdict(alloc, call, text, seen)))
+}
+
+/// The step `none`: looks up, and is to find nothing.
+pub(crate) fn none<'a, R: Wait>(
+    alloc: Global,
+    rt: &R,
+    store: &Store<StoredValue<'a>>,
+    lane: &mut Lane<StoredValue<'a>>,
+    call: &StepCall<'_>,
+    key: &Key,
+) -> Outcome
+    requires lane { IsLaneOf store.now.id lane.old }
+    requires context { start_of (call_view call.now).path < length store.now.tree }
+    requires key { Contains store.now.keys key.now }
+    ensures looks { StepLooks store.now key.now (start_of (call_view call.now).path) (none_verdict (call_view call.now).name (call_view call.now).label) lane.old result lane.new }
+    ensures computed { result.computed ≡ 0 }
+    ensures found { result.found ≡ 0 }
+    ensures lane { IsLaneOf store.now.id lane.new }
+    ensures frame { HasFrame store.now lane.old lane.new }
+{
+    let seen = see(rt, store, lane, call.at(), key);
+    Outcome::of(or_no_memory(none_verdict(alloc, call, seen)))
+}
+
+/// What a look-up from the context shows.
+fn see<'a, R: Wait>(
+    rt: &R,
+    store: &Store<StoredValue<'a>>,
+    lane: &mut Lane<StoredValue<'a>>,
+    context: ContextNo,
+    key: &Key,
+) -> Seen<'a>
+    requires lane { IsLaneOf store.now.id lane.old }
+    requires context { context < length store.now.tree }
+    requires key { Contains store.now.keys key.now }
+    ensures sees { OfNumber store.now key.now (λ number. Sees store.now context number lane.old (seen_view result) lane.new) }
+    ensures lane { IsLaneOf store.now.id lane.new }
+    ensures frame { HasFrame store.now lane.old lane.new }
+{
+    match store.get_wait(rt, lane, context, key) {
+        Ok(Look::Found { at: _, number }) => show(store, lane, number),
+        Ok(Look::Absent) => Seen::Nothing,
+        Ok(Look::Closed(_)) => Seen::Refused(Reason::Closed),
+        // The waiting form waits for a running factory, and is refused only for a key that the store does not have.
+        Ok(Look::Busy(_)) => unreachable!(),
+        Err(_) => unreachable!(),
+    }
+}
+
+/// The value of a number that was found, as it is shown to a step.
+pub(crate) fn show<'a>(
+    store: &Store<StoredValue<'a>>,
+    lane: &mut Lane<StoredValue<'a>>,
+    number: u32,
+) -> Seen<'a>
+    requires lane { IsLaneOf store.now.id lane.old }
+    ensures shows { ShowsNumber number lane.old.known (seen_view result) lane.new.known }
+    ensures steps { lane.new.cells ≡ lane.old.cells }
+    ensures lane { IsLaneOf store.now.id lane.new }
+    ensures frame { HasFrame store.now lane.old lane.new }
+{
+    match store.show(lane, number) {
+        Some(stored) => Seen::Value(stored.value.text),
+        None => Seen::Refused(Reason::NotShown),
+    }
+}

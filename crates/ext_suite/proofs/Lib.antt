@@ -1,0 +1,5 @@
+-- Lemmas of this crate.
+mod Keys
+mod Calls
+mod Locks
+pub mod Fitting

@@ -1,0 +1,3 @@
+pub mod PlanSuites
+pub mod PlanActions
+pub mod Helpers

@@ -1,0 +1,166 @@
+//! The suite of a plan.
+ghost use Rattle.std.specs.Prelude.{◌≡◌, ◌≤◌, IfOk, All, length, map};
+ghost use Rattle.ext_plan_model.specs.KeyNumbers.{different_keys, named_key, HasParts};
+ghost use Rattle.ext_plan_model.specs.Laws.{CallbacksAreFew, NamespacesHaveParts, StepListsAreShort, StepsNameLabels};
+ghost use Rattle.ext_plan_model.specs.Plans.{keys_view, lock_view, plan_view};
+ghost use Rattle.ext_engine.specs.Suites.{asks};
+ghost use Rattle.ext_suite.specs.PlanSuites.{asked};
+
+use crate::PlanAction;
+use ext_engine::{Call, Callbacks, Kind, Mode, Outcome, Suite};
+use ext_locks::{Held, LockKey, LockMode, LockRequest};
+use ext_model::ContextNo;
+use ext_plan_model::{KeyNumbers, Plan, PlanKey, PlanLock};
+use ext_steps::StepKeys;
+use ext_store::{Lane, Store};
+use ext_store_steps::{StoreSteps, StoredValue};
+use ext_tree::{Key, TreeFault};
+use std::alloc::{AllocError, Global};
+use std::marker::Model;
+use std::sync::Wait;
+
+/// The suite of a plan: its nodes are those of the plan, in the order of the plan, and their calls make the plan's steps. It is seen as
+/// the plan. Own rule.
+#[derive(Drop)]
+pub struct PlanSuite<'a> {
+    alloc: Global,
+    plan: &'a Plan,
+    numbers: KeyNumbers,
+    // For each label, in the order of the plan.
+    keys: Vec<Key>,
+}
+
+impl<'a> Model for PlanSuite<'a> {
+    ghost use Rattle.ext_plan_model.specs.Plans.{PlanText, plan_view};
+    ghost use Rattle.ext_suite.specs.Helpers.{IsSuiteOf};
+
+    ghost Value = { PlanText };
+
+    ghost view = { λ s. plan_view s.plan.now };
+
+    ghost invariant = { λ s. IsSuiteOf (plan_view s.plan.now) s.numbers s.keys.items };
+}
+
+impl<'a> PlanSuite<'a> {
+    /// The suite of a plan. It takes memory for the keys of the plan's labels, which it makes, and for what the steps of a run take.
+    ///
+    /// The labels name at most 64 different keys; each step names a label of the plan, or none; lists of steps and of callbacks are not
+    /// longer than a plan's. All this holds of each plan that was read. `AllocError` comes only where memory is refused. Own rule.
+    pub fn new(alloc: Global, plan: &'a Plan) -> Result<PlanSuite<'a>, AllocError>
+        requires keys { length (different_keys (plan_view plan.now).keys) ≤ 64 }
+        requires parts { NamespacesHaveParts (plan_view plan.now) }
+        requires labels { StepsNameLabels (plan_view plan.now) }
+        requires short { StepListsAreShort (plan_view plan.now) }
+        requires few { CallbacksAreFew (plan_view plan.now) }
+        ensures { IfOk result (λ suite. suite ≡ plan_view plan.now) }
+    {
+        let keys = keys_of(alloc, plan.keys.as_slice())?;
+        match KeyNumbers::of(alloc, plan.keys.as_slice()) {
+            Ok(numbers) => Ok(PlanSuite {
+                alloc,
+                plan,
+                numbers,
+                keys,
+            }),
+            // There are not too many keys.
+            Err(_) => Err(AllocError),
+        }
+    }
+}
+
+/// The key of the store for each label, in order.
+fn keys_of(alloc: Global, keys: &[PlanKey]) -> Result<Vec<Key>, AllocError>
+    requires { All HasParts (keys_view keys.now) }
+    ensures { IfOk result (λ v. v.items ≡ map named_key (keys_view keys.now)) }
+{
+    let mut list = Vec::new(alloc);
+    for key in keys {
+        match key.store_key(alloc) {
+            Ok(key) => list.push(key)?,
+            Err(_) => return Err(AllocError),
+        }
+    }
+    Ok(list)
+}
+
+impl Callbacks for PlanSuite<'_> {
+    ghost use Rattle.ext_plan_model.specs.PlanCalls.{registered};
+
+    ghost registered = { registered };
+
+    fn count(&self, kind: Kind, node: ContextNo) -> usize {
+        self.plan.callback_count(kind, node)
+    }
+}
+
+impl<'a> Suite<StoredValue<'a>> for PlanSuite<'a> {
+    ghost use Rattle.ext_suite.specs.PlanSuites.{suite_of, HasKeys, RunsCall};
+
+    type Action = PlanAction;
+
+    ghost nodes = { suite_of };
+
+    ghost fits = { HasKeys };
+
+    ghost call_gives = { λ plan store node call held before outcome after. RunsCall plan store node call before outcome after };
+
+    ghost action_gives = { λ plan node action. Unit {0} };
+
+    fn mode(&self, node: ContextNo) -> Mode {
+        self.plan.mode(node)
+    }
+
+    fn isolated(&self, node: ContextNo) -> bool {
+        self.plan.is_isolated(node)
+    }
+
+    fn is_test(&self, node: ContextNo) -> bool {
+        self.plan.is_test(node)
+    }
+
+    fn lock_count(&self, node: ContextNo) -> usize {
+        self.plan.locks_of(node).len()
+    }
+
+    fn lock<'l>(&'l self, node: ContextNo, i: usize) -> LockRequest<'l> {
+        request(&self.plan.locks_of(node)[i])
+    }
+
+    /// An action that closes the node's values, as it does those of each node.
+    fn action(&self, _node: ContextNo) -> PlanAction {
+        PlanAction::new(self.alloc)
+    }
+
+    /// Makes the steps of the call, in the node's context, up to the first that isn't successful.
+    fn call<R: Wait>(
+        &self,
+        rt: &R,
+        store: &Store<StoredValue<'a>>,
+        node: ContextNo,
+        call: &Call,
+        lane: &mut Lane<StoredValue<'a>>,
+        _held: Option<&Held>,
+    ) -> Outcome {
+        let plan: &'a Plan = self.plan;
+        let names = StepKeys::of(plan.keys.as_slice(), &self.numbers);
+        let steps = StoreSteps::of(self.alloc, names, self.keys.as_slice());
+        let path = store.tree().path(node);
+        steps.run(rt, store, lane, path.as_slice(), plan.steps_of(call))
+    }
+}
+
+/// The request for a lock that a node names.
+fn request(lock: &PlanLock) -> LockRequest<'_>
+    ensures { asks result ≡ asked (lock_view lock.now) }
+{
+    match lock {
+        PlanLock::Read(name) => LockRequest {
+            key: LockKey::Named(name.as_str()),
+            mode: LockMode::Read,
+        },
+        PlanLock::ReadWrite(name) => LockRequest {
+            key: LockKey::Named(name.as_str()),
+            mode: LockMode::ReadWrite,
+        },
+    }
+}
