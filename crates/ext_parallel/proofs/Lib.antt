@@ -2,3 +2,4 @@
 mod Names
 mod MetLanes
 mod Usable
+mod Refusals

@@ -16,7 +16,9 @@ use Rattle.ext_store.specs.Stores.{StoreView, StoreLane, fresh_store_lane}
 use Rattle.ext_locks.specs.Opening as locking
 use Rattle.ext_locks.specs.Opening.{LocksView}
 use Rattle.ext_locks.specs.Sets.{HeldView}
-use Rattle.ext_engine.specs.TreeRun.{Lanes, Ran, TreeRun, all_results, setting_of}
+use Rattle.ext_engine.specs.declared.fault.EngineFault.{EngineFault}
+use Rattle.ext_engine.specs.declared.fault.EngineFault.TheVariants as faults
+use Rattle.ext_engine.specs.TreeRun.{IsUnjoined, Lanes, Ran, TreeRun, all_results, setting_of}
 use Rattle.ext_store_steps.specs.declared.stored_value.StoredValue.{StoredValue}
 use Rattle.ext_parallel.specs.Opened.{IsStoreOf, IsLocksOf, OnlyMeets, ShareHistory}
 use Rattle.ext_steps.specs.Values.{close_fault}
@@ -56,3 +58,19 @@ pub record ParallelRun (plan : PlanText) (lanes : ℕ) (results : List (ResultOf
   pub met : List (StoreLane StoredValue)
   pub only_met : AllZip (OnlyMeets store) after.first met
   pub shared : ShareHistory store met
+
+-- ---- refusals
+
+-- A context of such a store could not be closed: this number remained in it, and no lane in hand knew its value
+pub record CannotClose (plan : PlanText) (lanes context number : ℕ) : Type 0 where
+  pub store : StoreView
+  pub store_is : IsStoreOf plan lanes store
+  pub locks : LocksView
+  pub locks_are : IsLocksOf plan lanes locks
+  pub unjoined : IsUnjoined (setting_of store locks (suite_of plan) (registered plan) (λ (value : StoredValue). value.value.closeable)) IsAction ClosesValue context number
+
+-- why a run gives no results: memory ran out, or a context could not be closed
+abbrev pub IsRefusedRun : PlanText → ℕ → EngineFault → Type 0
+IsRefusedRun plan lanes faults.Memory = Unit {0}
+IsRefusedRun plan lanes faults.NoThread = ⊥
+IsRefusedRun plan lanes (faults.Unjoined context number) = CannotClose plan lanes context number

@@ -1,10 +1,9 @@
 //! The run of a plan on several lanes.
-ghost use Rattle.std.specs.Prelude.{◌≡◌, ◌≢◌, ◌≤◌, map, IfOk, IfErr};
+ghost use Rattle.std.specs.Prelude.{◌≤◌, map, IfOk, IfErr};
 ghost use Rattle.ext_lifecycle.specs.Results.{told};
 ghost use Rattle.ext_plan_model.specs.Plans.{plan_view};
 ghost use Rattle.ext_plan_model.specs.Laws.{CallbacksAreFew, HasFewCells, HasFewLocks, NamespacesHaveParts, NodesAreTree, StepListsAreShort, StepsNameLabels, TestsHaveNoChildren};
-ghost use Rattle.ext_engine.specs.declared.fault.EngineFault.TheVariants.{NoThread};
-ghost use Rattle.ext_parallel.specs.ParallelRun.{ParallelRun};
+ghost use Rattle.ext_parallel.specs.ParallelRun.{IsRefusedRun, ParallelRun};
 
 use crate::meeting::meet_all;
 use crate::opening::{open_locks, open_store};
@@ -22,8 +21,8 @@ use std::thread::Threads;
 /// A store with the plan's contexts and keys and locks with its names are opened for this run, and the tree of the nodes is run over
 /// them by `ext_engine::run_tree`. Steps make the calls of the store that wait. The plan is one as `ext_plan::read_plan` gives it.
 ///
-/// Refused as `Memory`, where memory that the run itself needs is refused, and as `Unjoined`, where a context can't be closed: tests show
-/// that it never comes. Want of memory in a step is the step's own fault. Takes memory, and may wait: it promises its clauses if it returns.
+/// Refused as `Memory`, where memory that the run itself needs is refused, and as `Unjoined`, where a context can't be closed, as no lane in
+/// hand knows a value that remains in it; no plan is known for which it comes. `NoThread` is never answered. Want of memory in a step is the step's own fault. Takes memory, and may wait: it promises its clauses if it returns.
 ///
 /// JUnit 5 User Guide, section "Parallel Execution"; lanes are an own rule.
 pub fn parallel_results<R: Threads + Wait + Sync>(
@@ -42,13 +41,13 @@ pub fn parallel_results<R: Threads + Wait + Sync>(
     requires short { StepListsAreShort (plan_view plan.now) }
     requires few { CallbacksAreFew (plan_view plan.now) }
     ensures run { IfOk result (λ results. ParallelRun (plan_view plan.now) lanes (map told results.items)) }
-    ensures fault { IfErr result (λ e. e ≢ NoThread) }
+    ensures fault { IfErr result (IsRefusedRun (plan_view plan.now) lanes) }
 {
     let suite = PlanSuite::new(alloc, plan)?;
     let (store, mut store_lanes, closers) = open_store(alloc, plan, lanes)?;
     let (locks, mut lock_lanes) = open_locks(alloc, plan, lanes)?;
     let all_lanes = store_lanes.as_mut_slice();
-    let results = run_tree(
+    match run_tree(
         rt,
         alloc,
         &suite,
@@ -58,7 +57,11 @@ pub fn parallel_results<R: Threads + Wait + Sync>(
         lock_lanes.as_mut_slice(),
         closers,
         &OpenGate,
-    )?;
-    meet_all(&store, all_lanes);
-    Ok(results)
+    ) {
+        Ok(results) => {
+            meet_all(&store, all_lanes);
+            Ok(results)
+        }
+        Err(fault) => Err(fault),
+    }
 }

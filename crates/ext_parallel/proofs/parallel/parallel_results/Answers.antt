@@ -12,6 +12,7 @@ use Rattle.ext_engine.specs.TreeRun.{IsFit, IsUsable, Lanes, TreeRun, all_result
 use Rattle.ext_suite.specs.PlanSuites.{HasKeys, suite_of}
 use Rattle.ext_suite.proofs.Fitting.{keys_fit, tree_fits}
 use Rattle.ext_parallel.specs.ParallelRun.{MakesCall, IsAction, ClosesValue}
+use Rattle.ext_parallel.proofs.Refusals.{refused_run}
 use Rattle.ext_parallel.proofs.Usable.{fresh_usable}
 use Rattle.ext_parallel.proofs.parallel.parallel_results.Goals as goal
 
@@ -36,19 +37,16 @@ run_tree-requires-clause-suite_fits g c κs inside =
     let P : PlanText → Type 0 = λ p. HasKeys p c.in_ok-store.store in
     subst P (sym c.in_ok-suite.ensures) (keys_fit (plan_view c.args.plan.now) c.in_ok-store.store c.in_ok-store.ensures.store.keys)
 
-pub meet_all-requires : goal.meet_all-requires
-meet_all-requires g c = record { lanes = c.in_ok-results.ensures.lanes.lanes }
-
-pub returns-clause-run : goal.returns-clause-run
-returns-clause-run g c =
+pub returns-in-Ok-clause-run : goal.returns-in-Ok-clause-run
+returns-in-Ok-clause-run g c =
     let st = c.in_ok-store.store in let lk = c.in_ok-locks.locks in
     let plan = plan_view c.args.plan.now in
-    let ran = c.in_ok-results.ensures.run in
+    let ran = c.in-Ok.ensures.run in
     let first : Lanes StoredValue = record { first = c.as_mut_slice-all_lanes.result.now; second = c.as_mut_slice.result.now } in
     let after : Lanes StoredValue = record { first = c.run_tree.new.lanes; second = c.run_tree.new.lock_lanes } in
     let P : PlanText → Type 0 = λ p. TreeRun (setting_of st lk (suite_of p) (registered p) (λ (value : StoredValue). value.value.closeable)) (MakesCall p st) IsAction ClosesValue 16 0 first ran.0 after in
-    let Q : PlanText → Type 0 = λ p. map told c.in_ok-results.results.items ≡ all_results (suite_of p) (length st.tree) ran.0 in
-    let R : ℕ → Type 0 = λ count. map told c.in_ok-results.results.items ≡ all_results (suite_of plan) count ran.0 in
+    let Q : PlanText → Type 0 = λ p. map told c.in-Ok.results.items ≡ all_results (suite_of p) (length st.tree) ran.0 in
+    let R : ℕ → Type 0 = λ count. map told c.in-Ok.results.items ≡ all_results (suite_of plan) count ran.0 in
     let count : length st.tree ≡ length plan.nodes = ap length c.in_ok-store.ensures.store.tree ∙ length-map plan.nodes (λ n. n.id) in
     record {
       store = st;
@@ -66,3 +64,7 @@ returns-clause-run g c =
       only_met = c.meet_all.ensures.only_met;
       shared = c.meet_all.ensures.shared;
     }
+
+pub returns-clause-fault : goal.returns-clause-fault
+returns-clause-fault g c =
+    refused_run (plan_view c.args.plan.now) c.in_ok-suite.suite c.args.lanes c.in_ok-store.store c.in_ok-locks.locks c.in_ok-suite.ensures c.in_ok-store.ensures.store c.in_ok-locks.ensures.locks c.in-Err.fault c.in-Err.ensures.fault
