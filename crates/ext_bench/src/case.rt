@@ -9,6 +9,8 @@ pub(crate) enum Case {
     GetRoot3,
     /// The same from the sixteenth.
     GetRoot16,
+    /// A look-up of a value at the root, from the third context, by the key's number.
+    GetRoot3Numbered,
     /// A look-up that finds nothing in three contexts.
     GetAbsent3,
     /// A value kept and put over one that stands.
@@ -29,10 +31,11 @@ pub(crate) enum Case {
 
 impl Case {
     /// All cases, in the order of the table.
-    pub(crate) const ALL: [Case; 11] = [
+    pub(crate) const ALL: [Case; 12] = [
         Case::GetOwn3,
         Case::GetRoot3,
         Case::GetRoot16,
+        Case::GetRoot3Numbered,
         Case::GetAbsent3,
         Case::PutOver,
         Case::PutRemove,
@@ -49,6 +52,7 @@ impl Case {
             Case::GetOwn3 => "get-own-3",
             Case::GetRoot3 => "get-root-3",
             Case::GetRoot16 => "get-root-16",
+            Case::GetRoot3Numbered => "get-root-3-numbered",
             Case::GetAbsent3 => "get-absent-3",
             Case::PutOver => "put-over",
             Case::PutRemove => "put-remove",
@@ -71,6 +75,11 @@ impl Case {
             Case::GetBesideOther | Case::GetBesideSame | Case::ComputeHot => 4,
             _ => 1,
         }
+    }
+
+    /// Whether it runs on one thread and on no more.
+    pub(crate) fn is_of_one_thread(self) -> bool {
+        matches!(self, Case::ComputeFreshAndClose | Case::Open256x16)
     }
 
     /// Whether one more thread writes meanwhile, whose time is not counted.

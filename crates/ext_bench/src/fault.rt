@@ -7,6 +7,9 @@ pub(crate) enum BenchFault {
     /// The words of the command line are none of the usage.
     #[error("the words are not understood; --help tells them")]
     Words,
+    /// A case that runs on one thread was asked for on several.
+    #[error("this case runs on one thread: THREADS must be 1")]
+    OneThread,
     /// An allocation failed, or the store was not opened.
     #[error("the store can't be opened")]
     Opening,
@@ -25,7 +28,7 @@ impl BenchFault {
     /// The exit status: 2 for words that are refused, and else 3.
     pub(crate) fn status(self) -> u8 {
         match self {
-            BenchFault::Words => 2,
+            BenchFault::Words | BenchFault::OneThread => 2,
             _ => 3,
         }
     }

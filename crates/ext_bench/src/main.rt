@@ -47,7 +47,7 @@ fn done<R: Threads + Sync + Clock + CpuClock + AllocGlobal + Print>(
             rounds,
             millis,
         } => rounds_of(rt, case, threads, rounds, millis),
-        Request::Refused => Err(BenchFault::Words),
+        Request::Refused(fault) => Err(fault),
     }
 }
 

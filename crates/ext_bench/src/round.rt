@@ -6,7 +6,9 @@ use crate::case::Case;
 use crate::fault::BenchFault;
 use crate::opening::{NUMBERS, Payload, chain, key, keys, open, wide};
 use crate::spent::{Span, Spent, Started};
-use crate::work::{compute_all, compute_often, look_up, put_and_remove, put_one, put_over};
+use crate::work::{
+    compute_all, compute_often, look_up, look_up_numbered, put_and_remove, put_one, put_over,
+};
 use ext_closing::{CloseAction, close};
 use ext_model::{ContextNo, Fault};
 use ext_store::{Closer, Lane, Store};
@@ -258,6 +260,7 @@ fn work<R: Clock + CpuClock>(
     let done = match job.case {
         Case::GetBesideOther if writes => put_over(store, lane, 0, other, 60_000)?,
         Case::GetBesideSame if writes => put_over(store, lane, 0, key, 60_000)?,
+        Case::GetRoot3Numbered => look_up_numbered(store, lane, deepest, key, LOOKS)?,
         Case::GetAbsent3 => look_up(store, lane, deepest, key, LOOKS, false)?,
         Case::PutOver => put_over(store, lane, deepest, key, puts)?,
         Case::PutRemove => put_and_remove(store, lane, deepest, key, puts)?,

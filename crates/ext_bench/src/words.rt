@@ -1,5 +1,6 @@
 //! The words of the command line.
 use crate::case::Case;
+use crate::fault::BenchFault;
 use std::alloc::AllocError;
 use std::rt::Env;
 
@@ -14,10 +15,10 @@ rounds, of MILLIS (1 to 600000) milliseconds each, on THREADS (1 to 14) threads:
 
     ext_store CASE THREADS NANOSECONDS-OF-WALL-AN-OP NANOSECONDS-OF-PROCESSOR-AN-OP
 
-compute-fresh-and-close and open-256x16 run on one thread, whatever THREADS says.
+compute-fresh-and-close and open-256x16 run on one thread: with them THREADS other than 1 is refused.
 
-Cases: get-own-3 get-root-3 get-root-16 get-absent-3 put-over put-remove compute-fresh-and-close
-open-256x16 get-root-3-beside-other get-root-3-beside-same compute-hot
+Cases: get-own-3 get-root-3 get-root-16 get-root-3-numbered get-absent-3 put-over put-remove
+compute-fresh-and-close open-256x16 get-root-3-beside-other get-root-3-beside-same compute-hot
 ";
 
 /// What the words ask for.
@@ -34,15 +35,15 @@ pub(crate) enum Request {
         rounds: u32,
         millis: u32,
     },
-    /// They are not understood.
-    Refused,
+    /// They are refused.
+    Refused(BenchFault),
 }
 
 /// What the command line asks for. Takes memory for the words. Own rule.
 pub(crate) fn request_of<R: Env + AllocGlobal>(rt: &R) -> Request {
     match words_of(rt) {
         Ok(Some(words)) => request_in(words.as_slice()),
-        _ => Request::Refused,
+        _ => Request::Refused(BenchFault::Words),
     }
 }
 
@@ -59,20 +60,30 @@ fn request_in(words: &[String]) -> Request {
         [] => Request::Table,
         [help] if help.as_str() == "--help" => Request::Usage,
         [case, threads, rounds, millis] => {
-            rounds_in(case, threads, rounds, millis).unwrap_or(Request::Refused)
+            rounds_in(case, threads, rounds, millis).unwrap_or(Request::Refused(BenchFault::Words))
         }
-        _ => Request::Refused,
+        _ => Request::Refused(BenchFault::Words),
     }
 }
 
 fn rounds_in(case: &str, threads: &str, rounds: &str, millis: &str) -> Option<Request> {
-    let threads = number_in(threads, 14)?;
-    Some(Request::Rounds {
+    let request = Request::Rounds {
         case: Case::named(case)?,
-        threads: usize::try_from(threads).ok()?,
+        threads: usize::try_from(number_in(threads, 14)?).ok()?,
         rounds: number_in(rounds, 1_000)?,
         millis: number_in(millis, 600_000)?,
-    })
+    };
+    Some(fitting(request))
+}
+
+/// The request, or its refusal where a case of one thread is asked for on several.
+fn fitting(request: Request) -> Request {
+    match request {
+        Request::Rounds { case, threads, .. } if case.is_of_one_thread() && threads != 1 => {
+            Request::Refused(BenchFault::OneThread)
+        }
+        request => request,
+    }
 }
 
 /// The number that the word has, from 1 to the greatest.

@@ -4,9 +4,45 @@ ghost use Rattle.ext_store.specs.Stores.{IsLaneOf};
 
 use crate::fault::BenchFault;
 use crate::opening::{Payload, resource};
-use ext_model::{ContextNo, Fault, Look};
+use ext_model::{ContextNo, Fault, KeyNo, Look};
 use ext_store::{Compute, Lane, Refusal, Store};
 use ext_tree::Key;
+
+/// Looks the key up so often, whose number is asked for once. Each answer is that a value is there.
+pub(crate) fn look_up_numbered(
+    store: &Store<Payload>,
+    lane: &mut Lane<Payload>,
+    context: ContextNo,
+    key: &Key,
+    times: u32,
+) -> Result<u64, BenchFault>
+    requires lane { IsLaneOf store.now.id lane.old }
+    requires context { context < length store.now.tree }
+    ensures { IsLaneOf store.now.id lane.new }
+{
+    let Some(number) = store.directory().number_of(key) else {
+        return Err(BenchFault::Answer);
+    };
+    let mut right = true;
+    for _ in 0..times {
+        let found = finds(store, lane, context, number);
+        right = right && found;
+    }
+    counted(right, times)
+}
+
+/// Whether the look-up finds a value, or other lanes were in its way.
+fn finds(store: &Store<Payload>, lane: &mut Lane<Payload>, context: ContextNo, key: KeyNo) -> bool
+    requires lane { IsLaneOf store.now.id lane.old }
+    requires context { context < length store.now.tree }
+    requires key { key < length store.now.keys }
+    ensures { IsLaneOf store.now.id lane.new }
+{
+    match store.get_numbered(lane, context, key) {
+        Ok(look) => matches!(look, Look::Found { .. }),
+        Err(refusal) => refusal == Refusal::Contended,
+    }
+}
 
 /// Looks the key up so often. Each answer is that a value is there, or none is, as the case has it.
 pub(crate) fn look_up(

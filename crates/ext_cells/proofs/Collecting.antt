@@ -41,24 +41,24 @@ read_length (c ∷ cs) (w ∷ ws) [] all = absurd all
 read_length (c ∷ cs) (w ∷ ws) (f ∷ fs) all = let r = read_length cs ws fs all.1 in (ap suc r.0, ap suc r.1)
 
 -- all of them are prefixes of h
-abbrev AllBegin : List History → History → Type 0
+abbrev pub AllBegin : List History → History → Type 0
 AllBegin [] h = Unit {0}
 AllBegin (f ∷ fs) h = IsPrefix f h × AllBegin fs h
 
 -- each goes on from p, and is legal
-abbrev AllGoOn : Limits → History → List History → Type 0
+abbrev pub AllGoOn : Limits → History → List History → Type 0
 AllGoOn limits p [] = Unit {0}
 AllGoOn limits p (f ∷ fs) = IsPrefix p f × IsLegal limits f × AllGoOn limits p fs
 
-follow_begin : (h : History) (fs : List History) → Follow h fs → AllBegin fs (last_after h fs)
+pub follow_begin : (h : History) (fs : List History) → Follow h fs → AllBegin fs (last_after h fs)
 follow_begin h [] all = tt
 follow_begin h (f ∷ fs) all = (follow_last f fs all.1, follow_begin f fs all.1)
 
-go_on_from : (limits : Limits) (q p : History) (fs : List History) → IsPrefix q p → AllGoOn limits p fs → AllGoOn limits q fs
+pub go_on_from : (limits : Limits) (q p : History) (fs : List History) → IsPrefix q p → AllGoOn limits p fs → AllGoOn limits q fs
 go_on_from limits q p [] less all = tt
 go_on_from limits q p (f ∷ fs) less all = (prefix_trans q p f less all.0, all.1, go_on_from limits q p fs less all.2)
 
-follow_go_on : (limits : Limits) (h : History) (fs : List History) → Follow h fs → IsLegal limits (last_after h fs) → AllGoOn limits h fs
+pub follow_go_on : (limits : Limits) (h : History) (fs : List History) → Follow h fs → IsLegal limits (last_after h fs) → AllGoOn limits h fs
 follow_go_on limits h [] all legal = tt
 follow_go_on limits h (f ∷ fs) all legal = (
   all.0,
@@ -67,7 +67,7 @@ follow_go_on limits h (f ∷ fs) all legal = (
 )
 
 -- the first front begins each of them
-first_go_on : (limits : Limits) (h : History) (fs : List History) → Follow h fs → IsLegal limits (last_after h fs) → AllGoOn limits (first_or h fs) fs
+pub first_go_on : (limits : Limits) (h : History) (fs : List History) → Follow h fs → IsLegal limits (last_after h fs) → AllGoOn limits (first_or h fs) fs
 first_go_on limits h [] all legal = tt
 first_go_on limits h (f ∷ fs) all legal = (prefix_refl f, legal_begun f (last_after f fs) (follow_last f fs all.1) legal, follow_go_on limits f fs all.1 legal)
 
@@ -80,7 +80,7 @@ word_between limits cell f p g few fp pg legal same =
     ap (λ z. word_of z cell) (sym fp.1) ∙ same_word_between f fp.0 pg.0 cell few (subst (IsLegal limits) (sym whole) legal) (ap (λ z. word_of z cell) whole ∙ same)
 
 -- of two equal passes the first ended at p and the second began there: the words are those of p
-equal_passes : (limits : Limits) (cs ws : List ℕ) (fs gs : List History) (p : History) → limits.numbers < 2 ^ 20 → EachRead cs ws fs → EachRead cs ws gs → AllBegin fs p → AllGoOn limits p gs → ws ≡ map (word_of p) cs
+pub equal_passes : (limits : Limits) (cs ws : List ℕ) (fs gs : List History) (p : History) → limits.numbers < 2 ^ 20 → EachRead cs ws fs → EachRead cs ws gs → AllBegin fs p → AllGoOn limits p gs → ws ≡ map (word_of p) cs
 equal_passes limits [] [] [] gs p few a b before after = refl
 equal_passes limits [] [] (f ∷ fs) gs p few a b before after = absurd a
 equal_passes limits [] (w ∷ ws) fs gs p few a b before after = absurd a
@@ -95,12 +95,12 @@ equal_passes limits (c ∷ cs) (w ∷ ws) (f ∷ fs) (g ∷ gs) p few a b before
 -- ---- unequal passes
 
 -- the versions of the cells, each at its own front
-abbrev read_versions : List ℕ → List History → ℕ
+abbrev pub read_versions : List ℕ → List History → ℕ
 read_versions [] fs = 0
 read_versions (c ∷ cs) [] = 0
 read_versions (c ∷ cs) (f ∷ fs) = version_of f c + read_versions cs fs
 
-version_grows : (c : ℕ) (p h : History) → IsPrefix p h → version_of p c ≤ version_of h c
+pub version_grows : (c : ℕ) (p h : History) → IsPrefix p h → version_of p c ≤ version_of h c
 version_grows c p h begins = let v : version_of h c ≡ version_of p c + version_of begins.0 c = ap (λ z. version_of z c) (sym begins.1) ∙ version-append p begins.0 c in omega (arith, v)
 
 -- another word is another version
@@ -110,7 +110,7 @@ other_version c p h begins differs =
     let some : version_of begins.0 c ≢ 0 = λ none. differs (ap (λ z. word_of z c) (sym begins.1) ∙ same_word p begins.0 c none) in
     omega (arith, v, some)
 
-versions_from : (limits : Limits) (cs ws : List ℕ) (fs : List History) (p : History) → EachRead cs ws fs → AllGoOn limits p fs → versions p cs ≤ read_versions cs fs
+pub versions_from : (limits : Limits) (cs ws : List ℕ) (fs : List History) (p : History) → EachRead cs ws fs → AllGoOn limits p fs → versions p cs ≤ read_versions cs fs
 versions_from limits [] [] [] p a go = omega arith
 versions_from limits [] [] (f ∷ fs) p a go = absurd a
 versions_from limits [] (w ∷ ws) fs p a go = absurd a
@@ -118,7 +118,7 @@ versions_from limits (c ∷ cs) [] fs p a go = absurd a
 versions_from limits (c ∷ cs) (w ∷ ws) [] p a go = absurd a
 versions_from limits (c ∷ cs) (w ∷ ws) (f ∷ fs) p a go = omega (arith, sum_by-cons (version_of p) c cs, versions_from limits cs ws fs p a.1 go.2, version_grows c p f go.0)
 
-versions_to : (cs ws : List ℕ) (fs : List History) (p : History) → EachRead cs ws fs → AllBegin fs p → read_versions cs fs ≤ versions p cs
+pub versions_to : (cs ws : List ℕ) (fs : List History) (p : History) → EachRead cs ws fs → AllBegin fs p → read_versions cs fs ≤ versions p cs
 versions_to [] [] [] p a all = omega arith
 versions_to [] [] (f ∷ fs) p a all = absurd a
 versions_to [] (w ∷ ws) fs p a all = absurd a
@@ -127,7 +127,7 @@ versions_to (c ∷ cs) (w ∷ ws) [] p a all = absurd a
 versions_to (c ∷ cs) (w ∷ ws) (f ∷ fs) p a all = omega (arith, sum_by-cons (version_of p) c cs, versions_to cs ws fs p a.1 all.1, version_grows c f p all.0)
 
 -- a pass that is unequal to the one before it has a larger sum
-unequal_passes : (limits : Limits) (cs ws vs : List ℕ) (fs gs : List History) (p : History) → EachRead cs ws fs → EachRead cs vs gs → AllBegin fs p → AllGoOn limits p gs → vs ≢ ws → read_versions cs fs + 1 ≤ read_versions cs gs
+pub unequal_passes : (limits : Limits) (cs ws vs : List ℕ) (fs gs : List History) (p : History) → EachRead cs ws fs → EachRead cs vs gs → AllBegin fs p → AllGoOn limits p gs → vs ≢ ws → read_versions cs fs + 1 ≤ read_versions cs gs
 unequal_passes limits [] [] [] fs gs p a b before after differs = absurd (differs refl)
 unequal_passes limits [] [] (v ∷ vs) fs gs p a b before after differs = absurd b
 unequal_passes limits [] (w ∷ ws) vs fs gs p a b before after differs = absurd a
@@ -180,7 +180,7 @@ pub record Passes (limits : Limits) (before now : LaneView) (cells words : List 
   pub own_same : own before.number (last_after (seen_by before) earlier) ≡ own before.number (seen_by before)
   pub latest : Latest limits before now earlier fronts cells words
   pub counted : count + versions (first_or (seen_by before) (earlier ++ fronts)) cells ≤ read_versions cells fronts
-  pub steps : length earlier ≡ count * length cells
+  pub steps : length earlier ≤ count * length cells
 
 latest_of : (limits : Limits) (before now : LaneView) (earlier : List History) (cells words : List ℕ) (t : ReadPass limits (moved before earlier) now cells words) → Latest limits before now earlier t.fronts cells words
 latest_of limits before now earlier cells words t =
@@ -193,7 +193,7 @@ latest_of limits before now earlier cells words t =
       read = t.read;
     }
 
-latest_from : (limits : Limits) (before now next : LaneView) (earlier : List History) (cells words : List ℕ) → now ≡ moved before earlier → (t : ReadPass limits now next cells words) → Latest limits before next earlier t.fronts cells words
+pub latest_from : (limits : Limits) (before now next : LaneView) (earlier : List History) (cells words : List ℕ) → now ≡ moved before earlier → (t : ReadPass limits now next cells words) → Latest limits before next earlier t.fronts cells words
 latest_from limits before now next earlier cells words is = subst (λ l. (t : ReadPass limits l next cells words) → Latest limits before next earlier t.fronts cells words) (sym is) (latest_of limits before next earlier cells words)
 
 pub passes_once : (limits : Limits) (before now : LaneView) (cells words : List ℕ) → ReadPass limits before now cells words → Passes limits before now cells words 0
@@ -207,13 +207,19 @@ passes_once limits before now cells words t = record {
   steps = omega arith;
 }
 
-some_cells : (cs ws vs : List ℕ) (fs gs : List History) → EachRead cs ws fs → EachRead cs vs gs → vs ≢ ws → 1 ≤ length fs
+pub some_cells : (cs ws vs : List ℕ) (fs gs : List History) → EachRead cs ws fs → EachRead cs vs gs → vs ≢ ws → 1 ≤ length fs
 some_cells [] [] [] fs gs a b differs = absurd (differs refl)
 some_cells [] [] (v ∷ vs) fs gs a b differs = absurd b
 some_cells [] (w ∷ ws) vs fs gs a b differs = absurd a
 some_cells (c ∷ cs) [] vs fs gs a b differs = absurd a
 some_cells (c ∷ cs) (w ∷ ws) vs [] gs a b differs = absurd a
 some_cells (c ∷ cs) (w ∷ ws) vs (f ∷ fs) gs a b differs = omega arith
+
+-- the first front of two lists of fronts is a part of the last one of the first list, where that is empty only if both are
+pub first_before : (h : History) (fs gs : List History) → Follow h fs → (length fs ≡ 0 → length gs ≡ 0) → IsPrefix (first_or h (fs ++ gs)) (last_after h fs)
+first_before h [] [] all none = prefix_refl h
+first_before h [] (g ∷ gs) all none = let bad : length (g ∷ gs) ≡ 0 = none refl in absurd (omega (arith, bad))
+first_before h (f ∷ fs) gs all none = follow_last f fs all.1
 
 -- what is true of the latest pass and the one behind it
 module _ (limits : Limits) (before now next : LaneView) (cells words again : List ℕ) (count : ℕ) (t : Passes limits before now cells words count) (pass : ReadPass limits now next cells again) where
@@ -224,19 +230,19 @@ module _ (limits : Limits) (before now next : LaneView) (cells words again : Lis
   abbrev middle : History
   middle = last_after (seen_by before) (t.earlier ++ t.fronts)
 
-  next_latest : Latest limits before next (t.earlier ++ t.fronts) pass.fronts cells again
+  pub next_latest : Latest limits before next (t.earlier ++ t.fronts) pass.fronts cells again
   next_latest = latest_from limits before now next (t.earlier ++ t.fronts) cells again t.latest.is pass
 
   follow_both : Follow (seen_by before) (t.earlier ++ t.fronts)
   follow_both = follow_append (seen_by before) t.earlier t.fronts t.follow t.latest.follow
 
-  reads_begin : AllBegin t.fronts (last_after (seen_by before) (t.earlier ++ t.fronts))
+  pub reads_begin : AllBegin t.fronts (last_after (seen_by before) (t.earlier ++ t.fronts))
   reads_begin = subst (AllBegin t.fronts) (sym (last_append (seen_by before) t.earlier t.fronts)) (follow_begin (last_after (seen_by before) t.earlier) t.fronts t.latest.follow)
 
-  reads_go_on : AllGoOn limits (last_after (seen_by before) (t.earlier ++ t.fronts)) pass.fronts
+  pub reads_go_on : AllGoOn limits (last_after (seen_by before) (t.earlier ++ t.fronts)) pass.fronts
   reads_go_on = follow_go_on limits middle pass.fronts next_latest.follow (subst (IsLegal limits) (last_append (seen_by before) both pass.fronts) next_latest.legal)
 
-  both_length : length (t.earlier ++ t.fronts) ≡ (count + 1) * length cells
+  both_length : length (t.earlier ++ t.fronts) ≤ (count + 1) * length cells
   both_length = let a = length-append t.earlier t.fronts in let b = (read_length cells words t.fronts t.latest.read).0 in let steps = t.steps in omega (arith, a, b, steps)
 
   -- a further pass, which differs
@@ -257,13 +263,13 @@ module _ (limits : Limits) (before now next : LaneView) (cells words again : Lis
         steps = both_length;
       }
 
-  all_length : length (call_fronts before next) ≡ (count + 2) * length cells
-  all_length =
-      let a = length-append both pass.fronts in let b = both_length in let n = (read_length cells again pass.fronts next_latest.read).0 in
-      subst (λ l. length (call_fronts before l) ≡ (count + 2) * length cells) (sym next_latest.is) (ap length (moved_fronts before (both ++ pass.fronts)) ∙ omega (arith, a, b, n))
+  all_length : length (call_fronts before next) ≡ length (both ++ pass.fronts)
+  all_length = subst (λ l. length (call_fronts before l) ≡ length (both ++ pass.fronts)) (sym next_latest.is) (ap length (moved_fronts before (both ++ pass.fronts)))
 
   pub steps_within : (tries : ℕ) → count + 1 ≤ tries → length (call_fronts before next) ≤ length cells * (tries + 1)
-  steps_within tries within = let m = mul-le-mul_right (length cells) within in let n = all_length in omega (arith, m, n)
+  steps_within tries within =
+      let m = mul-le-mul_right (length cells) within in let a = length-append both pass.fronts in
+      let b = both_length in let n = (read_length cells again pass.fronts next_latest.read).0 in let all = all_length in omega (arith, m, a, b, n, all)
 
   calls : Calls limits before next []
   calls = subst (λ z. Calls limits before z []) (sym next_latest.is)
@@ -291,22 +297,17 @@ module _ (limits : Limits) (before now next : LaneView) (cells words again : Lis
     pub moment : again ≡ map (word_of (before_last_pass (length cells) before next)) cells
     moment = words_are ∙ ap (λ p. map (word_of p) cells) (sym middle_is)
 
-    first_before : (h : History) (fs gs : List History) → Follow h fs → (length fs ≡ 0 → length gs ≡ 0) → IsPrefix (first_or h (fs ++ gs)) (last_after h fs)
-    first_before h [] [] all none = prefix_refl h
-    first_before h [] (g ∷ gs) all none = let bad : length (g ∷ gs) ≡ 0 = none refl in absurd (omega (arith, bad))
-    first_before h (f ∷ fs) gs all none = follow_last f fs all.1
-
     point : IsAnswerPoint before next [] (last_after (seen_by before) (t.earlier ++ t.fronts))
     point =
-        let b = both_length in let n = (read_length cells again pass.fronts next_latest.read).0 in
+        let a = length-append t.earlier t.fronts in let b = (read_length cells words t.fronts t.latest.read).0 in let n = (read_length cells again pass.fronts next_latest.read).0 in
         subst (λ z. IsAnswerPoint before z [] middle) (sym next_latest.is) (
           subst (λ fs. IsPrefix (first_or (seen_by before) fs) middle) (sym (moved_fronts before (both ++ pass.fronts)))
-              (first_before (seen_by before) both pass.fronts follow_both (λ none. omega (arith, b, n, none))),
+              (first_before (seen_by before) both pass.fronts follow_both (λ none. omega (arith, a, b, n, none))),
           subst (IsPrefix middle) (sym (last_append (seen_by before) both pass.fronts) ∙ sym (moved_seen before (both ++ pass.fronts))) (follow_last middle pass.fronts next_latest.follow),
         )
 
     is_stepped : 1 ≤ length cells → IsStepped before next
-    is_stepped some = let n = all_length in let m = mul-le-mul_right (length cells) (let two : 1 ≤ count + 2 = omega arith in two) in omega (arith, n, m, some)
+    is_stepped some = let all = all_length in let a = length-append both pass.fronts in let n = (read_length cells again pass.fronts next_latest.read).0 in omega (arith, all, a, n, some)
 
     pub stood : (x y : Lane) → x.cells.limits ≡ limits → x.view ≡ before → y.view ≡ next → StoodTogether x y cells again
     stood x y limits_are first second = record {
@@ -360,8 +361,8 @@ module _ (limits : Limits) (before now : LaneView) (cells words : List ℕ) (cou
   steps_all tries within =
       let a = length-append t.earlier t.fronts in let b = (read_length cells words t.fronts t.latest.read).0 in let steps = t.steps in
       let m = mul-le-mul_right (length cells) within in
-      let n : length (call_fronts before now) ≡ (count + 1) * length cells = subst (λ z. length (call_fronts before z) ≡ (count + 1) * length cells) (sym t.latest.is) (ap length (moved_fronts before added) ∙ omega (arith, a, b, steps)) in
-      omega (arith, m, n)
+      let n : length (call_fronts before now) ≡ length (t.earlier ++ t.fronts) = subst (λ z. length (call_fronts before z) ≡ length (t.earlier ++ t.fronts)) (sym t.latest.is) (ap length (moved_fronts before added)) in
+      omega (arith, m, n, a, b, steps)
 
   pub passes_legal : IsLegal limits (seen_by now)
   passes_legal = subst (λ l. IsLegal limits (seen_by l)) (sym t.latest.is) (subst (IsLegal limits) (sym (moved_seen before added)) t.latest.legal)

@@ -12,5 +12,6 @@ pub mod Drawing
 pub mod Answered
 pub mod Given
 pub mod Collecting
+pub mod Readings
 pub mod Meeting
 pub mod Storable

@@ -1,11 +1,11 @@
 -- What the contract of each call says of its result.
 -- Own rule. `Calls` of ext_model has the words: the events that a call made, its fronts, and the points at which its answer may be that of one thread.
 -- Here stand, for each call, what one thread is answered at a point, and which events an answer means.
-use Rattle.std.specs.Prelude.{ℕ, ◌≡◌, ◌≤◌, ◌-◌, List, [], ◌∷◌, length, map, take, Option, None, Some, Result, Ok, Err}
+use Rattle.std.specs.Prelude.{ℕ, ◌≡◌, ◌≢◌, ◌<◌, ◌≤◌, ◌-◌, All, slice_index, List, [], ◌∷◌, length, map, take, Option, None, Some, Result, Ok, Err}
 use Rattle.ext_model.specs.declared.event.Act.{Act}
 use Rattle.ext_model.specs.declared.event.Act.TheVariants.{Keep, Put, Remove, Claim, Seal}
 use Rattle.ext_model.specs.Events as events
-use Rattle.ext_model.specs.History.{History, reply_after}
+use Rattle.ext_model.specs.History.{History, reply_after, state_after}
 use Rattle.ext_model.specs.Plain.{number_drawn, what_stood}
 use Rattle.ext_model.specs.Words.{word_of}
 use Rattle.ext_history.specs.Views.{seen_by, last_after, call_fronts, IsStepped}
@@ -15,6 +15,7 @@ use Rattle.ext_cells.specs.declared.claim.Claimed.{Claimed}
 use Rattle.ext_cells.specs.declared.claim.Claimed.TheVariants.{Won, Standing}
 use Rattle.ext_cells.specs.declared.refusal.CellRefusal.{CellRefusal}
 use Rattle.ext_cells.specs.declared.refusal.CellRefusal.TheVariants.{Contended, Busy, Closed, Exhausted, NumbersFull}
+use Rattle.ext_cells.specs.declared.nearest.Nearest.{Nearest}
 use Rattle.ext_cells.specs.Lanes.{Lane}
 
 -- ---- what one thread is answered
@@ -114,3 +115,28 @@ before_last_pass cells before after = last_after (seen_by before) (take (length 
 abbrev pub Collects : ℕ → Lane → Lane → List ℕ → Result (List ℕ) CellRefusal → Type 0
 Collects tries before after cells (Ok words) = StoodTogether before after cells words
 Collects tries before after cells (Err why) = (why ≡ Contended) × model.IsOvertaken before.cells.limits tries before.view after.view
+
+-- ---- the nearest cell
+
+-- The first of the cells where anything stands after a history: its place in the list, and its word
+pub record StandsFirst (h : History) (cells : List ℕ) (nearest : Nearest) : Type 0 where
+  pub within : nearest.place < length cells
+  pub nothing_before : All (λ cell. (state_after h).slots cell ≡ None) (take nearest.place cells)
+  pub stands : (state_after h).slots (slice_index cells nearest.place) ≢ None
+  pub word_is : nearest.word ≡ word_of h (slice_index cells nearest.place)
+
+-- that cell, or there is none: nothing stands in any of them
+abbrev pub IsNearest : History → List ℕ → Option Nearest → Type 0
+IsNearest h cells None = All (λ cell. (state_after h).slots cell ≡ None) cells
+IsNearest h cells (Some nearest) = StandsFirst h cells nearest
+
+-- The nearest cell where anything stood at ONE point of the call, which made no event. Where there are cells to read, the call made a step of its own
+pub record StoodNearest (before after : Lane) (cells : List ℕ) (nearest : Option Nearest) : Type 0 where
+  pub calls : model.Calls before.cells.limits before.view after.view []
+  pub stepped : 1 ≤ length cells → IsStepped before.view after.view
+  pub point : (p : History) × IsAnswerPoint before.view after.view [] p × IsNearest p cells nearest
+
+-- the result of such a look-up: that cell, or other lanes were in the way
+abbrev pub FindsNearest : ℕ → Lane → Lane → List ℕ → Result (Option Nearest) CellRefusal → Type 0
+FindsNearest tries before after cells (Ok nearest) = StoodNearest before after cells nearest
+FindsNearest tries before after cells (Err why) = (why ≡ Contended) × model.IsOvertaken before.cells.limits tries before.view after.view

@@ -93,6 +93,14 @@ impl Cells {
         Ok((cells, lanes))
     }
 
+    // What the calls rest on.
+    pub(crate) fn look_back(&self)
+        ensures numbers { self.now.id.limits.numbers < 2 ^ 20 }
+        ensures tries { 1 ≤ self.now.tries }
+    {
+        let _tries = self.tries;
+    }
+
     /// How many exchanges a call makes at most, from 1 to 64. Takes no memory (own rule).
     pub fn tries(&self) -> u32
         ensures tries { result ≡ self.now.tries }
@@ -363,7 +371,7 @@ impl Cells {
 
     /// The word at a place as it stands, for a lane. The words of the cells stand at their numbers, and the count of
     /// numbers behind them.
-    fn look(&self, lane: &mut CellLane, place: usize) -> u64
+    pub(crate) fn look(&self, lane: &mut CellLane, place: usize) -> u64
         requires lane { lane.old.cells ≡ self.now.id }
         requires place { place ≤ self.now.id.limits.cells }
         ensures found { (h : History) × Finds lane.old.cells.limits lane.old.view place result h × (lane.new ≡ stepped lane.old h) }

@@ -1,4 +1,4 @@
-pub mod Counting
+pub mod Faults
 pub mod Knowing
 pub mod Joining
 pub mod Calling

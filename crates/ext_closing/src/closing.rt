@@ -6,12 +6,13 @@ ghost use Rattle.ext_values.specs.Known.{known_at};
 ghost use Rattle.ext_store.specs.Stores.{IsCloserOf, IsLaneOf, StillKeeps};
 ghost use Rattle.ext_closing.specs.Lanes.{IsGreatestUnjoined, IsJoined, IsKnown, IsUnknown};
 ghost use Rattle.ext_closing.specs.Sealing.{fault_of, numbers_left};
-ghost use Rattle.ext_closing.specs.Closing.{ClosesNumbers};
-ghost use Rattle.ext_closing.specs.Closes.{Closes};
+ghost use Rattle.ext_closing.specs.Closing.{ClosesNumbers, fault_in};
+ghost use Rattle.ext_closing.specs.Closes as closing;
 ghost use Rattle.ext_closing.specs.Steps.{IsOfKey, SealingEnds, SealsNext};
 
-use crate::{CloseAction, CloseFault, Closed};
-use ext_model::{FallingNumbers, KeyNo};
+use crate::{CloseAction, CloseFault};
+use ext_lifecycle::Closes;
+use ext_model::{FallingNumbers, Fault, KeyNo};
 use ext_store::{Closer, Lane, Refusal, Store, StoreValue};
 
 /// Closes the closer's context: seals its keys, in their order, by the first of the lanes, and then closes those of
@@ -34,13 +35,13 @@ pub fn close<V: StoreValue + Drop, A: CloseAction<V>>(
     closer: Closer,
     lanes: &mut [Lane<V>],
     action: &mut A,
-) -> Result<Closed, (Closer, CloseFault)>
+) -> Result<Closes, (Closer, CloseFault)>
     requires lanes { 1 ≤ length lanes.old }
     requires own_lanes { All (IsLaneOf store.now.id) lanes.old }
     requires closer { IsCloserOf store.now closer }
 
     // What the close did, and when it is refused: each as a field.
-    ensures happened { Closes V.is_closeable A.close_gives store.now closer lanes.old action.old result lanes.new action.new }
+    ensures happened { closing.Closes V.is_closeable A.close_gives store.now closer lanes.old action.old result lanes.new action.new }
 
     // What a next call rests on, once more.
     ensures handed_back { IfErr result (λ e. e.0 ≡ closer) }
@@ -148,18 +149,14 @@ fn close_all<V: StoreValue + Drop, A: CloseAction<V>>(
     lanes: &mut [Lane<V>],
     numbers: &[u32],
     action: &mut A,
-) -> Closed
+) -> Closes
     requires lanes { All (IsLaneOf store.now.id) lanes.old }
     requires joined { All (IsJoined lanes.old) numbers.now }
     requires few { length numbers.now ≤ 64 }
     ensures closes { ClosesNumbers V.is_closeable A.close_gives lanes.old numbers.now action.old action.new result }
     ensures unchanged { lanes.new ≡ lanes.old }
 {
-    let mut closed = Closed {
-        closed: 0,
-        first_fault: None,
-        more_faults: 0,
-    };
+    let mut closed = Closes::new();
     for number in numbers {
         close_one(store, lanes, *number, action, &mut closed);
     }
@@ -172,7 +169,7 @@ fn close_one<V: StoreValue + Drop, A: CloseAction<V>>(
     lanes: &mut [Lane<V>],
     number: u32,
     action: &mut A,
-    closed: &mut Closed,
+    closed: &mut Closes,
 )
     requires lanes { All (IsLaneOf store.now.id) lanes.old }
     requires joined { IsJoined lanes.old number }
@@ -184,7 +181,17 @@ fn close_one<V: StoreValue + Drop, A: CloseAction<V>>(
 {
     let value = known_value(store, lanes, number);
     if value.closeable() {
-        closed.count(action.close(number, value));
+        closed.add(fault_in(action.close(number, value)));
+    }
+}
+
+// The fault of a call of the action, where it failed.
+fn fault_in(answer: Result<(), Fault>) -> Option<Fault>
+    ensures { result ≡ fault_in answer }
+{
+    match answer {
+        Ok(()) => None,
+        Err(fault) => Some(fault),
     }
 }
 

@@ -8,13 +8,12 @@
 #![tactic(auto)]
 
 mod action;
-mod closed;
 mod closing;
 mod fault;
 mod laws;
 
 pub use action::CloseAction;
-pub use closed::Closed;
 pub use closing::close;
+pub use ext_lifecycle::Closes;
 pub use fault::CloseFault;
 pub use laws::close_laws;

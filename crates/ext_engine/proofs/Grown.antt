@@ -11,11 +11,11 @@ use Rattle.ext_lifecycle.specs.Modes.{in_run_order}
 use Rattle.ext_tree.specs.Trees.{Id, IsTree}
 use Rattle.ext_tree.specs.Paths.{IsParentOf, IsPathOf, children_of}
 use Rattle.ext_tree.proofs.TreeLaws.{parents_list_children}
-use Rattle.ext_engine.specs.Suites.{SuiteView}
+use Rattle.ext_node_run.specs.Suites.{SuiteView}
 use Rattle.ext_engine.specs.TreeRun.{Ran}
 use Rattle.ext_engine.specs.Laws.{nodes_of, HasRun, RanAs, IsBetween}
 use Rattle.ext_engine.proofs.Above.{Under, under, at_or_below, under_itself, parent_first, under_order, under_child, under_under, same_child, below_child, within_tree}
-use Rattle.ext_engine.proofs.Once.{Once, once-append, once-parted, once-from_pairs, contains-parted, contains-from_parted, contains-map, contains-from_map, contains-flat_map, contains-from_flat_map}
+use Rattle.ext_history.proofs.Once.{Once, once-append, once-parted, once-from_pairs, contains-parted, contains-from_parted, contains-map, contains-from_map, contains-flat_map, contains-from_flat_map}
 
 -- a node that was run at a place in the order of children, and all that ran below it
 abbrev pub Entry : Type 0

@@ -19,7 +19,7 @@ use Rattle.ext_crew.proofs.Lists.{all_parts, length_parts}
 use Rattle.ext_crew.proofs.RunLaws.{run-relates}
 use Rattle.ext_engine.specs.TreeRun.{Ran, TreeSetting, Lanes, TreeRun, TestRun, ContainerRun, BodyRun, BodyMade, OnFirst, TakesSet, GivesBack, IsIdle, IsUsable, concurrent_children}
 use Rattle.ext_engine.proofs.Grown.{Entry}
-use Rattle.ext_engine.proofs.Refusals.{count_kept}
+use Rattle.ext_node_run.proofs.Refusals.{count_kept}
 
 -- as many lanes of both kinds, and lock lanes that hold nothing hold nothing afterwards
 record Kept {V : Type 0} (locks : LocksView) (s t : Lanes V) : Type 0 where

@@ -1,19 +1,10 @@
 -- Lemmas of this crate.
 pub mod Above
-pub mod Contexts
-pub mod Gathering
+pub mod Fresh
 pub mod Grown
-pub mod Items
 pub mod Lanes
-pub mod NodeCalls
-pub mod Once
 pub mod OneEach
-pub mod Placing
-pub mod Refusals
-pub mod Requests
 pub mod Roots
 pub mod RunLaws
-pub mod Seen
 pub mod Told
 pub mod Trees
-pub mod Within

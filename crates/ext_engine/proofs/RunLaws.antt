@@ -6,11 +6,11 @@ use Rattle.ext_lifecycle.specs.declared.status.Status.TheVariants as statuses
 use Rattle.ext_lifecycle.specs.Results.{ResultOf}
 use Rattle.std.proofs.lemmas.List.Elements.{All-contains_itself, All-weaker}
 use Rattle.ext_tree.specs.Trees.{Id, IsTree}
-use Rattle.ext_engine.specs.Suites.{SuiteView}
+use Rattle.ext_node_run.specs.Suites.{SuiteView}
 use Rattle.ext_engine.specs.TreeRun.{Ran, all_results}
 use Rattle.ext_engine.specs.Laws.{IsOneEach, IsRunOnce, IsSkippedExactly, IsAtOrBelow, IsBetween, RanAs, HasRun, nodes_of}
 use Rattle.ext_engine.proofs.Above.{at_or_below, under, under_root, within_tree}
-use Rattle.ext_engine.proofs.Once.{one-image, once-pairs}
+use Rattle.ext_history.proofs.Once.{one-image, once-pairs}
 use Rattle.ext_engine.proofs.OneEach.{one_each, place_within}
 use Rattle.ext_engine.proofs.Grown.{Grows, kind_told, no_skip, ran_once, ran_under, node_under, went_between, ran_or_stopped}
 

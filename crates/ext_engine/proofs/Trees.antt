@@ -22,9 +22,9 @@ use Rattle.ext_lifecycle.specs.Results.{ResultOf, told}
 use Rattle.ext_lifecycle.specs.declared.call.Call.{Call}
 use Rattle.ext_lifecycle.specs.declared.outcome.Outcome.{Outcome}
 use Rattle.ext_lifecycle.specs.Lifecycle.{MakesAll, MakesBefores, MakesCalls}
-use Rattle.ext_engine.specs.declared.closers.Item.{Item}
-use Rattle.ext_engine.specs.declared.results.RanNode.{RanNode}
-use Rattle.ext_engine.specs.Helpers.{ran_view, ran_in}
+use Rattle.ext_node_run.specs.declared.closers.Item.{Item}
+use Rattle.ext_node_run.specs.declared.results.RanNode.{RanNode}
+use Rattle.ext_node_run.specs.Helpers.{ran_view, ran_in}
 use Rattle.ext_engine.specs.TreeRun.{Ran, TreeSetting, Lanes, OnFirst, IsUsable, IsIdle, TreeRun, TestRun, ContainerRun, BodyRun, RanInTurn}
 
 -- ---- shares that can be used
@@ -92,38 +92,6 @@ answer-ok {E} Q outcomes job (Err e) all at run =
 flat-lists : {E : Type 0} (outcomes : List (Result (Vec RanNode Global) E)) → flat_map ran_in outcomes ≡ flat_map (λ ran. ran) (map ran_in outcomes)
 flat-lists [] = refl
 flat-lists (r ∷ outcomes) = ap (λ l. ran_in r ++ l) (flat-lists outcomes)
-
--- a node's result, and what ran below it
-pub ran-first : (x : RanNode) (result : ResultOf Fault) (went_on : Bool) (items below : List RanNode) → items ≡ x ∷ below → told x.result ≡ result → x.went_on ≡ went_on
-    → map ran_view items ≡ record { result = result; went_on = went_on } ∷ map ran_view below
-ran-first x result went_on items below is told_is went_on_is =
-    let first : ResultOf Fault → Bool → Ran = λ r w. record { result = r; went_on = w } in
-    ap (map ran_view) is ∙ (ap (λ r. first r x.went_on ∷ map ran_view below) told_is ∙ ap (λ w. first result w ∷ map ran_view below) went_on_is)
-
--- ---- the first of some lanes
-
-pub on-first : {X : Type 0} (R : X → X → Type 0) (xs : List X) (d left : X) → 0 < length xs → R (slice_index_or xs 0 d) left → OnFirst R xs (slice_set xs 0 left)
-on-first R [] d left some_here change = absurd (omega arith)
-on-first R (x ∷ xs) d left some_here change = record { lane = x; left = left; rest = xs; first_was = refl; change = change; first_is = refl }
-
-pub calls-on : {X : Type 0} (makes : X → Call → Outcome → X → Type 0) (xs : List X) (d left : X) {befores : List Call} (befores' : List Call) (body : Call) {afters : List Call} (afters' : List Call) (os : List Outcome)
-    → befores ≡ befores' → afters ≡ afters' → 0 < length xs → MakesCalls makes befores body afters (slice_index_or xs 0 d) os left → OnFirst (λ a b. MakesCalls makes befores' body afters' a os b) xs (slice_set xs 0 left)
-calls-on {X} makes xs d left {befores} befores' body {afters} afters' os e f some_here made =
-    let P : List Call → Type 0 = λ l. MakesCalls makes l body afters (slice_index_or xs 0 d) os left in
-    let Q : List Call → Type 0 = λ l. MakesCalls makes befores' body l (slice_index_or xs 0 d) os left in
-    on-first (λ a b. MakesCalls makes befores' body afters' a os b) xs d left some_here (subst Q f (subst P e made))
-
-pub befores-on : {X : Type 0} (makes : X → Call → Outcome → X → Type 0) (xs : List X) (d left : X) {befores : List Call} (befores' : List Call) (os : List Outcome)
-    → befores ≡ befores' → 0 < length xs → MakesBefores makes befores (slice_index_or xs 0 d) os left → OnFirst (λ a b. MakesBefores makes befores' a os b) xs (slice_set xs 0 left)
-befores-on {X} makes xs d left {befores} befores' os e some_here made =
-    let P : List Call → Type 0 = λ l. MakesBefores makes l (slice_index_or xs 0 d) os left in
-    on-first (λ a b. MakesBefores makes befores' a os b) xs d left some_here (subst P e made)
-
-pub afters-on : {X : Type 0} (makes : X → Call → Outcome → X → Type 0) (xs : List X) (d left : X) {afters : List Call} (afters' : List Call) (os : List Outcome)
-    → afters ≡ afters' → 0 < length xs → MakesAll makes afters (slice_index_or xs 0 d) os left → OnFirst (λ a b. MakesAll makes afters' a os b) xs (slice_set xs 0 left)
-afters-on {X} makes xs d left {afters} afters' os e some_here made =
-    let P : List Call → Type 0 = λ l. MakesAll makes l (slice_index_or xs 0 d) os left in
-    on-first (λ a b. MakesAll makes afters' a os b) xs d left some_here (subst P e made)
 
 -- ---- nodes one after another
 

@@ -1,6 +1,4 @@
 -- What the clauses of this crate speak of.
-pub mod Suites
-pub mod Closers
-pub mod Helpers
+pub use Rattle.ext_node_run.specs.Suites
 pub mod TreeRun
 pub mod Laws

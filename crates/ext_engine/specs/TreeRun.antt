@@ -1,99 +1,30 @@
--- What a run of a tree of nodes leaves of its lanes, and the results that it gives.
--- JUnit 5 User Guide, "Relative Execution Order of User Code and Extensions", "Parallel Execution", "Synchronization" and "Keeping State in Extensions"; shares,
--- lanes, dealings and what is told of a node are own rules.
-use Rattle.std.specs.Prelude.{◌≡◌, ℕ, zero, suc, ◌<◌, ◌≤◌, Bool, true, false, not, Option, Some, None, List, [], ◌∷◌, ◌++◌, length, map, min, filter, All, ⊤, Contains, slice_index_or, slice_set, Result, Ok, Err}
-use Rattle.std.specs.List.{FoldsTo, flat_map, range_with_len}
+-- What a run of a tree of nodes leaves of its lanes, and the results that it gives. What is done for one node alone stands in `NodeRun` of `ext_node_run`, whose names
+-- are passed on.
+-- JUnit 5 User Guide, "Relative Execution Order of User Code and Extensions" and "Parallel Execution"; shares, lanes and dealings are own rules.
+use Rattle.std.specs.Prelude.{◌≡◌, ℕ, zero, suc, Bool, true, false, not, Option, None, List, [], ◌∷◌, ◌++◌, length, map, min, filter, slice_index_or}
+use Rattle.std.specs.List.{FoldsTo, flat_map}
 use Rattle.ext_model.specs.declared.look.Fault.{Fault}
 use Rattle.ext_lifecycle.specs.declared.call.Call.{Call}
-use Rattle.ext_lifecycle.specs.declared.call.Kind.{Kind}
 use Rattle.ext_lifecycle.specs.declared.outcome.Outcome.{Outcome}
-use Rattle.ext_lifecycle.specs.Callbacks.{befores_of, afters_of, test_call}
+use Rattle.ext_lifecycle.specs.Callbacks.{befores_of, afters_of}
 use Rattle.ext_lifecycle.specs.Endings.{all_successful}
-use Rattle.ext_lifecycle.specs.Lifecycle.{MakesAll, MakesBefores, MakesCalls, computed_in, endings_of, found_in}
-use Rattle.ext_lifecycle.specs.Results.{ResultOf, result_of, skipped_result}
+use Rattle.ext_lifecycle.specs.Lifecycle.{MakesAll, MakesBefores, computed_in, endings_of, found_in}
+use Rattle.ext_lifecycle.specs.Results.{ResultOf, result_of}
 use Rattle.ext_tree.specs.Paths.{IsPathOf, children_of}
-use Rattle.ext_store.specs.Stores.{StoreView, StoreLane, CloserView, IsLaneOf, IsCloserOf}
-use Rattle.ext_closing.specs.declared.closed.Closed.{Closed}
-use Rattle.ext_closing.specs.declared.fault.CloseFault.TheVariants as close_fault
+use Rattle.ext_store.specs.Stores.{StoreLane}
 use Rattle.ext_closing.specs.Closing.{Answer}
-use Rattle.ext_closing.specs.Closes.{Closes, IsClosedBy}
-use Rattle.ext_locks.specs.declared.event.LockMode.{LockMode}
-use Rattle.ext_locks.specs.Opening.{LocksView}
-use Rattle.ext_locks.specs.Views.{Lane, LaneCalls}
-use Rattle.ext_locks.specs.Sets.{HeldView, HoldsNothing, HoldsExactly, IsHeldBy, takes_of, gives_of}
+use Rattle.ext_locks.specs.Sets.{HeldView}
 use Rattle.ext_crew.specs.Dealing.{Share, RunByDealing}
-use Rattle.ext_engine.specs.declared.fault.EngineFault.{EngineFault}
-use Rattle.ext_engine.specs.declared.fault.EngineFault.TheVariants as faults
-use Rattle.ext_engine.specs.Suites.{SuiteView, locks_on, IsSetOf}
+use Rattle.ext_node_run.specs.Suites.{SuiteView}
+pub use Rattle.ext_node_run.specs.NodeRun.{Ran, TreeSetting, setting_of, Lanes, placed, all_skipped, OnFirst, ClosesNode, MakesOn, TestRun, TakesSet, GivesBack, IsIdle, IsUsable, IsNamedLock, IsFit, IsUnjoined, IsFault}
 
 -- ---- results
-
--- a node that ran, what is told of it, and whether the nodes below it were run: of a test, which has none, true
-pub record Ran : Type 0 where
-  pub result : ResultOf Fault
-  pub went_on : Bool
-
--- each result at the place of its node
-abbrev pub placed : List (ResultOf Fault) → List Ran → List (ResultOf Fault)
-placed places [] = places
-placed places (r ∷ rs) = placed (slice_set places r.result.node r.result) rs
-
--- before any node ran, each is skipped
-abbrev pub all_skipped : SuiteView → ℕ → List (ResultOf Fault)
-all_skipped suite count = map (λ node. skipped_result node (suite.is_test node)) (range_with_len 0 count)
 
 -- one result a node, in order: those of the nodes that ran, and the others are skipped
 abbrev pub all_results : SuiteView → ℕ → List Ran → List (ResultOf Fault)
 all_results suite count ran = placed (all_skipped suite count) ran
 
--- ---- what a run goes over
-
--- The store and the locks, the suite's nodes, how many callbacks of a kind a node has, and which values are closeable
-pub record TreeSetting (V : Type 0) : Type 0 where
-  pub store : StoreView
-  pub locks : LocksView
-  pub suite : SuiteView
-  pub registered : Kind → ℕ → ℕ
-  pub is_closeable : V → Bool
-
-abbrev pub setting_of : {V : Type 0} → StoreView → LocksView → SuiteView → (Kind → ℕ → ℕ) → (V → Bool) → TreeSetting V
-setting_of store locks suite registered is_closeable = record { store = store; locks = locks; suite = suite; registered = registered; is_closeable = is_closeable }
-
--- lanes of the store, and as many lanes of the locks
-abbrev pub Lanes : Type 0 → Type 0
-Lanes V = Share (StoreLane V) Lane
-
--- ---- locks
-
--- the set is taken: the lane then holds it, and nothing else
-pub record TakesSet (locks : LocksView) (set : List (ℕ × LockMode)) (before : Lane) (held : HeldView) (after : Lane) : Type 0 where
-  pub events : LaneCalls before after (takes_of before.view.number set)
-  pub holds : HoldsExactly after set
-  pub held_set : held.set ≡ set
-  pub names : held.names ≡ locks.names
-  pub is_held : IsHeldBy held after
-
--- it is given back by the lane that took it and made no event since
-pub record GivesBack (held : HeldView) (before after : Lane) : Type 0 where
-  pub was_held : IsHeldBy held before
-  pub nothing : HoldsNothing after
-  pub events : LaneCalls before after (gives_of before.view.number held.set)
-
--- a lane of these locks that holds nothing
-pub record IsIdle (locks : LocksView) (lane : Lane) : Type 0 where
-  pub of_table : lane.table ≡ locks.table
-  pub nothing : HoldsNothing lane
-
--- ---- shares
-
--- the first of the lanes changes so, and no other
-pub record OnFirst {X : Type 0} (R : X → X → Type 0) (before after : List X) : Type 0 where
-  pub lane : X
-  pub left : X
-  pub rest : List X
-  pub first_was : before ≡ lane ∷ rest
-  pub change : R lane left
-  pub first_is : after ≡ left ∷ rest
+-- ---- children
 
 -- these nodes are run one after another, each with the whole share
 pub record RanInTurn {A B : Type 0} (Run : ℕ → Share A B → List Ran → Share A B → Type 0) (nodes : List ℕ) (before : Share A B) (ran : List Ran) (after : Share A B) : Type 0 where
@@ -102,49 +33,12 @@ pub record RanInTurn {A B : Type 0} (Run : ℕ → Share A B → List Ran → Sh
   pub runs : FoldsTo (λ s d t. Run d.0 s d.1 t) before done after
   pub ran_are : ran ≡ flat_map (λ d. d.1) done
 
--- how a close ended, by the answer of its action
-abbrev pub fault_in : Answer → Option Fault
-fault_in (Ok done) = None
-fault_in (Err fault) = Some fault
-
--- ---- the run of a node
+-- ---- the run of a node with those below it
 
 -- `makes` says what a call of a node does (the node, the call, what it is lent, the lane before it, its outcome, the lane after it), `actions` which close actions a
 -- node may be given, and `gives` what a call of a close action does
 module _ {V A : Type 0} (t : TreeSetting V) (makes : ℕ → Call → Option HeldView → StoreLane V → Outcome → StoreLane V → Type 0)
     (actions : ℕ → A → Type 0) (gives : A → ℕ → V → Answer → A → Type 0) where
-  -- The node's context is closed with an action of the node, by one close or by several of which all but the last were refused; and this is how the closes of its
-  -- values ended, in their order
-  pub record ClosesNode (node : ℕ) (before : List (StoreLane V)) (faults : List (Option Fault)) (after : List (StoreLane V)) : Type 0 where
-    pub closer : CloserView
-    pub closer_is : IsCloserOf t.store closer
-    pub context_is : closer.context ≡ node
-    pub action : A
-    pub action_is : actions node action
-    pub action_left : A
-    pub closed : Closed
-    pub closes : IsClosedBy t.is_closeable gives t.store closer before action closed after action_left
-    pub faults_are : faults ≡ map fault_in closes.closes.answers
-
-  -- what a call of the node does to a lane, where it is lent this
-  abbrev pub MakesOn : ℕ → Option HeldView → StoreLane V → Call → Outcome → StoreLane V → Type 0
-  MakesOn node held before call outcome after = makes node call held before outcome after
-
-  -- A test: the first lock lane takes its locks, all of its calls are lent them, its context is closed with all lanes, and the same lock lane gives them back
-  pub record TestRun (node : ℕ) (path : List ℕ) (before : Lanes V) (ran : List Ran) (after : Lanes V) : Type 0 where
-    pub set : List (ℕ × LockMode)
-    pub set_is : IsSetOf t.locks.names (locks_on t.suite path) set
-    pub held : HeldView
-    pub locked : List Lane
-    pub takes : OnFirst (λ a b. TakesSet t.locks set a held b) before.second locked
-    pub outcomes : List Outcome
-    pub called : List (StoreLane V)
-    pub calls : OnFirst (λ a b. MakesCalls (MakesOn node (Some held)) (befores_of t.registered true node path) (test_call node) (afters_of t.registered true node path) a outcomes b) before.first called
-    pub faults : List (Option Fault)
-    pub closes : ClosesNode node called faults after.first
-    pub given_back : OnFirst (GivesBack held) locked after.second
-    pub ran_is : ran ≡ record { result = result_of node true (endings_of outcomes) (computed_in outcomes) (found_in outcomes) faults; went_on = true } ∷ []
-
   -- the children of a container that run beside one another
   abbrev pub concurrent_children : ℕ → List ℕ
   concurrent_children node = filter t.suite.is_concurrent (children_of t.store.tree node)
@@ -174,15 +68,15 @@ module _ {V A : Type 0} (t : TreeSetting V) (makes : ℕ → Call → Option Hel
     pub record ContainerRun (node : ℕ) (path : List ℕ) (before : Lanes V) (ran : List Ran) (after : Lanes V) : Type 0 where
       pub befores : List Outcome
       pub opened : List (StoreLane V)
-      pub befores_made : OnFirst (λ a b. MakesBefores (MakesOn node None) (befores_of t.registered false node path) a befores b) before.first opened
+      pub befores_made : OnFirst (λ a b. MakesBefores (MakesOn t makes actions gives node None) (befores_of t.registered false node path) a befores b) before.first opened
       pub body : Lanes V
       pub below : List Ran
       pub body_made : BodyMade (all_successful (endings_of befores)) node (record { first = opened; second = before.second }) below body
       pub afters : List Outcome
       pub called : List (StoreLane V)
-      pub afters_made : OnFirst (λ a b. MakesAll (MakesOn node None) (afters_of t.registered false node path) a afters b) body.first called
+      pub afters_made : OnFirst (λ a b. MakesAll (MakesOn t makes actions gives node None) (afters_of t.registered false node path) a afters b) body.first called
       pub faults : List (Option Fault)
-      pub closes : ClosesNode node called faults after.first
+      pub closes : ClosesNode t makes actions gives node called faults after.first
       pub no_locks : after.second ≡ body.second
       pub ran_are : ran ≡ record {
         result = result_of node false (endings_of (befores ++ afters)) (computed_in (befores ++ afters)) (found_in (befores ++ afters)) faults;
@@ -194,46 +88,5 @@ module _ {V A : Type 0} (t : TreeSetting V) (makes : ℕ → Call → Option Hel
   TreeRun zero node before ran after = ⊥
   TreeRun (suc depth) node before ran after =
       (path : List ℕ) × IsPathOf t.store.tree node path
-      × (t.suite.is_test node ≡ true → TestRun node path before ran after)
+      × (t.suite.is_test node ≡ true → TestRun t makes actions gives node path before ran after)
       × (t.suite.is_test node ≡ false → ContainerRun (λ child s below u. TreeRun depth child s below u) node path before ran after)
-
--- ---- conditions
-
--- 1 to 16 lanes, all of the store, and as many lock lanes, all of the locks, that hold nothing
-pub record IsUsable {V : Type 0} (store : StoreView) (locks : LocksView) (s : Lanes V) : Type 0 where
-  pub some : 0 < length s.first
-  pub same : length s.second ≡ length s.first
-  pub few : length s.first ≤ 16
-  pub lanes : All (IsLaneOf store.id) s.first
-  pub idle : All (IsIdle locks) s.second
-
--- the locks have the name that is asked for
-abbrev pub IsNamedLock : List (List ℕ) → Option (List ℕ) → Type 0
-IsNamedLock names None = ⊤
-IsNamedLock names (Some name) = Contains names name
-
--- the locks have every name that a node asks for, and no node is below a test
-pub record IsFit (store : StoreView) (locks : LocksView) (suite : SuiteView) : Type 0 where
-  pub names : (node : ℕ) → node < length store.tree → All (λ asked. IsNamedLock locks.names asked.name) (suite.locks node)
-  pub below : (node : ℕ) → node < length store.tree → suite.is_test node ≡ true → children_of store.tree node ≡ []
-
--- ---- faults
-
-module _ {V A : Type 0} (t : TreeSetting V) (actions : ℕ → A → Type 0) (gives : A → ℕ → V → Answer → A → Type 0) where
-  -- a close of this context was refused: this number remained in it, and no lane in hand knew its value
-  pub record IsUnjoined (context number : ℕ) : Type 0 where
-    pub closer : CloserView
-    pub closer_is : IsCloserOf t.store closer
-    pub context_is : closer.context ≡ context
-    pub action : A
-    pub action_is : actions context action
-    pub before : List (StoreLane V)
-    pub own_lanes : All (IsLaneOf t.store.id) before
-    pub after : List (StoreLane V)
-    pub refused : Closes t.is_closeable gives t.store closer before action (Err (closer, close_fault.Unjoined number)) after action
-
-  -- why a tree is not run to its end: memory ran out, or a context could not be closed
-  abbrev pub IsFault : EngineFault → Type 0
-  IsFault faults.Memory = Unit {0}
-  IsFault faults.NoThread = ⊥
-  IsFault (faults.Unjoined context number) = IsUnjoined context number

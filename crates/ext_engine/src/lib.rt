@@ -6,22 +6,14 @@
 //! Guide, sections "Parallel Execution", "Synchronization" and "Keeping State in Extensions".
 #![tactic(auto)]
 
-mod closers;
-mod closing;
-mod fault;
 mod laws;
-mod locking;
-mod node_calls;
-mod results;
 mod runner;
-mod suite;
 mod tree_run;
 
 pub use ext_lifecycle::{
     Call, Callbacks, Caller, Kind, Mode, NodeResult, Outcome, Status, Tally, Verdict, run_afters,
     run_befores, run_body,
 };
-pub use fault::EngineFault;
+pub use ext_node_run::{EngineFault, Suite};
 pub use laws::engine_laws;
-pub use suite::Suite;
 pub use tree_run::run_tree;

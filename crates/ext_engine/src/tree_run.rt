@@ -5,21 +5,20 @@ ghost use Rattle.ext_tree.specs.Paths.{IsPathOf, children_of};
 ghost use Rattle.ext_lifecycle.specs.Results.{told};
 ghost use Rattle.ext_store.specs.Stores.{closers_below};
 ghost use Rattle.ext_crew.specs.Dealing.{RunByDealing};
-ghost use Rattle.ext_engine.specs.Closers.{IsNode};
-ghost use Rattle.ext_engine.specs.TreeRun.{Ran, setting_of, IsUsable, IsFit, IsFault, TreeRun, TestRun, ContainerRun, BodyMade, RanInTurn, all_results};
-ghost use Rattle.ext_engine.specs.Helpers.{ran_view};
+ghost use Rattle.ext_node_run.specs.Closers.{IsNode};
+ghost use Rattle.ext_engine.specs.TreeRun.{Ran, setting_of, IsUsable, IsFit, IsFault, TreeRun, ContainerRun, BodyMade, RanInTurn, all_results};
+ghost use Rattle.ext_node_run.specs.Helpers.{ran_view};
 
-use crate::closers::{Item, items_of_children, take_own};
-use crate::closing::close_node;
-use crate::locking::{give_locks, take_locks, test_set};
-use crate::node_calls::{call_afters, call_befores, call_test};
-use crate::results::{RanNode, all_skipped, gathered, place};
 use crate::runner::TreeRunner;
 use crate::{EngineFault, Suite};
 use ext_crew::{Gate, run_children};
-use ext_lifecycle::{Call, Kind, NodeResult, afters_of, befores_of};
+use ext_lifecycle::{NodeResult, afters_of, befores_of};
 use ext_locks::{LockLane, Locks};
 use ext_model::ContextNo;
+use ext_node_run::{
+    Item, NodeRunner, RanNode, all_skipped, call_afters, call_befores, gathered, items_of_children,
+    place, take_own,
+};
 use ext_store::{Closer, Lane, Store, StoreValue};
 use std::alloc::Global;
 use std::sync::Wait;
@@ -73,13 +72,13 @@ pub fn run_tree<
         × (map told results.items ≡ all_results (S.nodes suite.now) (length store.now.tree) ran)) }
     ensures fault { IfErr result (IsFault (setting_of store.now locks.now (S.nodes suite.now) (S.registered suite.now) V.is_closeable) (S.action_gives suite.now) S.Action.close_gives) }
 {
-    let runner = TreeRunner {
+    let nodes = NodeRunner {
         rt,
         suite,
         store,
         locks,
-        gate,
     };
+    let runner = TreeRunner { nodes, gate };
     let mut results = all_skipped(alloc, suite, store.tree().len())?;
     let item = Item { node: 0, closers };
     let ran = runner.run_node(alloc, LEVELS, item, lanes, lock_lanes)?;
@@ -104,80 +103,21 @@ impl<
         lanes: &mut [Lane<V>],
         lock_lanes: &mut [LockLane],
     ) -> Result<Vec<RanNode>, EngineFault>
-        requires item { IsNode self.now.store.now depth item }
-        requires fit { IsFit self.now.store.now self.now.locks.now (S.nodes self.now.suite.now) }
-        requires suite_fits { S.fits self.now.suite.now self.now.store.now }
-        requires lanes { IsUsable self.now.store.now self.now.locks.now (record { first = lanes.old; second = lock_lanes.old }) }
-        ensures lanes { IsUsable self.now.store.now self.now.locks.now (record { first = lanes.new; second = lock_lanes.new }) }
+        requires item { IsNode self.now.nodes.store.now depth item }
+        requires fit { IsFit self.now.nodes.store.now self.now.nodes.locks.now (S.nodes self.now.nodes.suite.now) }
+        requires suite_fits { S.fits self.now.nodes.suite.now self.now.nodes.store.now }
+        requires lanes { IsUsable self.now.nodes.store.now self.now.nodes.locks.now (record { first = lanes.old; second = lock_lanes.old }) }
+        ensures lanes { IsUsable self.now.nodes.store.now self.now.nodes.locks.now (record { first = lanes.new; second = lock_lanes.new }) }
         ensures count { length lanes.new ≡ length lanes.old }
-        ensures run { IfOk result (λ ran. TreeRun (setting_of self.now.store.now self.now.locks.now (S.nodes self.now.suite.now) (S.registered self.now.suite.now) V.is_closeable) (S.call_gives self.now.suite.now self.now.store.now) (S.action_gives self.now.suite.now) S.Action.close_gives depth item.node
+        ensures run { IfOk result (λ ran. TreeRun (setting_of self.now.nodes.store.now self.now.nodes.locks.now (S.nodes self.now.nodes.suite.now) (S.registered self.now.nodes.suite.now) V.is_closeable) (S.call_gives self.now.nodes.suite.now self.now.nodes.store.now) (S.action_gives self.now.nodes.suite.now) S.Action.close_gives depth item.node
             (record { first = lanes.old; second = lock_lanes.old }) (map ran_view ran.items) (record { first = lanes.new; second = lock_lanes.new })) }
-        ensures fault { IfErr result (IsFault (setting_of self.now.store.now self.now.locks.now (S.nodes self.now.suite.now) (S.registered self.now.suite.now) V.is_closeable) (S.action_gives self.now.suite.now) S.Action.close_gives) }
+        ensures fault { IfErr result (IsFault (setting_of self.now.nodes.store.now self.now.nodes.locks.now (S.nodes self.now.nodes.suite.now) (S.registered self.now.nodes.suite.now) V.is_closeable) (S.action_gives self.now.nodes.suite.now) S.Action.close_gives) }
     {
-        let _path = self.store.tree().path(item.node);
-        if self.suite.is_test(item.node) {
-            self.run_test(alloc, depth, item, lanes, lock_lanes)
+        let _path = self.nodes.store.tree().path(item.node);
+        if self.nodes.suite.is_test(item.node) {
+            self.nodes.run_test(alloc, depth, item, lanes, lock_lanes)
         } else {
             self.run_container(alloc, depth, item, lanes, lock_lanes)
-        }
-    }
-
-    /// A test, with its locks from before its calls until its context is closed. Memory is taken before the locks, so that these are
-    /// given back whatever happens.
-    fn run_test(
-        &self,
-        alloc: Global,
-        depth: usize,
-        item: Item,
-        lanes: &mut [Lane<V>],
-        lock_lanes: &mut [LockLane],
-    ) -> Result<Vec<RanNode>, EngineFault>
-        requires item { IsNode self.now.store.now depth item }
-        requires fit { IsFit self.now.store.now self.now.locks.now (S.nodes self.now.suite.now) }
-        requires suite_fits { S.fits self.now.suite.now self.now.store.now }
-        requires test { (S.nodes self.now.suite.now).is_test item.node ≡ true }
-        requires lanes { IsUsable self.now.store.now self.now.locks.now (record { first = lanes.old; second = lock_lanes.old }) }
-        ensures lanes { IsUsable self.now.store.now self.now.locks.now (record { first = lanes.new; second = lock_lanes.new }) }
-        ensures count { length lanes.new ≡ length lanes.old }
-        ensures run { IfOk result (λ ran. (path : List ℕ) × IsPathOf self.now.store.now.tree item.node path × TestRun (setting_of self.now.store.now self.now.locks.now (S.nodes self.now.suite.now) (S.registered self.now.suite.now) V.is_closeable) (S.call_gives self.now.suite.now self.now.store.now) (S.action_gives self.now.suite.now) S.Action.close_gives item.node path
-            (record { first = lanes.old; second = lock_lanes.old }) (map ran_view ran.items) (record { first = lanes.new; second = lock_lanes.new })) }
-        ensures fault { IfErr result (IsFault (setting_of self.now.store.now self.now.locks.now (S.nodes self.now.suite.now) (S.registered self.now.suite.now) V.is_closeable) (S.action_gives self.now.suite.now) S.Action.close_gives) }
-    {
-        let Item { node, mut closers } = item;
-        let closer = take_own(self.store, node, &mut closers);
-        let path = self.store.tree().path(node);
-        let befores = befores_of(alloc, self.suite, true, node, path.as_slice())?;
-        let afters = afters_of(alloc, self.suite, true, node, path.as_slice())?;
-        let set = test_set(alloc, self.suite, self.locks, path.as_slice())?;
-        let mut ran = Vec::with_capacity(alloc, 1)?;
-        let body = Call {
-            kind: Kind::Test,
-            from: node,
-            index: 0,
-        };
-        let held = take_locks(self.rt, self.locks, &mut lock_lanes[0], &set);
-        let tally = call_test(
-            self.rt,
-            self.suite,
-            self.store,
-            node,
-            &held,
-            &mut lanes[0],
-            befores.as_slice(),
-            body,
-            afters.as_slice(),
-        );
-        let closed = close_node(self, node, closer, lanes);
-        give_locks(self.locks, &mut lock_lanes[0], held);
-        match closed {
-            Ok(closes) => {
-                ran.push_reserved(RanNode {
-                    result: tally.result(node, true, closes),
-                    went_on: true,
-                });
-                Ok(ran)
-            }
-            Err(number) => Err(EngineFault::Unjoined(node, number)),
         }
     }
 
@@ -191,28 +131,34 @@ impl<
         lanes: &mut [Lane<V>],
         lock_lanes: &mut [LockLane],
     ) -> Result<Vec<RanNode>, EngineFault>
-        requires item { IsNode self.now.store.now depth item }
-        requires fit { IsFit self.now.store.now self.now.locks.now (S.nodes self.now.suite.now) }
-        requires suite_fits { S.fits self.now.suite.now self.now.store.now }
-        requires container { (S.nodes self.now.suite.now).is_test item.node ≡ false }
-        requires lanes { IsUsable self.now.store.now self.now.locks.now (record { first = lanes.old; second = lock_lanes.old }) }
-        ensures lanes { IsUsable self.now.store.now self.now.locks.now (record { first = lanes.new; second = lock_lanes.new }) }
+        requires item { IsNode self.now.nodes.store.now depth item }
+        requires fit { IsFit self.now.nodes.store.now self.now.nodes.locks.now (S.nodes self.now.nodes.suite.now) }
+        requires suite_fits { S.fits self.now.nodes.suite.now self.now.nodes.store.now }
+        requires container { (S.nodes self.now.nodes.suite.now).is_test item.node ≡ false }
+        requires lanes { IsUsable self.now.nodes.store.now self.now.nodes.locks.now (record { first = lanes.old; second = lock_lanes.old }) }
+        ensures lanes { IsUsable self.now.nodes.store.now self.now.nodes.locks.now (record { first = lanes.new; second = lock_lanes.new }) }
         ensures count { length lanes.new ≡ length lanes.old }
-        ensures run { IfOk result (λ ran. (path : List ℕ) × IsPathOf self.now.store.now.tree item.node path × ContainerRun (setting_of self.now.store.now self.now.locks.now (S.nodes self.now.suite.now) (S.registered self.now.suite.now) V.is_closeable) (S.call_gives self.now.suite.now self.now.store.now) (S.action_gives self.now.suite.now) S.Action.close_gives (TreeRun (setting_of self.now.store.now self.now.locks.now (S.nodes self.now.suite.now) (S.registered self.now.suite.now) V.is_closeable) (S.call_gives self.now.suite.now self.now.store.now) (S.action_gives self.now.suite.now) S.Action.close_gives (depth - 1)) item.node path
+        ensures run { IfOk result (λ ran. (path : List ℕ) × IsPathOf self.now.nodes.store.now.tree item.node path × ContainerRun (setting_of self.now.nodes.store.now self.now.nodes.locks.now (S.nodes self.now.nodes.suite.now) (S.registered self.now.nodes.suite.now) V.is_closeable) (S.call_gives self.now.nodes.suite.now self.now.nodes.store.now) (S.action_gives self.now.nodes.suite.now) S.Action.close_gives (TreeRun (setting_of self.now.nodes.store.now self.now.nodes.locks.now (S.nodes self.now.nodes.suite.now) (S.registered self.now.nodes.suite.now) V.is_closeable) (S.call_gives self.now.nodes.suite.now self.now.nodes.store.now) (S.action_gives self.now.nodes.suite.now) S.Action.close_gives (depth - 1)) item.node path
             (record { first = lanes.old; second = lock_lanes.old }) (map ran_view ran.items) (record { first = lanes.new; second = lock_lanes.new })) }
-        ensures fault { IfErr result (IsFault (setting_of self.now.store.now self.now.locks.now (S.nodes self.now.suite.now) (S.registered self.now.suite.now) V.is_closeable) (S.action_gives self.now.suite.now) S.Action.close_gives) }
+        ensures fault { IfErr result (IsFault (setting_of self.now.nodes.store.now self.now.nodes.locks.now (S.nodes self.now.nodes.suite.now) (S.registered self.now.nodes.suite.now) V.is_closeable) (S.action_gives self.now.nodes.suite.now) S.Action.close_gives) }
     {
         let Item { node, mut closers } = item;
-        let closer = take_own(self.store, node, &mut closers);
-        let path = self.store.tree().path(node);
-        let befores = befores_of(alloc, self.suite, false, node, path.as_slice())?;
-        let afters = afters_of(alloc, self.suite, false, node, path.as_slice())?;
-        let (beside, in_turn) = items_of_children(alloc, self.suite, self.store, node, closers)?;
+        let closer = take_own(self.nodes.store, node, &mut closers);
+        let path = self.nodes.store.tree().path(node);
+        let befores = befores_of(alloc, self.nodes.suite, false, node, path.as_slice())?;
+        let afters = afters_of(alloc, self.nodes.suite, false, node, path.as_slice())?;
+        let (beside, in_turn) = items_of_children(
+            alloc,
+            self.nodes.suite,
+            self.nodes.store,
+            node,
+            closers,
+        )?;
         let mut ran = Vec::with_capacity(alloc, 1)?;
         let mut tally = call_befores(
-            self.rt,
-            self.suite,
-            self.store,
+            self.nodes.rt,
+            self.nodes.suite,
+            self.nodes.store,
             node,
             &mut lanes[0],
             befores.as_slice(),
@@ -229,15 +175,15 @@ impl<
             lock_lanes,
         )?;
         call_afters(
-            self.rt,
-            self.suite,
-            self.store,
+            self.nodes.rt,
+            self.nodes.suite,
+            self.nodes.store,
             node,
             &mut lanes[0],
             afters.as_slice(),
             &mut tally,
         );
-        match close_node(self, node, closer, lanes) {
+        match self.nodes.close_node(node, closer, lanes) {
             Ok(closes) => {
                 ran.push_reserved(RanNode {
                     result: tally.result(node, false, closes),
@@ -263,19 +209,19 @@ impl<
         lanes: &mut [Lane<V>],
         lock_lanes: &mut [LockLane],
     ) -> Result<Vec<RanNode>, EngineFault>
-        requires beside { All (IsNode self.now.store.now depth) beside.items }
+        requires beside { All (IsNode self.now.nodes.store.now depth) beside.items }
         requires few { vec_len beside ≤ 256 }
-        requires in_turn { All (IsNode self.now.store.now depth) in_turn.items }
-        requires concurrent { map (λ i. i.node) beside.items ≡ filter (S.nodes self.now.suite.now).is_concurrent (children_of self.now.store.now.tree node) }
-        requires same_thread { map (λ i. i.node) in_turn.items ≡ filter (λ c. not ((S.nodes self.now.suite.now).is_concurrent c)) (children_of self.now.store.now.tree node) }
-        requires fit { IsFit self.now.store.now self.now.locks.now (S.nodes self.now.suite.now) }
-        requires suite_fits { S.fits self.now.suite.now self.now.store.now }
-        requires lanes { IsUsable self.now.store.now self.now.locks.now (record { first = lanes.old; second = lock_lanes.old }) }
-        ensures lanes { IsUsable self.now.store.now self.now.locks.now (record { first = lanes.new; second = lock_lanes.new }) }
+        requires in_turn { All (IsNode self.now.nodes.store.now depth) in_turn.items }
+        requires concurrent { map (λ i. i.node) beside.items ≡ filter (S.nodes self.now.nodes.suite.now).is_concurrent (children_of self.now.nodes.store.now.tree node) }
+        requires same_thread { map (λ i. i.node) in_turn.items ≡ filter (λ c. not ((S.nodes self.now.nodes.suite.now).is_concurrent c)) (children_of self.now.nodes.store.now.tree node) }
+        requires fit { IsFit self.now.nodes.store.now self.now.nodes.locks.now (S.nodes self.now.nodes.suite.now) }
+        requires suite_fits { S.fits self.now.nodes.suite.now self.now.nodes.store.now }
+        requires lanes { IsUsable self.now.nodes.store.now self.now.nodes.locks.now (record { first = lanes.old; second = lock_lanes.old }) }
+        ensures lanes { IsUsable self.now.nodes.store.now self.now.nodes.locks.now (record { first = lanes.new; second = lock_lanes.new }) }
         ensures count { length lanes.new ≡ length lanes.old }
-        ensures run { IfOk result (λ ran. BodyMade (setting_of self.now.store.now self.now.locks.now (S.nodes self.now.suite.now) (S.registered self.now.suite.now) V.is_closeable) (S.call_gives self.now.suite.now self.now.store.now) (S.action_gives self.now.suite.now) S.Action.close_gives (TreeRun (setting_of self.now.store.now self.now.locks.now (S.nodes self.now.suite.now) (S.registered self.now.suite.now) V.is_closeable) (S.call_gives self.now.suite.now self.now.store.now) (S.action_gives self.now.suite.now) S.Action.close_gives depth) go node
+        ensures run { IfOk result (λ ran. BodyMade (setting_of self.now.nodes.store.now self.now.nodes.locks.now (S.nodes self.now.nodes.suite.now) (S.registered self.now.nodes.suite.now) V.is_closeable) (S.call_gives self.now.nodes.suite.now self.now.nodes.store.now) (S.action_gives self.now.nodes.suite.now) S.Action.close_gives (TreeRun (setting_of self.now.nodes.store.now self.now.nodes.locks.now (S.nodes self.now.nodes.suite.now) (S.registered self.now.nodes.suite.now) V.is_closeable) (S.call_gives self.now.nodes.suite.now self.now.nodes.store.now) (S.action_gives self.now.nodes.suite.now) S.Action.close_gives depth) go node
             (record { first = lanes.old; second = lock_lanes.old }) (map ran_view ran.items) (record { first = lanes.new; second = lock_lanes.new })) }
-        ensures fault { IfErr result (IsFault (setting_of self.now.store.now self.now.locks.now (S.nodes self.now.suite.now) (S.registered self.now.suite.now) V.is_closeable) (S.action_gives self.now.suite.now) S.Action.close_gives) }
+        ensures fault { IfErr result (IsFault (setting_of self.now.nodes.store.now self.now.nodes.locks.now (S.nodes self.now.nodes.suite.now) (S.registered self.now.nodes.suite.now) V.is_closeable) (S.action_gives self.now.nodes.suite.now) S.Action.close_gives) }
     {
         if !go {
             return Ok(Vec::new(alloc));
@@ -297,15 +243,15 @@ impl<
         lanes: &mut [Lane<V>],
         lock_lanes: &mut [LockLane],
     ) -> Result<Vec<RanNode>, EngineFault>
-        requires items { All (IsNode self.now.store.now depth) items.items }
-        requires fit { IsFit self.now.store.now self.now.locks.now (S.nodes self.now.suite.now) }
-        requires suite_fits { S.fits self.now.suite.now self.now.store.now }
-        requires lanes { IsUsable self.now.store.now self.now.locks.now (record { first = lanes.old; second = lock_lanes.old }) }
-        ensures lanes { IsUsable self.now.store.now self.now.locks.now (record { first = lanes.new; second = lock_lanes.new }) }
+        requires items { All (IsNode self.now.nodes.store.now depth) items.items }
+        requires fit { IsFit self.now.nodes.store.now self.now.nodes.locks.now (S.nodes self.now.nodes.suite.now) }
+        requires suite_fits { S.fits self.now.nodes.suite.now self.now.nodes.store.now }
+        requires lanes { IsUsable self.now.nodes.store.now self.now.nodes.locks.now (record { first = lanes.old; second = lock_lanes.old }) }
+        ensures lanes { IsUsable self.now.nodes.store.now self.now.nodes.locks.now (record { first = lanes.new; second = lock_lanes.new }) }
         ensures count { length lanes.new ≡ length lanes.old }
-        ensures run { IfOk result (λ ran. RanInTurn (TreeRun (setting_of self.now.store.now self.now.locks.now (S.nodes self.now.suite.now) (S.registered self.now.suite.now) V.is_closeable) (S.call_gives self.now.suite.now self.now.store.now) (S.action_gives self.now.suite.now) S.Action.close_gives depth) (map (λ i. i.node) items.items)
+        ensures run { IfOk result (λ ran. RanInTurn (TreeRun (setting_of self.now.nodes.store.now self.now.nodes.locks.now (S.nodes self.now.nodes.suite.now) (S.registered self.now.nodes.suite.now) V.is_closeable) (S.call_gives self.now.nodes.suite.now self.now.nodes.store.now) (S.action_gives self.now.nodes.suite.now) S.Action.close_gives depth) (map (λ i. i.node) items.items)
             (record { first = lanes.old; second = lock_lanes.old }) (map ran_view ran.items) (record { first = lanes.new; second = lock_lanes.new })) }
-        ensures fault { IfErr result (IsFault (setting_of self.now.store.now self.now.locks.now (S.nodes self.now.suite.now) (S.registered self.now.suite.now) V.is_closeable) (S.action_gives self.now.suite.now) S.Action.close_gives) }
+        ensures fault { IfErr result (IsFault (setting_of self.now.nodes.store.now self.now.nodes.locks.now (S.nodes self.now.nodes.suite.now) (S.registered self.now.nodes.suite.now) V.is_closeable) (S.action_gives self.now.nodes.suite.now) S.Action.close_gives) }
     {
         let mut ran = Vec::new(alloc);
         for item in items {
@@ -325,34 +271,42 @@ impl<
         lanes: &mut [Lane<V>],
         lock_lanes: &mut [LockLane],
     ) -> Result<Vec<Result<Vec<RanNode>, EngineFault>>, EngineFault>
-        requires items { All (IsNode self.now.store.now depth) items.items }
+        requires items { All (IsNode self.now.nodes.store.now depth) items.items }
         requires few { vec_len items ≤ 256 }
-        requires fit { IsFit self.now.store.now self.now.locks.now (S.nodes self.now.suite.now) }
-        requires suite_fits { S.fits self.now.suite.now self.now.store.now }
-        requires lanes { IsUsable self.now.store.now self.now.locks.now (record { first = lanes.old; second = lock_lanes.old }) }
-        ensures lanes { IsUsable self.now.store.now self.now.locks.now (record { first = lanes.new; second = lock_lanes.new }) }
+        requires fit { IsFit self.now.nodes.store.now self.now.nodes.locks.now (S.nodes self.now.nodes.suite.now) }
+        requires suite_fits { S.fits self.now.nodes.suite.now self.now.nodes.store.now }
+        requires lanes { IsUsable self.now.nodes.store.now self.now.nodes.locks.now (record { first = lanes.old; second = lock_lanes.old }) }
+        ensures lanes { IsUsable self.now.nodes.store.now self.now.nodes.locks.now (record { first = lanes.new; second = lock_lanes.new }) }
         ensures count { length lanes.new ≡ length lanes.old }
         ensures run { IfOk result (λ outcomes. RunByDealing
-            (λ i s ran u. IfOk ran (λ v. TreeRun (setting_of self.now.store.now self.now.locks.now (S.nodes self.now.suite.now) (S.registered self.now.suite.now) V.is_closeable) (S.call_gives self.now.suite.now self.now.store.now) (S.action_gives self.now.suite.now) S.Action.close_gives depth (slice_index_or (map (λ i. i.node) items.items) i 0) s (map ran_view v.items) u))
+            (λ i s ran u. IfOk ran (λ v. TreeRun (setting_of self.now.nodes.store.now self.now.nodes.locks.now (S.nodes self.now.nodes.suite.now) (S.registered self.now.nodes.suite.now) V.is_closeable) (S.call_gives self.now.nodes.suite.now self.now.nodes.store.now) (S.action_gives self.now.nodes.suite.now) S.Action.close_gives depth (slice_index_or (map (λ i. i.node) items.items) i 0) s (map ran_view v.items) u))
             (length items.items) (min (length lanes.old) (length items.items))
             (record { first = lanes.old; second = lock_lanes.old }) outcomes.items (record { first = lanes.new; second = lock_lanes.new })) }
-        ensures faults { IfOk result (λ outcomes. All (λ ran. IfErr ran (IsFault (setting_of self.now.store.now self.now.locks.now (S.nodes self.now.suite.now) (S.registered self.now.suite.now) V.is_closeable) (S.action_gives self.now.suite.now) S.Action.close_gives)) outcomes.items) }
-        ensures fault { IfErr result (IsFault (setting_of self.now.store.now self.now.locks.now (S.nodes self.now.suite.now) (S.registered self.now.suite.now) V.is_closeable) (S.action_gives self.now.suite.now) S.Action.close_gives) }
+        ensures faults { IfOk result (λ outcomes. All (λ ran. IfErr ran (IsFault (setting_of self.now.nodes.store.now self.now.nodes.locks.now (S.nodes self.now.nodes.suite.now) (S.registered self.now.nodes.suite.now) V.is_closeable) (S.action_gives self.now.nodes.suite.now) S.Action.close_gives)) outcomes.items) }
+        ensures fault { IfErr result (IsFault (setting_of self.now.nodes.store.now self.now.nodes.locks.now (S.nodes self.now.nodes.suite.now) (S.registered self.now.nodes.suite.now) V.is_closeable) (S.action_gives self.now.nodes.suite.now) S.Action.close_gives) }
     {
         let run = |_index: usize, item: Item, lanes: &mut [Lane<
             V,
         >], lock_lanes: &mut [LockLane]| -> Result<Vec<RanNode>, EngineFault>
-            requires { IsSync R.row × IsSync S.row × IsSync G.row × IsSync V.row × IsSend V.row × IsSync S.Action.row × IsSend S.Action.row × IsNode self.now.store.now depth item
-                × IsFit self.now.store.now self.now.locks.now (S.nodes self.now.suite.now)
-                × S.fits self.now.suite.now self.now.store.now
-                × IsUsable self.now.store.now self.now.locks.now (record { first = lanes.old; second = lock_lanes.old }) }
-            ensures { IsUsable self.entry.now.store.now self.entry.now.locks.now (record { first = lanes.new; second = lock_lanes.new })
+            requires { IsSync R.row × IsSync S.row × IsSync G.row × IsSync V.row × IsSend V.row × IsSync S.Action.row × IsSend S.Action.row × IsNode self.now.nodes.store.now depth item
+                × IsFit self.now.nodes.store.now self.now.nodes.locks.now (S.nodes self.now.nodes.suite.now)
+                × S.fits self.now.nodes.suite.now self.now.nodes.store.now
+                × IsUsable self.now.nodes.store.now self.now.nodes.locks.now (record { first = lanes.old; second = lock_lanes.old }) }
+            ensures { IsUsable self.entry.now.nodes.store.now self.entry.now.nodes.locks.now (record { first = lanes.new; second = lock_lanes.new })
                 × (length lanes.new ≡ length lanes.old)
-                × IfOk result (λ ran. TreeRun (setting_of self.entry.now.store.now self.entry.now.locks.now (S.nodes self.entry.now.suite.now) (S.registered self.entry.now.suite.now) V.is_closeable) (S.call_gives self.entry.now.suite.now self.entry.now.store.now) (S.action_gives self.entry.now.suite.now) S.Action.close_gives depth item.node
+                × IfOk result (λ ran. TreeRun (setting_of self.entry.now.nodes.store.now self.entry.now.nodes.locks.now (S.nodes self.entry.now.nodes.suite.now) (S.registered self.entry.now.nodes.suite.now) V.is_closeable) (S.call_gives self.entry.now.nodes.suite.now self.entry.now.nodes.store.now) (S.action_gives self.entry.now.nodes.suite.now) S.Action.close_gives depth item.node
                 (record { first = lanes.old; second = lock_lanes.old }) (map ran_view ran.items) (record { first = lanes.new; second = lock_lanes.new }))
-                × IfErr result (IsFault (setting_of self.entry.now.store.now self.entry.now.locks.now (S.nodes self.entry.now.suite.now) (S.registered self.entry.now.suite.now) V.is_closeable) (S.action_gives self.entry.now.suite.now) S.Action.close_gives) }
+                × IfErr result (IsFault (setting_of self.entry.now.nodes.store.now self.entry.now.nodes.locks.now (S.nodes self.entry.now.nodes.suite.now) (S.registered self.entry.now.nodes.suite.now) V.is_closeable) (S.action_gives self.entry.now.nodes.suite.now) S.Action.close_gives) }
         { self.run_node(alloc, depth, item, lanes, lock_lanes) };
-        match run_children(self.rt, alloc, lanes, lock_lanes, items, &run, self.gate) {
+        match run_children(
+            self.nodes.rt,
+            alloc,
+            lanes,
+            lock_lanes,
+            items,
+            &run,
+            self.gate,
+        ) {
             Ok(outcomes) => Ok(outcomes),
             Err(fault) => Err(EngineFault::from(fault)),
         }

@@ -1,4 +1,5 @@
 pub mod Lists
+pub mod Once
 pub mod Lanes
 pub mod Legal
 pub mod ByLanes

@@ -4,7 +4,7 @@ ghost use Rattle.ext_model.specs.Calls.{IsHeld};
 
 use crate::hand::{Call, end_claim, go, rows};
 use crate::same::same;
-use ext_cells::{CellLane, CellRefusal, Cells, Claim, Claimed};
+use ext_cells::{CellLane, CellRefusal, Cells, Claim, Claimed, Nearest};
 use std::process::Abort;
 
 #[test]
@@ -120,4 +120,33 @@ fn sixteen_cells_at_once(rt: HostRuntime) {
     wanted[3] = 16_777_250;
     let found = sixteen(&cells, &mut lane);
     same(&rt, found, Some(wanted), "the words");
+}
+
+/// The place and the word of the nearest cell, where one was found.
+fn place_and_word(
+    found: Result<Option<Nearest>, CellRefusal>,
+) -> Result<Option<(usize, u64)>, CellRefusal> {
+    match found {
+        Ok(Some(nearest)) => Ok(Some((nearest.place, nearest.word))),
+        Ok(None) => Ok(None),
+        Err(refusal) => Err(refusal),
+    }
+}
+
+#[test]
+fn nearest_cell_decides(rt: HostRuntime) {
+    let Ok((cells, mut lanes)) = Cells::open(rt.alloc(), 9, 1, 1, 8) else {
+        panic!(rt; "no memory")
+    };
+    let Some(mut lane) = lanes.pop() else {
+        panic!(rt; "no lane")
+    };
+    go(&rt, &cells, &mut lane, 4, Call::Puts(1, Ok(None)));
+    go(&rt, &cells, &mut lane, 2, Call::Puts(2, Ok(None)));
+    let own = place_and_word(cells.nearest(&mut lane, &[4, 2, 0]));
+    same(&rt, own, Ok(Some((0, 16_777_234))), "the first cell");
+    let above = place_and_word(cells.nearest(&mut lane, &[8, 6, 2, 0]));
+    same(&rt, above, Ok(Some((2, 16_777_250))), "a later cell");
+    let none = place_and_word(cells.nearest(&mut lane, &[8, 6, 0]));
+    same(&rt, none, Ok(None), "empty cells");
 }

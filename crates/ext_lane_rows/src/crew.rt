@@ -30,7 +30,7 @@ fn squares<R: Threads + Wait + Sync, G: Gate + Sync>(
 }
 
 #[test]
-fn crew_row(rt: HostRuntime) -> Result<(), Fail> {
+fn squares_by_two_workers(rt: HostRuntime) -> Result<(), Fail> {
     let alloc: Global = rt.alloc();
     let items = Vec::from_array(alloc, [0u64, 1, 2, 3, 4])?;
     let some = squares(&rt, alloc, items, &OpenGate)?;

@@ -46,7 +46,7 @@ fn shown(values: &Values<u8>, number: u32) -> Option<u8> {
 }
 
 #[test]
-fn places_row(rt: HostRuntime) -> Result<(), Fail> {
+fn places_are_set_once(rt: HostRuntime) -> Result<(), Fail> {
     let values = Values::new(rt.alloc(), 3)?;
     let first = placed_and_shown(&values, 1, Box::new(rt.alloc(), 7)?);
     let third = placed_and_shown(&values, 3, Box::new(rt.alloc(), 9)?);

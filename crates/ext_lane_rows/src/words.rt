@@ -46,20 +46,27 @@ fn versions_run_out(rt: HostRuntime) {
     next(&rt, after(last, Act::Put(0, 6)), closed);
 }
 
+// The versions stand in the upper 40 bits of these words, a number in the 20 below them, and the state in the lowest four.
 #[test]
-fn claims_end_at_the_last_versions(rt: HostRuntime) {
-    let empty = word(CellState::Empty, 0, LAST_CLAIM);
-    let claimed = word(CellState::Computing, 0, LAST_CLAIM + 1);
-    let filled = word(CellState::Present, 9, LAST_CLAIM + 2);
-    let sealed = word(CellState::Sealed, 9, LAST_CLAIM + 3);
-    let given_up = word(CellState::Empty, 0, LAST_CLAIM + 2);
+fn versions_at_their_limits(rt: HostRuntime) {
+    let empty = 0xffff_ffff_fc00_0000;
+    let computing = 0xffff_ffff_fd00_0001;
+    let present = 0xffff_ffff_fe00_0092;
+    let sealed = 0xffff_ffff_ff00_0093;
+    let abandoned = 0xffff_ffff_fe00_0000;
+    let first = (CellState::Empty, 0, LAST_CLAIM);
+    same(&rt, parts(empty), first, "the word before the claim");
+    next(&rt, after(empty, Act::Claim(0)), Ok(computing));
+    next(&rt, after(computing, Act::Fill(0, 9)), Ok(present));
+    next(&rt, after(present, Act::Seal(0)), Ok(sealed));
+    next(&rt, after(computing, Act::Abandon(0)), Ok(abandoned));
     let busy = Err(CellRefusal::Busy);
-    next(&rt, after(empty, Act::Claim(0)), Ok(claimed));
-    next(&rt, after(claimed, Act::Fill(0, 9)), Ok(filled));
-    next(&rt, after(filled, Act::Seal(0)), Ok(sealed));
-    next(&rt, after(claimed, Act::Abandon(0)), Ok(given_up));
-    next(&rt, after(claimed, Act::Put(0, 9)), busy);
-    next(&rt, after(claimed, Act::Seal(0)), busy);
+    next(&rt, after(computing, Act::Put(0, 9)), busy);
+    next(&rt, after(computing, Act::Seal(0)), busy);
+    let exhausted = Err(CellRefusal::Exhausted);
+    next(&rt, after(present, Act::Remove(0)), exhausted);
+    let closed = Err(CellRefusal::Closed);
+    next(&rt, after(sealed, Act::Put(0, 9)), closed);
 }
 
 /// How many lanes there are of so many cells, or why they are not opened.

@@ -5,13 +5,14 @@
 //! there is no such one (`run_body`; of a container that is its children), then all its after-callbacks (`run_afters`).
 //! Their outcomes make the node's `Tally`, and the closes of its context its `NodeResult`. `befores_of` and
 //! `afters_of` give the callbacks in the order in which they are called. What each call does is the `Caller`'s. Whether
-//! a node may be run beside its siblings is its `Mode`. Own rule.
+//! a node may be run beside its siblings is its `Mode`. A `RunListener` is told how far a run is. Own rule.
 #![tactic(auto)]
 
 mod call;
 mod callbacks;
 mod closes;
 mod lifecycle;
+mod listener;
 mod mode;
 mod node_result;
 mod outcome;
@@ -22,6 +23,7 @@ pub use call::{Call, Kind};
 pub use callbacks::{Callbacks, afters_of, befores_of};
 pub use closes::Closes;
 pub use lifecycle::{Caller, run_afters, run_befores, run_body, run_calls};
+pub use listener::{NoListener, RunListener};
 pub use mode::Mode;
 pub use node_result::NodeResult;
 pub use outcome::{Outcome, Verdict};

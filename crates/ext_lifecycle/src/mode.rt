@@ -1,4 +1,6 @@
 //! How a node is run beside its siblings.
+ghost use Rattle.std.specs.Prelude.{◌≡◌};
+ghost use Rattle.ext_lifecycle.specs.Modes.{is_concurrent};
 
 /// Whether a node may be run beside its siblings (`ExecutionMode`). Source: JUnit 5 User Guide, section "Parallel
 /// Execution".
@@ -11,4 +13,16 @@ pub enum Mode {
     SameThread,
     /// By any worker (`ExecutionMode.CONCURRENT`), beside the parent's other concurrent children.
     Concurrent,
+}
+
+impl Mode {
+    /// Whether nodes of this mode run beside others. Takes no memory. Source: JUnit 5 User Guide, section "Parallel Execution".
+    pub fn is_concurrent(self) -> bool
+        ensures { result ≡ is_concurrent self }
+    {
+        match self {
+            Mode::SameThread => false,
+            Mode::Concurrent => true,
+        }
+    }
 }

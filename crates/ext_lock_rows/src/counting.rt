@@ -29,7 +29,7 @@ fn count_up(locks: &Locks, lane: &mut LockLane, set: &LockSet, number: &AtomicU6
 }
 
 #[test]
-fn two_threads_count_while_they_hold(rt: HostRuntime) -> Result<(), Fail> {
+fn two_writers_count_what_they_hold(rt: HostRuntime) -> Result<(), Fail> {
     let (locks, mut lanes) = Locks::open(rt.alloc(), &["a"], 2, 8)?;
     let writes = locks.merge(&[write("a")])?;
     let number = AtomicU64::new(0);

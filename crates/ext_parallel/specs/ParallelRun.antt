@@ -16,8 +16,8 @@ use Rattle.ext_store.specs.Stores.{StoreView, StoreLane, fresh_store_lane}
 use Rattle.ext_locks.specs.Opening as locking
 use Rattle.ext_locks.specs.Opening.{LocksView}
 use Rattle.ext_locks.specs.Sets.{HeldView}
-use Rattle.ext_engine.specs.declared.fault.EngineFault.{EngineFault}
-use Rattle.ext_engine.specs.declared.fault.EngineFault.TheVariants as faults
+use Rattle.ext_node_run.specs.declared.fault.EngineFault.{EngineFault}
+use Rattle.ext_node_run.specs.declared.fault.EngineFault.TheVariants as faults
 use Rattle.ext_engine.specs.TreeRun.{IsUnjoined, Lanes, Ran, TreeRun, all_results, setting_of}
 use Rattle.ext_store_steps.specs.declared.stored_value.StoredValue.{StoredValue}
 use Rattle.ext_parallel.specs.Opened.{IsStoreOf, IsLocksOf, OnlyMeets, ShareHistory}

@@ -1,5 +1,5 @@
 //! The run of a plan on several lanes.
-ghost use Rattle.std.specs.Prelude.{◌≤◌, map, IfOk, IfErr};
+ghost use Rattle.std.specs.Prelude.{◌<◌, ◌≤◌, All, length, map, IfOk, IfErr};
 ghost use Rattle.ext_lifecycle.specs.Results.{told};
 ghost use Rattle.ext_plan_model.specs.Plans.{plan_view};
 ghost use Rattle.ext_plan_model.specs.Laws.{CallbacksAreFew, HasFewCells, HasFewLocks, NamespacesHaveParts, NodesAreTree, StepListsAreShort, StepsNameLabels, TestsHaveNoChildren};
@@ -9,7 +9,7 @@ use crate::meeting::meet_all;
 use crate::opening::{open_locks, open_store};
 use ext_crew::OpenGate;
 use ext_engine::{EngineFault, run_tree};
-use ext_lifecycle::NodeResult;
+use ext_lifecycle::{NodeResult, RunListener};
 use ext_plan_model::Plan;
 use ext_suite::PlanSuite;
 use std::alloc::Global;
@@ -19,17 +19,18 @@ use std::thread::Threads;
 /// Runs a plan on so many lanes, 1 to 16, each at most by one thread, and gives one result a node, in the order of the plan.
 ///
 /// A store with the plan's contexts and keys and locks with its names are opened for this run, and the tree of the nodes is run over
-/// them by `ext_engine::run_tree`. Steps make the calls of the store that wait. The plan is one as `ext_plan::read_plan` gives it.
+/// them by `ext_engine::run_tree`. The listener is told of each node that has ended. Steps make the calls of the store that wait. The plan is one as `ext_plan::read_plan` gives it.
 ///
 /// Refused as `Memory`, where memory that the run itself needs is refused, and as `Unjoined`, where a context can't be closed, as no lane in
 /// hand knows a value that remains in it; no plan is known for which it comes. `NoThread` is never answered. Want of memory in a step is the step's own fault. Takes memory, and may wait: it promises its clauses if it returns.
 ///
 /// JUnit 5 User Guide, section "Parallel Execution"; lanes are an own rule.
-pub fn parallel_results<R: Threads + Wait + Sync>(
+pub fn parallel_results<R: Threads + Wait + Sync, L: RunListener + Sync>(
     rt: &R,
     alloc: Global,
     plan: &Plan,
     lanes: usize,
+    listener: &L,
 ) -> Result<Vec<NodeResult>, EngineFault>
     requires lanes { (1 ≤ lanes) × (lanes ≤ 16) }
     requires tree { NodesAreTree (plan_view plan.now) }
@@ -41,9 +42,10 @@ pub fn parallel_results<R: Threads + Wait + Sync>(
     requires short { StepListsAreShort (plan_view plan.now) }
     requires few { CallbacksAreFew (plan_view plan.now) }
     ensures run { IfOk result (λ results. ParallelRun (plan_view plan.now) lanes (map told results.items)) }
+    ensures in_tree { IfOk result (λ results. All (λ r. r.node < length plan.now.nodes.items) results.items) }
     ensures fault { IfErr result (IsRefusedRun (plan_view plan.now) lanes) }
 {
-    let suite = PlanSuite::new(alloc, plan)?;
+    let suite = PlanSuite::new(alloc, plan, listener)?;
     let (store, mut store_lanes, closers) = open_store(alloc, plan, lanes)?;
     let (locks, mut lock_lanes) = open_locks(alloc, plan, lanes)?;
     let all_lanes = store_lanes.as_mut_slice();

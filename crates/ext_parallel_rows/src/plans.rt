@@ -1,7 +1,7 @@
 //! Plans on 1 to 16 lanes, whose reports follow from them in every schedule.
 ghost use Rattle.std.specs.Prelude.{All, ◌<◌, ◌≤◌};
 
-use ext_lifecycle::NodeResult;
+use ext_lifecycle::{NoListener, NodeResult};
 use ext_parallel::parallel_results;
 use ext_plan::read_plan;
 use ext_report::report_text;
@@ -31,7 +31,7 @@ fn reports<R: Threads + Wait + Sync + Abort>(
     requires { (1 ≤ lanes) × (lanes ≤ 16) }
 {
     let plan = read_plan(alloc, plan)?;
-    let results = parallel_results(rt, alloc, &plan, lanes)?;
+    let results = parallel_results(rt, alloc, &plan, lanes, &NoListener)?;
     let tree = plan.tree(alloc)?;
     nodes_below(rt, results.as_slice(), tree.len());
     let text = report_text(alloc, &tree, results.as_slice())?;
@@ -94,5 +94,15 @@ fn faults_of_calls_and_closes_are_told(rt: HostRuntime) -> Result<(), Fail> {
         "[[key]]\nlabel = \"a\"\n\n[[key]]\nlabel = \"b\"\n\n[[node]]\nid = \"[engine:x]\"\n\n[[node]]\nid = \"[engine:x]/[class:A]\"\nbefore_each = [[\"put! a 1\"], [\"fail f\"], [\"put! b 2\"]]\nafter_each = [[\"put! b bad\"], [\"want a 2\"]]\n\n[[node]]\nid = \"[engine:x]/[class:A]/[method:m()]\"\ntest = [\"fail never\"]\n\n[[node]]\nid = \"[engine:x]/[class:B]\"\nbefore_all = [[\"abort no\"]]\n\n[[node]]\nid = \"[engine:x]/[class:B]/[method:n()]\"\ntest = [\"fail never\"]\n";
     let wanted =
         "[engine:x] successful closed 0\n[engine:x]/[class:A] successful closed 0\n[engine:x]/[class:A]/[method:m()] failed closed 2: f (+2)\n[engine:x]/[class:B] aborted closed 0: no\n[engine:x]/[class:B]/[method:n()] skipped closed 0\ntests 2 successful 0 aborted 0 failed 1 skipped 1\ncomputed 0 found 0 closed 2 close faults 1\n";
+    reports_on_all(&rt, rt.alloc(), plan, wanted)
+}
+
+#[test]
+fn container_whose_before_callback_fails(rt: HostRuntime) -> Result<(), Fail> {
+    // The third before-callback is not called, the test is skipped, both after-callbacks are called, and both values are closed.
+    let plan =
+        "[[key]]\nlabel = \"a\"\n\n[[key]]\nlabel = \"b\"\n\n[[node]]\nid = \"[engine:x]\"\n\n[[node]]\nid = \"[engine:x]/[class:A]\"\nbefore_all = [[\"put! a 1\"], [\"fail f\"], [\"put! b 2\"]]\nafter_all = [[\"put! b bad\"], [\"want a 2\"]]\n\n[[node]]\nid = \"[engine:x]/[class:A]/[method:m()]\"\ntest = [\"fail never\"]\n";
+    let wanted =
+        "[engine:x] successful closed 0\n[engine:x]/[class:A] failed closed 2: f (+2)\n[engine:x]/[class:A]/[method:m()] skipped closed 0\ntests 1 successful 0 aborted 0 failed 0 skipped 1\ncomputed 0 found 0 closed 2 close faults 1\n";
     reports_on_all(&rt, rt.alloc(), plan, wanted)
 }

@@ -1,10 +1,10 @@
 -- Below a node that has not run no node has run: while a plain run goes on, the parent of each node that has run has run, or its own run has begun and not ended.
-use Rattle.std.proofs.Common.{◌≡◌, ◌≢◌, ◌<◌, ℕ, zero, suc, ◌+◌, Bool, true, false, not, List, [], ◌∷◌, ◌++◌, length, map, get_or, is_some, refl, ap, sym, subst, ◌∙◌, arith, ⊎_elim, inl, inr, ◌⊎◌}
-use Rattle.std.specs.Prelude.{cond, filter, fold, slice_get, slice_set, IfSome, if◌then◌else◌}
+use Rattle.std.proofs.Common.{◌≢◌, ◌<◌, ℕ, zero, suc, ◌+◌, Bool, true, false, not, List, [], ◌∷◌, ◌++◌, length, get_or, is_some, refl, sym, subst, arith, ⊎_elim, inl, inr, ◌⊎◌}
+use Rattle.std.specs.Prelude.{cond, filter, fold, slice_set, IfSome, if◌then◌else◌}
 use Rattle.std.specs.List.{AllByRecursion}
 use Rattle.std.proofs.lemmas.Bool.{cases_eq}
 use Rattle.std.proofs.lemmas.List.{length-map}
-use Rattle.ext_tree.specs.Trees.{Id, IsTree}
+use Rattle.ext_tree.specs.Trees.{Id}
 use Rattle.ext_tree.specs.Paths.{IsParentOf, children_of}
 use Rattle.ext_tree.proofs.TreeFacts.{child_not_root, one_parent}
 use Rattle.ext_plan_model.specs.Plans.{NodeText, PlanText}
@@ -16,9 +16,10 @@ use Rattle.ext_lifecycle.specs.Modes.{in_run_order}
 use Rattle.ext_plain.specs.Closes.{seal_keys, closes}
 use Rattle.ext_plain.specs.Laws.{HasRun}
 use Rattle.ext_plan_model.specs.PlanCalls.{test_of}
-use Rattle.ext_plain.specs.NodeCalls.{CallsEnd, befores_run}
+use Rattle.ext_plain.specs.NodeCalls.{befores_run}
 use Rattle.ext_plan_model.specs.PlanCalls.{concurrent_of}
-use Rattle.ext_plain.specs.PlainRun.{RunState, body_run, container_run, key_count, node_run, outcome_of, plain_run, run_opening, skipped_from, test_node_run}
+use Rattle.ext_plain.specs.PlainRun.{RunState, body_run, container_run, key_count, node_run, outcome_of, plain_run_by, run_opening, skipped_from, test_node_run}
+use Rattle.ext_plain.specs.ValueStates.{Memory}
 use Rattle.ext_plain.proofs.Ends.{body_end, container_end, test_end}
 use Rattle.ext_plain.proofs.Nodes.{child_is}
 use Rattle.ext_plain.proofs.Reached.{Stands, outcome-ran, set-elsewhere, set-here, set-kept}
@@ -65,7 +66,7 @@ all-append : (P : ℕ → Type 0) (xs ys : List ℕ) → AllByRecursion P xs →
 all-append P [] ys p q = q
 all-append P (x ∷ xs) ys p q = (p.0, all-append P xs ys p.1 q)
 
-children-all : (ids : List Id) (test : ℕ → Bool) (at : ℕ) → at < length ids → AllByRecursion (IsParentOf ids at) (in_run_order test (children_of ids at))
+pub children-all : (ids : List Id) (test : ℕ → Bool) (at : ℕ) → at < length ids → AllByRecursion (IsParentOf ids at) (in_run_order test (children_of ids at))
 children-all ids test at within =
     let all = all-from (IsParentOf ids at) (children_of ids at) (λ k less. child_is ids at (children_of ids at) k 0 within refl less) in
     all-append (IsParentOf ids at) (filter test (children_of ids at)) (filter (λ x. not (test x)) (children_of ids at)) (all-filter (IsParentOf ids at) test (children_of ids at) all) (all-filter (IsParentOf ids at) (λ x. not (test x)) (children_of ids at) all)
@@ -111,15 +112,16 @@ module _ (plan : PlanText) (tree : NodesAreTree plan) where
 
 -- ---- the whole run
 
-not_yet : (nodes : List NodeText) (from k : ℕ) → k < length nodes → HasRun k (skipped_from from nodes) → ⊥
+pub not_yet : (nodes : List NodeText) (from k : ℕ) → k < length nodes → HasRun k (skipped_from from nodes) → ⊥
 not_yet [] from k within has = absurd (omega (arith, within))
 not_yet (node ∷ nodes) from zero within has = has refl
 not_yet (node ∷ nodes) from (suc k) within has = not_yet nodes (from + 1) k (omega (arith, within)) has
 
-pub runs_below : (plan : PlanText) → NodesAreTree plan → (parent child : ℕ) → IsParentOf (ids_of_nodes plan.nodes) parent child → HasRun child (plain_run plan) → HasRun parent (plain_run plan)
-runs_below plan tree parent child is has =
+pub runs_below : (memory : List Memory) (plan : PlanText) → NodesAreTree plan → (parent child : ℕ) → IsParentOf (ids_of_nodes plan.nodes) parent child → HasRun child (plain_run_by memory plan)
+    → HasRun parent (plain_run_by memory plan)
+runs_below memory plan tree parent child is has =
     let ids = ids_of_nodes plan.nodes in
-    let opening : AreAbove ids [] (run_opening plan).results = record { each = λ p c parented ran. absurd (not_yet plan.nodes 0 c (subst (λ n. c < n) (length-map plan.nodes (λ n. n.id)) parented.child_within) ran) } in
+    let opening : AreAbove ids [] (run_opening memory plan).results = record { each = λ p c parented ran. absurd (not_yet plan.nodes 0 c (subst (λ n. c < n) (length-map plan.nodes (λ n. n.id)) parented.child_within) ran) } in
     let root : IsUnder ids [] 0 = record { parent = λ p parented. absurd (let some = child_not_root ids tree p 0 parented in omega (arith, some)) } in
-    let all = node-above plan tree (length plan.nodes) 0 [] (run_opening plan) tree.first.some root opening in
+    let all = node-above plan tree (length plan.nodes) 0 [] (run_opening memory plan) tree.first.some root opening in
     ⊎_elim (λ x. x) (λ none. absurd none) (all.each parent child is has)

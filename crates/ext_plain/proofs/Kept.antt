@@ -4,6 +4,7 @@ use Rattle.std.specs.Prelude.{fold, drop, if◌then◌else◌}
 use Rattle.ext_model.specs.declared.event.Act.TheVariants.{Put, Remove, Claim, Fill, Abandon, Seal}
 use Rattle.ext_model.specs.declared.look.Look.{Look}
 use Rattle.ext_model.specs.declared.look.Look.TheVariants as look
+use Rattle.ext_model.specs.declared.slot.Slot.{Slot}
 use Rattle.ext_model.specs.Plain.{Place}
 use Rattle.ext_plan_model.specs.Plans.{KeyText, StepText, put, put_closeable, want, nothing, remove, compute, compute_closeable, compute_fail, fail, abort, PlanText}
 use Rattle.ext_plan_model.specs.Laws.{ids_of_nodes}
@@ -16,8 +17,8 @@ use Rattle.ext_lifecycle.specs.Modes.{in_run_order}
 use Rattle.ext_steps.specs.declared.reason.Reason.{Reason}
 use Rattle.ext_steps.specs.Calls.{start_of}
 use Rattle.ext_steps.specs.Values.{ValueText}
-use Rattle.ext_plain.specs.ValueStates.{ValueState, after_act, why_refused, next_number, keep_value}
-use Rattle.ext_plain.specs.Steps.{StepEnd, found_along, or_refused, put_step, put_kept, factory_gave, factory_failed, compute_looked, computefail_looked, step_run, unless_ended, steps_run}
+use Rattle.ext_plain.specs.ValueStates.{Memory, enough, no_value, no_place, no_words, ValueState, with_memory, next_found, found_later, after_act, why_refused, next_number, keep_value}
+use Rattle.ext_plain.specs.Steps.{StepEnd, ended, no_memory, said_by, found_along, or_refused, put_step, put_kept, put_by, factory_gave, factory_failed, if_empty, if_absent, claim_and, compute_looked, compute_by, computefail_looked, computefail_by, step_by, next_step, unless_ended, steps_run}
 use Rattle.ext_plain.specs.Closes.{seal_keys}
 use Rattle.ext_plan_model.specs.PlanCalls.{registered, steps_of_call, test_of}
 use Rattle.ext_plain.specs.NodeCalls.{CallsEnd, befores_run, call_run, make, make_all, make_befores, make_if_successful, no_calls, test_run}
@@ -28,6 +29,7 @@ use Rattle.ext_plain.proofs.Stepping.{steps_run-nil, steps_run-cons}
 
 -- the fact is kept by each act, where a claim and the draw of a number were not refused
 pub record IsKept (P : ValueState → Type 0) : Type 0 where
+  pub finds : (memory : List Memory) (s : ValueState) → P s → P (with_memory memory s)
   pub puts : (place : Place) (number : ℕ) (s : ValueState) → P s → P (after_act (Put place number) s)
   pub removes : (place : Place) (s : ValueState) → P s → P (after_act (Remove place) s)
   pub seals : (place : Place) (s : ValueState) → P s → P (after_act (Seal place) s)
@@ -46,6 +48,31 @@ module _ (P : ValueState → Type 0) (kept : IsKept P) where
       or_refused-kept P name label (why_refused (next_number s) s) s (put_kept name label place (keep_value value s)) h
       (λ room. kept.puts place (keep_value value s).store.drawn (keep_value value s) (kept.keeps value s room h))
 
+  said-kept : (found : Memory) (end : StepEnd) → P end.state → P (said_by found end).state
+  said-kept enough end h = h
+  said-kept no_value end h = h
+  said-kept no_place end h = h
+  said-kept no_words end h = h
+
+  empty-kept : (stands : Option Slot) (empty other : StepEnd) → P empty.state → P other.state → P (if_empty stands empty other).state
+  empty-kept None empty other p q = p
+  empty-kept (Some slot) empty other p q = q
+
+  absent-kept : (found : Look) (absent other : StepEnd) → P absent.state → P other.state → P (if_absent found absent other).state
+  absent-kept (look.Found at number) absent other p q = q
+  absent-kept look.Absent absent other p q = p
+  absent-kept (look.Busy at) absent other p q = q
+  absent-kept (look.Closed at) absent other p q = q
+
+  put_by-kept : (found : Memory) (name label : List ℕ) (place : Place) (value : ValueText) (s : ValueState) → P s → P (put_by found name label place value s).state
+  put_by-kept enough name label place value s h = put-kept name label place value s h
+  put_by-kept no_value name label place value s h = h
+  put_by-kept no_place name label place value s h =
+      let stored = put_kept name label place (keep_value value s) in
+      or_refused-kept P name label (why_refused (next_number s) s) s (if_empty (s.store.slots place) (ended no_memory (keep_value value s)) stored) h
+      (λ room. empty-kept (s.store.slots place) (ended no_memory (keep_value value s)) stored (kept.keeps value s room h) (kept.puts place (keep_value value s).store.drawn (keep_value value s) (kept.keeps value s room h)))
+  put_by-kept no_words name label place value s h = put-kept name label place value s h
+
   compute-kept : (name label : List ℕ) (place : Place) (value : ValueText) (s : ValueState) (found : Look) → P s → P (compute_looked name label place value s found).state
   compute-kept name label place value s (look.Found at number) h = h
   compute-kept name label place value s look.Absent h =
@@ -62,17 +89,41 @@ module _ (P : ValueState → Type 0) (kept : IsKept P) where
   computefail-kept name label place s (look.Busy at) h = h
   computefail-kept name label place s (look.Closed at) h = h
 
-  step-kept : (keys : List KeyText) (path : List ℕ) (step : StepText) (s : ValueState) → P s → P (step_run keys path step s).state
-  step-kept keys path (put key text up) s h = put-kept _ _ _ _ s h
-  step-kept keys path (put_closeable key text up) s h = put-kept _ _ _ _ s h
-  step-kept keys path (want key text up) s h = h
-  step-kept keys path (nothing key up) s h = h
-  step-kept keys path (remove key up) s h = kept.removes _ s h
-  step-kept keys path (compute key text up) s h = compute-kept _ _ _ _ s (found_along keys key (drop up path) s) h
-  step-kept keys path (compute_closeable key text up) s h = compute-kept _ _ _ _ s (found_along keys key (drop up path) s) h
-  step-kept keys path (compute_fail key text up) s h = computefail-kept _ _ _ s (found_along keys key (drop up path) s) h
-  step-kept keys path (fail text) s h = h
-  step-kept keys path (abort text) s h = h
+  -- a place that is claimed where there is memory for it
+  unplaced-kept : (name label : List ℕ) (place : Place) (s : ValueState) → P s → P (or_refused name label (why_refused (Claim place) s) s (ended no_memory s)).state
+  unplaced-kept name label place s h = or_refused-kept P name label (why_refused (Claim place) s) s (ended no_memory s) h (λ won. h)
+
+  compute_by-kept : (memory : Memory) (name label : List ℕ) (place : Place) (value : ValueText) (s : ValueState) (found : Look) → P s → P (compute_by memory name label place value s found).state
+  compute_by-kept enough name label place value s found h = compute-kept name label place value s found h
+  compute_by-kept no_value name label place value s found h =
+      absent-kept found (claim_and name label place (λ claimed. ended no_memory (after_act (Abandon place) claimed)) s) (compute_looked name label place value s found)
+      (or_refused-kept P name label (why_refused (Claim place) s) s (ended no_memory (after_act (Abandon place) (after_act (Claim place) s))) h (λ won. kept.abandons place s won h))
+      (compute-kept name label place value s found h)
+  compute_by-kept no_place name label place value s found h =
+      absent-kept found (or_refused name label (why_refused (Claim place) s) s (ended no_memory s)) (compute_looked name label place value s found) (unplaced-kept name label place s h) (compute-kept name label place value s found h)
+  compute_by-kept no_words name label place value s found h = compute-kept name label place value s found h
+
+  computefail_by-kept : (memory : Memory) (name label : List ℕ) (place : Place) (s : ValueState) (found : Look) → P s → P (computefail_by memory name label place s found).state
+  computefail_by-kept enough name label place s found h = computefail-kept name label place s found h
+  computefail_by-kept no_value name label place s found h = computefail-kept name label place s found h
+  computefail_by-kept no_place name label place s found h =
+      absent-kept found (or_refused name label (why_refused (Claim place) s) s (ended no_memory s)) (computefail_looked name label place s found) (unplaced-kept name label place s h) (computefail-kept name label place s found h)
+  computefail_by-kept no_words name label place s found h = computefail-kept name label place s found h
+
+  step-kept : (keys : List KeyText) (found : Memory) (path : List ℕ) (step : StepText) (s : ValueState) → P s → P (step_by keys found path step s).state
+  step-kept keys found path (put key text up) s h = put_by-kept found _ _ _ _ s h
+  step-kept keys found path (put_closeable key text up) s h = put_by-kept found _ _ _ _ s h
+  step-kept keys found path (want key text up) s h = said-kept found _ h
+  step-kept keys found path (nothing key up) s h = said-kept found _ h
+  step-kept keys found path (remove key up) s h = said-kept found _ (kept.removes _ s h)
+  step-kept keys found path (compute key text up) s h = compute_by-kept found _ _ _ _ s (found_along keys key (drop up path) s) h
+  step-kept keys found path (compute_closeable key text up) s h = compute_by-kept found _ _ _ _ s (found_along keys key (drop up path) s) h
+  step-kept keys found path (compute_fail key text up) s h = computefail_by-kept found _ _ _ s (found_along keys key (drop up path) s) h
+  step-kept keys found path (fail text) s h = said-kept found _ h
+  step-kept keys found path (abort text) s h = said-kept found _ h
+
+  next-kept : (keys : List KeyText) (path : List ℕ) (step : StepText) (s : ValueState) → P s → P (next_step keys path step s).state
+  next-kept keys path step s h = step-kept keys (next_found s.memory) path step (with_memory (found_later s.memory) s) (kept.finds (found_later s.memory) s h)
 
   ended-kept : (v : VerdictText) (first : StepEnd) (go_on : ValueState → StepEnd) → P first.state → ((s : ValueState) → P s → P (go_on s).state) → P (unless_ended v first go_on).state
   ended-kept successful first go_on h go = go first.state h
@@ -83,7 +134,7 @@ module _ (P : ValueState → Type 0) (kept : IsKept P) where
   steps-kept keys path [] s h = subst (λ (end : StepEnd). P end.state) (sym (steps_run-nil keys path s)) h
   steps-kept keys path (step ∷ more) s h =
       subst (λ (end : StepEnd). P end.state) (sym (steps_run-cons keys path step more s))
-      (ended-kept (step_run keys path step s).verdict (step_run keys path step s) (steps_run keys path more) (step-kept keys path step s h) (steps-kept keys path more))
+      (ended-kept (next_step keys path step s).verdict (next_step keys path step s) (steps_run keys path more) (next-kept keys path step s h) (steps-kept keys path more))
 
   pub seals-kept : (keys at : ℕ) (s : ValueState) → P s → P (seal_keys keys at s)
   unfolding seal_keys

@@ -1,7 +1,9 @@
 pub mod Outcomes
+pub mod Memories
 pub mod Stepping
 pub mod Sealing
 pub mod Acts
+pub mod Lacks
 pub mod NodeCalls
 pub mod CallsDone
 pub mod Nodes
@@ -13,3 +15,5 @@ pub mod Values
 pub mod Sound
 pub mod Reached
 pub mod Below
+pub mod Skipping
+pub mod Lacking

@@ -12,7 +12,7 @@ use Rattle.ext_lifecycle.proofs.OtherFaults.{is_successful-to}
 use Rattle.ext_plain.specs.Helpers.{calls_end, step_end}
 use Rattle.ext_plain.specs.NodeCalls.{CallsEnd, and_call, make, make_all, make_befores, make_if_successful}
 use Rattle.ext_plain.specs.Steps.{StepEnd}
-use Rattle.ext_plain.specs.ValueStates.{ValueState}
+use Rattle.ext_plain.specs.ValueStates.{Memory, ValueState}
 
 -- ---- one call more
 
@@ -60,103 +60,106 @@ module _ (run : Call → ValueState → StepEnd) where
 
 -- ---- calls that were made
 
--- a call does what `run` says, where the caller is still fed after it; what holds of the caller it keeps
-pub record Does {S : Type 0} (makes : S → Call → Outcome → S → Type 0) (Fed Holds : S → Type 0) (view : S → ValueState) (run : Call → ValueState → StepEnd) : Type 0 where
+-- a call does what `run` says, by what its steps found of memory, whatever those after it find; what holds of the caller it keeps
+pub record Does {S : Type 0} (makes : S → Call → Outcome → S → Type 0) (Holds : S → Type 0) (view : List Memory → S → ValueState) (run : Call → ValueState → StepEnd) : Type 0 where
   pub keeps : (c : S) (call : Call) (o : Outcome) (d : S) → makes c call o d → Holds c → Holds d
-  pub fed : (c : S) (call : Call) (o : Outcome) (d : S) → makes c call o d → Fed d → Fed c
-  pub exact : (c : S) (call : Call) (o : Outcome) (d : S) → makes c call o d → Holds c → Fed d → step_end (view d) o ≡ run call (view c)
+  pub exact : (c : S) (call : Call) (o : Outcome) (d : S) → makes c call o d → Holds c → (later : List Memory) → (memory : List Memory) × (step_end (view later d) o ≡ run call (view memory c))
 
-module _ {S : Type 0} (makes : S → Call → Outcome → S → Type 0) (Fed Holds : S → Type 0) (view : S → ValueState) (run : Call → ValueState → StepEnd) (does : Does makes Fed Holds view run) where
-  -- after calls
-  pub record After (c d : S) : Type 0 where
-    pub holds : Holds c → Holds d
-    pub fed : Fed d → Fed c
+module _ {S : Type 0} (makes : S → Call → Outcome → S → Type 0) (Holds : S → Type 0) (view : List Memory → S → ValueState) (run : Call → ValueState → StepEnd) (does : Does makes Holds view run) where
+  -- ---- what holds after calls
 
-  nothing-after : (c d : S) → d ≡ c → After c d
-  nothing-after c d same = subst (After c) (sym same) (record { holds = λ h. h; fed = λ h. h })
+  nothing-holds : (c d : S) → d ≡ c → Holds c → Holds d
+  nothing-holds c d same h = subst Holds (sym same) h
 
-  pub all-after : (calls : List Call) (c : S) (os : List Outcome) (d : S) → MakesAll makes calls c os d → After c d
-  all-after [] c os d made = nothing-after c d made.1
-  all-after (call ∷ calls) c os d made =
-      let more = all-after calls made.2 made.1 d made.5 in
-      record { holds = λ h. more.holds (does.keeps c call made.0 made.2 made.4 h); fed = λ h. does.fed c call made.0 made.2 made.4 (more.fed h) }
+  pub all-holds : (calls : List Call) (c : S) (os : List Outcome) (d : S) → MakesAll makes calls c os d → Holds c → Holds d
+  all-holds [] c os d made h = nothing-holds c d made.1 h
+  all-holds (call ∷ calls) c os d made h = all-holds calls made.2 made.1 d made.5 (does.keeps c call made.0 made.2 made.4 h)
 
-  befores-by : (good : Bool) (calls : List Call) (call : Call) (c : S) (os : List Outcome) (d : S) (made : MakesBefores makes (call ∷ calls) c os d) → is_successful (ending_of made.0.verdict) ≡ good → ((c : S) (os : List Outcome) (d : S) → MakesBefores makes calls c os d → After c d) → After made.2 d
-  befores-by true calls call c os d made good each = each made.2 made.1 d (made.5.0 good)
-  befores-by false calls call c os d made good each = nothing-after made.2 d (made.5.1 good).1
+  befores-by : (good : Bool) (calls : List Call) (call : Call) (c : S) (os : List Outcome) (d : S) (made : MakesBefores makes (call ∷ calls) c os d) → is_successful (ending_of made.0.verdict) ≡ good
+      → ((c : S) (os : List Outcome) (d : S) → MakesBefores makes calls c os d → Holds c → Holds d) → Holds made.2 → Holds d
+  befores-by true calls call c os d made good each h = each made.2 made.1 d (made.5.0 good) h
+  befores-by false calls call c os d made good each h = nothing-holds made.2 d (made.5.1 good).1 h
 
-  pub befores-after : (calls : List Call) (c : S) (os : List Outcome) (d : S) → MakesBefores makes calls c os d → After c d
-  befores-after [] c os d made = nothing-after c d made.1
-  befores-after (call ∷ calls) c os d made =
-      let more = befores-by (is_successful (ending_of made.0.verdict)) calls call c os d made refl (befores-after calls) in
-      record { holds = λ h. more.holds (does.keeps c call made.0 made.2 made.4 h); fed = λ h. does.fed c call made.0 made.2 made.4 (more.fed h) }
+  pub befores-hold : (calls : List Call) (c : S) (os : List Outcome) (d : S) → MakesBefores makes calls c os d → Holds c → Holds d
+  befores-hold [] c os d made h = nothing-holds c d made.1 h
+  befores-hold (call ∷ calls) c os d made h = befores-by (is_successful (ending_of made.0.verdict)) calls call c os d made refl (befores-hold calls) (does.keeps c call made.0 made.2 made.4 h)
 
-  pub if-after : (go : Bool) (call : Call) (c : S) (os : List Outcome) (d : S) → MakesIf makes go call c os d → After c d
-  if-after true call c os d made = all-after (call ∷ []) c os d (made.made refl)
-  if-after false call c os d made = nothing-after c d (made.skipped refl).1
+  pub if-holds : (go : Bool) (call : Call) (c : S) (os : List Outcome) (d : S) → MakesIf makes go call c os d → Holds c → Holds d
+  if-holds true call c os d made h = all-holds (call ∷ []) c os d (made.made refl) h
+  if-holds false call c os d made h = nothing-holds c d (made.skipped refl).1 h
 
-  one_call : (c : S) (call : Call) (o : Outcome) (d : S) (before : List Outcome) → makes c call o d → Holds c → Fed d → make run (calls_end (view c) before) call ≡ calls_end (view d) (before ++ o ∷ [])
-  one_call c call o d before made holds fed = ap (and_call (calls_end (view c) before)) (sym (does.exact c call o d made holds fed)) ∙ one_more (view c) (view d) before o
+  pub calls-hold : (befores : List Call) (body : Call) (afters : List Call) (c : S) (os : List Outcome) (d : S) → MakesCalls makes befores body afters c os d → Holds c → Holds d
+  calls-hold befores body afters c os d made h =
+      all-holds afters made.closing made.third d made.afters_made
+      (if-holds (all_successful (endings_of made.first)) body made.opened made.second made.closing made.body_made (befores-hold befores c made.first made.opened made.befores_made h))
 
-  none_left : (c d : S) (before os : List Outcome) → os ≡ [] → d ≡ c → calls_end (view c) before ≡ calls_end (view d) (before ++ os)
-  none_left c d before os none same = ap (λ x. calls_end (view x) before) (sym same) ∙ ap (calls_end (view d)) (sym (ap (λ l. before ++ l) none ∙ append-nil before))
+  -- ---- what calls leave
+
+  -- for what later steps find there is something that earlier ones found, so that this makes that
+  abbrev pub Leaves : (CallsEnd → CallsEnd) → S → List Outcome → S → List Outcome → Type 0
+  Leaves made c before d after = (later : List Memory) → (memory : List Memory) × (made (calls_end (view memory c) before) ≡ calls_end (view later d) after)
+
+  one_call : (c : S) (call : Call) (o : Outcome) (d : S) (before : List Outcome) → makes c call o d → Holds c → Leaves (λ e. make run e call) c before d (before ++ o ∷ [])
+  one_call c call o d before made holds later =
+      let one = does.exact c call o d made holds later in
+      (one.0, ap (and_call (calls_end (view one.0 c) before)) (sym one.1) ∙ one_more (view one.0 c) (view later d) before o)
+
+  none_left : (c d : S) (before os : List Outcome) → os ≡ [] → d ≡ c → Leaves (λ e. e) c before d (before ++ os)
+  none_left c d before os none same later = (later, ap (λ x. calls_end (view later x) before) (sym same) ∙ ap (calls_end (view later d)) (sym (ap (λ l. before ++ l) none ∙ append-nil before)))
 
   joined : (s : ValueState) (before rest os : List Outcome) (o : Outcome) → os ≡ o ∷ rest → calls_end s ((before ++ o ∷ []) ++ rest) ≡ calls_end s (before ++ os)
   joined s before rest os o is = ap (calls_end s) (append_assoc before (o ∷ []) rest ∙ ap (λ l. before ++ l) (sym is))
 
-  pub all-exact : (calls : List Call) (c : S) (os : List Outcome) (d : S) (before : List Outcome) → MakesAll makes calls c os d → Holds c → Fed d → make_all run calls (calls_end (view c) before) ≡ calls_end (view d) (before ++ os)
-  all-exact [] c os d before made holds fed = none_left c d before os made.0 made.1
-  all-exact (call ∷ calls) c os d before made holds fed =
-      let between = made.2 in
-      let first = one_call c call made.0 between before made.4 holds ((all-after calls between made.1 d made.5).fed fed) in
-      ap (make_all run calls) first
-      ∙ all-exact calls between made.1 d (before ++ made.0 ∷ []) made.5 (does.keeps c call made.0 between made.4 holds) fed
-      ∙ joined (view d) before made.1 os made.0 made.3
+  pub all-exact : (calls : List Call) (c : S) (os : List Outcome) (d : S) (before : List Outcome) → MakesAll makes calls c os d → Holds c → Leaves (make_all run calls) c before d (before ++ os)
+  all-exact [] c os d before made holds later = none_left c d before os made.0 made.1 later
+  all-exact (call ∷ calls) c os d before made holds later =
+      let rest = all-exact calls made.2 made.1 d (before ++ made.0 ∷ []) made.5 (does.keeps c call made.0 made.2 made.4 holds) later in
+      let first = one_call c call made.0 made.2 before made.4 holds rest.0 in
+      (first.0, ap (make_all run calls) first.1 ∙ rest.1 ∙ joined (view later d) before made.1 os made.0 made.3)
 
   befores-rest : (good : Bool) (calls : List Call) (call : Call) (c : S) (os : List Outcome) (d : S) (before : List Outcome) (made : MakesBefores makes (call ∷ calls) c os d) → is_successful (ending_of made.0.verdict) ≡ good
-      → all_successful (endings_of before) ≡ true → Holds made.2 → Fed d
-      → ((c : S) (os : List Outcome) (d : S) (before : List Outcome) → all_successful (endings_of before) ≡ true → MakesBefores makes calls c os d → Holds c → Fed d → make_befores run calls (calls_end (view c) before) ≡ calls_end (view d) (before ++ os))
-      → make_befores run calls (calls_end (view made.2) (before ++ made.0 ∷ [])) ≡ calls_end (view d) ((before ++ made.0 ∷ []) ++ made.1)
-  befores-rest true calls call c os d before made good all holds fed each =
+      → all_successful (endings_of before) ≡ true → Holds made.2
+      → ((c : S) (os : List Outcome) (d : S) (before : List Outcome) → all_successful (endings_of before) ≡ true → MakesBefores makes calls c os d → Holds c → Leaves (make_befores run calls) c before d (before ++ os))
+      → Leaves (make_befores run calls) made.2 (before ++ made.0 ∷ []) d ((before ++ made.0 ∷ []) ++ made.1)
+  befores-rest true calls call c os d before made good all holds each later =
       let still : all_successful (endings_of (before ++ made.0 ∷ [])) ≡ true = successful-more before made.0 ∙ ap (λ b. b && is_successful (ending_of made.0.verdict)) all ∙ good in
-      each made.2 made.1 d (before ++ made.0 ∷ []) still (made.5.0 good) holds fed
-  befores-rest false calls call c os d before made good all holds fed each =
+      each made.2 made.1 d (before ++ made.0 ∷ []) still (made.5.0 good) holds later
+  befores-rest false calls call c os d before made good all holds each later =
       let ends : all_successful (endings_of (before ++ made.0 ∷ [])) ≡ false = successful-more before made.0 ∙ ap (λ b. b && is_successful (ending_of made.0.verdict)) all ∙ good in
-      stays run calls (view made.2) (before ++ made.0 ∷ []) ends ∙ none_left made.2 d (before ++ made.0 ∷ []) made.1 (made.5.1 good).0 (made.5.1 good).1
+      let none = none_left made.2 d (before ++ made.0 ∷ []) made.1 (made.5.1 good).0 (made.5.1 good).1 later in
+      (none.0, stays run calls (view none.0 made.2) (before ++ made.0 ∷ []) ends ∙ none.1)
 
-  pub befores-exact : (calls : List Call) (c : S) (os : List Outcome) (d : S) (before : List Outcome) → all_successful (endings_of before) ≡ true → MakesBefores makes calls c os d → Holds c → Fed d → make_befores run calls (calls_end (view c) before) ≡ calls_end (view d) (before ++ os)
-  befores-exact [] c os d before all made holds fed = none_left c d before os made.0 made.1
-  befores-exact (call ∷ calls) c os d before all made holds fed =
+  pub befores-exact : (calls : List Call) (c : S) (os : List Outcome) (d : S) (before : List Outcome) → all_successful (endings_of before) ≡ true → MakesBefores makes calls c os d → Holds c
+      → Leaves (make_befores run calls) c before d (before ++ os)
+  befores-exact [] c os d before all made holds later = none_left c d before os made.0 made.1 later
+  befores-exact (call ∷ calls) c os d before all made holds later =
       let good = is_successful (ending_of made.0.verdict) in
-      let between = made.2 in
-      let still = (befores-by good calls call c os d made refl (befores-after calls)).fed fed in
-      let first = if-made run (view c) before call true all ∙ one_call c call made.0 between before made.4 holds still in
-      ap (make_befores run calls) first
-      ∙ befores-rest good calls call c os d before made refl all (does.keeps c call made.0 between made.4 holds) fed (befores-exact calls)
-      ∙ joined (view d) before made.1 os made.0 made.3
+      let rest = befores-rest good calls call c os d before made refl all (does.keeps c call made.0 made.2 made.4 holds) (befores-exact calls) later in
+      let first = one_call c call made.0 made.2 before made.4 holds rest.0 in
+      (first.0, ap (make_befores run calls) (if-made run (view first.0 c) before call true all ∙ first.1) ∙ rest.1 ∙ joined (view later d) before made.1 os made.0 made.3)
 
-  pub if-exact : (go : Bool) (call : Call) (c : S) (os : List Outcome) (d : S) (before : List Outcome) → all_successful (endings_of before) ≡ go → MakesIf makes go call c os d → Holds c → Fed d → make_if_successful run (calls_end (view c) before) call ≡ calls_end (view d) (before ++ os)
-  if-exact true call c os d before all made holds fed = if-made run (view c) before call true all ∙ all-exact (call ∷ []) c os d before (made.made refl) holds fed
-  if-exact false call c os d before all made holds fed = if-made run (view c) before call false all ∙ none_left c d before os (made.skipped refl).0 (made.skipped refl).1
+  pub if-exact : (go : Bool) (call : Call) (c : S) (os : List Outcome) (d : S) (before : List Outcome) → all_successful (endings_of before) ≡ go → MakesIf makes go call c os d → Holds c
+      → Leaves (λ e. make_if_successful run e call) c before d (before ++ os)
+  if-exact true call c os d before all made holds later =
+      let one = all-exact (call ∷ []) c os d before (made.made refl) holds later in
+      (one.0, if-made run (view one.0 c) before call true all ∙ one.1)
+  if-exact false call c os d before all made holds later =
+      let none = none_left c d before os (made.skipped refl).0 (made.skipped refl).1 later in
+      (none.0, if-made run (view none.0 c) before call false all ∙ none.1)
 
   -- all calls of a test
-  pub calls-exact : (befores : List Call) (body : Call) (afters : List Call) (c : S) (os : List Outcome) (d : S) → MakesCalls makes befores body afters c os d → Holds c → Fed d
-      → make_all run afters (make_if_successful run (make_befores run befores (calls_end (view c) [])) body) ≡ calls_end (view d) os
-  calls-exact befores body afters c os d made holds fed =
+  pub calls-exact : (befores : List Call) (body : Call) (afters : List Call) (c : S) (os : List Outcome) (d : S) → MakesCalls makes befores body afters c os d → Holds c
+      → Leaves (λ e. make_all run afters (make_if_successful run (make_befores run befores e) body)) c [] d os
+  calls-exact befores body afters c os d made holds later =
       let go = all_successful (endings_of made.first) in
-      let first = befores-after befores c made.first made.opened made.befores_made in
-      let second = if-after go body made.opened made.second made.closing made.body_made in
-      let third = all-after afters made.closing made.third d made.afters_made in
-      let fed_closing = third.fed fed in
-      let fed_opened = second.fed fed_closing in
-      ap (λ e. make_all run afters (make_if_successful run e body)) (befores-exact befores c made.first made.opened [] refl made.befores_made holds fed_opened)
-      ∙ ap (make_all run afters) (if-exact go body made.opened made.second made.closing made.first refl made.body_made (first.holds holds) fed_closing)
-      ∙ all-exact afters made.closing made.third d (made.first ++ made.second) made.afters_made (second.holds (first.holds holds)) fed
-      ∙ ap (calls_end (view d)) (sym made.all)
-
-  pub calls-after : (befores : List Call) (body : Call) (afters : List Call) (c : S) (os : List Outcome) (d : S) → MakesCalls makes befores body afters c os d → After c d
-  calls-after befores body afters c os d made =
-      let first = befores-after befores c made.first made.opened made.befores_made in
-      let second = if-after (all_successful (endings_of made.first)) body made.opened made.second made.closing made.body_made in
-      let third = all-after afters made.closing made.third d made.afters_made in
-      record { holds = λ h. third.holds (second.holds (first.holds h)); fed = λ h. first.fed (second.fed (third.fed h)) }
+      let opened = befores-hold befores c made.first made.opened made.befores_made holds in
+      let closing = if-holds go body made.opened made.second made.closing made.body_made opened in
+      let third = all-exact afters made.closing made.third d (made.first ++ made.second) made.afters_made closing later in
+      let second = if-exact go body made.opened made.second made.closing made.first refl made.body_made opened third.0 in
+      let first = befores-exact befores c made.first made.opened [] refl made.befores_made holds second.0 in (
+        first.0,
+        ap (λ e. make_all run afters (make_if_successful run e body)) first.1
+            ∙ ap (make_all run afters) second.1
+            ∙ third.1
+            ∙ ap (calls_end (view later d)) (sym made.all),
+      )

@@ -5,9 +5,7 @@ use Rattle.std.proofs.lemmas.List.Elements.{Contains-get_or}
 use Rattle.ext_tree.specs.Trees.{Id}
 use Rattle.ext_tree.specs.Paths.{IsPathOf, IsParentOf, IsWalk, children_of}
 use Rattle.ext_tree.proofs.TreeLaws.{parents_list_children}
-use Rattle.ext_plan_model.specs.declared.plan.PlanNode.{PlanNode}
-use Rattle.ext_plan_model.specs.Laws.{ids_of_nodes}
-use Rattle.ext_plan_model.specs.Plans.{PlanText, node_view}
+use Rattle.ext_plan_model.specs.Plans.{PlanText}
 use Rattle.ext_model.specs.declared.look.Fault.{Fault}
 use Rattle.ext_lifecycle.specs.declared.node_result.NodeResult.{NodeResult}
 use Rattle.ext_lifecycle.specs.declared.outcome.Outcome.{Outcome}
@@ -58,10 +56,6 @@ child_path ids at child (first ∷ walk) is parent =
 
 pub child_is : (ids : List Id) (at : ℕ) (children : List ℕ) (k d : ℕ) → at < length ids → children ≡ children_of ids at → k < length children → IsParentOf ids at (get_or children k d)
 child_is ids at children k d within is less = (parents_list_children ids at within).child (get_or children k d) (subst (λ cs. Contains cs (get_or children k d)) is (Contains-get_or children k d less))
-
-pub ids-map : (nodes : List PlanNode) → map (λ n. n.id) nodes ≡ ids_of_nodes (map node_view nodes)
-ids-map [] = refl
-ids-map (n ∷ nodes) = ap (λ ids. n.id ∷ ids) (ids-map nodes)
 
 -- ---- the end of a node
 

@@ -23,7 +23,8 @@ use Rattle.ext_plain.specs.Laws.{HasNoBeforeAlls, HasRun, goes_on}
 use Rattle.ext_plan_model.specs.PlanCalls.{callbacks_in, test_in, test_of}
 use Rattle.ext_plain.specs.NodeCalls.{CallsEnd, befores_run, call_run, make_befores, no_calls}
 use Rattle.ext_plan_model.specs.PlanCalls.{concurrent_of}
-use Rattle.ext_plain.specs.PlainRun.{RunState, body_run, container_run, key_count, node_run, outcome_of, plain_run, run_opening, test_node_run}
+use Rattle.ext_plain.specs.PlainRun.{RunState, body_run, container_run, key_count, node_run, outcome_of, plain_run_by, run_opening, test_node_run}
+use Rattle.ext_plain.specs.ValueStates.{Memory}
 use Rattle.ext_plain.proofs.Ends.{body_end, container_end, test_end}
 use Rattle.ext_plain.proofs.Nodes.{node_run-suc}
 use Rattle.ext_plain.proofs.Sound.{node-kept, tests_of_plan}
@@ -91,16 +92,16 @@ abbrev pub Stands : ℕ → List ℕ → Type 0
 Stands x [] = ⊥
 Stands x (y ∷ ys) = (x ≡ y) ⊎ Stands x ys
 
-stands-at : (xs : List ℕ) (i x : ℕ) → i < length xs → get_or xs i x ≡ x → Stands x xs
+pub stands-at : (xs : List ℕ) (i x : ℕ) → i < length xs → get_or xs i x ≡ x → Stands x xs
 stands-at [] i x within at = absurd (omega (arith, within))
 stands-at (y ∷ ys) zero x within at = inl (sym at)
 stands-at (y ∷ ys) (suc i) x within at = inr (stands-at ys i x (omega (arith, within)) at)
 
-stands-first : (xs ys : List ℕ) (x : ℕ) → Stands x xs → Stands x (xs ++ ys)
+pub stands-first : (xs ys : List ℕ) (x : ℕ) → Stands x xs → Stands x (xs ++ ys)
 stands-first [] ys x h = absurd h
 stands-first (z ∷ xs) ys x h = ⊎_elim (λ same. inl same) (λ more. inr (stands-first xs ys x more)) h
 
-stands-second : (xs ys : List ℕ) (x : ℕ) → Stands x ys → Stands x (xs ++ ys)
+pub stands-second : (xs ys : List ℕ) (x : ℕ) → Stands x ys → Stands x (xs ++ ys)
 stands-second [] ys x h = h
 stands-second (z ∷ xs) ys x h = inr (stands-second xs ys x h)
 
@@ -115,11 +116,11 @@ stands-filter test (y ∷ ys) x passes h =
     (λ same. subst (λ b. Stands x (cond b (y ∷ filter test ys) (filter test ys))) (sym (ap test (sym same) ∙ passes)) (inl same))
     (λ more. stands-cond (test y) y x (filter test ys) (stands-filter test ys x passes more)) h
 
-either-part : (b : Bool) (test : ℕ → Bool) (xs : List ℕ) (x : ℕ) → test x ≡ b → Stands x xs → Stands x (in_run_order test xs)
+pub either-part : (b : Bool) (test : ℕ → Bool) (xs : List ℕ) (x : ℕ) → test x ≡ b → Stands x xs → Stands x (in_run_order test xs)
 either-part true test xs x is h = stands-first (filter test xs) (filter (λ y. not (test y)) xs) x (stands-filter test xs x is h)
 either-part false test xs x is h = stands-second (filter test xs) (filter (λ y. not (test y)) xs) x (stands-filter (λ y. not (test y)) xs x (ap not is) h)
 
-fold-stays : (P : RunState → Type 0) (each : RunState → ℕ → RunState) → ((run : RunState) (child : ℕ) → P run → P (each run child)) → (children : List ℕ) (run : RunState) → P run → P (fold each run children)
+pub fold-stays : (P : RunState → Type 0) (each : RunState → ℕ → RunState) → ((run : RunState) (child : ℕ) → P run → P (each run child)) → (children : List ℕ) (run : RunState) → P run → P (fold each run children)
 fold-stays P each kept [] run h = h
 fold-stays P each kept (child ∷ more) run h = fold-stays P each kept more (each run child) (kept run child h)
 
@@ -141,7 +142,7 @@ at_test (node ∷ nodes) zero steps P is h = by_test node.test steps P is (h nod
 at_test (node ∷ nodes) (suc at) steps P is h = at_test nodes at steps P is (λ d. h d)
 
 -- a node with a child is no test
-no_test : (plan : PlanText) (at child : ℕ) (test : Option (List StepText)) → TestsHaveNoChildren plan → IsParentOf (ids_of_nodes plan.nodes) at child → test_of plan at ≡ test → is_some test ≡ false
+pub no_test : (plan : PlanText) (at child : ℕ) (test : Option (List StepText)) → TestsHaveNoChildren plan → IsParentOf (ids_of_nodes plan.nodes) at child → test_of plan at ≡ test → is_some test ≡ false
 no_test plan at child None childless parent is = refl
 no_test plan at child (Some steps) childless parent is =
     let ids = ids_of_nodes plan.nodes in
@@ -153,7 +154,7 @@ no_test plan at child (Some steps) childless parent is =
 -- ---- a container whose before-callbacks were all successful
 
 module _ (plan : PlanText) where
-  stays : (k levels : ℕ) (path : List ℕ) (run : RunState) → HasRun k run.results → HasRun k (node_run plan levels path run).results
+  pub stays : (k levels : ℕ) (path : List ℕ) (run : RunState) → HasRun k run.results → HasRun k (node_run plan levels path run).results
   stays k = node-kept plan (HasRun k) (λ at end closed results h. set-kept results at k (outcome_of at (is_some (test_of plan at)) end closed) (outcome-ran at (is_some (test_of plan at)) end closed) h)
 
   -- what each run of a child reaches, the body of its parent reaches
@@ -165,17 +166,24 @@ module _ (plan : PlanText) where
       let there = either-part (concurrent_of plan child) (concurrent_of plan) children child refl (stands-at children listed.0 child listed.1 listed.2) in
       fold-reaches (λ r. HasRun k r.results) (λ r c. node_run plan levels (c ∷ at ∷ above) r) (λ r c h. stays k levels (c ∷ at ∷ above) r h) (in_run_order (concurrent_of plan) children) child run there each
 
-  container-reaches : (levels at child k : ℕ) (above : List ℕ) (run : RunState) → is_some (test_of plan at) ≡ false → IsParentOf (ids_of_nodes plan.nodes) at child → goes_on plan (at ∷ above) run ≡ true
-      → ((r : RunState) → HasRun k (node_run plan levels (child ∷ at ∷ above) r).results) → HasRun k (node_run plan (suc levels) (at ∷ above) run).results
-  container-reaches levels at child k above run container parent go each =
+  -- and what the body of a container reaches, the container reaches
+  pub container-ran : (levels at k : ℕ) (above : List ℕ) (run : RunState) → is_some (test_of plan at) ≡ false → goes_on plan (at ∷ above) run ≡ true
+      → HasRun k (body_run plan (node_run plan levels) true (at ∷ above) (record { state = (befores_run plan false at (at ∷ above) run.state).state; results = run.results })).results
+      → HasRun k (node_run plan (suc levels) (at ∷ above) run).results
+  container-ran levels at k above run container go reached =
       let path = at ∷ above in
       let before = befores_run plan false at path run.state in
       let opened : RunState = record { state = before.state; results = run.results } in
       let end = container_end plan (node_run plan levels) at path run in
       let closed = closes (key_count plan) at (seal_keys (key_count plan) at end.state) in
-      let body : HasRun k (body_end plan (node_run plan levels) at path run).results = subst (λ b. HasRun k (body_run plan (node_run plan levels) b path opened).results) (sym go) (body-reaches levels at child k above opened parent each) in
+      let body : HasRun k (body_end plan (node_run plan levels) at path run).results = subst (λ b. HasRun k (body_run plan (node_run plan levels) b path opened).results) (sym go) reached in
       let ran : HasRun k (container_run plan (node_run plan levels) at path run).results = set-kept (body_end plan (node_run plan levels) at path run).results at k (outcome_of at false end closed) (outcome-ran at false end closed) body in
       subst (λ (r : RunState). HasRun k r.results) (sym (node_run-suc plan levels path run ∙ ap (λ b. if b then test_node_run plan at path run else container_run plan (node_run plan levels) at path run) container)) ran
+
+  container-reaches : (levels at child k : ℕ) (above : List ℕ) (run : RunState) → is_some (test_of plan at) ≡ false → IsParentOf (ids_of_nodes plan.nodes) at child → goes_on plan (at ∷ above) run ≡ true
+      → ((r : RunState) → HasRun k (node_run plan levels (child ∷ at ∷ above) r).results) → HasRun k (node_run plan (suc levels) (at ∷ above) run).results
+  container-reaches levels at child k above run container parent go each =
+      container-ran levels at k above run container go (body-reaches levels at child k above (record { state = (befores_run plan false at (at ∷ above) run.state).state; results = run.results }) parent each)
 
 -- ---- a node itself
 
@@ -183,7 +191,7 @@ either-ran : (k : ℕ) (b : Bool) (x y : RunState) → HasRun k x.results → Ha
 either-ran k true x y p q = p
 either-ran k false x y p q = q
 
-node-ran : (plan : PlanText) (levels : ℕ) (path : List ℕ) (run : RunState) → HasRun (start_of path) (node_run plan (suc levels) path run).results
+pub node-ran : (plan : PlanText) (levels : ℕ) (path : List ℕ) (run : RunState) → HasRun (start_of path) (node_run plan (suc levels) path run).results
 node-ran plan levels path run =
     let at = start_of path in
     let tested = test_end plan at path run in
@@ -242,11 +250,11 @@ module _ (plan : PlanText) (tree : NodesAreTree plan) (childless : TestsHaveNoCh
       container-reaches plan levels at is.0 k above run (no_test plan at is.0 (test_of plan at) childless is.1 refl) is.1 (always_on plan (at ∷ above) run none)
       (λ r. reaches levels below is.0 k (at ∷ above) r (omega (arith, deep, later)) is.1.child_within is.2)
 
-pub each_node_runs : (plan : PlanText) → NodesAreTree plan → TestsHaveNoChildren plan → HasNoBeforeAlls plan → All (λ r. r.status ≢ statuses.Skipped) (plain_run plan)
-each_node_runs plan tree childless none = λ k d within.
+pub each_node_runs : (memory : List Memory) (plan : PlanText) → NodesAreTree plan → TestsHaveNoChildren plan → HasNoBeforeAlls plan → All (λ r. r.status ≢ statuses.Skipped) (plain_run_by memory plan)
+each_node_runs memory plan tree childless none = λ k d within.
     let ids = ids_of_nodes plan.nodes in
     let nodes : length ids ≡ length plan.nodes = length-map plan.nodes (λ n. n.id) in
-    let results : length (plain_run plan) ≡ length plan.nodes = sym (length-map (plain_run plan) (λ r. r.is_test)) ∙ ap length (tests_of_plan plan) ∙ length-map plan.nodes (λ n. is_some n.test) in
+    let results : length (plain_run_by memory plan) ≡ length plan.nodes = sym (length-map (plain_run_by memory plan) (λ r. r.is_test)) ∙ ap length (tests_of_plan memory plan) ∙ length-map plan.nodes (λ n. is_some n.test) in
     let inside : k < length ids = omega (arith, nodes, results, within) in
     let is = below_root ids tree (suc k) k (omega arith) inside in
-    read-run (plain_run plan) k d within (reaches plan tree childless none (length plan.nodes) is.0 0 k [] (run_opening plan) (omega (arith, nodes)) tree.first.some is.1)
+    read-run (plain_run_by memory plan) k d within (reaches plan tree childless none (length plan.nodes) is.0 0 k [] (run_opening memory plan) (omega (arith, nodes)) tree.first.some is.1)

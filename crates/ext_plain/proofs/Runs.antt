@@ -17,16 +17,17 @@ use Rattle.ext_lifecycle.specs.FaultTexts.{NodeOutcome}
 use Rattle.ext_lifecycle.specs.Lifecycle.{MakesAll, MakesBefores, MakesCalls, endings_of, tally_of}
 use Rattle.ext_plain.specs.declared.callers.NodeCaller.{NodeCaller}
 use Rattle.ext_plain.specs.declared.setting.Setting.{Setting}
-use Rattle.ext_plain.specs.Helpers.{DoesCall, EndsNode, RunsAs, calls_end, chosen, plan_in, state_view}
+use Rattle.ext_plain.specs.Helpers.{DoesCall, EndsNode, RunsAs, calls_end, chosen, plan_in, run_with, state_view}
 use Rattle.ext_plan_model.specs.PlanCalls.{registered, test_of}
 use Rattle.ext_plain.specs.NodeCalls.{CallsEnd, afters_run, befores_run, call_run, make_all, make_befores, make_if_successful}
 use Rattle.ext_plan_model.specs.PlanCalls.{concurrent_of}
 use Rattle.ext_plain.specs.PlainRun.{RunState, body_run, container_run, key_count, node_end, node_run, test_node_run}
-use Rattle.ext_plain.specs.ValueStates.{ValueState}
+use Rattle.ext_plain.specs.ValueStates.{Memory, ValueState, with_memory}
 use Rattle.ext_lifecycle.specs.Modes.{in_run_order}
 use Rattle.ext_plan_model.specs.Laws.{ids_of_nodes}
-use Rattle.ext_plain.proofs.Nodes.{child_path, ids-map, node_run-more, start_is}
-use Rattle.ext_plain.proofs.NodeCalls.{Does, all-after, all-exact, befores-after, befores-exact, calls-after, calls-exact, texts-successful}
+use Rattle.ext_plan_model.proofs.NodeIds.{ids-map}
+use Rattle.ext_plain.proofs.Nodes.{child_path, node_run-more, node_run-zero, start_is}
+use Rattle.ext_plain.proofs.NodeCalls.{Does, all-exact, all-holds, befores-exact, befores-hold, calls-exact, calls-hold, texts-successful}
 
 -- the children of a path's first context, so many levels deep
 abbrev pub each_child : PlanText → ℕ → List ℕ → RunState → List ℕ → RunState
@@ -41,81 +42,87 @@ pub record IsAt (setting : Setting) (at : ℕ) (c : NodeCaller) : Type 0 where
   pub setting_is : c.setting ≡ setting
   pub node_is : c.node ≡ at
 
-abbrev pub IsFed : NodeCaller → Type 0
-IsFed c = c.starved ≡ false
-
-abbrev pub store_of : NodeCaller → ValueState
-store_of c = state_view c.store
+abbrev pub store_of : List Memory → NodeCaller → ValueState
+store_of memory c = with_memory memory (state_view c.store)
 
 abbrev pub between : NodeCaller → List NodeOutcome → RunState
 between c results = record { state = state_view c.store; results = results }
 
-pub does-calls : (setting : Setting) (at : ℕ) (path : List ℕ) → IsPathOf setting.tree.now at path → Does DoesCall IsFed (IsAt setting at) store_of (call_run (plan_in setting) path)
+pub does-calls : (setting : Setting) (at : ℕ) (path : List ℕ) → IsPathOf setting.tree.now at path → Does DoesCall (IsAt setting at) store_of (call_run (plan_in setting) path)
 does-calls setting at path is = record {
   keeps = λ c call o d made here. record { setting_is = made.setting ∙ here.setting_is; node_is = made.node ∙ here.node_is };
-  fed = λ c call o d made. made.fed;
-  exact = λ c call o d made here fed.
+  exact = λ c call o d made here later.
       let is_here : IsPathOf c.setting.tree.now c.node path = subst (λ n. IsPathOf c.setting.tree.now n path) (sym here.node_is) (subst (λ (s : Setting). IsPathOf s.tree.now at path) (sym here.setting_is) is) in
-      made.end fed path is_here ∙ ap (λ (s : Setting). call_run (plan_in s) path call (state_view c.store)) here.setting_is;
+      let one = made.end path is_here later in
+      (one.0, one.1 ∙ ap (λ (s : Setting). call_run (plan_in s) path call (store_of one.0 c)) here.setting_is);
 }
 
 pub test-runs : (setting : Setting) (at : ℕ) (p one two : List ℕ) (befores afters : List Call) (c d : NodeCaller) (os : List Outcome) (tally : Tally) (results : List NodeOutcome) (new : RunState)
     → IsTree setting.tree.now → IsPathOf setting.tree.now at p → one ≡ p → two ≡ p → befores ≡ befores_of (registered (plan_in setting)) true at one → afters ≡ afters_of (registered (plan_in setting)) true at two
-    → IsAt setting at c → MakesCalls DoesCall befores (test_call at) afters c os d → IsFed d → tally ≡ tally_of os → EndsNode d.setting at true tally (between d results) new
+    → IsAt setting at c → MakesCalls DoesCall befores (test_call at) afters c os d → tally ≡ tally_of os → EndsNode d.setting at true tally (between d results) new
     → RunsAs setting at (test_node_run (plan_in setting) at) (between c results) new
-test-runs setting at p one two befores afters c d os tally results new tree is_p one_is two_is befores_are afters_are here made fed tallied ended = record {
-  each = λ path is_path.
+test-runs setting at p one two befores afters c d os tally results new tree is_p one_is two_is befores_are afters_are here made tallied ended = record {
+  each = λ path is_path later.
       let plan = plan_in setting in
       let same : p ≡ path = paths_are_unique.one_path setting.tree.now at p path tree is_p is_path in
       let run = call_run plan path in
       let does = does-calls setting at path is_path in
-      let after = calls-after DoesCall IsFed (IsAt setting at) store_of run does befores (test_call at) afters c os d made in
+      let after = calls-hold DoesCall (IsAt setting at) store_of run does befores (test_call at) afters c os d made here in
       let firsts : befores ≡ befores_of (registered plan) true at path = befores_are ∙ ap (befores_of (registered plan) true at) (one_is ∙ same) in
       let lasts : afters ≡ afters_of (registered plan) true at path = afters_are ∙ ap (afters_of (registered plan) true at) (two_is ∙ same) in
-      let exact = calls-exact DoesCall IsFed (IsAt setting at) store_of run does befores (test_call at) afters c os d made here fed in
-      let calls : calls_end (store_of d) os ≡ make_all run (afters_of (registered plan) true at path) (make_if_successful run (make_befores run (befores_of (registered plan) true at path) (calls_end (store_of c) [])) (test_call at)) =
-      sym exact ∙ ap (λ l. make_all run l (make_if_successful run (make_befores run befores (calls_end (store_of c) [])) (test_call at))) lasts
-      ∙ ap (λ l. make_all run (afters_of (registered plan) true at path) (make_if_successful run (make_befores run l (calls_end (store_of c) [])) (test_call at))) firsts in
-      ended.each os tallied
-      ∙ ap (λ (s : Setting). node_end (key_count (plan_in s)) at true (calls_end (store_of d) os) results) (after.holds here).setting_is
-      ∙ ap (λ e. node_end (key_count plan) at true e results) calls;
+      let exact = calls-exact DoesCall (IsAt setting at) store_of run does befores (test_call at) afters c os d made here later in
+      let start = calls_end (store_of exact.0 c) [] in
+      let calls : calls_end (store_of later d) os ≡ make_all run (afters_of (registered plan) true at path) (make_if_successful run (make_befores run (befores_of (registered plan) true at path) start) (test_call at)) =
+      sym exact.1 ∙ ap (λ l. make_all run l (make_if_successful run (make_befores run befores start) (test_call at))) lasts
+      ∙ ap (λ l. make_all run (afters_of (registered plan) true at path) (make_if_successful run (make_befores run l start) (test_call at))) firsts in (
+        exact.0,
+        ended.each os tallied later
+            ∙ ap (λ (s : Setting). node_end (key_count (plan_in s)) at true (calls_end (store_of later d) os) results) after.setting_is
+            ∙ ap (λ e. node_end (key_count plan) at true e results) calls,
+      );
 }
 
 pub container-runs : (setting : Setting) (at : ℕ) (p one two : List ℕ) (befores afters : List Call) (c d e f g : NodeCaller) (first third : List Outcome) (tally : Tally) (results left : List NodeOutcome) (go : Bool)
     (path_run : Setting → List ℕ → RunState → RunState) (new : RunState)
     → IsTree setting.tree.now → IsPathOf setting.tree.now at p → one ≡ p → two ≡ p → befores ≡ befores_of (registered (plan_in setting)) false at one → afters ≡ afters_of (registered (plan_in setting)) false at two
-    → IsAt setting at c → MakesBefores DoesCall befores c first d → IsFed d
+    → IsAt setting at c → MakesBefores DoesCall befores c first d
     → go ≡ all_successful (endings_of first) → RunsAs d.setting at (body_run (plan_in d.setting) (path_run d.setting) go) (between d results) (between e left) → e.setting ≡ d.setting
     → f.store ≡ e.store → f.setting ≡ e.setting → f.node ≡ at
-    → MakesAll DoesCall afters f third g → IsFed g → tally ≡ tally_of (first ++ third) → EndsNode g.setting at false tally (between g left) new
+    → MakesAll DoesCall afters f third g → tally ≡ tally_of (first ++ third) → EndsNode g.setting at false tally (between g left) new
     → RunsAs setting at (container_run (plan_in setting) (path_run setting) at) (between c results) new
-container-runs setting at p one two befores afters c d e f g first third tally results left go path_run new tree is_p one_is two_is befores_are afters_are here made fed going body kept stored setting_kept there closing fed_last tallied ended = record {
-  each = λ path is_path.
+container-runs setting at p one two befores afters c d e f g first third tally results left go path_run new tree is_p one_is two_is befores_are afters_are here made going body kept stored setting_kept there closing tallied ended = record {
+  each = λ path is_path later.
       let plan = plan_in setting in
       let same : p ≡ path = paths_are_unique.one_path setting.tree.now at p path tree is_p is_path in
       let run = call_run plan path in
       let does = does-calls setting at path is_path in
-      let opened = (befores-after DoesCall IsFed (IsAt setting at) store_of run does befores c first d made).holds here in
+      let opened = befores-hold DoesCall (IsAt setting at) store_of run does befores c first d made here in
       let back : IsAt setting at f = record { setting_is = setting_kept ∙ kept ∙ opened.setting_is; node_is = there } in
-      let last = (all-after DoesCall IsFed (IsAt setting at) store_of run does afters f third g closing).holds back in
+      let last = all-holds DoesCall (IsAt setting at) store_of run does afters f third g closing back in
       let firsts : befores ≡ befores_of (registered plan) false at path = befores_are ∙ ap (befores_of (registered plan) false at) (one_is ∙ same) in
       let lasts : afters ≡ afters_of (registered plan) false at path = afters_are ∙ ap (afters_of (registered plan) false at) (two_is ∙ same) in
-      let begun : calls_end (store_of d) first ≡ befores_run plan false at path (store_of c) =
-      sym (befores-exact DoesCall IsFed (IsAt setting at) store_of run does befores c first d [] refl made here fed) ∙ ap (λ l. make_befores run l (calls_end (store_of c) [])) firsts in
-      let go_on : all_successful (calls_end (store_of d) first).calls ≡ go = texts-successful (endings_of first) ∙ sym going in
+      let closed = all-exact DoesCall (IsAt setting at) store_of run does afters f third g first closing back later in
       let is_there : IsPathOf d.setting.tree.now at path = subst (λ (s : Setting). IsPathOf s.tree.now at path) (sym opened.setting_is) is_path in
-      let bodied : between e left ≡ body_run plan (path_run setting) (all_successful (calls_end (store_of d) first).calls) path (between d results) =
-      body.each path is_there ∙ ap (λ (s : Setting). body_run (plan_in s) (path_run s) go path (between d results)) opened.setting_is ∙ ap (λ b. body_run plan (path_run setting) b path (between d results)) (sym go_on) in
+      let middle = body.each path is_there closed.0 in
+      let begin = befores-exact DoesCall (IsAt setting at) store_of run does befores c first d [] refl made here middle.0 in
+      let begun : calls_end (store_of middle.0 d) first ≡ befores_run plan false at path (store_of begin.0 c) =
+      sym begin.1 ∙ ap (λ l. make_befores run l (calls_end (store_of begin.0 c) [])) firsts in
+      let go_on : all_successful (calls_end (store_of middle.0 d) first).calls ≡ go = texts-successful (endings_of first) ∙ sym going in
+      let bodied : run_with closed.0 (between e left) ≡ body_run plan (path_run setting) (all_successful (calls_end (store_of middle.0 d) first).calls) path (run_with middle.0 (between d results)) =
+      middle.1 ∙ ap (λ (s : Setting). body_run (plan_in s) (path_run s) go path (run_with middle.0 (between d results))) opened.setting_is
+      ∙ ap (λ b. body_run plan (path_run setting) b path (run_with middle.0 (between d results))) (sym go_on) in
       let ends : CallsEnd → RunState → RunState = λ before b. node_end (key_count plan) at false (afters_run plan false at path (record { state = b.state; calls = before.calls; computed = before.computed; found = before.found })) b.results in
       let whole : CallsEnd → RunState = λ before. ends before (body_run plan (path_run setting) (all_successful before.calls) path (record { state = before.state; results = results })) in
-      let calls : calls_end (store_of g) (first ++ third) ≡ make_all run (afters_of (registered plan) false at path) (calls_end (store_of e) first) =
-      sym (all-exact DoesCall IsFed (IsAt setting at) store_of run does afters f third g first closing back fed_last)
-      ∙ ap (λ l. make_all run l (calls_end (store_of f) first)) lasts ∙ ap (λ st. make_all run (afters_of (registered plan) false at path) (calls_end (state_view st) first)) stored in
-      ended.each (first ++ third) tallied
-      ∙ ap (λ (s : Setting). node_end (key_count (plan_in s)) at false (calls_end (store_of g) (first ++ third)) left) last.setting_is
-      ∙ ap (λ x. node_end (key_count plan) at false x left) calls
-      ∙ ap (ends (calls_end (store_of d) first)) bodied
-      ∙ ap whole begun;
+      let calls : calls_end (store_of later g) (first ++ third) ≡ make_all run (afters_of (registered plan) false at path) (calls_end (store_of closed.0 e) first) =
+      sym closed.1
+      ∙ ap (λ l. make_all run l (calls_end (store_of closed.0 f) first)) lasts ∙ ap (λ st. make_all run (afters_of (registered plan) false at path) (calls_end (with_memory closed.0 (state_view st)) first)) stored in (
+        begin.0,
+        ended.each (first ++ third) tallied later
+            ∙ ap (λ (s : Setting). node_end (key_count (plan_in s)) at false (calls_end (store_of later g) (first ++ third)) left) last.setting_is
+            ∙ ap (λ x. node_end (key_count plan) at false x left) calls
+            ∙ ap (ends (calls_end (store_of middle.0 d) first)) bodied
+            ∙ ap whole begun,
+      );
 }
 
 -- ---- calls keep the setting
@@ -123,21 +130,25 @@ container-runs setting at p one two befores afters c d e f g first third tally r
 pub calls-setting : (setting : Setting) (at : ℕ) (p : List ℕ) (befores : List Call) (body : Call) (afters : List Call) (c d : NodeCaller) (os : List Outcome) → IsPathOf setting.tree.now at p → IsAt setting at c
     → MakesCalls DoesCall befores body afters c os d → d.setting ≡ setting
 calls-setting setting at p befores body afters c d os is here made =
-    ((calls-after DoesCall IsFed (IsAt setting at) store_of (call_run (plan_in setting) p) (does-calls setting at p is) befores body afters c os d made).holds here).setting_is
+    (calls-hold DoesCall (IsAt setting at) store_of (call_run (plan_in setting) p) (does-calls setting at p is) befores body afters c os d made here).setting_is
 
 pub befores-setting : (setting : Setting) (at : ℕ) (p : List ℕ) (befores : List Call) (c d : NodeCaller) (os : List Outcome) → IsPathOf setting.tree.now at p → IsAt setting at c → MakesBefores DoesCall befores c os d → d.setting ≡ setting
 befores-setting setting at p befores c d os is here made =
-    ((befores-after DoesCall IsFed (IsAt setting at) store_of (call_run (plan_in setting) p) (does-calls setting at p is) befores c os d made).holds here).setting_is
+    (befores-hold DoesCall (IsAt setting at) store_of (call_run (plan_in setting) p) (does-calls setting at p is) befores c os d made here).setting_is
 
 pub afters-setting : (setting : Setting) (at : ℕ) (p : List ℕ) (afters : List Call) (c d : NodeCaller) (os : List Outcome) → IsPathOf setting.tree.now at p → IsAt setting at c → MakesAll DoesCall afters c os d → d.setting ≡ setting
 afters-setting setting at p afters c d os is here made =
-    ((all-after DoesCall IsFed (IsAt setting at) store_of (call_run (plan_in setting) p) (does-calls setting at p is) afters c os d made).holds here).setting_is
+    (all-holds DoesCall (IsAt setting at) store_of (call_run (plan_in setting) p) (does-calls setting at p is) afters c os d made here).setting_is
 
 -- ---- children, one after another
 
 -- what is still to be run of the children makes the run of all of them
 pub record StillRuns (setting : Setting) (at levels : ℕ) (concurrent : Bool) (children rest : List ℕ) (old now : RunState) : Type 0 where
-  pub each : (path : List ℕ) → IsPathOf setting.tree.now at path → each_child (plan_in setting) levels path old (chosen_of setting concurrent children) ≡ each_child (plan_in setting) levels path now (chosen_of setting concurrent rest)
+  pub each : (path : List ℕ) → IsPathOf setting.tree.now at path → (later : List Memory)
+      → (memory : List Memory) × (each_child (plan_in setting) levels path (run_with memory old) (chosen_of setting concurrent children) ≡ each_child (plan_in setting) levels path (run_with later now) (chosen_of setting concurrent rest))
+
+pub none-run : (setting : Setting) (at levels : ℕ) (concurrent : Bool) (children rest : List ℕ) (old : RunState) → children ≡ rest → StillRuns setting at levels concurrent children rest old old
+none-run setting at levels concurrent children rest old same = record { each = λ path is_path later. (later, ap (λ cs. each_child (plan_in setting) levels path (run_with later old) (chosen_of setting concurrent cs)) same) }
 
 chosen-is : (concurrent x b : Bool) (f : ℕ → Bool) (child : ℕ) → x ≡ f child → beq x concurrent ≡ b → chosen concurrent f child ≡ b
 chosen-is true true b f child is same = sym is ∙ same
@@ -150,14 +161,18 @@ pub still-run : (setting : Setting) (at levels : ℕ) (concurrent x : Bool) (chi
     → x ≡ concurrent_of (plan_in setting) (get_or children i 0) → beq x concurrent ≡ true → RunsAs setting (get_or children i 0) (node_run (plan_in setting) levels) now next
     → StillRuns setting at levels concurrent children (drop i children) old now → StillRuns setting at levels concurrent children (drop (i + 1) children) old next
 still-run setting at levels concurrent x children i old now next within parent is same ran still = record {
-  each = λ path is_path.
+  each = λ path is_path later.
       let child = get_or children i 0 in
       let rest = chosen_of setting concurrent (drop (i + 1) children) in
       let chosen_one : chosen concurrent (concurrent_of (plan_in setting)) child ≡ true = chosen-is concurrent x true (concurrent_of (plan_in setting)) child is same in
-      still.each path is_path
-      ∙ ap (λ cs. each_child (plan_in setting) levels path now (chosen_of setting concurrent cs)) (drop_more children i 0 within)
-      ∙ ap (λ b. each_child (plan_in setting) levels path now (cond b (child ∷ rest) rest)) chosen_one
-      ∙ ap (λ r. each_child (plan_in setting) levels path r rest) (sym (ran.each (child ∷ path) (child_path setting.tree.now at child path is_path parent)));
+      let one = ran.each (child ∷ path) (child_path setting.tree.now at child path is_path parent) later in
+      let before = still.each path is_path one.0 in (
+        before.0,
+        before.1
+            ∙ ap (λ cs. each_child (plan_in setting) levels path (run_with one.0 now) (chosen_of setting concurrent cs)) (drop_more children i 0 within)
+            ∙ ap (λ b. each_child (plan_in setting) levels path (run_with one.0 now) (cond b (child ∷ rest) rest)) chosen_one
+            ∙ ap (λ r. each_child (plan_in setting) levels path r rest) (sym one.1),
+      );
 }
 
 -- or that isn't
@@ -165,13 +180,16 @@ pub still-waits : (setting : Setting) (at levels : ℕ) (concurrent x : Bool) (c
     → x ≡ concurrent_of (plan_in setting) (get_or children i 0) → beq x concurrent ≡ false
     → StillRuns setting at levels concurrent children (drop i children) old now → StillRuns setting at levels concurrent children (drop (i + 1) children) old now
 still-waits setting at levels concurrent x children i old now within is same still = record {
-  each = λ path is_path.
+  each = λ path is_path later.
       let child = get_or children i 0 in
       let rest = chosen_of setting concurrent (drop (i + 1) children) in
       let chosen_one : chosen concurrent (concurrent_of (plan_in setting)) child ≡ false = chosen-is concurrent x false (concurrent_of (plan_in setting)) child is same in
-      still.each path is_path
-      ∙ ap (λ cs. each_child (plan_in setting) levels path now (chosen_of setting concurrent cs)) (drop_more children i 0 within)
-      ∙ ap (λ b. each_child (plan_in setting) levels path now (cond b (child ∷ rest) rest)) chosen_one;
+      let before = still.each path is_path later in (
+        before.0,
+        before.1
+            ∙ ap (λ cs. each_child (plan_in setting) levels path (run_with later now) (chosen_of setting concurrent cs)) (drop_more children i 0 within)
+            ∙ ap (λ b. each_child (plan_in setting) levels path (run_with later now) (cond b (child ∷ rest) rest)) chosen_one,
+      );
 }
 
 -- the concurrent ones and then the others
@@ -180,29 +198,47 @@ pub both-run : (setting other : Setting) (at levels : ℕ) (old mid new : RunSta
     → RunsAs other at (λ path run. each_child (plan_in other) levels path run (chosen_of other false (children_of other.tree.now at))) mid new
     → RunsAs setting at (body_run (plan_in setting) (node_run (plan_in setting) levels) true) old new
 both-run setting other at levels old mid new same first second = record {
-  each = λ path is_path.
+  each = λ path is_path later.
       let plan = plan_in setting in
       let ids = children_of setting.tree.now at in
-      let two = (subst (λ (s : Setting). RunsAs s at (λ path run. each_child (plan_in s) levels path run (chosen_of s false (children_of s.tree.now at))) mid new) same second).each path is_path in
+      let two = (subst (λ (s : Setting). RunsAs s at (λ path run. each_child (plan_in s) levels path run (chosen_of s false (children_of s.tree.now at))) mid new) same second).each path is_path later in
+      let one = first.each path is_path two.0 in
       let start = start_is setting.tree.now at path is_path in
-      let whole : each_child plan levels path old (chosen_of setting true ids ++ chosen_of setting false ids) ≡ each_child plan levels path (each_child plan levels path old (chosen_of setting true ids)) (chosen_of setting false ids) =
-      fold-append (λ r child. node_run plan levels (child ∷ path) r) old (chosen_of setting true ids) (chosen_of setting false ids) in
-      two ∙ ap (λ r. each_child plan levels path r (chosen_of setting false ids)) (first.each path is_path) ∙ sym whole
-      ∙ ap (λ cs. each_child plan levels path old (in_run_order (concurrent_of plan) cs)) (ap (λ is. children_of is at) (setting.planted ∙ ids-map setting.plan.now.nodes.items) ∙ ap (children_of (ids_of_nodes plan.nodes)) (sym start));
+      let whole : each_child plan levels path (run_with one.0 old) (chosen_of setting true ids ++ chosen_of setting false ids) ≡ each_child plan levels path (each_child plan levels path (run_with one.0 old) (chosen_of setting true ids)) (chosen_of setting false ids) =
+      fold-append (λ r child. node_run plan levels (child ∷ path) r) (run_with one.0 old) (chosen_of setting true ids) (chosen_of setting false ids) in (
+        one.0,
+        two.1 ∙ ap (λ r. each_child plan levels path r (chosen_of setting false ids)) one.1 ∙ sym whole
+            ∙ ap (λ cs. each_child plan levels path (run_with one.0 old) (in_run_order (concurrent_of plan) cs)) (ap (λ is. children_of is at) (setting.planted ∙ ids-map setting.plan.now.nodes.items) ∙ ap (children_of (ids_of_nodes plan.nodes)) (sym start)),
+      );
 }
+
+-- or none of them, where the body is skipped
+pub none-runs : (setting : Setting) (at levels : ℕ) (go : Bool) (old : RunState) → go ≡ false → RunsAs setting at (body_run (plan_in setting) (node_run (plan_in setting) levels) go) old old
+none-runs setting at levels go old stop = record { each = λ path is_path later. (later, sym (ap (λ b. body_run (plan_in setting) (node_run (plan_in setting) levels) b path (run_with later old)) stop)) }
 
 pub all-run : (setting : Setting) (at levels : ℕ) (concurrent : Bool) (children rest : List ℕ) (old now : RunState) → children ≡ children_of setting.tree.now at → rest ≡ [] → StillRuns setting at levels concurrent children rest old now
     → RunsAs setting at (λ path run. each_child (plan_in setting) levels path run (chosen_of setting concurrent (children_of setting.tree.now at))) old now
 all-run setting at levels concurrent children rest old now are none still = record {
-  each = λ path is_path.
-      sym (ap (λ cs. each_child (plan_in setting) levels path old (chosen_of setting concurrent cs)) (sym are) ∙ still.each path is_path ∙ ap (λ cs. each_child (plan_in setting) levels path now (chosen_of setting concurrent cs)) none);
+  each = λ path is_path later.
+      let before = still.each path is_path later in (
+        before.0,
+        sym (ap (λ cs. each_child (plan_in setting) levels path (run_with before.0 old) (chosen_of setting concurrent cs)) (sym are) ∙ before.1
+            ∙ ap (λ cs. each_child (plan_in setting) levels path (run_with later now) (chosen_of setting concurrent cs)) none),
+      );
 }
 
 -- ---- a node, a test or a container
+
+pub no_levels-run : (setting : Setting) (at levels : ℕ) (old : RunState) → levels ≡ 0 → RunsAs setting at (node_run (plan_in setting) levels) old old
+no_levels-run setting at levels old none = record {
+  each = λ path is_path later. (later, sym (ap (λ n. node_run (plan_in setting) n path (run_with later old)) none ∙ node_run-zero (plan_in setting) path (run_with later old)));
+}
 
 pub node-by : (setting : Setting) (at levels : ℕ) (is_test : Bool) (old new : RunState) → levels ≢ 0 → is_some (test_of (plan_in setting) at) ≡ is_test
     → RunsAs setting at (λ path run. if is_test then test_node_run (plan_in setting) at path run else container_run (plan_in setting) (node_run (plan_in setting) (levels - 1)) at path run) old new
     → RunsAs setting at (node_run (plan_in setting) levels) old new
 node-by setting at levels is_test old new some is ran = record {
-  each = λ path is_path. ran.each path is_path ∙ sym (node_run-more (plan_in setting) levels path old at is_test some (start_is setting.tree.now at path is_path) is);
+  each = λ path is_path later.
+      let one = ran.each path is_path later in
+      (one.0, one.1 ∙ sym (node_run-more (plan_in setting) levels path (run_with one.0 old) at is_test some (start_is setting.tree.now at path is_path) is));
 }

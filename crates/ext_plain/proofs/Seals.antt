@@ -84,6 +84,7 @@ fill-free place value s won h p false other = subst (λ x. ¬ IsClaimed x) (sym 
 
 free : IsKept HasNoClaims
 free = record {
+  finds = λ memory s h. h;
   puts = λ place number s h. act-free (Put place number) s h (λ p claimed. claimed);
   removes = λ place s h. act-free (Remove place) s h (λ p claimed. claimed);
   seals = λ place s h. act-free (Seal place) s h (λ p claimed. claimed);

@@ -15,7 +15,8 @@ use Rattle.ext_plain.specs.Closes.{seal_keys, closes}
 use Rattle.ext_plan_model.specs.PlanCalls.{test_in, test_of}
 use Rattle.ext_plain.specs.NodeCalls.{CallsEnd, befores_run}
 use Rattle.ext_plan_model.specs.PlanCalls.{concurrent_of}
-use Rattle.ext_plain.specs.PlainRun.{RunState, body_run, container_run, key_count, node_run, outcome_of, plain_run, run_opening, skipped_from, test_node_run}
+use Rattle.ext_plain.specs.PlainRun.{RunState, body_run, container_run, key_count, node_run, outcome_of, plain_run_by, run_opening, skipped_from, test_node_run, ArePlain}
+use Rattle.ext_plain.specs.ValueStates.{Memory}
 use Rattle.ext_plain.proofs.Ends.{body_end, container_end, test_end}
 
 -- ---- what holds of the results, and still holds when a node's result is put in its place, holds after each node
@@ -85,17 +86,17 @@ skipped-tests : (at : ℕ) (nodes : List NodeText) → map (λ r. r.is_test) (sk
 skipped-tests at [] = refl
 skipped-tests at (node ∷ more) = ap (λ tests. is_some node.test ∷ tests) (skipped-tests (at + 1) more)
 
-pub result_of_each_node : (plan : PlanText) → map (λ r. r.node) (plain_run plan) ≡ range_with_len 0 (length plan.nodes)
-result_of_each_node plan =
+pub result_of_each_node : (memory : List Memory) (plan : PlanText) → map (λ r. r.node) (plain_run_by memory plan) ≡ range_with_len 0 (length plan.nodes)
+result_of_each_node memory plan =
     node-kept plan (λ results. map (λ r. r.node) results ≡ range_with_len 0 (length plan.nodes))
     (λ at end closed results is. read-kept (λ r. r.node) _ at (outcome_of at (is_some (test_of plan at)) end closed) results is (subst (λ k. IfSome (slice_get (range_with_len 0 (length plan.nodes)) at) (λ n. n ≡ k)) (zero-add at) (number_at 0 (length plan.nodes) at)))
-    (length plan.nodes) (0 ∷ []) (run_opening plan) (skipped-nodes 0 plan.nodes)
+    (length plan.nodes) (0 ∷ []) (run_opening memory plan) (skipped-nodes 0 plan.nodes)
 
-pub tests_of_plan : (plan : PlanText) → map (λ r. r.is_test) (plain_run plan) ≡ map (λ n. is_some n.test) plan.nodes
-tests_of_plan plan =
+pub tests_of_plan : (memory : List Memory) (plan : PlanText) → map (λ r. r.is_test) (plain_run_by memory plan) ≡ map (λ n. is_some n.test) plan.nodes
+tests_of_plan memory plan =
     node-kept plan (λ results. map (λ r. r.is_test) results ≡ map (λ n. is_some n.test) plan.nodes)
     (λ at end closed results is. read-kept (λ r. r.is_test) _ at (outcome_of at (is_some (test_of plan at)) end closed) results is (test_of_node plan.nodes at))
-    (length plan.nodes) (0 ∷ []) (run_opening plan) (skipped-tests 0 plan.nodes)
+    (length plan.nodes) (0 ∷ []) (run_opening memory plan) (skipped-tests 0 plan.nodes)
 
 -- ---- results in memory
 
@@ -109,7 +110,7 @@ all-results count (r ∷ results) h zero d within = h.0
 all-results count (r ∷ results) h (suc k) d within = all-results count results h.1 k d (omega (arith, within))
 
 -- what the report of a plain run needs
-pub results_within : (plan : PlanText) (results : List NodeResult) → map result_view results ≡ plain_run plan → All (λ r. r.node < length plan.nodes) results
-results_within plan results is =
-    let numbers : map (λ r. r.node) (map result_view results) ≡ range_with_len 0 (length plan.nodes) = ap (map (λ r. r.node)) is ∙ result_of_each_node plan in
+pub results_within : (plan : PlanText) (results : List NodeResult) → ArePlain plan (map result_view results) → All (λ r. r.node < length plan.nodes) results
+results_within plan results are =
+    let numbers : map (λ r. r.node) (map result_view results) ≡ range_with_len 0 (length plan.nodes) = ap (map (λ r. r.node)) are.exact ∙ result_of_each_node are.memory plan in
     all-results (length plan.nodes) results (subst (AllByRecursion (λ n. n < length plan.nodes)) (sym numbers) (numbers_below 0 (length plan.nodes) (length plan.nodes) (omega arith)))

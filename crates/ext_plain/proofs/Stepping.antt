@@ -3,19 +3,26 @@ use Rattle.std.proofs.Common.{◌≡◌, ℕ, ◌+◌, List, [], ◌∷◌, true
 use Rattle.ext_plan_model.specs.Plans.{KeyText, StepText}
 use Rattle.ext_lifecycle.specs.Endings.{successful, aborted, failed, is_successful}
 use Rattle.ext_plain.specs.ValueStates.{ValueState}
-use Rattle.ext_plain.specs.Steps.{StepEnd, ended, and_then, unless_ended, step_run, steps_run}
+use Rattle.ext_plain.specs.Steps.{StepEnd, ended, and_then, unless_ended, next_step, steps_run}
 use Rattle.ext_lifecycle.specs.FaultTexts.{VerdictText}
 
 -- what steps come to after others that computed and found so many
 abbrev pub after_steps : ℕ → ℕ → StepEnd → StepEnd
 after_steps computed found end = record { state = end.state; verdict = end.verdict; computed = computed + end.computed; found = found + end.found }
 
+pub no_steps : (end : StepEnd) → after_steps 0 0 end ≡ end
+no_steps end =
+    let computed : 0 + end.computed ≡ end.computed = omega arith in
+    let found : 0 + end.found ≡ end.found = omega arith in
+    ap (λ n. record { state = end.state; verdict = end.verdict; computed = n; found = 0 + end.found }) computed
+    ∙ ap (λ n. record { state = end.state; verdict = end.verdict; computed = end.computed; found = n }) found
+
 pub steps_run-nil : (keys : List KeyText) (path : List ℕ) (s : ValueState) → steps_run keys path [] s ≡ ended successful s
 unfolding steps_run
 steps_run-nil keys path s = refl
 
 pub steps_run-cons : (keys : List KeyText) (path : List ℕ) (step : StepText) (more : List StepText) (s : ValueState)
-    → steps_run keys path (step ∷ more) s ≡ unless_ended (step_run keys path step s).verdict (step_run keys path step s) (steps_run keys path more)
+    → steps_run keys path (step ∷ more) s ≡ unless_ended (next_step keys path step s).verdict (next_step keys path step s) (steps_run keys path more)
 unfolding steps_run
 steps_run-cons keys path step more s = refl
 
@@ -36,7 +43,7 @@ added a b c d e f end computed found =
     ∙ ap (λ n. record { state = end.state; verdict = end.verdict; computed = c + end.computed; found = n }) found
 
 -- a step that is successful: the others go on after it
-pub steps-go : (keys : List KeyText) (path : List ℕ) (step : StepText) (more : List StepText) (s : ValueState) (first : StepEnd) (computed found : ℕ) → first ≡ step_run keys path step s
+pub steps-go : (keys : List KeyText) (path : List ℕ) (step : StepText) (more : List StepText) (s : ValueState) (first : StepEnd) (computed found : ℕ) → first ≡ next_step keys path step s
     → is_successful first.verdict ≡ true
     → after_steps computed found (steps_run keys path (step ∷ more) s) ≡ after_steps (computed + first.computed) (found + first.found) (steps_run keys path more first.state)
 steps-go keys path step more s first computed found is passed =
@@ -46,7 +53,7 @@ steps-go keys path step more s first computed found is passed =
     ∙ added computed first.computed (computed + first.computed) found first.found (found + first.found) rest (omega arith) (omega arith)
 
 -- one that isn't: it is the last
-pub steps-stop : (keys : List KeyText) (path : List ℕ) (step : StepText) (more : List StepText) (s : ValueState) (first : StepEnd) → first ≡ step_run keys path step s
+pub steps-stop : (keys : List KeyText) (path : List ℕ) (step : StepText) (more : List StepText) (s : ValueState) (first : StepEnd) → first ≡ next_step keys path step s
     → is_successful first.verdict ≡ false
     → steps_run keys path (step ∷ more) s ≡ first
 steps-stop keys path step more s first is ends = steps_run-cons keys path step more s ∙ rw (← is) (stopped first.verdict first (steps_run keys path more) ends)

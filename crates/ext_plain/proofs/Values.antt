@@ -53,6 +53,7 @@ keep-values value s room h = one_more s.values value ∙ ap suc h ∙ sym (keep-
 
 valued : IsKept HasValues
 valued = record {
+  finds = λ memory s h. h;
   puts = λ place number s h. act-values (Put place number) s refl h;
   removes = λ place s h. act-values (Remove place) s refl h;
   seals = λ place s h. act-values (Seal place) s refl h;

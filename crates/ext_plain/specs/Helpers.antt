@@ -1,6 +1,7 @@
 -- What the contracts of private functions cite, and nothing else: no public clause needs it.
-use Rattle.std.specs.Prelude.{◌≡◌, ◌<◌, ◌≤◌, ℕ, Bool, true, false, not, List, length, map, Option, Some, None, option_map, Result, Ok, Err, if◌then◌else◌}
+use Rattle.std.specs.Prelude.{◌≡◌, ◌<◌, ◌≤◌, ℕ, Bool, true, false, not, List, [], length, map, Option, Some, None, option_map, Result, Ok, Err, if◌then◌else◌}
 use Rattle.ext_model.specs.declared.look.Fault.{Fault}
+use Rattle.ext_model.specs.declared.event.Act.TheVariants.{Abandon}
 use Rattle.ext_model.specs.declared.plain_fault.PlainFault.{PlainFault}
 use Rattle.ext_model.specs.declared.plain_fault.PlainFault.TheVariants as plain
 use Rattle.ext_model.specs.Events.{NumbersFull, Busy, Closed, Standing}
@@ -19,6 +20,8 @@ use Rattle.ext_steps.specs.declared.step_keys.StepCall.{StepCall}
 use Rattle.ext_steps.specs.Calls.{start_of}
 use Rattle.ext_steps.specs.Values.{ValueText, value_view}
 use Rattle.ext_plain.specs.declared.callers.NodeCaller.{NodeCaller}
+use Rattle.ext_plain.specs.declared.lack.Lack.{Lack}
+use Rattle.ext_plain.specs.declared.lack.Lack.TheVariants as lacks
 use Rattle.ext_plain.specs.declared.plain.PlainRunner.{PlainRunner}
 use Rattle.ext_plain.specs.declared.setting.Setting.{Setting}
 use Rattle.ext_plain.specs.declared.value_store.ValueStore.{ValueStore}
@@ -26,15 +29,15 @@ use Rattle.ext_plain.specs.NodeCalls.{CallsEnd, call_run}
 use Rattle.ext_tree.specs.Trees.{IsTree}
 use Rattle.ext_tree.specs.Paths.{IsPathOf}
 use Rattle.ext_plain.specs.PlainRun.{RunState, key_count, node_end}
-use Rattle.ext_plain.specs.Steps.{StepEnd}
-use Rattle.ext_plain.specs.ValueStates.{ValueState, reason, why_refused, next_number, keep_value}
+use Rattle.ext_plain.specs.Steps.{StepEnd, factory_gave, no_memory, said_by}
+use Rattle.ext_plain.specs.ValueStates.{Memory, no_value, no_place, no_words, ValueState, after_act, reason, why_refused, next_number, keep_value, with_memory}
 
 -- ---- the store and its values
 
 abbrev pub state_view : ValueStore → ValueState
-state_view s = record { store = state_of s.store; values = map value_view s.values.items }
+state_view s = record { store = state_of s.store; values = map value_view s.values.items; memory = [] }
 
--- why a call of the store was refused, where it was not for want of memory, which ends the run
+-- why a call of the store was refused, where it was not for want of memory
 abbrev pub IsReasonOf : PlainFault → Reason → Type 0
 IsReasonOf plain.Busy why = why ≡ reason Busy
 IsReasonOf plain.Closed why = why ≡ reason Closed
@@ -78,6 +81,27 @@ step_end s o = record { state = s; verdict = verdict_text o.verdict; computed = 
 abbrev pub end_view : ValueStore → Outcome → StepEnd
 end_view s o = step_end (state_view s) o
 
+-- what a step found of memory that lacked some
+abbrev pub lacking : Lack → Memory
+lacking lacks.Value = no_value
+lacking lacks.Place = no_place
+lacking (lacks.Words found) = no_words
+
+abbrev pub found_lacking : Lack → ℕ
+found_lacking lacks.Value = 0
+found_lacking lacks.Place = 0
+found_lacking (lacks.Words found) = found
+
+-- a step that lacked memory leaves this
+abbrev pub lack_end : ValueState → Lack → StepEnd
+lack_end s lack = record { state = s; verdict = no_memory; computed = 0; found = found_lacking lack }
+
+-- what is left where memory is lacked once a factory gave a value, under the claim that stands; the place of the claim is in use
+abbrev pub LacksGiven : Lack → List ℕ → List ℕ → Place → ValueText → ValueState → ValueState → Type 0
+LacksGiven lacks.Value name label place value old new = new ≡ after_act (Abandon place) old
+LacksGiven lacks.Place name label place value old new = ⊥
+LacksGiven (lacks.Words found) name label place value old new = lack_end new (lacks.Words found) ≡ said_by no_words (factory_gave name label place value old)
+
 -- one step computes or finds one value at most
 pub record AreFew (o : Outcome) : Type 0 where
   pub computed : o.computed ≤ 1
@@ -93,13 +117,12 @@ pub record IsReady (caller : NodeCaller) : Type 0 where
   pub tree : IsTree caller.setting.tree.now
   pub within : caller.node < length caller.setting.tree.now
 
--- what a call does, where memory for it was not refused: its steps in the context of the node
+-- What a call does: its steps in the context of the node. Whatever the steps after it find of memory, there is something that its own steps found
 pub record DoesCall (before : NodeCaller) (call : Call) (outcome : Outcome) (after : NodeCaller) : Type 0 where
   pub setting : after.setting ≡ before.setting
   pub node : after.node ≡ before.node
-  pub fed : after.starved ≡ false → before.starved ≡ false
-  pub end : after.starved ≡ false → (path : List ℕ) → IsPathOf before.setting.tree.now before.node path
-      → end_view after.store outcome ≡ call_run (plan_in before.setting) path call (state_view before.store)
+  pub end : (path : List ℕ) → IsPathOf before.setting.tree.now before.node path → (later : List Memory)
+      → (memory : List Memory) × (step_end (with_memory later (state_view after.store)) outcome ≡ call_run (plan_in before.setting) path call (with_memory memory (state_view before.store)))
 
 -- what calls with these outcomes leave
 abbrev pub calls_end : ValueState → List Outcome → CallsEnd
@@ -119,18 +142,24 @@ pub record HasClosed (closes : Closes) (told : List (Option (List ℕ))) : Type 
 
 -- ---- the plain run
 
-abbrev pub run_view : PlainRunner → RunState
+abbrev pub run_view : {L : Type 0} → PlainRunner L → RunState
 run_view r = record { state = state_view r.caller.store; results = results_view r.results.items }
+
+-- the same, where the next steps find this of memory
+abbrev pub run_with : List Memory → RunState → RunState
+run_with memory run = record { state = with_memory memory run.state; results = run.results }
 
 -- those children that are concurrent, or those that aren't
 abbrev pub chosen : Bool → (ℕ → Bool) → ℕ → Bool
 chosen true concurrent = concurrent
 chosen false concurrent = λ child. not (concurrent child)
 
--- for the node of this number, whose path it goes by, the run became what this makes of it
+-- For the node of this number, whose path it goes by, the run became what this makes of it. Whatever later steps find of memory, there is something that those between
+-- found
 pub record RunsAs (setting : Setting) (at : ℕ) (by : List ℕ → RunState → RunState) (old new : RunState) : Type 0 where
-  pub each : (path : List ℕ) → IsPathOf setting.tree.now at path → new ≡ by path old
+  pub each : (path : List ℕ) → IsPathOf setting.tree.now at path → (later : List Memory) → (memory : List Memory) × (run_with later new ≡ by path (run_with memory old))
 
--- the end of a node whose calls came to this tally
+-- the end of a node whose calls came to this tally, whatever later steps find of memory
 pub record EndsNode (setting : Setting) (at : ℕ) (is_test : Bool) (tally : Tally) (old new : RunState) : Type 0 where
-  pub each : (outcomes : List Outcome) → tally ≡ tally_of outcomes → new ≡ node_end (key_count (plan_in setting)) at is_test (calls_end old.state outcomes) old.results
+  pub each : (outcomes : List Outcome) → tally ≡ tally_of outcomes → (later : List Memory)
+      → run_with later new ≡ node_end (key_count (plan_in setting)) at is_test (calls_end (with_memory later old.state) outcomes) old.results

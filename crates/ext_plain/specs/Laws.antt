@@ -1,7 +1,7 @@
--- What is true of the plain run of every plan: sentences by which a reader may judge its definition.
+-- What is true of the plain run of every plan, whatever memory its steps find: sentences by which a reader may judge its definition.
 -- JUnit 5 User Guide, "Keeping State in Extensions": a context's store is closed at the end of the context.
 -- That results stand in the order of the plan, and which nodes are skipped, are own rules.
-use Rattle.std.specs.Prelude.{ℕ, ◌≡◌, ◌≢◌, ◌+◌, ◌<◌, Bool, true, false, List, [], ◌∷◌, All, IfSome, map, length, drop, is_some, slice_get}
+use Rattle.std.specs.Prelude.{ℕ, ◌≡◌, ◌≢◌, ◌⊎◌, ◌+◌, ◌<◌, Bool, true, false, List, [], ◌∷◌, All, IfSome, map, length, drop, is_some, slice_get}
 use Rattle.std.specs.List.{range_with_len}
 use Rattle.ext_model.specs.State.{IsClaimed, IsSealed}
 use Rattle.ext_model.specs.Plain.{Place}
@@ -9,25 +9,33 @@ use Rattle.ext_tree.specs.Paths.{IsParentOf}
 use Rattle.ext_lifecycle.specs.declared.status.Status.TheVariants as statuses
 use Rattle.ext_lifecycle.specs.Endings.{all_successful, successful}
 use Rattle.ext_lifecycle.specs.FaultTexts.{NodeOutcome}
-use Rattle.ext_plan_model.specs.Plans.{KeyText, PlanText, put, want}
+use Rattle.ext_plan_model.specs.Plans.{KeyText, PlanText, StepText, put, want}
 use Rattle.ext_plan_model.specs.KeyNumbers.{different_keys}
 use Rattle.ext_plan_model.specs.Laws.{ids_of_nodes, NodesAreTree, TestsHaveNoChildren}
 use Rattle.ext_steps.specs.Calls.{start_of}
-use Rattle.ext_plain.specs.ValueStates.{ValueState, value_opening}
-use Rattle.ext_plain.specs.Steps.{step_run}
+use Rattle.ext_plain.specs.ValueStates.{Memory, ValueState, value_opening}
+use Rattle.ext_plain.specs.Steps.{no_memory, step_by, step_run}
 use Rattle.ext_plan_model.specs.PlanCalls.{test_of}
 use Rattle.ext_plain.specs.NodeCalls.{befores_run}
-use Rattle.ext_plain.specs.PlainRun.{RunState, node_run, plain_run}
+use Rattle.ext_plain.specs.PlainRun.{RunState, node_run, plain_run_by}
 
 -- ---- the results
 
 -- there is one result for each node, and they stand in the order of the plan
 abbrev pub HasResultOfEachNode : Type 0
-HasResultOfEachNode = (plan : PlanText) → map (λ r. r.node) (plain_run plan) ≡ range_with_len 0 (length plan.nodes)
+HasResultOfEachNode = (memory : List Memory) (plan : PlanText) → map (λ r. r.node) (plain_run_by memory plan) ≡ range_with_len 0 (length plan.nodes)
 
 -- the results of tests are those of the nodes that are tests
 abbrev pub HasTestsOfPlan : Type 0
-HasTestsOfPlan = (plan : PlanText) → map (λ r. r.is_test) (plain_run plan) ≡ map (λ n. is_some n.test) plan.nodes
+HasTestsOfPlan = (memory : List Memory) (plan : PlanText) → map (λ r. r.is_test) (plain_run_by memory plan) ≡ map (λ n. is_some n.test) plan.nodes
+
+-- ---- memory
+
+-- Whatever a step finds of memory, it does what it does where it finds enough, or it fails with `no memory`
+abbrev pub DoesOrLacks : Type 0
+DoesOrLacks =
+    (keys : List KeyText) (found : Memory) (path : List ℕ) (step : StepText) (s : ValueState)
+    → (step_by keys found path step s ≡ step_run keys path step s) ⊎ ((step_by keys found path step s).verdict ≡ no_memory)
 
 -- ---- which nodes run
 
@@ -42,7 +50,8 @@ HasNoBeforeAlls plan = All (λ node. node.before_all ≡ []) plan.nodes
 -- Then each node of a plan that was read is run, however deep it is: its nodes are a tree, and no test has children. A result is `skipped` before its node has
 -- run, and never after
 abbrev pub RunsEachNode : Type 0
-RunsEachNode = (plan : PlanText) → NodesAreTree plan → TestsHaveNoChildren plan → HasNoBeforeAlls plan → All (λ r. r.status ≢ statuses.Skipped) (plain_run plan)
+RunsEachNode =
+    (memory : List Memory) (plan : PlanText) → NodesAreTree plan → TestsHaveNoChildren plan → HasNoBeforeAlls plan → All (λ r. r.status ≢ statuses.Skipped) (plain_run_by memory plan)
 
 -- the before-callbacks of a container, run from this state, were all successful
 abbrev pub goes_on : PlanText → List ℕ → RunState → Bool
@@ -66,7 +75,9 @@ SkipsBody =
 
 -- below a node that is skipped all nodes are skipped: the parent of each node that has run has run
 abbrev pub RunsParents : Type 0
-RunsParents = (plan : PlanText) → NodesAreTree plan → (parent child : ℕ) → IsParentOf (ids_of_nodes plan.nodes) parent child → HasRun child (plain_run plan) → HasRun parent (plain_run plan)
+RunsParents =
+    (memory : List Memory) (plan : PlanText) → NodesAreTree plan → (parent child : ℕ) → IsParentOf (ids_of_nodes plan.nodes) parent child
+    → HasRun child (plain_run_by memory plan) → HasRun parent (plain_run_by memory plan)
 
 -- ---- the store between two steps and between two nodes
 

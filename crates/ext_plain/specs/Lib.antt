@@ -4,4 +4,5 @@ pub mod Closes
 pub mod NodeCalls
 pub mod PlainRun
 pub mod Laws
+pub mod Ancestors
 pub mod Helpers

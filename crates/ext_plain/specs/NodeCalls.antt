@@ -2,15 +2,12 @@
 --
 -- JUnit 5 User Guide, "Relative Execution Order of User Code and Extensions", by the lists of calls of [ext_lifecycle Callbacks]. That a call after a
 -- before-callback that isn't successful is skipped, unless it is an after-callback, is an own rule.
-use Rattle.std.specs.Prelude.{ℕ, ◌+◌, Bool, List, [], ◌∷◌, ◌++◌, length, fold, Option, Some, None, slice_get, if◌then◌else◌}
-use Rattle.std.specs.List.{slice_index_or}
+use Rattle.std.specs.Prelude.{ℕ, ◌+◌, Bool, List, [], ◌∷◌, ◌++◌, fold, if◌then◌else◌}
 use Rattle.ext_lifecycle.specs.declared.call.Call.{Call}
-use Rattle.ext_lifecycle.specs.declared.call.Kind.{Kind}
-use Rattle.ext_lifecycle.specs.declared.call.Kind.TheVariants as kinds
 use Rattle.ext_lifecycle.specs.Callbacks.{afters_of, befores_of, test_call}
 use Rattle.ext_lifecycle.specs.Endings.{all_successful}
 use Rattle.ext_lifecycle.specs.FaultTexts.{VerdictText}
-use Rattle.ext_plan_model.specs.Plans.{StepText, NodeText, PlanText, callbacks_of}
+use Rattle.ext_plan_model.specs.Plans.{PlanText}
 use Rattle.ext_plan_model.specs.PlanCalls.{registered, steps_of_call}
 use Rattle.ext_plain.specs.ValueStates.{ValueState}
 use Rattle.ext_plain.specs.Steps.{StepEnd, steps_run}

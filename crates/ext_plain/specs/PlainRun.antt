@@ -5,17 +5,17 @@
 -- JUnit 5 User Guide, "Relative Execution Order of User Code and Extensions", and "Keeping State in Extensions": a store is bound to the life of its context, and
 -- is closed when that ends, so after the contexts below it. Which statuses there are, that the nodes below a body that is skipped run nothing, aren't closed and are
 -- skipped, and that a container's status does not depend on its children's, are own rules.
-use Rattle.std.specs.Prelude.{ℕ, zero, suc, ◌+◌, Bool, true, false, List, [], ◌∷◌, length, fold, Option, Some, None, is_some, slice_get, slice_set, if◌then◌else◌}
+use Rattle.std.specs.Prelude.{◌≡◌, ℕ, zero, suc, ◌+◌, Bool, true, false, List, [], ◌∷◌, length, fold, Option, is_some, slice_set, if◌then◌else◌}
 use Rattle.ext_lifecycle.specs.Endings.{all_successful}
 use Rattle.ext_lifecycle.specs.FaultTexts.{NodeOutcome}
-use Rattle.ext_lifecycle.specs.Modes.{is_concurrent, in_run_order}
+use Rattle.ext_lifecycle.specs.Modes.{in_run_order}
 use Rattle.ext_lifecycle.specs.Results.{result_of, skipped_result}
 use Rattle.ext_plan_model.specs.Plans.{NodeText, PlanText}
 use Rattle.ext_plan_model.specs.KeyNumbers.{different_keys}
 use Rattle.ext_plan_model.specs.Laws.{ids_of_nodes}
 use Rattle.ext_steps.specs.Calls.{start_of}
 use Rattle.ext_tree.specs.Paths.{children_of}
-use Rattle.ext_plain.specs.ValueStates.{ValueState, value_opening}
+use Rattle.ext_plain.specs.ValueStates.{Memory, ValueState, value_opening, with_memory}
 use Rattle.ext_plain.specs.Closes.{seal_keys, closes}
 use Rattle.ext_plan_model.specs.PlanCalls.{concurrent_of, test_of}
 use Rattle.ext_plain.specs.NodeCalls.{CallsEnd, befores_run, test_run, afters_run}
@@ -80,9 +80,19 @@ abbrev pub skipped_from : ℕ → List NodeText → List NodeOutcome
 skipped_from at [] = []
 skipped_from at (node ∷ more) = skipped_result at (is_some node.test) ∷ skipped_from (at + 1) more
 
-abbrev pub run_opening : PlanText → RunState
-run_opening plan = record { state = value_opening; results = skipped_from 0 plan.nodes }
+-- whose steps find this of memory, in the order in which they are made
+abbrev pub run_opening : List Memory → PlanText → RunState
+run_opening memory plan = record { state = with_memory memory value_opening; results = skipped_from 0 plan.nodes }
 
 -- The results of the nodes, in the order of the plan. The root is node 0, and no tree is deeper than it has nodes
+abbrev pub plain_run_by : List Memory → PlanText → List NodeOutcome
+plain_run_by memory plan = (node_run plan (length plan.nodes) (0 ∷ []) (run_opening memory plan)).results
+
+-- those of a run whose steps all find enough
 abbrev pub plain_run : PlanText → List NodeOutcome
-plain_run plan = (node_run plan (length plan.nodes) (0 ∷ []) (run_opening plan)).results
+plain_run plan = plain_run_by [] plan
+
+-- They are those of a plain run of the plan: for each step that was made there is one answer to what memory it found, and all the rest follows from the plan
+pub record ArePlain (plan : PlanText) (results : List NodeOutcome) : Type 0 where
+  pub memory : List Memory
+  pub exact : results ≡ plain_run_by memory plan

@@ -7,6 +7,7 @@ use Rattle.ext_model.specs.declared.event.Act.{Act}
 use Rattle.ext_model.specs.declared.event.Act.TheVariants.{Put, Remove, Claim, Fill, Abandon}
 use Rattle.ext_model.specs.declared.look.Look.{Look}
 use Rattle.ext_model.specs.declared.look.Look.TheVariants as look
+use Rattle.ext_model.specs.declared.slot.Slot.{Slot}
 use Rattle.ext_model.specs.State.{lookup}
 use Rattle.ext_model.specs.Plain.{Place, under}
 use Rattle.ext_plan_model.specs.Plans.{KeyText, StepText, put, put_closeable, want, nothing, remove, compute, compute_closeable, compute_fail, fail, abort}
@@ -17,7 +18,7 @@ use Rattle.ext_steps.specs.declared.reason.Reason.TheVariants as reasons
 use Rattle.ext_steps.specs.Calls.{key_number, label_of, start_of}
 use Rattle.ext_steps.specs.Values.{ValueText}
 use Rattle.ext_steps.specs.Verdicts.{SeenText, seen_value, seen_nothing, seen_refused, refused, unless_refused, want_verdict, none_verdict}
-use Rattle.ext_plain.specs.ValueStates.{ValueState, after_act, why_refused, next_number, keep_value, value_of}
+use Rattle.ext_plain.specs.ValueStates.{Memory, enough, no_value, no_place, no_words, ValueState, with_memory, next_found, found_later, after_act, why_refused, next_number, keep_value, value_of}
 
 -- what a step, a test or a callback leaves, how it ended, how many values it computed, and how many it found where it would have computed one
 pub record StepEnd : Type 0 where
@@ -28,6 +29,23 @@ pub record StepEnd : Type 0 where
 
 abbrev pub ended : VerdictText → ValueState → StepEnd
 ended verdict s = record { state = s; verdict = verdict; computed = 0; found = 0 }
+
+-- a step that finds no memory fails with these words
+abbrev pub no_memory : VerdictText
+no_memory = failed (codes "no memory")
+
+-- a verdict for whose words there is no memory; a success has none
+abbrev pub without_words : VerdictText → VerdictText
+without_words successful = successful
+without_words (aborted text) = no_memory
+without_words (failed text) = no_memory
+
+-- the same step, which asks for no memory but that for its words
+abbrev pub said_by : Memory → StepEnd → StepEnd
+said_by enough end = end
+said_by no_value end = end
+said_by no_place end = end
+said_by no_words end = record end { verdict = without_words end.verdict }
 
 -- a step's last act, refused or not
 abbrev pub act_ends : List ℕ → List ℕ → Act Place → ValueState → StepEnd
@@ -46,6 +64,19 @@ put_kept name label place kept = act_ends name label (Put place kept.store.drawn
 
 abbrev pub put_step : List ℕ → List ℕ → Place → ValueText → ValueState → StepEnd
 put_step name label place value s = or_refused name label (why_refused (next_number s) s) s (put_kept name label place (keep_value value s))
+
+-- what is done where nothing stands in a place, and what is done else
+abbrev pub if_empty : Option Slot → StepEnd → StepEnd → StepEnd
+if_empty None empty other = empty
+if_empty (Some slot) empty other = other
+
+-- With no memory for the value nothing is done. With none for the place the value is kept, and not stored; a place where something stands needs none
+abbrev pub put_by : Memory → List ℕ → List ℕ → Place → ValueText → ValueState → StepEnd
+put_by enough name label place value s = put_step name label place value s
+put_by no_value name label place value s = ended no_memory s
+put_by no_place name label place value s =
+    or_refused name label (why_refused (next_number s) s) s (if_empty (s.store.slots place) (ended no_memory (keep_value value s)) (put_kept name label place (keep_value value s)))
+put_by no_words name label place value s = said_by no_words (put_step name label place value s)
 
 -- ---- `want` and `none`, which change nothing
 
@@ -85,11 +116,33 @@ compute_looked name label place value s look.Absent = claim_and name label place
 compute_looked name label place value s (look.Busy at) = ended (refused name label reasons.Busy) s
 compute_looked name label place value s (look.Closed at) = ended (refused name label reasons.Closed) s
 
+-- what is done only where a look-up finds nothing, and what is done else
+abbrev pub if_absent : Look → StepEnd → StepEnd → StepEnd
+if_absent (look.Found at number) absent other = other
+if_absent look.Absent absent other = absent
+if_absent (look.Busy at) absent other = other
+if_absent (look.Closed at) absent other = other
+
+-- With no memory for the value the claim goes. With none for the place there is no claim. Neither is asked for where a value is found
+abbrev pub compute_by : Memory → List ℕ → List ℕ → Place → ValueText → ValueState → Look → StepEnd
+compute_by enough name label place value s found = compute_looked name label place value s found
+compute_by no_value name label place value s found =
+    if_absent found (claim_and name label place (λ claimed. ended no_memory (after_act (Abandon place) claimed)) s) (compute_looked name label place value s found)
+compute_by no_place name label place value s found = if_absent found (or_refused name label (why_refused (Claim place) s) s (ended no_memory s)) (compute_looked name label place value s found)
+compute_by no_words name label place value s found = said_by no_words (compute_looked name label place value s found)
+
 abbrev pub computefail_looked : List ℕ → List ℕ → Place → ValueState → Look → StepEnd
 computefail_looked name label place s (look.Found at number) = record { state = s; verdict = none_verdict name label (shown (value_of s.values number)); computed = 0; found = 1 }
 computefail_looked name label place s look.Absent = claim_and name label place (factory_failed place) s
 computefail_looked name label place s (look.Busy at) = ended (refused name label reasons.Busy) s
 computefail_looked name label place s (look.Closed at) = ended (refused name label reasons.Closed) s
+
+-- It keeps no value
+abbrev pub computefail_by : Memory → List ℕ → List ℕ → Place → ValueState → Look → StepEnd
+computefail_by enough name label place s found = computefail_looked name label place s found
+computefail_by no_value name label place s found = computefail_looked name label place s found
+computefail_by no_place name label place s found = if_absent found (or_refused name label (why_refused (Claim place) s) s (ended no_memory s)) (computefail_looked name label place s found)
+computefail_by no_words name label place s found = said_by no_words (computefail_looked name label place s found)
 
 -- ---- the steps of a test or of a callback
 
@@ -101,18 +154,26 @@ module _ (keys : List KeyText) where
   abbrev pub place_of : ℕ → List ℕ → Place
   place_of key path = (start_of path, key_number keys key)
 
-  -- a step that runs in the context of this path; with `up` it goes by the path of an ancestor
+  -- A step that runs in the context of this path, by what it finds of memory; with `up` it goes by the path of an ancestor
+  abbrev pub step_by : Memory → List ℕ → StepText → ValueState → StepEnd
+  step_by found path (put key text up) s = put_by found (codes "put") (label_of keys key) (place_of key (drop up path)) (record { text = text; closeable = false }) s
+  step_by found path (put_closeable key text up) s = put_by found (codes "put!") (label_of keys key) (place_of key (drop up path)) (record { text = text; closeable = true }) s
+  step_by found path (want key text up) s = said_by found (ended (want_verdict (codes "want") (label_of keys key) text (seen_by s.values (found_along key (drop up path) s))) s)
+  step_by found path (nothing key up) s = said_by found (ended (none_verdict (codes "none") (label_of keys key) (seen_by s.values (found_along key (drop up path) s))) s)
+  step_by found path (remove key up) s = said_by found (act_ends (codes "remove") (label_of keys key) (Remove (place_of key (drop up path))) s)
+  step_by found path (compute key text up) s = compute_by found (codes "compute") (label_of keys key) (place_of key (drop up path)) (record { text = text; closeable = false }) s (found_along key (drop up path) s)
+  step_by found path (compute_closeable key text up) s = compute_by found (codes "compute!") (label_of keys key) (place_of key (drop up path)) (record { text = text; closeable = true }) s (found_along key (drop up path) s)
+  step_by found path (compute_fail key text up) s = computefail_by found (codes "computefail") (label_of keys key) (place_of key (drop up path)) s (found_along key (drop up path) s)
+  step_by found path (fail text) s = said_by found (ended (failed text) s)
+  step_by found path (abort text) s = said_by found (ended (aborted text) s)
+
+  -- one that finds enough
   abbrev pub step_run : List ℕ → StepText → ValueState → StepEnd
-  step_run path (put key text up) s = put_step (codes "put") (label_of keys key) (place_of key (drop up path)) (record { text = text; closeable = false }) s
-  step_run path (put_closeable key text up) s = put_step (codes "put!") (label_of keys key) (place_of key (drop up path)) (record { text = text; closeable = true }) s
-  step_run path (want key text up) s = ended (want_verdict (codes "want") (label_of keys key) text (seen_by s.values (found_along key (drop up path) s))) s
-  step_run path (nothing key up) s = ended (none_verdict (codes "none") (label_of keys key) (seen_by s.values (found_along key (drop up path) s))) s
-  step_run path (remove key up) s = act_ends (codes "remove") (label_of keys key) (Remove (place_of key (drop up path))) s
-  step_run path (compute key text up) s = compute_looked (codes "compute") (label_of keys key) (place_of key (drop up path)) (record { text = text; closeable = false }) s (found_along key (drop up path) s)
-  step_run path (compute_closeable key text up) s = compute_looked (codes "compute!") (label_of keys key) (place_of key (drop up path)) (record { text = text; closeable = true }) s (found_along key (drop up path) s)
-  step_run path (compute_fail key text up) s = computefail_looked (codes "computefail") (label_of keys key) (place_of key (drop up path)) s (found_along key (drop up path) s)
-  step_run path (fail text) s = ended (failed text) s
-  step_run path (abort text) s = ended (aborted text) s
+  step_run = step_by enough
+
+  -- the next step that is made, by what it finds
+  abbrev pub next_step : List ℕ → StepText → ValueState → StepEnd
+  next_step path step s = step_by (next_found s.memory) path step (with_memory (found_later s.memory) s)
 
 -- one step and then the rest: the counts of both are added up
 abbrev pub and_then : StepEnd → StepEnd → StepEnd
@@ -127,4 +188,4 @@ unless_ended (failed text) first go_on = first
 -- in order, up to the first that isn't successful
 unfoldable pub steps_run : List KeyText → List ℕ → List StepText → ValueState → StepEnd
 steps_run keys path [] s = ended successful s
-steps_run keys path (step ∷ more) s = unless_ended (step_run keys path step s).verdict (step_run keys path step s) (steps_run keys path more)
+steps_run keys path (step ∷ more) s = unless_ended (next_step keys path step s).verdict (next_step keys path step s) (steps_run keys path more)

@@ -14,15 +14,38 @@ use Rattle.ext_steps.specs.Values.{ValueText}
 abbrev pub run_numbers : ℕ
 run_numbers = 65535
 
--- the store of a run: its state, and the values that were kept, the first of which has number 1
+-- what a step finds of the memory that it asks for: enough; or none for a value that it keeps, none for a place of the store, or none for the words of its fault
+pub data Memory : Type 0 where
+  enough : Memory
+  no_value : Memory
+  no_place : Memory
+  no_words : Memory
+
+-- the store of a run: its state, the values that were kept, the first of which has number 1, and what the next steps find of memory, in the order in which they are
+-- made; steps past the end of that list find enough
 pub record ValueState : Type 0 where
   pub store : State Place
   pub values : List ValueText
+  pub memory : List Memory
 
 -- ---- an act on the store
 
 abbrev pub value_opening : ValueState
-value_opening = record { store = opening; values = [] }
+value_opening = record { store = opening; values = []; memory = [] }
+
+-- the same, where the next steps find this of memory
+abbrev pub with_memory : List Memory → ValueState → ValueState
+with_memory memory s = record s { memory = memory }
+
+-- what the next step finds
+abbrev pub next_found : List Memory → Memory
+next_found [] = enough
+next_found (found ∷ more) = found
+
+-- and what those after it find
+abbrev pub found_later : List Memory → List Memory
+found_later [] = []
+found_later (found ∷ more) = more
 
 -- what the store answers to an act
 abbrev pub reply_to : Act Place → ValueState → Reply

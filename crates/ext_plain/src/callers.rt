@@ -1,12 +1,9 @@
 //! The calls of a node, each on the store of the run.
-ghost use Rattle.std.specs.Prelude.{◌≡◌, false, OnOk};
-
 use crate::setting::Setting;
 use crate::value_store::ValueStore;
 use ext_lifecycle::{Call, Caller, Outcome};
 use ext_model::ContextNo;
-use ext_steps::or_no_memory;
-use std::alloc::{AllocError, Global};
+use std::alloc::Global;
 
 /// Makes the calls of one node after another.
 #[derive(Drop)]
@@ -16,8 +13,6 @@ pub struct NodeCaller<'a> {
     pub store: ValueStore<'a>,
     /// The node whose calls are made.
     pub node: ContextNo,
-    /// Whether a call wanted memory that was refused. No outcome tells it, so that the run then ends.
-    pub starved: bool,
 }
 
 impl Caller for NodeCaller<'_> {
@@ -34,22 +29,6 @@ impl Caller for NodeCaller<'_> {
         let keys = self.setting.keys;
         let path = self.setting.tree.path(self.node);
         let alloc = self.alloc;
-        let outcome = self.store.run_steps(alloc, &keys, path.as_slice(), steps);
-        if outcome.is_err() {
-            self.starved = true;
-        }
-        or_no_memory(outcome)
-    }
-}
-
-impl NodeCaller<'_> {
-    /// Refuses to go on once a call wanted memory that was refused.
-    pub fn check_fed(&self) -> Result<(), AllocError>
-        ensures { OnOk result (self.now.starved ≡ false) }
-    {
-        if self.starved {
-            return Err(AllocError);
-        }
-        Ok(())
+        self.store.run_steps(alloc, &keys, path.as_slice(), steps)
     }
 }

@@ -1,5 +1,6 @@
 //! Steps that look whether a value is found, and what it is.
-ghost use Rattle.std.specs.Prelude.{◌≡◌, option_map, IfOk};
+ghost use Rattle.std.specs.Prelude.{◌≡◌, false, option_map, IfErr, IfOk};
+ghost use Rattle.ext_lifecycle.specs.Endings.{is_successful};
 ghost use Rattle.ext_lifecycle.specs.FaultTexts.{verdict_text};
 ghost use Rattle.ext_model.specs.State.{lookup};
 ghost use Rattle.ext_model.specs.Plain.{under};
@@ -23,16 +24,20 @@ impl<'a> ValueStore<'a> {
         call: &StepCall<'_>,
         text: &str,
     ) -> Result<Verdict, AllocError>
-        ensures { IfOk result (λ v. verdict_text v ≡ want_verdict (call_view call.now).name (call_view call.now).label text.now
+        ensures verdict { IfOk result (λ v. verdict_text v ≡ want_verdict (call_view call.now).name (call_view call.now).label text.now
             (seen_by (state_view self.now).values (lookup (under (state_view self.now).store (call_view call.now).key) (call_view call.now).path))) }
+        ensures memory { IfErr result (λ _. is_successful (want_verdict (call_view call.now).name (call_view call.now).label text.now
+            (seen_by (state_view self.now).values (lookup (under (state_view self.now).store (call_view call.now).key) (call_view call.now).path))) ≡ false) }
     {
         want_verdict(alloc, call, text, self.see(call))
     }
 
     /// A step `none`: looks up along the path, where nothing is to be found.
     pub fn none(&self, alloc: Global, call: &StepCall<'_>) -> Result<Verdict, AllocError>
-        ensures { IfOk result (λ v. verdict_text v ≡ none_verdict (call_view call.now).name (call_view call.now).label
+        ensures verdict { IfOk result (λ v. verdict_text v ≡ none_verdict (call_view call.now).name (call_view call.now).label
             (seen_by (state_view self.now).values (lookup (under (state_view self.now).store (call_view call.now).key) (call_view call.now).path))) }
+        ensures memory { IfErr result (λ _. is_successful (none_verdict (call_view call.now).name (call_view call.now).label
+            (seen_by (state_view self.now).values (lookup (under (state_view self.now).store (call_view call.now).key) (call_view call.now).path))) ≡ false) }
     {
         none_verdict(alloc, call, self.see(call))
     }

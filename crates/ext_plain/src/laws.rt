@@ -1,5 +1,6 @@
-//! What is true of the plain run of every plan, as the contract of a function that does nothing.
-ghost use Rattle.ext_plain.specs.Laws.{HasResultOfEachNode, HasTestsOfPlan, RunsEachNode, RunsNode, RunsBody, SkipsBody, RunsParents, OpensClear, MakesNoClaims, SealsContexts, KeepsValues, FindsWhatWasPut};
+//! What is true of the plain run of every plan, whatever memory its steps find, as the contract of a function that does nothing.
+ghost use Rattle.ext_plain.specs.Ancestors.{SkipsBelow};
+ghost use Rattle.ext_plain.specs.Laws.{HasResultOfEachNode, HasTestsOfPlan, RunsEachNode, DoesOrLacks, RunsNode, RunsBody, SkipsBody, RunsParents, OpensClear, MakesNoClaims, SealsContexts, KeepsValues, FindsWhatWasPut};
 
 /// Proves laws of the plain run. It does nothing when it runs.
 ///
@@ -8,11 +9,13 @@ ghost use Rattle.ext_plain.specs.Laws.{HasResultOfEachNode, HasTestsOfPlan, Runs
 pub fn plain_run_laws()
     ensures results { HasResultOfEachNode }
     ensures tests { HasTestsOfPlan }
+    ensures lacking { DoesOrLacks }
     ensures each_node { RunsEachNode }
     ensures runs { RunsNode }
     ensures body { RunsBody }
     ensures skipped { SkipsBody }
     ensures parents { RunsParents }
+    ensures ancestors { SkipsBelow }
     ensures opening { OpensClear }
     ensures unclaimed { MakesNoClaims }
     ensures sealed { SealsContexts }

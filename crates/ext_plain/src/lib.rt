@@ -4,13 +4,15 @@
 //! its context is closed. Each call is the steps that the plan has for it, run in the context of the node. What steps do
 //! stands in `specs/Steps.antt`, which calls a node has in `specs/NodeCalls.antt`, how its context is closed in
 //! `specs/Closes.antt`, the run of a plan in `specs/PlainRun.antt`, and what is true of every plain run in
-//! `specs/Laws.antt`, which `plain_run_laws` proves. Own rule.
+//! `specs/Laws.antt` and `specs/Ancestors.antt`, which `plain_run_laws` proves. A step that finds no memory fails with
+//! `no memory`, and the run goes on; the definitions take what each step finds of memory as given. Own rule.
 #![tactic(auto)]
 
 mod callers;
 mod closing;
 mod computes;
 mod found;
+mod lack;
 mod laws;
 mod plain;
 mod reasons;

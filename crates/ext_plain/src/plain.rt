@@ -1,5 +1,5 @@
 //! The plain run of a plan, on one thread over the one-thread store.
-ghost use Rattle.std.specs.Prelude.{◌≡◌, ◌<◌, ◌∷◌, false, length, map, filter, fold, All, IfOk, OnOk};
+ghost use Rattle.std.specs.Prelude.{◌≡◌, ◌<◌, ◌∷◌, length, map, filter, fold, All, IfOk, OnOk};
 ghost use Rattle.ext_lifecycle.specs.FaultTexts.{result_view, results_view};
 ghost use Rattle.ext_lifecycle.specs.Lifecycle.{IsRoomy};
 ghost use Rattle.ext_tree.specs.Trees.{IsTree};
@@ -7,14 +7,15 @@ ghost use Rattle.ext_tree.specs.Paths.{children_of};
 ghost use Rattle.ext_plan_model.specs.Plans.{keys_view, plan_view};
 ghost use Rattle.ext_plan_model.specs.KeyNumbers.{numbering};
 ghost use Rattle.ext_plan_model.specs.Laws.{CallbacksAreFew, StepListsAreShort};
-ghost use Rattle.ext_plain.specs.PlainRun.{plain_run};
+ghost use Rattle.ext_plain.specs.PlainRun.{ArePlain};
 
 use crate::callers::NodeCaller;
 use crate::setting::Setting;
 use crate::skipped::skipped;
 use crate::value_store::ValueStore;
 use ext_lifecycle::{
-    Call, Kind, NodeResult, Tally, afters_of, befores_of, run_afters, run_befores, run_calls,
+    Call, Kind, NodeResult, RunListener, Tally, afters_of, befores_of, run_afters, run_befores,
+    run_calls,
 };
 use ext_model::ContextNo;
 use ext_plan_model::{KeyNumbers, Plan};
@@ -23,29 +24,33 @@ use std::alloc::{AllocError, Global};
 
 /// A plain run between two nodes.
 #[derive(Drop)]
-pub struct PlainRunner<'a> {
+pub struct PlainRunner<'a, L> {
     pub caller: NodeCaller<'a>,
+    pub listener: &'a L,
     /// A result for each node, skipped until it has run.
     pub results: Vec<NodeResult>,
 }
 
-/// The results of the plain run of a plan, in the order of its nodes, which are the contexts of the tree.
+/// The results of the plain run of a plan, in the order of its nodes, which are the contexts of the tree. The listener is told of each node that
+/// has ended.
 ///
-/// Takes memory for the lists of calls, the values, the texts of faults and the results. `AllocError` comes only where that
-/// is refused, in a step as elsewhere. Source: JUnit 5 User Guide, sections "Keeping State in Extensions" and "Relative
+/// Takes memory for the lists of calls, the store, the values, the texts of faults and the results. A step that finds none
+/// fails with `Fault::Memory`, and the run goes on: the results are those of the plain run in which these steps found none.
+/// `AllocError` comes only where memory is refused elsewhere, as for results or for the end of a context. Source: JUnit 5 User Guide, sections "Keeping State in Extensions" and "Relative
 /// Execution Order of User Code and Extensions"; what is run in which order, and what is told of a node, are own rules.
-pub fn run_plain(
+pub fn run_plain<L: RunListener>(
     alloc: Global,
     plan: &Plan,
     keys: &KeyNumbers,
     tree: &Tree,
+    listener: &L,
 ) -> Result<Vec<NodeResult>, AllocError>
     requires keys { keys.now ≡ numbering (keys_view plan.now.keys.items) }
     requires tree { IsTree tree.now }
     requires nodes { tree.now ≡ map (λ n. n.id) plan.now.nodes.items }
     requires short { StepListsAreShort (plan_view plan.now) }
     requires called { CallbacksAreFew (plan_view plan.now) }
-    ensures results { IfOk result (λ results. results_view results.items ≡ plain_run (plan_view plan.now)) }
+    ensures results { IfOk result (λ results. ArePlain (plan_view plan.now) (results_view results.items)) }
     ensures in_tree { IfOk result (λ results. All (λ r. r.node < length tree.now) results.items) }
 {
     let caller = NodeCaller {
@@ -53,10 +58,10 @@ pub fn run_plain(
         setting: Setting::of(plan, keys, tree),
         store: ValueStore::new(alloc),
         node: 0,
-        starved: false,
     };
     let mut runner = PlainRunner {
         caller,
+        listener,
         results: skipped(alloc, plan.nodes.as_slice())?,
     };
     // No tree is deeper than it has nodes, so that as many levels reach all of them.
@@ -65,7 +70,7 @@ pub fn run_plain(
     Ok(runner.results)
 }
 
-impl<'a> PlainRunner<'a> {
+impl<'a, L: RunListener> PlainRunner<'a, L> {
     ghost use Rattle.ext_plan_model.specs.PlanCalls.{test_of};
     ghost use Rattle.ext_plan_model.specs.PlanCalls.{concurrent_of};
     ghost use Rattle.ext_plain.specs.PlainRun.{body_run, container_run, node_run, test_node_run, with_result};
@@ -76,10 +81,8 @@ impl<'a> PlainRunner<'a> {
     fn run_node(&mut self, alloc: Global, levels: usize, at: ContextNo) -> Result<(), AllocError>
         requires within { at < length self.old.caller.setting.tree.now }
         requires tree { IsTree self.old.caller.setting.tree.now }
-        requires fed { self.old.caller.starved ≡ false }
         ensures run { OnOk result (RunsAs self.old.caller.setting at (node_run (plan_in self.old.caller.setting) levels) (run_view self.old) (run_view self.new)) }
         ensures setting { OnOk result (self.new.caller.setting ≡ self.old.caller.setting) }
-        ensures fed { OnOk result (self.new.caller.starved ≡ false) }
     {
         if levels == 0 {
             return Ok(());
@@ -94,10 +97,8 @@ impl<'a> PlainRunner<'a> {
     fn run_test(&mut self, alloc: Global, at: ContextNo) -> Result<(), AllocError>
         requires within { at < length self.old.caller.setting.tree.now }
         requires tree { IsTree self.old.caller.setting.tree.now }
-        requires fed { self.old.caller.starved ≡ false }
         ensures run { OnOk result (RunsAs self.old.caller.setting at (test_node_run (plan_in self.old.caller.setting) at) (run_view self.old) (run_view self.new)) }
         ensures setting { OnOk result (self.new.caller.setting ≡ self.old.caller.setting) }
-        ensures fed { OnOk result (self.new.caller.starved ≡ false) }
     {
         let path = self.caller.setting.tree.path(at);
         let befores = befores_of(alloc, &self.caller.setting, true, at, path.as_slice())?;
@@ -114,7 +115,6 @@ impl<'a> PlainRunner<'a> {
             afters.as_slice(),
             &mut self.caller,
         );
-        self.caller.check_fed()?;
         self.end_node(alloc, at, true, tally)
     }
 
@@ -129,21 +129,17 @@ impl<'a> PlainRunner<'a> {
     ) -> Result<(), AllocError>
         requires within { at < length self.old.caller.setting.tree.now }
         requires tree { IsTree self.old.caller.setting.tree.now }
-        requires fed { self.old.caller.starved ≡ false }
         ensures run { OnOk result (RunsAs self.old.caller.setting at (container_run (plan_in self.old.caller.setting) (node_run (plan_in self.old.caller.setting) levels) at) (run_view self.old) (run_view self.new)) }
         ensures setting { OnOk result (self.new.caller.setting ≡ self.old.caller.setting) }
-        ensures fed { OnOk result (self.new.caller.starved ≡ false) }
     {
         let path = self.caller.setting.tree.path(at);
         let befores = befores_of(alloc, &self.caller.setting, false, at, path.as_slice())?;
         let afters = afters_of(alloc, &self.caller.setting, false, at, path.as_slice())?;
         self.caller.node = at;
         let mut tally = run_befores(befores.as_slice(), &mut self.caller);
-        self.caller.check_fed()?;
         self.run_body(alloc, levels, at, tally.is_successful())?;
         self.caller.node = at;
         run_afters(afters.as_slice(), &mut self.caller, &mut tally);
-        self.caller.check_fed()?;
         self.end_node(alloc, at, false, tally)
     }
 
@@ -159,10 +155,8 @@ impl<'a> PlainRunner<'a> {
     ) -> Result<(), AllocError>
         requires within { at < length self.old.caller.setting.tree.now }
         requires tree { IsTree self.old.caller.setting.tree.now }
-        requires fed { self.old.caller.starved ≡ false }
         ensures run { OnOk result (RunsAs self.old.caller.setting at (body_run (plan_in self.old.caller.setting) (node_run (plan_in self.old.caller.setting) levels) go) (run_view self.old) (run_view self.new)) }
         ensures setting { OnOk result (self.new.caller.setting ≡ self.old.caller.setting) }
-        ensures fed { OnOk result (self.new.caller.starved ≡ false) }
     {
         if !go {
             return Ok(());
@@ -182,13 +176,11 @@ impl<'a> PlainRunner<'a> {
     ) -> Result<(), AllocError>
         requires within { at < length self.old.caller.setting.tree.now }
         requires tree { IsTree self.old.caller.setting.tree.now }
-        requires fed { self.old.caller.starved ≡ false }
         ensures run { OnOk result (RunsAs self.old.caller.setting at
             (λ path run. fold (λ r child. node_run (plan_in self.old.caller.setting) levels (child ∷ path) r) run
             (filter (chosen concurrent (concurrent_of (plan_in self.old.caller.setting))) (children_of self.old.caller.setting.tree.now at)))
             (run_view self.old) (run_view self.new)) }
         ensures setting { OnOk result (self.new.caller.setting ≡ self.old.caller.setting) }
-        ensures fed { OnOk result (self.new.caller.starved ≡ false) }
     {
         let tree: &'a Tree = self.caller.setting.tree;
         let children = tree.children(at);
@@ -201,7 +193,7 @@ impl<'a> PlainRunner<'a> {
     }
 
     /// Seals all keys in the context of a node, closes the closeable values that the seals kept, and puts the node's result
-    /// in its place.
+    /// in its place. Then tells the listener that the node has ended.
     fn end_node(
         &mut self,
         alloc: Global,
@@ -212,12 +204,12 @@ impl<'a> PlainRunner<'a> {
         requires room { IsRoomy 1 tally }
         ensures end { OnOk result (EndsNode self.old.caller.setting at is_test tally (run_view self.old) (run_view self.new)) }
         ensures setting { OnOk result (self.new.caller.setting ≡ self.old.caller.setting) }
-        ensures fed { OnOk result (self.new.caller.starved ≡ self.old.caller.starved) }
     {
         let keys = self.caller.setting.key_count;
         let numbers = self.caller.store.seal_keys(keys, at)?;
         let closes = self.caller.store.close_values(alloc, numbers.as_slice())?;
         self.set_result(tally.result(at, is_test, closes));
+        self.listener.ended(at, self.results.len());
         Ok(())
     }
 

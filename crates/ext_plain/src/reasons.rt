@@ -1,30 +1,26 @@
 //! Why a call of the store was refused.
-ghost use Rattle.std.specs.Prelude.{◌≡◌, IfOk};
-ghost use Rattle.ext_plain.specs.Helpers.{IsReasonOf, Told};
+ghost use Rattle.std.specs.Prelude.{◌≡◌, Err, IfOk, IfErr};
+ghost use Rattle.ext_model.specs.declared.plain_fault.PlainFault.TheVariants as plain;
+ghost use Rattle.ext_plain.specs.declared.lack.Lack.TheVariants as lacks;
+ghost use Rattle.ext_plain.specs.Helpers.{Told};
 
+use crate::lack::Lack;
 use ext_model::PlainFault;
 use ext_steps::Reason;
-use std::alloc::AllocError;
 
-/// Why a call of the store was refused, if it was. Want of memory ends the run instead.
-pub fn told<T: Drop>(answer: Result<T, PlainFault>) -> Result<Option<Reason>, AllocError>
-    ensures { IfOk result (λ why. Told answer why) }
+/// Why a call of the store was refused, if it was; or that there is no memory for its place.
+pub fn told<T: Drop>(answer: Result<T, PlainFault>) -> Result<Option<Reason>, Lack>
+    ensures why { IfOk result (λ why. Told answer why) }
+    ensures lacks { IfErr result (λ lack. lack ≡ lacks.Place) }
+    ensures memory { IfErr result (λ _. answer ≡ Err plain.Memory) }
 {
     match answer {
         Ok(_) => Ok(None),
-        Err(fault) => Ok(Some(reason_of(fault)?)),
-    }
-}
-
-/// Why a call of the store was refused.
-pub fn reason_of(fault: PlainFault) -> Result<Reason, AllocError>
-    ensures { IfOk result (λ why. IsReasonOf fault why) }
-{
-    match fault {
-        PlainFault::NumbersFull => Ok(Reason::NumbersFull),
-        PlainFault::Closed => Ok(Reason::Closed),
+        Err(PlainFault::NumbersFull) => Ok(Some(Reason::NumbersFull)),
+        Err(PlainFault::Closed) => Ok(Some(Reason::Closed)),
         // A place that is taken is never claimed: a claim follows a look-up that found nothing.
-        PlainFault::Busy | PlainFault::Taken(_) => Ok(Reason::Busy),
-        PlainFault::Memory => Err(AllocError),
+        Err(PlainFault::Busy) => Ok(Some(Reason::Busy)),
+        Err(PlainFault::Taken(_)) => Ok(Some(Reason::Busy)),
+        Err(PlainFault::Memory) => Err(Lack::Place),
     }
 }

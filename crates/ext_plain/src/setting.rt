@@ -1,14 +1,13 @@
 //! What a plain run reads of its plan.
 ghost use Rattle.std.specs.Prelude.{◌≡◌, ◌≤◌, Some, is_some, length, map};
 ghost use Rattle.std.proofs.Props.{props};
-ghost use Rattle.ext_lifecycle.specs.Modes.{is_concurrent};
 ghost use Rattle.ext_plan_model.specs.Plans.{keys_view, node_view, plan_view, step_view};
 ghost use Rattle.ext_plan_model.specs.KeyNumbers.{different_keys, numbering};
 ghost use Rattle.ext_plan_model.specs.Laws.{CallbacksAreFew, StepListsAreShort};
 ghost use Rattle.ext_plan_model.specs.Steps.{step_limit};
 ghost use Rattle.ext_plan_model.specs.PlanCalls.{steps_called};
 
-use ext_lifecycle::{Call, Callbacks, Kind, Mode};
+use ext_lifecycle::{Call, Callbacks, Kind};
 use ext_model::ContextNo;
 use ext_plan_model::{KeyNumbers, Plan, Step};
 use ext_steps::StepKeys;
@@ -62,7 +61,7 @@ impl<'a> Setting<'a> {
     pub fn is_concurrent(&self, at: ContextNo) -> bool
         ensures { result ≡ concurrent_of (plan_in self.now) at }
     {
-        is_concurrent(self.plan.mode(at))
+        self.plan.mode(at).is_concurrent()
     }
 
     /// The steps of a call.
@@ -83,15 +82,5 @@ impl Callbacks for Setting<'_> {
 
     fn count(&self, kind: Kind, node: ContextNo) -> usize {
         self.plan.callback_count(kind, node)
-    }
-}
-
-/// Tests whether a node of this mode may be run beside its siblings.
-fn is_concurrent(mode: Mode) -> bool
-    ensures { result ≡ is_concurrent mode }
-{
-    match mode {
-        Mode::SameThread => false,
-        Mode::Concurrent => true,
     }
 }

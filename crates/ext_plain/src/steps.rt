@@ -1,18 +1,20 @@
 //! The steps of a test or of a callback.
-ghost use Rattle.std.specs.Prelude.{◌≡◌, ◌≤◌, IfOk, length, map};
+ghost use Rattle.std.specs.Prelude.{◌≡◌, ◌≤◌, IfErr, IfOk, List, length, map};
 ghost use Rattle.ext_model.specs.declared.event.Act.TheVariants as act;
 ghost use Rattle.ext_plan_model.specs.Plans.{step_view};
 ghost use Rattle.ext_steps.specs.Calls.{call_view, keys_in};
 ghost use Rattle.ext_steps.specs.Values.{value_view};
-ghost use Rattle.ext_plain.specs.Steps.{act_ends, put_step, step_run, steps_run};
-ghost use Rattle.ext_plain.specs.Helpers.{place_of_call, state_view, end_view, AreFew};
+ghost use Rattle.ext_plain.specs.ValueStates.{Memory, with_memory};
+ghost use Rattle.ext_plain.specs.Steps.{act_ends, put_by, put_step, said_by, step_by, step_run, steps_run};
+ghost use Rattle.ext_plain.specs.Helpers.{place_of_call, state_view, step_end, end_view, found_lacking, lack_end, lacking, AreFew};
 
+use crate::lack::Lack;
 use crate::value_store::ValueStore;
 use ext_lifecycle::{Outcome, Verdict};
 use ext_model::ContextNo;
 use ext_plan_model::Step;
 use ext_steps::{PlanValue, StepCall, StepKeys, aborted, failed, refused, unless_refused};
-use std::alloc::{AllocError, Global};
+use std::alloc::Global;
 
 impl<'a> ValueStore<'a> {
     /// The steps of a call in the context of this path, in order, up to the first that isn't successful.
@@ -22,29 +24,47 @@ impl<'a> ValueStore<'a> {
         keys: &StepKeys<'_>,
         path: &[ContextNo],
         steps: &'a [Step],
-    ) -> Result<Outcome, AllocError>
+    ) -> Outcome
         requires { length steps.now ≤ 4294967295 }
-        ensures { IfOk result (λ o. end_view self.new o ≡ steps_run (keys_in keys.now) path.now (map step_view steps.now) (state_view self.old)) }
+        ensures { (later : List Memory) → (memory : List Memory)
+            × (step_end (with_memory later (state_view self.new)) result ≡ steps_run (keys_in keys.now) path.now (map step_view steps.now) (with_memory memory (state_view self.old))) }
     {
         let mut computed = 0;
         let mut found = 0;
         for step in steps {
-            let outcome = self.run_step(alloc, keys, path, step)?;
+            let outcome = self.make_step(alloc, keys, path, step);
             computed += outcome.computed;
             found += outcome.found;
             if !outcome.verdict.is_successful() {
-                return Ok(Outcome {
+                return Outcome {
                     verdict: outcome.verdict,
                     computed,
                     found,
-                });
+                };
             }
         }
-        Ok(Outcome {
+        Outcome {
             verdict: Verdict::Successful,
             computed,
             found,
-        })
+        }
+    }
+
+    /// A step in the context of this path, which fails with `no memory` where it lacks memory.
+    fn make_step(
+        &mut self,
+        alloc: Global,
+        keys: &StepKeys<'_>,
+        path: &[ContextNo],
+        step: &'a Step,
+    ) -> Outcome
+        ensures end { (memory : Memory) × (end_view self.new result ≡ step_by (keys_in keys.now) memory path.now (step_view step.now) (state_view self.old)) }
+        ensures few { AreFew result }
+    {
+        match self.run_step(alloc, keys, path, step) {
+            Ok(outcome) => outcome,
+            Err(lack) => lack.outcome(),
+        }
     }
 
     /// A step in the context of this path.
@@ -54,9 +74,11 @@ impl<'a> ValueStore<'a> {
         keys: &StepKeys<'_>,
         path: &[ContextNo],
         step: &'a Step,
-    ) -> Result<Outcome, AllocError>
+    ) -> Result<Outcome, Lack>
         ensures end { IfOk result (λ o. end_view self.new o ≡ step_run (keys_in keys.now) path.now (step_view step.now) (state_view self.old)) }
         ensures few { IfOk result AreFew }
+        ensures lacks { IfErr result (λ lack. lack_end (state_view self.new) lack ≡ step_by (keys_in keys.now) (lacking lack) path.now (step_view step.now) (state_view self.old)) }
+        ensures few_lacking { IfErr result (λ lack. found_lacking lack ≤ 1) }
     {
         match step {
             Step::Put { key, text, up } => {
@@ -113,10 +135,13 @@ impl<'a> ValueStore<'a> {
         alloc: Global,
         call: &StepCall<'_>,
         value: PlanValue<'a>,
-    ) -> Result<Outcome, AllocError>
+    ) -> Result<Outcome, Lack>
         ensures end { IfOk result (λ o. end_view self.new o ≡ put_step (call_view call.now).name (call_view call.now).label (place_of_call call.now)
             (value_view value.entry) (state_view self.old)) }
         ensures few { IfOk result AreFew }
+        ensures lacks { IfErr result (λ lack. lack_end (state_view self.new) lack ≡ put_by (lacking lack) (call_view call.now).name (call_view call.now).label (place_of_call call.now)
+            (value_view value.entry) (state_view self.old)) }
+        ensures few_lacking { IfErr result (λ lack. found_lacking lack ≤ 1) }
     {
         match self.keep(value)? {
             Err(why) => Ok(Outcome::of(refused(alloc, call, why)?)),
@@ -128,12 +153,15 @@ impl<'a> ValueStore<'a> {
     }
 
     /// A step `remove`.
-    fn remove_value(&mut self, alloc: Global, call: &StepCall<'_>) -> Result<Outcome, AllocError>
+    fn remove_value(&mut self, alloc: Global, call: &StepCall<'_>) -> Result<Outcome, Lack>
         ensures end { IfOk result (λ o. end_view self.new o ≡ act_ends (call_view call.now).name (call_view call.now).label
             (act.Remove (place_of_call call.now)) (state_view self.old)) }
         ensures few { IfOk result AreFew }
+        ensures lacks { IfErr result (λ lack. lack_end (state_view self.new) lack ≡ said_by (lacking lack) (act_ends (call_view call.now).name (call_view call.now).label
+            (act.Remove (place_of_call call.now)) (state_view self.old))) }
+        ensures few_lacking { IfErr result (λ lack. found_lacking lack ≤ 1) }
     {
-        let why = self.remove(call.at(), call.key)?;
+        let why = self.remove(call.at(), call.key);
         Ok(Outcome::of(unless_refused(alloc, call, why)?))
     }
 }

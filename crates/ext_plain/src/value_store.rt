@@ -1,14 +1,16 @@
 //! The store of a plain run, with the values of its numbers.
-ghost use Rattle.std.specs.Prelude.{◌≡◌, None, Some, option_map, IfOk, OnOk};
+ghost use Rattle.std.specs.Prelude.{◌≡◌, None, Some, option_map, IfErr, IfOk, OnErr, OnOk};
 ghost use Rattle.ext_model.specs.declared.event.Act.TheVariants as act;
 ghost use Rattle.ext_model.specs.declared.slot.Slot.TheVariants as slot;
 ghost use Rattle.ext_model.specs.State.{lookup};
 ghost use Rattle.ext_model.specs.Plain.{any_lane, under};
 ghost use Rattle.ext_model.specs.Closing.{kept_by};
 ghost use Rattle.ext_steps.specs.Values.{value_view};
+ghost use Rattle.ext_plain.specs.declared.lack.Lack.TheVariants as lacks;
 ghost use Rattle.ext_plain.specs.ValueStates.{after_act, why_refused, value_of, value_opening};
 
-use crate::reasons::{reason_of, told};
+use crate::lack::Lack;
+use crate::reasons::told;
 use ext_model::{ContextNo, KeyNo, LaneNo, Look, PlainFault, PlainStore};
 use ext_steps::{PlanValue, Reason};
 use std::alloc::{AllocError, Global};
@@ -19,7 +21,7 @@ const NUMBERS: u32 = 65_535;
 /// The one lane of a plain run.
 const LANE: LaneNo = 0;
 
-/// The store of a plain run. A call that is refused answers why; want of memory ends the run instead.
+/// The store of a plain run. A call of a step that is refused answers why, and else that it lacks memory.
 #[derive(Drop)]
 pub struct ValueStore<'a> {
     store: PlainStore,
@@ -42,16 +44,20 @@ impl<'a> ValueStore<'a> {
     }
 
     /// Keeps a value, and answers the number that is drawn for it.
-    pub fn keep(&mut self, value: PlanValue<'a>) -> Result<Result<u32, Reason>, AllocError>
-        ensures { IfOk result (Keeps (value_view value.entry) (state_view self.old) (state_view self.new)) }
+    pub fn keep(&mut self, value: PlanValue<'a>) -> Result<Result<u32, Reason>, Lack>
+        ensures kept { IfOk result (Keeps (value_view value.entry) (state_view self.old) (state_view self.new)) }
+        ensures lacks { IfErr result (λ lack. lack ≡ lacks.Value) }
+        ensures unchanged { OnErr result (state_view self.new ≡ state_view self.old) }
     {
+        // The first number is 1: the value of number n is the n-th that was pushed, before the number is drawn.
+        self.values.push(value)?;
         match self.store.keep() {
-            Ok(number) => {
-                // The first number is 1: the value of number n is the n-th that was pushed.
-                self.values.push(value)?;
-                Ok(Ok(number))
+            Ok(number) => Ok(Ok(number)),
+            Err(_) => {
+                // It is refused only where all numbers are drawn.
+                let _ = self.values.pop();
+                Ok(Err(Reason::NumbersFull))
             }
-            Err(fault) => Ok(Err(reason_of(fault)?)),
         }
     }
 
@@ -73,30 +79,35 @@ impl<'a> ValueStore<'a> {
     }
 
     /// Stores a number, or tells why not.
-    pub fn put(
-        &mut self,
-        at: ContextNo,
-        key: KeyNo,
-        number: u32,
-    ) -> Result<Option<Reason>, AllocError>
+    pub fn put(&mut self, at: ContextNo, key: KeyNo, number: u32) -> Result<Option<Reason>, Lack>
         ensures state { OnOk result (state_view self.new ≡ after_act (act.Put (at, key) number) (state_view self.old)) }
         ensures why { IfOk result (λ why. why ≡ why_refused (act.Put (at, key) number) (state_view self.old)) }
+        ensures lacks { IfErr result (λ lack. lack ≡ lacks.Place) }
+        ensures vacant { OnErr result (under (state_view self.old).store key at ≡ None) }
+        ensures unchanged { OnErr result (state_view self.new ≡ state_view self.old) }
     {
         told(self.store.put(at, key, number))
     }
 
     /// Removes the number that stands there, or tells why not.
-    pub fn remove(&mut self, at: ContextNo, key: KeyNo) -> Result<Option<Reason>, AllocError>
-        ensures state { OnOk result (state_view self.new ≡ after_act (act.Remove (at, key)) (state_view self.old)) }
-        ensures why { IfOk result (λ why. why ≡ why_refused (act.Remove (at, key)) (state_view self.old)) }
+    pub fn remove(&mut self, at: ContextNo, key: KeyNo) -> Option<Reason>
+        ensures state { state_view self.new ≡ after_act (act.Remove (at, key)) (state_view self.old) }
+        ensures why { result ≡ why_refused (act.Remove (at, key)) (state_view self.old) }
     {
-        told(self.store.remove(at, key))
+        match told(self.store.remove(at, key)) {
+            Ok(why) => why,
+            // A remove takes no memory.
+            Err(_) => unreachable!(),
+        }
     }
 
     /// Claims an empty place, or tells why not.
-    pub fn claim(&mut self, at: ContextNo, key: KeyNo) -> Result<Option<Reason>, AllocError>
+    pub fn claim(&mut self, at: ContextNo, key: KeyNo) -> Result<Option<Reason>, Lack>
         ensures state { OnOk result (state_view self.new ≡ after_act (act.Claim (at, key)) (state_view self.old)) }
         ensures why { IfOk result (λ why. why ≡ why_refused (act.Claim (at, key)) (state_view self.old)) }
+        ensures lacks { IfErr result (λ lack. lack ≡ lacks.Place) }
+        ensures allowed { OnErr result (why_refused (act.Claim (at, key)) (state_view self.old) ≡ None) }
+        ensures unchanged { OnErr result (state_view self.new ≡ state_view self.old) }
         ensures won { IfOk result (λ why. why ≡ None → under (state_view self.new).store key at ≡ Some (slot.Claim any_lane)) }
     {
         told(self.store.claim(at, key, LANE))

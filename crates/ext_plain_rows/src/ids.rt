@@ -34,7 +34,7 @@ const TOO_DEEP: (&str, &str) = (
 );
 
 #[test]
-fn limits_of_open_and_ids(rt: HostRuntime) -> Result<(), Fail> {
+fn ids_have_16_segments_at_most(rt: HostRuntime) -> Result<(), Fail> {
     for (text, wanted) in [DEEPEST, TOO_DEEP] {
         same(&rt, told(rt.alloc(), text)?.as_str(), wanted, text);
     }

@@ -5,6 +5,8 @@
 #[cfg(test)]
 mod callbacks;
 #[cfg(test)]
+mod guide;
+#[cfg(test)]
 mod ids;
 #[cfg(test)]
 mod keys;

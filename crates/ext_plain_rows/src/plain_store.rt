@@ -53,7 +53,7 @@ fn answers<R: Abort>(rt: &R, alloc: Global, numbers: u32, calls: &[Call]) {
 }
 
 #[test]
-fn plain_store_row(rt: HostRuntime) {
+fn plain_store_of_eight_numbers(rt: HostRuntime) {
     let calls = [
         Call::Keeps(Ok(1)),
         Call::Puts(0, 1, Ok(None)),

@@ -1,5 +1,8 @@
 -- What the reader's own helpers hold, without where it lies in memory. Only contracts of private functions cite it.
-use Rattle.std.specs.Prelude.{ℕ, List, map, option_map, Vec}
+use Rattle.std.specs.Prelude.{ℕ, List, map, Option, option_map, Vec}
+use Rattle.std.specs.BTreeMap.{BTreeMap, get_by}
+use Rattle.std.specs.Cmp.Lexicographic.{slice_cmp}
+use Rattle.std.specs.Ordering.{nat_cmp}
 use Rattle.std.specs.Borrow.{Bor}
 use Rattle.std.specs.declared.alloc.Global.{Global}
 use Rattle.ext_plan_model.specs.Plans.{callbacks_view}
@@ -12,6 +15,10 @@ use Rattle.ext_plan.specs.Nodes.{Sketch}
 -- borrowed texts
 abbrev pub words_view : Vec (Bor (List ℕ)) Global → List (List ℕ)
 words_view v = map (λ t. t.now) v.items
+
+-- the number of a text in a map from texts
+abbrev pub number_in : BTreeMap (Bor (List ℕ)) ℕ → List ℕ → Option ℕ
+number_in numbers text = get_by (λ label. slice_cmp nat_cmp text label.now) numbers
 
 -- lists of borrowed texts
 abbrev pub lists_view : Vec (Vec (Bor (List ℕ)) Global) Global → List (List (List ℕ))

@@ -9,3 +9,4 @@ pub mod Depths
 pub mod Nodes
 pub mod Reading
 pub mod Helpers
+pub mod Explaining

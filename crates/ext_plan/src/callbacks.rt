@@ -54,6 +54,21 @@ impl<'a> CallbackSketch<'a> {
         })
     }
 
+    /// The field of each kind, the `depth` with which its steps are read, and the texts of the steps of each of its callbacks, in the order in which they
+    /// are read. The depths are as for `read`.
+    pub fn in_order(
+        &self,
+        own: usize,
+        least: usize,
+    ) -> [(&'static str, usize, &[Vec<&'a str>]); 4] {
+        [
+            ("before_all", own, texts_in(&self.before_all)),
+            ("after_all", own, texts_in(&self.after_all)),
+            ("before_each", least, texts_in(&self.before_each)),
+            ("after_each", least, texts_in(&self.after_each)),
+        ]
+    }
+
     /// Tests whether callbacks before or after all children are given, be they none.
     pub fn are_of_container(&self) -> bool
         ensures { result ≡ are_of_container (callback_texts_view self.now) }
@@ -84,6 +99,14 @@ impl<'a> CallbackSketch<'a> {
             before_each,
             after_each,
         })
+    }
+}
+
+/// The texts of a field, none where it is left out.
+fn texts_in<'b, 'a>(lists: &'b Option<Vec<Vec<&'a str>>>) -> &'b [Vec<&'a str>] {
+    match lists {
+        None => &[],
+        Some(lists) => lists.as_slice(),
     }
 }
 

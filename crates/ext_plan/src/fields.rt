@@ -1,5 +1,5 @@
 //! The fields of a TOML table.
-ghost use Rattle.std.specs.Prelude.{◌≡◌, [], map, option_map};
+ghost use Rattle.std.specs.Prelude.{◌≡◌, [], false, map, option_map, IfSome};
 ghost use Rattle.std.specs.Str.{bytes_eq};
 ghost use Rattle.std.specs.List.{list_any};
 ghost use Rattle.toml.specs.View.{view, table_view, items_view};
@@ -22,6 +22,18 @@ pub fn has_only(names: &[&str], table: &Table) -> bool
         }
     }
     true
+}
+
+/// The name of the first field of a table that is none of the names.
+pub fn first_other<'a>(names: &[&str], table: &'a Table) -> Option<&'a str>
+    ensures { IfSome result (λ name. list_any (λ n. bytes_eq n.now name.now) names.now ≡ false) }
+{
+    for name in table.keys() {
+        if !is_among(names, name.as_str()) {
+            return Some(name.as_str());
+        }
+    }
+    None
 }
 
 /// Tests whether a text is one of the names.

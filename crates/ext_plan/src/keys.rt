@@ -14,6 +14,9 @@ use ext_plan_model::PlanKey;
 use std::alloc::{AllocError, Global};
 use toml::Table;
 
+/// The names of the fields of a key.
+pub const KEY_FIELDS: [&str; 3] = ["label", "name", "namespace"];
+
 /// The keys of a plan, and the set of their labels, which lie in the text's document.
 #[derive(Drop)]
 pub struct Keys<'a> {
@@ -48,7 +51,7 @@ fn key_of<'a>(
     ensures labels { IfOk result (λ key. labels.new ≡ labels.old ++ string_bytes key.label ∷ []) }
     ensures parts { IfOk result (λ key. HasParts (key_view key)) }
 {
-    if !has_only(&["label", "name", "namespace"], table) {
+    if !has_only(&KEY_FIELDS, table) {
         return Err(PlanFault::UnknownField(Place::Key(number)));
     }
     let Some(label) = text_at(table, "label") else {

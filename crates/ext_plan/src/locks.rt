@@ -43,7 +43,7 @@ fn locks_in_order(alloc: Global, node: usize, texts: &[&str]) -> Result<Vec<Plan
 
 /// The lock that a text of a node is, if it is one.
 #[tactic(auto, unfolding(crate::specs::Locks::lock_at))]
-fn lock_at(alloc: Global, node: usize, text: &str) -> Result<PlanLock, PlanFault>
+pub fn lock_at(alloc: Global, node: usize, text: &str) -> Result<PlanLock, PlanFault>
     ensures { Gives lock_view result (lock_at node text.now) }
 {
     match lock_of(alloc, text)? {

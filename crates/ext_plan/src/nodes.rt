@@ -23,7 +23,7 @@ use std::alloc::{AllocError, Global};
 use toml::Table;
 
 /// The names of the fields of a node.
-const NODE_FIELDS: [&str; 9] = [
+pub const NODE_FIELDS: [&str; 9] = [
     "id",
     "test",
     "mode",
@@ -39,10 +39,10 @@ const NODE_FIELDS: [&str; 9] = [
 #[derive(Drop)]
 pub struct NodeSketch<'a> {
     pub id: UniqueId,
-    mode: Option<&'a str>,
+    pub mode: Option<&'a str>,
     isolated: bool,
-    locks: Option<Vec<&'a str>>,
-    callbacks: CallbackSketch<'a>,
+    pub locks: Option<Vec<&'a str>>,
+    pub callbacks: CallbackSketch<'a>,
     pub test: Option<Vec<&'a str>>,
 }
 
@@ -116,7 +116,7 @@ pub fn tree_of(alloc: Global, sketches: &[NodeSketch<'_>]) -> Result<Tree, PlanF
 }
 
 /// A copy of each node's id, in order.
-fn ids_of(alloc: Global, sketches: &[NodeSketch<'_>]) -> Result<Vec<UniqueId>, AllocError>
+pub fn ids_of(alloc: Global, sketches: &[NodeSketch<'_>]) -> Result<Vec<UniqueId>, AllocError>
     ensures { IfOk result (λ v. v.items ≡ ids_of (map sketch_view sketches.now)) }
 {
     let mut ids = Vec::new(alloc);

@@ -17,6 +17,9 @@ use ext_tree::TreeFault;
 use std::alloc::Global;
 use toml::Table;
 
+/// The names of the top fields.
+pub const TOP_FIELDS: [&str; 2] = ["key", "node"];
+
 /// Reads the plan that the text of a TOML document writes. Own rule.
 ///
 /// The plan has the text's keys, nodes, callbacks and steps, each in the order of the text. The document has two arrays of
@@ -80,7 +83,7 @@ pub fn read_plan(alloc: Global, text: &str) -> Result<Plan, PlanFault>
 fn plan_of(alloc: Global, top: &Table) -> Result<Plan, PlanFault>
     ensures { Gives plan_view result (plan_of (table_view top.now)) }
 {
-    if !has_only(&["key", "node"], top) {
+    if !has_only(&TOP_FIELDS, top) {
         return Err(PlanFault::UnknownField(Place::Whole));
     }
     let key_tables = tables_at(alloc, top, "key", PlanFault::BadField(Place::Whole))?;

@@ -59,7 +59,7 @@ fn steps_in_order(
 
 /// The step that a text of a node is, if it is one that stays below the root.
 #[tactic(auto, unfolding(crate::specs::Steps::step_at))]
-fn step_at(
+pub fn step_at(
     alloc: Global,
     labels: &Labels<'_>,
     depth: usize,
@@ -97,7 +97,7 @@ fn height(step: &Step) -> usize
 
 /// The step that a text is, if it is one.
 #[tactic(auto, unfolding(crate::specs::Steps::step_of))]
-fn step_of(alloc: Global, labels: &Labels<'_>, text: &str) -> Result<Option<Step>, PlanFault>
+pub fn step_of(alloc: Global, labels: &Labels<'_>, text: &str) -> Result<Option<Step>, PlanFault>
     ensures { GivesAll (option_map step_view) result (step_of labels.now text.now) }
 {
     let words = words_of(alloc, text)?;
@@ -115,7 +115,7 @@ pub fn words_of<'a>(alloc: Global, text: &'a str) -> Result<Vec<&'a str>, AllocE
 }
 
 /// Tests whether one of the words has no character.
-fn has_empty(words: &[&str]) -> bool
+pub fn has_empty(words: &[&str]) -> bool
     ensures { result ≡ list_any (λ word. length word.now == 0) words.now }
 {
     words.iter().any(|word| word.is_empty())

@@ -2,12 +2,14 @@
 use crate::rows::reports;
 use std::alloc::Global;
 use std::process::Abort;
+use std::sync::Wait;
 use std::test::Fail;
+use std::thread::Threads;
 
 /// Asserts that a chain with the keys `a` and `b` has this report, where its class has these fields and its method
 /// these steps.
-fn class_reports(
-    rt: &impl Abort,
+fn class_reports<R: Threads + Wait + Sync + Abort>(
+    rt: &R,
     alloc: Global,
     class: &str,
     steps: &str,

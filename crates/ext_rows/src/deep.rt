@@ -1,5 +1,5 @@
 //! Plans as deep as ids go, and a reader that goes on after a fault.
-use crate::rows::{PLAIN, chain, outcome};
+use crate::rows::{FOUR_LANES, chain, outcome};
 use ext_run::{RunFault, run};
 use std::alloc::{AllocError, Global};
 use std::io::{Error, ErrorKind, Read, Result as IoResult};
@@ -23,7 +23,7 @@ fn each_of_16_levels_is_run(rt: HostRuntime) -> Result<(), Fail> {
         "\"put! a r up 15\", \"want a r\", \"put! a m up 7\", \"want a m\", \"remove a up 7\", \"want a r\"";
     let plan = deep_chain(rt.alloc(), steps)?;
     let mut written = Vec::new(rt.alloc());
-    let summary = outcome(rt.alloc(), plan.as_bytes(), &mut written)?;
+    let summary = outcome(&rt, rt.alloc(), plan.as_bytes(), &mut written, FOUR_LANES)?;
     assert!(rt; !summary.failed);
     let text = std::str::from_utf8(written.as_slice()).map_err(|_| "the report is text")?;
     assert_eq!(rt; text.lines().count(), 18);
@@ -69,7 +69,7 @@ fn first_failing_read_ends_the_run(rt: HostRuntime) -> Result<(), Fail> {
         bytes: plan.as_bytes(),
     };
     let mut written = Vec::new(rt.alloc());
-    let first = run(rt.alloc(), &mut reader, &mut written, PLAIN);
+    let first = run(&rt, rt.alloc(), &mut reader, &mut written, FOUR_LANES);
     assert_eq!(rt; first, Err(RunFault::Read));
     assert!(rt; written.is_empty());
     assert_eq!(rt; reader.bytes.len(), plan.len());

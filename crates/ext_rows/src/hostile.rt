@@ -1,19 +1,23 @@
 //! Devices that are slow or fail.
 use crate::devices::{SlowReader, SlowWriter, UnflushedWriter};
 use crate::rows::{CHAIN_PASSED, PLAIN, chain, same};
+use ext_engine::EngineFault;
 use ext_run::{PlanFault, RunFault, Summary, run};
 use std::alloc::Global;
+use std::sync::Wait;
 use std::test::Fail;
+use std::thread::Threads;
 
 const STEPS: &str = "\"put a x\", \"want a x\"";
 
 /// What a run by slow devices answers, and what it writes.
-fn run_slowly(
+fn run_slowly<R: Threads + Wait + Sync>(
+    rt: &R,
     alloc: Global,
     mut reader: SlowReader<'_>,
     mut writer: SlowWriter,
 ) -> (Result<Summary, RunFault>, Vec<u8>) {
-    let answer = run(alloc, &mut reader, &mut writer, PLAIN);
+    let answer = run(rt, alloc, &mut reader, &mut writer, PLAIN);
     (answer, writer.written)
 }
 
@@ -35,7 +39,7 @@ fn reader(bytes: &[u8], good: Option<usize>) -> SlowReader<'_> {
 fn slow_devices_change_nothing(rt: HostRuntime) -> Result<(), Fail> {
     let plan = chain(rt.alloc(), STEPS)?;
     let slow = writer(rt.alloc(), None, false);
-    let (answer, written) = run_slowly(rt.alloc(), reader(plan.as_bytes(), None), slow);
+    let (answer, written) = run_slowly(&rt, rt.alloc(), reader(plan.as_bytes(), None), slow);
     same(&rt, answer, Ok(Summary { failed: false }), "the answer");
     same(
         &rt,
@@ -51,7 +55,12 @@ fn each_failing_read_is_told(rt: HostRuntime) -> Result<(), Fail> {
     let plan = chain(rt.alloc(), STEPS)?;
     for good in 0..=plan.len() {
         let slow = writer(rt.alloc(), None, false);
-        let (answer, written) = run_slowly(rt.alloc(), reader(plan.as_bytes(), Some(good)), slow);
+        let (answer, written) = run_slowly(
+            &rt,
+            rt.alloc(),
+            reader(plan.as_bytes(), Some(good)),
+            slow,
+        );
         same(
             &rt,
             (good, answer),
@@ -69,7 +78,7 @@ fn each_failing_write_is_told(rt: HostRuntime) -> Result<(), Fail> {
     for good in 0..CHAIN_PASSED.len() {
         for takes_nothing in [false, true] {
             let failing = writer(rt.alloc(), Some(good), takes_nothing);
-            let (answer, _) = run_slowly(rt.alloc(), reader(plan.as_bytes(), None), failing);
+            let (answer, _) = run_slowly(&rt, rt.alloc(), reader(plan.as_bytes(), None), failing);
             same(
                 &rt,
                 (good, answer),
@@ -88,6 +97,9 @@ fn faults_print_their_lines(rt: HostRuntime) -> Result<(), Fail> {
         (RunFault::Write, "write failed"),
         (RunFault::TooLong, "plan too long"),
         (RunFault::Plan(PlanFault::BadStep(2)), "plan: P8 node 2"),
+        (RunFault::Engine(EngineFault::Memory), "run: E1"),
+        (RunFault::Engine(EngineFault::NoThread), "run: E2"),
+        (RunFault::Engine(EngineFault::Unjoined(1, 2)), "run: E3"),
         (RunFault::Memory, "run: no memory"),
     ] {
         same(&rt, fault.to_string(rt.alloc())?.as_str(), line, line);
@@ -99,7 +111,7 @@ fn faults_print_their_lines(rt: HostRuntime) -> Result<(), Fail> {
 fn failing_flush_is_told(rt: HostRuntime) -> Result<(), Fail> {
     let plan = chain(rt.alloc(), STEPS)?;
     let mut reader = plan.as_bytes();
-    let answer = run(rt.alloc(), &mut reader, &mut UnflushedWriter, PLAIN);
+    let answer = run(&rt, rt.alloc(), &mut reader, &mut UnflushedWriter, PLAIN);
     same(&rt, answer, Err(RunFault::Write), "the answer");
     Ok(())
 }

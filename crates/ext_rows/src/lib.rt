@@ -12,6 +12,8 @@ mod hostile;
 #[cfg(test)]
 mod lifecycle;
 #[cfg(test)]
+mod listener;
+#[cfg(test)]
 mod locks;
 #[cfg(test)]
 mod rows;

@@ -49,7 +49,7 @@ fn reads_isolation_and_locks(rt: HostRuntime) -> Result<(), Fail> {
 }
 
 #[test]
-fn locks_change_no_plain_run(rt: HostRuntime) -> Result<(), Fail> {
+fn locks_change_no_report(rt: HostRuntime) -> Result<(), Fail> {
     reports(&rt, rt.alloc(), LOCKED, false, PASSED)
 }
 

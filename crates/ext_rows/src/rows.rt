@@ -1,14 +1,30 @@
 //! Worked rows: a plan's bytes, and those of the report that follow from them.
+ghost use Rattle.std.specs.Prelude.{◌≡◌, ◌≤◌, false};
+
 use ext_run::{Options, RunFault, Summary, id_text, run};
 use std::alloc::Global;
 use std::fmt::Debug;
 use std::process::Abort;
+use std::sync::Wait;
 use std::test::Fail;
+use std::thread::Threads;
 
-/// How the rows are run.
+/// As a plain run.
 pub(crate) const PLAIN: Options = Options {
     lanes: 4,
     plain: true,
+};
+
+/// On one lane, over the store for several threads.
+const ONE_LANE: Options = Options {
+    lanes: 1,
+    plain: false,
+};
+
+/// On four lanes, over the store for several threads.
+pub(crate) const FOUR_LANES: Options = Options {
+    lanes: 4,
+    plain: false,
 };
 
 /// The contexts of the chain before its method, with one key.
@@ -25,35 +41,62 @@ pub(crate) fn same<T: Debug + Drop + PartialEq>(rt: &impl Abort, answer: T, want
 }
 
 /// What a run of these bytes answers, and what it writes.
-pub(crate) fn outcome(
+pub(crate) fn outcome<R: Threads + Wait + Sync>(
+    rt: &R,
     alloc: Global,
     plan: &[u8],
     written: &mut Vec<u8>,
-) -> Result<Summary, RunFault> {
+    options: Options,
+) -> Result<Summary, RunFault>
+    requires { options.plain ≡ false → (1 ≤ options.lanes) × (options.lanes ≤ 16) }
+{
     let mut reader = plan;
-    run(alloc, &mut reader, written, PLAIN)
+    run(rt, alloc, &mut reader, written, options)
 }
 
 /// Whether a node failed in a run of this plan, and the report.
-pub(crate) fn report(alloc: Global, plan: &str) -> Result<(bool, String), Fail> {
+pub(crate) fn report<R: Threads + Wait + Sync>(
+    rt: &R,
+    alloc: Global,
+    plan: &str,
+    options: Options,
+) -> Result<(bool, String), Fail>
+    requires { options.plain ≡ false → (1 ≤ options.lanes) × (options.lanes ≤ 16) }
+{
     let mut written = Vec::new(alloc);
-    let Summary { failed } = outcome(alloc, plan.as_bytes(), &mut written)?;
+    let Summary { failed } = outcome(rt, alloc, plan.as_bytes(), &mut written, options)?;
     let text = std::str::from_utf8(written.as_slice()).map_err(|_| "the report is text")?;
     Ok((failed, String::from_str(alloc, text)?))
 }
 
-/// Asserts that the plan has this report, in which a node failed or none did.
-pub(crate) fn reports(
-    rt: &impl Abort,
+/// Asserts that the plan has this report, in which a node failed or none did, run so.
+fn reports_run<R: Threads + Wait + Sync + Abort>(
+    rt: &R,
+    alloc: Global,
+    plan: &str,
+    options: Options,
+    failed: bool,
+    wanted: &str,
+) -> Result<(), Fail>
+    requires { options.plain ≡ false → (1 ≤ options.lanes) × (options.lanes ≤ 16) }
+{
+    let (has_failed, text) = report(rt, alloc, plan, options)?;
+    same(rt, has_failed, failed, "whether a node failed");
+    same(rt, text.as_str(), wanted, "the report");
+    Ok(())
+}
+
+/// Asserts that the plan has this report, in which a node failed or none did: as a plain run, and on one lane and four.
+pub(crate) fn reports<R: Threads + Wait + Sync + Abort>(
+    rt: &R,
     alloc: Global,
     plan: &str,
     failed: bool,
     wanted: &str,
 ) -> Result<(), Fail> {
-    let (has_failed, text) = report(alloc, plan)?;
-    same(rt, has_failed, failed, "whether a node failed");
-    same(rt, text.as_str(), wanted, "the report");
-    Ok(())
+    reports_run(rt, alloc, plan, PLAIN, failed, wanted)?;
+    reports_run(rt, alloc, plan, ONE_LANE, failed, wanted)?;
+    reports_run(rt, alloc, plan, FOUR_LANES, failed, wanted)
 }
 
 /// The chain whose method has these steps.
@@ -76,10 +119,29 @@ fn chain_want_without_put(rt: HostRuntime) -> Result<(), Fail> {
     reports(&rt, rt.alloc(), plan.as_str(), true, wanted)
 }
 
-/// Asserts that the line of a chain's method with these steps ends so, behind its id.
-fn method_ends(rt: &impl Abort, alloc: Global, steps: &str, wanted: &str) -> Result<(), Fail> {
+/// Asserts that the line of a chain's method with these steps ends so, behind its id: as a plain run, and on four lanes.
+fn method_ends<R: Threads + Wait + Sync + Abort>(
+    rt: &R,
+    alloc: Global,
+    steps: &str,
+    wanted: &str,
+) -> Result<(), Fail> {
+    method_of_run_ends(rt, alloc, steps, PLAIN, wanted)?;
+    method_of_run_ends(rt, alloc, steps, FOUR_LANES, wanted)
+}
+
+/// The same, run so.
+fn method_of_run_ends<R: Threads + Wait + Sync + Abort>(
+    rt: &R,
+    alloc: Global,
+    steps: &str,
+    options: Options,
+    wanted: &str,
+) -> Result<(), Fail>
+    requires { options.plain ≡ false → (1 ≤ options.lanes) × (options.lanes ≤ 16) }
+{
     let plan = chain(alloc, steps)?;
-    let (_, text) = report(alloc, plan.as_str())?;
+    let (_, text) = report(rt, alloc, plan.as_str(), options)?;
     let line = text.lines().nth(2).ok_or("the method has a line")?;
     let end = line.strip_prefix("[engine:x]/[class:A]/[method:m()] ");
     same(rt, end, Some(wanted), "the method's line");
@@ -111,14 +173,15 @@ fn numbers_run_out(rt: HostRuntime) -> Result<(), Fail> {
 }
 
 /// Asserts that the plan has no report, but this line on standard error, and that nothing is written.
-pub(crate) fn refuses(
-    rt: &impl Abort,
+pub(crate) fn refuses<R: Threads + Wait + Sync + Abort>(
+    rt: &R,
     alloc: Global,
     plan: &[u8],
     wanted: &str,
 ) -> Result<(), Fail> {
     let mut written = Vec::new(alloc);
-    let fault = outcome(alloc, plan, &mut written).err().ok_or("a report")?;
+    let answer = outcome(rt, alloc, plan, &mut written, FOUR_LANES);
+    let fault = answer.err().ok_or("a report")?;
     same(rt, fault.to_string(alloc)?.as_str(), wanted, "the line");
     same(rt, written.len(), 0, "what is written");
     Ok(())

@@ -1,18 +1,38 @@
 //! Worked rows of trees, namespaces and all steps: a plan's bytes, and those of the report that follow from them.
-use crate::rows::{CHAIN_PASSED, chain, report, reports, same};
+ghost use Rattle.std.specs.Prelude.{◌≡◌, ◌≤◌, false};
+
+use crate::rows::{CHAIN_PASSED, FOUR_LANES, PLAIN, chain, report, reports, same};
+use ext_run::Options;
 use std::alloc::Global;
 use std::process::Abort;
+use std::sync::Wait;
 use std::test::Fail;
+use std::thread::Threads;
 
-/// Asserts that the plan's report has this line and ends with this one, and whether a node failed.
-fn tells(
-    rt: &impl Abort,
+/// Asserts that the plan's report has this line and ends with this one, and whether a node failed: as a plain run, and on four lanes.
+fn tells<R: Threads + Wait + Sync + Abort>(
+    rt: &R,
     alloc: Global,
     plan: &str,
     failed: bool,
     lines: (&str, &str),
 ) -> Result<(), Fail> {
-    let (has_failed, text) = report(alloc, plan)?;
+    tells_run(rt, alloc, plan, PLAIN, failed, lines)?;
+    tells_run(rt, alloc, plan, FOUR_LANES, failed, lines)
+}
+
+/// The same, run so.
+fn tells_run<R: Threads + Wait + Sync + Abort>(
+    rt: &R,
+    alloc: Global,
+    plan: &str,
+    options: Options,
+    failed: bool,
+    lines: (&str, &str),
+) -> Result<(), Fail>
+    requires { options.plain ≡ false → (1 ≤ options.lanes) × (options.lanes ≤ 16) }
+{
+    let (has_failed, text) = report(rt, alloc, plan, options)?;
     same(rt, has_failed, failed, "whether a node failed");
     same(rt, text.contains(lines.0), true, lines.0);
     same(rt, text.ends_with(lines.1), true, lines.1);

@@ -1,3 +1,4 @@
 pub mod ReadBytes
 pub mod Elements
 pub mod RunAnswers
+mod CheckCounts

@@ -1,60 +1,108 @@
--- What a run answers to the bytes of its input: the report of the plain run of the plan that they write, or
--- the fault of a plan that is refused. Texts and plans are lists of bytes. Own rule.
-use Rattle.std.specs.Prelude.{◌≡◌, ℕ, Bool, List, length, nat_lt, Result, Ok, Err, IsOk, if◌then◌else◌}
+-- What a run answers to the bytes of its input: the report of a run of the plan that they write, or the fault of a plan that is refused. Texts and plans are lists
+-- of bytes. Own rule.
+use Rattle.std.specs.Prelude.{◌≡◌, ℕ, Bool, true, false, List, length, map, nat_lt, Result, Ok, Err, IsOk, if◌then◌else◌}
 use Rattle.std.specs.Str.{is_utf8}
+use Rattle.ext_model.specs.declared.look.Fault.{Fault}
+use Rattle.ext_lifecycle.specs.FaultTexts.{NodeOutcome, fault_text}
+use Rattle.ext_lifecycle.specs.Results.{ResultOf, with_fault_told}
 use Rattle.ext_plan.specs.declared.fault.PlanFault.{PlanFault}
 use Rattle.ext_plan.specs.declared.fault.PlanFault.TheVariants as plan
 use Rattle.ext_plan_model.specs.Plans.{PlanText}
 use Rattle.ext_plan.specs.Reading.{plan_of_text}
 use Rattle.ext_plan_model.specs.Laws.{ids_of_nodes}
 use Rattle.ext_report.specs.Report.{report_of, any_failed}
-use Rattle.ext_plain.specs.PlainRun.{plain_run}
+use Rattle.ext_plain.specs.PlainRun.{ArePlain}
+use Rattle.ext_node_run.specs.declared.fault.EngineFault.{EngineFault}
+use Rattle.ext_parallel.specs.ParallelRun.{IsRefusedRun, ParallelRun}
 use Rattle.ext_run.specs.declared.fault.RunFault.{RunFault}
 use Rattle.ext_run.specs.declared.fault.RunFault.TheVariants as faults
+use Rattle.ext_run.specs.declared.options.Options.{Options}
 
 -- how many bytes a plan has at most
 abbrev pub input_limit : ℕ
 input_limit = 1048576
 
--- ---- the answer, where memory suffices and no device fails
+-- ---- the plan that is read
+
+-- what was read of a plan
+abbrev pub plan_or_fault : Result PlanText PlanFault → Result PlanText RunFault
+plan_or_fault (Ok read) = Ok read
+plan_or_fault (Err fault) = Err (faults.Plan fault)
+
+-- the plan that these bytes write
+unfoldable pub plan_of_bytes : List ℕ → Result PlanText RunFault
+plan_of_bytes input = if is_utf8 input then plan_or_fault (plan_of_text input) else Err (faults.Plan plan.NotUtf8)
+
+-- the plan that an input writes: more bytes than a plan may have are too many, whatever they are
+unfoldable pub plan_of_input : List ℕ → Result PlanText RunFault
+plan_of_input input = if nat_lt input_limit (length input) then Err faults.TooLong else plan_of_bytes input
+
+-- ---- its run, and the report
+
+-- what is told of the nodes by some run on so many lanes, with the texts of their faults
+pub record RunsOnLanes (plan : PlanText) (lanes : ℕ) (results : List NodeOutcome) : Type 0 where
+  pub ran : List (ResultOf Fault)
+  pub run : ParallelRun plan lanes ran
+  pub told : results ≡ map (with_fault_told fault_text) ran
+
+-- what is told of the nodes by a plain run, or by some run on several lanes
+abbrev pub IsRunBy : Bool → ℕ → PlanText → List NodeOutcome → Type 0
+IsRunBy true lanes plan results = ArePlain plan results
+IsRunBy false lanes plan results = RunsOnLanes plan lanes results
+
+abbrev pub IsRunAs : Options → PlanText → List NodeOutcome → Type 0
+IsRunAs options plan results = IsRunBy options.plain options.lanes plan results
 
 -- a report, and whether a node failed
 pub record Answer : Type 0 where
   pub report : List ℕ
   pub failed : Bool
 
--- to a plan: the report of its plain run
-abbrev pub answer_of : PlanText → Answer
-answer_of plan = record {
-  report = report_of (ids_of_nodes plan.nodes) (plain_run plan);
-  failed = any_failed (plain_run plan);
+-- of these results
+abbrev pub answer_of : PlanText → List NodeOutcome → Answer
+answer_of plan results = record {
+  report = report_of (ids_of_nodes plan.nodes) results;
+  failed = any_failed results;
 }
 
--- to what was read of a plan
-abbrev pub answer_or_fault : Result PlanText PlanFault → Result Answer RunFault
-answer_or_fault (Ok plan) = Ok (answer_of plan)
-answer_or_fault (Err fault) = Err (faults.Plan fault)
+-- the answer to a plan: the report of a run of it
+pub record IsAnswerTo (options : Options) (plan : PlanText) (answer : Answer) : Type 0 where
+  pub results : List NodeOutcome
+  pub run : IsRunAs options plan results
+  pub report_is : answer ≡ answer_of plan results
 
--- to the bytes of a plan
-unfoldable pub answer_to_bytes : List ℕ → Result Answer RunFault
-answer_to_bytes input = if is_utf8 input then answer_or_fault (plan_of_text input) else Err (faults.Plan plan.NotUtf8)
+-- the answer to what was read
+abbrev pub Answers : Options → Result PlanText RunFault → Answer → Type 0
+Answers options (Ok plan) answer = IsAnswerTo options plan answer
+Answers options (Err fault) answer = ⊥
 
--- to an input: more bytes than a plan may have are too many, whatever they are
-unfoldable pub answer_to : List ℕ → Result Answer RunFault
-answer_to input = if nat_lt input_limit (length input) then Err faults.TooLong else answer_to_bytes input
+-- ---- what a fault tells
 
--- ---- what a fault tells of this answer
+-- why no input is handed out: the other faults come later in a run
+abbrev pub IsReadFault : RunFault → Type 0
+IsReadFault faults.Read = Unit {0}
+IsReadFault faults.Write = ⊥
+IsReadFault faults.TooLong = Unit {0}
+IsReadFault (faults.Plan fault) = ⊥
+IsReadFault (faults.Engine fault) = ⊥
+IsReadFault faults.Memory = Unit {0}
 
 -- the plan is refused with this fault; want of memory tells nothing
-abbrev pub RefusedPlan : PlanFault → Result Answer RunFault → Type 0
-RefusedPlan plan.Memory answer = Unit {0}
-RefusedPlan fault answer = answer ≡ Err (faults.Plan fault)
+abbrev pub RefusedPlan : PlanFault → Result PlanText RunFault → Type 0
+RefusedPlan plan.Memory read = Unit {0}
+RefusedPlan fault read = read ≡ Err (faults.Plan fault)
 
--- A plan that is too long or refused is answered so. Where a write failed there was a report to write. A
--- failed read and want of memory tell nothing
-abbrev pub RefusedAs : RunFault → Result Answer RunFault → Type 0
-RefusedAs faults.Read answer = Unit {0}
-RefusedAs faults.Write answer = IsOk answer
-RefusedAs faults.TooLong answer = answer ≡ Err faults.TooLong
-RefusedAs (faults.Plan fault) answer = RefusedPlan fault answer
-RefusedAs faults.Memory answer = Unit {0}
+-- the plan was read, and its run on several lanes was refused with this fault
+abbrev pub RefusedRun : Options → EngineFault → Result PlanText RunFault → Type 0
+RefusedRun options fault (Ok plan) = (options.plain ≡ false) × IsRefusedRun plan options.lanes fault
+RefusedRun options fault (Err other) = ⊥
+
+-- A plan that is too long or refused is answered so, and a plan whose run was refused. Where a write failed there was a report to write. A failed read and want of
+-- memory tell nothing
+abbrev pub RefusedAs : Options → RunFault → Result PlanText RunFault → Type 0
+RefusedAs options faults.Read read = Unit {0}
+RefusedAs options faults.Write read = IsOk read
+RefusedAs options faults.TooLong read = read ≡ Err faults.TooLong
+RefusedAs options (faults.Plan fault) read = RefusedPlan fault read
+RefusedAs options (faults.Engine fault) read = RefusedRun options fault read
+RefusedAs options faults.Memory read = Unit {0}

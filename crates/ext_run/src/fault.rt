@@ -2,6 +2,7 @@
 ghost use Rattle.std.specs.Prelude.{◌≡◌};
 ghost use Rattle.ext_run.specs.declared.fault.RunFault.TheVariants.{Memory};
 
+use ext_engine::EngineFault;
 use ext_plan::PlanFault;
 use std::alloc::AllocError;
 use thiserror::Error;
@@ -24,8 +25,12 @@ pub enum RunFault {
     /// Z4, printed as the line of the plan's fault, such as `plan: P5 key 1`: the plan is refused.
     #[error("{0}")]
     Plan(PlanFault),
-    /// Z6, printed as `run: no memory`: memory was wanted and refused, though not by `read_plan`, where
-    /// that is `Plan` with `PlanFault::Memory`.
+    /// Z5, printed as `run: E1`, `run: E2` or `run: E3`: the run of the plan on several lanes was not ended, as memory (E1) or a
+    /// thread (E2) was refused, or a context could not be closed (E3). The first comes for the store and the locks of the run, too.
+    #[error("run: {}", code(*.0))]
+    Engine(EngineFault),
+    /// Z6, printed as `run: no memory`: memory was wanted and refused, though neither by `read_plan`, where that is `Plan` with
+    /// `PlanFault::Memory`, nor in a run on several lanes, where it is `Engine` with `EngineFault::Memory`.
     #[error("run: no memory")]
     Memory,
 }
@@ -35,5 +40,14 @@ impl From<AllocError> for RunFault {
 
     fn from(_e: AllocError) -> RunFault {
         RunFault::Memory
+    }
+}
+
+/// The code of a fault of the engine.
+fn code(fault: EngineFault) -> &'static str {
+    match fault {
+        EngineFault::Memory => "E1",
+        EngineFault::NoThread => "E2",
+        EngineFault::Unjoined(_, _) => "E3",
     }
 }

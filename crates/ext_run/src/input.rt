@@ -1,8 +1,7 @@
 //! Reading a plan's bytes.
 ghost use Rattle.std.specs.Prelude.{◌≡◌, ℕ, ◌+◌, ◌<◌, ◌≤◌, List, length, IfOk, IfErr, IfSome, Err};
 ghost use Rattle.std.specs.Io.KnownBytes.{Consumes};
-ghost use Rattle.ext_run.specs.Answers.{input_limit};
-ghost use Rattle.ext_run.specs.Helpers.{IsReadFault};
+ghost use Rattle.ext_run.specs.Answers.{input_limit, IsReadFault};
 
 use crate::fault::RunFault;
 use std::alloc::Global;
@@ -14,8 +13,11 @@ const INPUT_LIMIT: usize = 1_048_576;
 /// How many bytes are read at once.
 const CHUNK: usize = 4096;
 
-/// Reads to the end, but at most one byte past the limit. The first read that fails ends it.
-pub(crate) fn read_input<R: Read>(alloc: Global, reader: &mut R) -> Result<Vec<u8>, RunFault>
+/// Reads to the end, but at most one byte past the limit of a plan, 1,048,576 bytes: what `run` and `check` do first. Own rule.
+///
+/// Refused as `Read` where a read failed, which ends it, as `TooLong` where the input goes past the limit, and as `Memory` where that is refused for it. It waits
+/// where the reader does.
+pub fn read_input<R: Read>(alloc: Global, reader: &mut R) -> Result<Vec<u8>, RunFault>
     ensures whole { IfOk result (λ bytes. IfSome (R.remaining reader.old) (λ input. bytes.items ≡ input)) }
     ensures short { IfOk result (λ bytes. length bytes.items ≤ input_limit) }
     ensures long { result ≡ Err RunFault.TooLong

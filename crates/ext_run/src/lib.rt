@@ -1,21 +1,29 @@
 //! Runs of plans: from the bytes of a plan to those of its report.
 //!
-//! `run` reads a plan, runs it on one thread over the one-thread store (`ext_plain`) and writes the report of this
-//! plain run. A plan that is refused, or a device that fails, is a `RunFault`. What a run answers to its input stands in
-//! `specs/Answers.antt`. The names of `ext_plan`, `ext_plain`, `ext_lifecycle` and `ext_report` that callers need stand
-//! here too. Own rule.
+//! `run` reads a plan, runs it on several lanes over a store for several threads (`ext_parallel`), or on one thread over the one-thread store
+//! (`ext_plain`), and writes the report of this run. A plan that is refused, or a device that fails, is a `RunFault`. What a run answers to its
+//! input stands in `specs/Answers.antt`. `check` reads a plan and does not run it; `read_input` and `explain` are for those who tell more of a plan
+//! that was refused. The names of `ext_plan`, `ext_plain`, `ext_lifecycle` and `ext_report` that callers need stand here too. Own rule.
 #![tactic(auto)]
 
+mod checks;
 mod fault;
 mod id_lines;
 mod input;
+mod options;
+mod results;
 mod runs;
 
+pub use checks::check;
 pub use ext_ids::IdFault;
-pub use ext_lifecycle::{NodeResult, Status};
+pub use ext_lifecycle::{NoListener, NodeResult, RunListener, Status};
 pub use ext_plain::plain_run_laws;
-pub use ext_plan::{LabelNo, Place, Plan, PlanFault, PlanKey, PlanLock, PlanNode, Step, read_plan};
+pub use ext_plan::{
+    LabelNo, Place, Plan, PlanFault, PlanKey, PlanLock, PlanNode, Step, explain, read_plan,
+};
 pub use ext_tree::Tree;
 pub use fault::RunFault;
 pub use id_lines::id_text;
-pub use runs::{Options, Summary, report_text, run};
+pub use input::read_input;
+pub use options::{Options, Summary};
+pub use runs::{report_text, run, run_with_listener};

@@ -1,42 +1,25 @@
 //! A run from the bytes of a plan to those of its report.
-ghost use Rattle.std.specs.Prelude.{◌≡◌, ◌≢◌, ◌≤◌, ◌<◌, ◌+◌, ℕ, List, length, map, string_bytes, IfOk, IfErr, IfSome, OnOk, All, Ok};
+ghost use Rattle.std.specs.Prelude.{◌≡◌, ◌≢◌, ◌≤◌, ◌<◌, ◌+◌, ℕ, false, List, length, string_bytes, IfOk, IfErr, IfSome, OnOk, All};
 ghost use Rattle.std.specs.Io.KnownBytes.{Consumes, Appends};
-ghost use Rattle.ext_tree.specs.Trees.{IsTree};
-ghost use Rattle.ext_plan_model.specs.Plans.{keys_view, plan_view};
-ghost use Rattle.ext_plan_model.specs.KeyNumbers.{different_keys, numbering, HasParts};
-ghost use Rattle.ext_plan_model.specs.Laws.{CallbacksAreFew, HasFewCells, NamespacesHaveParts, NodesAreTree, StepListsAreShort};
+ghost use Rattle.ext_plan_model.specs.Plans.{plan_view};
+ghost use Rattle.ext_plan_model.specs.Laws.{CallbacksAreFew, HasFewCells, HasFewLocks, NamespacesHaveParts, NodesAreTree, StepListsAreShort, StepsNameLabels, TestsHaveNoChildren};
 ghost use Rattle.ext_lifecycle.specs.FaultTexts.{results_view};
 ghost use Rattle.ext_report.specs.Report.{report_of};
-ghost use Rattle.ext_run.specs.Answers.{input_limit, answer_of, answer_to_bytes, answer_to, RefusedAs};
-ghost use Rattle.ext_run.specs.Helpers.{output_view, AnswersAs};
+ghost use Rattle.ext_run.specs.Answers.{input_limit, Answers, IsAnswerTo, plan_of_bytes, plan_of_input, RefusedAs};
+ghost use Rattle.ext_run.specs.Helpers.{output_view, AnswersAs, IsPlanFault};
 
 use crate::fault::RunFault;
 use crate::input::read_input;
-use ext_ids::UniqueId;
-use ext_lifecycle::NodeResult;
-use ext_plain::run_plain;
-use ext_plan::{KeyNumbers, Plan, PlanFault, PlanKey, PlanNode, read_plan};
+use crate::options::{Options, Summary};
+use crate::results::results_of;
+use ext_lifecycle::{NoListener, NodeResult, RunListener};
+use ext_plan::{Plan, PlanFault, read_plan};
 use ext_report::any_failed;
-use ext_tree::{Tree, TreeFault};
-use std::alloc::{AllocError, Global};
+use ext_tree::Tree;
+use std::alloc::Global;
 use std::io::{Read, Write};
-
-/// How a plan is run. Neither field has an effect yet: each plan runs on one thread over the one-thread
-/// store, and no number of lanes is refused. Own rule.
-#[derive(Clone, Copy, Debug, PartialEq, Eq)]
-pub struct Options {
-    /// How many lanes run the plan: 1 to 16.
-    pub lanes: usize,
-    /// Whether the plan runs on one thread over the one-thread store.
-    pub plain: bool,
-}
-
-/// What became of a run whose report was written. Own rule.
-#[derive(Clone, Copy, Debug, PartialEq, Eq)]
-pub struct Summary {
-    /// Whether a node failed, be it a test or a container.
-    pub failed: bool,
-}
+use std::sync::Wait;
+use std::thread::Threads;
 
 /// A report, and whether a node failed.
 #[derive(Debug, Drop)]
@@ -45,7 +28,11 @@ struct Output {
     failed: bool,
 }
 
-/// Reads a plan, runs it and writes the report of its plain run, and nothing else. Own rule.
+/// Reads a plan, runs it and writes the report of its run, and nothing else. Own rule.
+///
+/// With `plain` the plan is run on this thread over the one-thread store: its plain run, which has one report where memory suffices. Else it is run on so
+/// many lanes, 1 to 16, each at most by one thread, over a store for several threads (`ext_parallel::parallel_results`). A step for which memory is refused
+/// fails with `no memory`, in either run.
 ///
 /// The input is read to its end, but at most 1,048,577 bytes of it, and the first read that fails ends the
 /// run. The whole report stands before its first byte is written; at last the writer is flushed.
@@ -55,31 +42,59 @@ struct Output {
 /// - `TooLong` where the input has more than 1,048,576 bytes.
 /// - `Plan` where the plan is refused: with `NotUtf8`, or else with the fault of `read_plan`, `Memory`
 ///   among them.
-/// - `Memory` where memory for the input, the run or the report was refused.
+/// - `Engine` where the run on several lanes was refused: with `Memory`, or with `Unjoined` where a context could not be closed, which is
+///   known for no plan.
+/// - `Memory` where memory was refused for the input, for a plain run outside its steps, or for the report.
 ///
 /// `Write` where a write or the flush failed, or a write took no byte: it doesn't tell how much was
 /// written.
 ///
-/// Takes memory for the input, the plan, the values, the results and the report, and gives all of it back.
-/// It waits where the reader and the writer do, and for nobody else.
-#[tactic(auto, unfolding(crate::specs::Answers::answer_to))]
-pub fn run<R: Read, W: Write>(
+/// Takes memory for the input, the plan, the values, the results and the report, and gives all of it back. It waits where the reader and
+/// the writer do, and on several lanes for its threads and for steps of theirs: it promises its clauses if it returns.
+pub fn run<R: Threads + Wait + Sync, I: Read, W: Write>(
+    rt: &R,
     alloc: Global,
-    reader: &mut R,
+    reader: &mut I,
     writer: &mut W,
-    _options: Options,
+    options: Options,
 ) -> Result<Summary, RunFault>
-    ensures written { IfOk result (λ summary. IfSome (R.remaining reader.old) (λ input. (report : List ℕ)
-        × (answer_to input ≡ Ok (record { report = report; failed = summary.failed }))
+    requires lanes { options.plain ≡ false → (1 ≤ options.lanes) × (options.lanes ≤ 16) }
+    ensures written { IfOk result (λ summary. IfSome (I.remaining reader.old) (λ input. (report : List ℕ)
+        × Answers options (plan_of_input input) (record { report = report; failed = summary.failed })
         × Appends (W.contents writer.old) (W.contents writer.new) report)) }
-    ensures refused { IfErr result (λ fault. IfSome (R.remaining reader.old)
-        (λ input. RefusedAs fault (answer_to input))) }
+    ensures refused { IfErr result (λ fault. IfSome (I.remaining reader.old)
+        (λ input. RefusedAs options fault (plan_of_input input))) }
     ensures unwritten { IfErr result (λ fault. fault ≢ RunFault.Write → writer.new ≡ writer.old) }
     ensures taken { (bytes : List ℕ) × (length bytes ≤ input_limit + 1)
-        × Consumes (R.remaining reader.old) (R.remaining reader.new) bytes }
+        × Consumes (I.remaining reader.old) (I.remaining reader.new) bytes }
+{
+    run_with_listener(rt, alloc, reader, writer, options, &NoListener)
+}
+
+/// Does what `run` does, by the same contract, and tells the listener of each node that has ended. Own rule.
+///
+/// The listener is told from the threads that run the nodes, and has no effect on what is written.
+#[tactic(auto, unfolding(crate::specs::Answers::plan_of_input))]
+pub fn run_with_listener<R: Threads + Wait + Sync, I: Read, W: Write, L: RunListener + Sync>(
+    rt: &R,
+    alloc: Global,
+    reader: &mut I,
+    writer: &mut W,
+    options: Options,
+    listener: &L,
+) -> Result<Summary, RunFault>
+    requires lanes { options.plain ≡ false → (1 ≤ options.lanes) × (options.lanes ≤ 16) }
+    ensures written { IfOk result (λ summary. IfSome (I.remaining reader.old) (λ input. (report : List ℕ)
+        × Answers options (plan_of_input input) (record { report = report; failed = summary.failed })
+        × Appends (W.contents writer.old) (W.contents writer.new) report)) }
+    ensures refused { IfErr result (λ fault. IfSome (I.remaining reader.old)
+        (λ input. RefusedAs options fault (plan_of_input input))) }
+    ensures unwritten { IfErr result (λ fault. fault ≢ RunFault.Write → writer.new ≡ writer.old) }
+    ensures taken { (bytes : List ℕ) × (length bytes ≤ input_limit + 1)
+        × Consumes (I.remaining reader.old) (I.remaining reader.new) bytes }
 {
     let input = read_input(alloc, reader)?;
-    let output = answer(alloc, input.as_slice())?;
+    let output = answer(rt, alloc, input.as_slice(), options, listener)?;
     write_whole(writer, output.report.as_bytes())?;
     Ok(Summary {
         failed: output.failed,
@@ -98,7 +113,7 @@ pub fn report_text(alloc: Global, tree: &Tree, results: &[NodeResult]) -> Result
 }
 
 /// Writes all of the bytes, and what the writer still holds back.
-fn write_whole<W: Write>(writer: &mut W, bytes: &[u8]) -> Result<(), RunFault>
+pub(crate) fn write_whole<W: Write>(writer: &mut W, bytes: &[u8]) -> Result<(), RunFault>
     ensures written { OnOk result (Appends (W.contents writer.old) (W.contents writer.new) bytes.now) }
     ensures fault { IfErr result (λ e. e ≡ RunFault.Write) }
 {
@@ -109,72 +124,54 @@ fn write_whole<W: Write>(writer: &mut W, bytes: &[u8]) -> Result<(), RunFault>
 }
 
 /// The answer to the bytes of a plan.
-#[tactic(auto, unfolding(crate::specs::Answers::answer_to_bytes))]
-fn answer(alloc: Global, input: &[u8]) -> Result<Output, RunFault>
-    ensures { AnswersAs result (answer_to_bytes input.now) }
+#[tactic(auto, unfolding(crate::specs::Answers::plan_of_bytes))]
+fn answer<R: Threads + Wait + Sync, L: RunListener + Sync>(
+    rt: &R,
+    alloc: Global,
+    input: &[u8],
+    options: Options,
+    listener: &L,
+) -> Result<Output, RunFault>
+    requires lanes { options.plain ≡ false → (1 ≤ options.lanes) × (options.lanes ≤ 16) }
+    ensures { AnswersAs options result (plan_of_bytes input.now) }
 {
     let Ok(text) = std::str::from_utf8(input) else {
         return Err(RunFault::Plan(PlanFault::NotUtf8));
     };
     match read_plan(alloc, text) {
-        Ok(plan) => output_of(alloc, &plan),
+        Ok(plan) => output_of(rt, alloc, &plan, options, listener),
         Err(fault) => Err(RunFault::Plan(fault)),
     }
 }
 
-/// The report of a plan.
-fn output_of(alloc: Global, plan: &Plan) -> Result<Output, RunFault>
+/// The report of a run of a plan.
+fn output_of<R: Threads + Wait + Sync, L: RunListener + Sync>(
+    rt: &R,
+    alloc: Global,
+    plan: &Plan,
+    options: Options,
+    listener: &L,
+) -> Result<Output, RunFault>
+    requires lanes { options.plain ≡ false → (1 ≤ options.lanes) × (options.lanes ≤ 16) }
     requires tree { NodesAreTree (plan_view plan.now) }
+    requires tests { TestsHaveNoChildren (plan_view plan.now) }
+    requires cells { HasFewCells (plan_view plan.now) }
+    requires locks { HasFewLocks (plan_view plan.now) }
     requires namespaces { NamespacesHaveParts (plan_view plan.now) }
-    requires few { HasFewCells (plan_view plan.now) }
+    requires labels { StepsNameLabels (plan_view plan.now) }
     requires short { StepListsAreShort (plan_view plan.now) }
-    requires called { CallbacksAreFew (plan_view plan.now) }
-    ensures ok { IfOk result (λ o. output_view o ≡ answer_of (plan_view plan.now)) }
-    ensures memory { IfErr result (λ e. e ≡ RunFault.Memory) }
+    requires few { CallbacksAreFew (plan_view plan.now) }
+    ensures ok { IfOk result (λ o. IsAnswerTo options (plan_view plan.now) (output_view o)) }
+    ensures fault { IfErr result (IsPlanFault options (plan_view plan.now)) }
 {
-    let keys = numbers_of(alloc, plan.keys.as_slice())?;
-    let tree = tree_of(alloc, plan.nodes.as_slice())?;
-    let results = run_plain(alloc, plan, &keys, &tree)?;
+    let tree = plan.tree(alloc)?;
+    let results = match results_of(rt, alloc, plan, &tree, options, listener) {
+        Ok(results) => results,
+        Err(fault) => return Err(fault),
+    };
     let report = report_text(alloc, &tree, results.as_slice())?;
     Ok(Output {
         report,
         failed: any_failed(results.as_slice()),
     })
-}
-
-/// The numbers of a plan's keys, which are few.
-fn numbers_of(alloc: Global, keys: &[PlanKey]) -> Result<KeyNumbers, AllocError>
-    requires parts { All HasParts (keys_view keys.now) }
-    requires few { length (different_keys (keys_view keys.now)) ≤ 64 }
-    ensures { IfOk result (λ n. n ≡ numbering (keys_view keys.now)) }
-{
-    match KeyNumbers::of(alloc, keys) {
-        Ok(numbers) => Ok(numbers),
-        Err(TreeFault::Memory) => Err(AllocError),
-        Err(_) => unreachable!(),
-    }
-}
-
-/// The tree of a plan's nodes, whose ids are those of one.
-fn tree_of(alloc: Global, nodes: &[PlanNode]) -> Result<Tree, AllocError>
-    requires { IsTree (map (λ n. n.id) nodes.now) }
-    ensures { IfOk result (λ tree. tree ≡ map (λ n. n.id) nodes.now) }
-{
-    let ids = ids_of(alloc, nodes)?;
-    match Tree::build(alloc, ids.as_slice()) {
-        Ok(tree) => Ok(tree),
-        Err(TreeFault::Memory) => Err(AllocError),
-        Err(_) => unreachable!(),
-    }
-}
-
-/// Copies of the ids of the nodes, in order.
-fn ids_of(alloc: Global, nodes: &[PlanNode]) -> Result<Vec<UniqueId>, AllocError>
-    ensures { IfOk result (λ ids. ids.items ≡ map (λ n. n.id) nodes.now) }
-{
-    let mut ids = Vec::new(alloc);
-    for node in nodes {
-        ids.push(node.id.clone()?)?;
-    }
-    Ok(ids)
 }

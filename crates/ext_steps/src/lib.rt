@@ -17,4 +17,4 @@ pub use plan_value::{PlanValue, close_fault};
 pub use reason::Reason;
 pub use seen::{Seen, none_verdict, want_verdict};
 pub use step_keys::{StepCall, StepKeys};
-pub use verdicts::{aborted, failed, or_no_memory, refused, unless_refused};
+pub use verdicts::{aborted, failed, refused, unless_refused};

@@ -1,15 +1,13 @@
 //! How a step ended, with its text.
-ghost use Rattle.std.specs.Prelude.{◌≡◌, string_bytes, IfOk, IfErr};
-ghost use Rattle.ext_model.specs.declared.look.Fault.TheVariants as faults;
-ghost use Rattle.ext_lifecycle.specs.declared.outcome.Verdict.TheVariants as verdicts;
-ghost use Rattle.ext_lifecycle.specs.Endings.{aborted, failed};
+ghost use Rattle.std.specs.Prelude.{◌≡◌, false, string_bytes, IfOk, IfErr};
+ghost use Rattle.ext_lifecycle.specs.Endings.{aborted, failed, is_successful};
 ghost use Rattle.ext_lifecycle.specs.FaultTexts.{verdict_text};
 ghost use Rattle.ext_steps.specs.Calls.{call_view};
 ghost use Rattle.ext_steps.specs.Verdicts.{refused, unless_refused};
 
 use crate::step_text::refused_text;
 use crate::{Reason, StepCall};
-use ext_lifecycle::{Outcome, Verdict};
+use ext_lifecycle::Verdict;
 use ext_model::Fault;
 use std::alloc::{AllocError, Global};
 
@@ -38,32 +36,18 @@ pub fn refused(alloc: Global, call: &StepCall<'_>, why: Reason) -> Result<Verdic
 
 /// How a step ends by why its call of the store was refused, if it was: else it is successful.
 ///
-/// Takes memory for the text of a refusal; `AllocError` comes only where that is refused. Own rule.
+/// Takes memory for the text of a refusal; `AllocError` comes only where that is refused, and so never in place of a
+/// success. Own rule.
 pub fn unless_refused(
     alloc: Global,
     call: &StepCall<'_>,
     why: Option<Reason>,
 ) -> Result<Verdict, AllocError>
-    ensures { IfOk result (λ v. verdict_text v ≡ unless_refused (call_view call.now).name (call_view call.now).label why) }
+    ensures verdict { IfOk result (λ v. verdict_text v ≡ unless_refused (call_view call.now).name (call_view call.now).label why) }
+    ensures memory { IfErr result (λ _. is_successful (unless_refused (call_view call.now).name (call_view call.now).label why) ≡ false) }
 {
     match why {
         None => Ok(Verdict::Successful),
         Some(why) => refused(alloc, call, why),
-    }
-}
-
-/// The outcome of a step, where want of memory is the step's own fault, `Fault::Memory`, and nothing was computed or
-/// found. Takes no memory. Own rule.
-pub fn or_no_memory(outcome: Result<Outcome, AllocError>) -> Outcome
-    ensures outcome { IfOk outcome (λ o. result ≡ o) }
-    ensures memory { IfErr outcome (λ _. result ≡ record {
-      verdict = verdicts.Failed faults.Memory;
-      computed = 0;
-      found = 0;
-    }) }
-{
-    match outcome {
-        Ok(outcome) => outcome,
-        Err(_) => Outcome::of(Verdict::Failed(Fault::Memory)),
     }
 }

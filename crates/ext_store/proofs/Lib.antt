@@ -1,4 +1,3 @@
-pub mod Walks
 pub mod Trails
 pub mod LookUps
 pub mod Replies

@@ -14,6 +14,7 @@ mod closer;
 mod compute;
 mod computed;
 mod fault;
+mod found;
 mod kept;
 mod lane;
 mod laws;
@@ -23,7 +24,6 @@ mod sealing;
 mod store;
 mod value;
 mod waiting;
-mod walk;
 
 pub use closer::Closer;
 pub use computed::Compute;

@@ -13,8 +13,8 @@ ghost use Rattle.ext_store.specs.Frames.{Frame, stored_by};
 ghost use Rattle.ext_store.specs.Calls.{Gets, KeepsAs, KeepsNothing, Puts, Removes, steps_of};
 ghost use Rattle.ext_store.specs.Looking.{IsTrail, Looks};
 
+use crate::found::found_at;
 use crate::opening::{closers_of, lanes_of};
-use crate::walk::walk;
 use crate::{Closer, KeepFault, Kept, Lane, Limits, Refusal, StoreFault, StoreValue};
 use ext_cells::{CellLane, CellRefusal, Cells, are_limits};
 use ext_model::{CellNo, ContextNo, KeyNo, Look};
@@ -97,17 +97,15 @@ impl<V> Store<V> {
         self.directory.cell(context, key)
     }
 
-    // The cells of the key on the path.
-    fn cells_on(&self, path: &[ContextNo], key: KeyNo) -> [CellNo; 16]
+    // Writes down the cells of the key on the path, in its order.
+    fn cells_on(&self, path: &[ContextNo], key: KeyNo, cells: &mut [CellNo; 16])
         requires path { IsTrail self.now path.now }
         requires key { key < length self.now.keys }
-        ensures { take (length path.now) result ≡ map (cell_in self.now key) path.now }
+        ensures { take (length path.now) cells.new ≡ map (cell_in self.now key) path.now }
     {
-        let mut cells = [0; 16];
         for (i, context) in path.iter().enumerate() {
             cells[i] = self.cell(*context, key);
         }
-        cells
     }
 
     // The look-up of the key along the path.
@@ -125,9 +123,11 @@ impl<V> Store<V> {
         ensures steps { steps_of lane.old lane.new ≤ length path.now * (self.now.tries + 1) }
     {
         self.look_back();
-        let cells = self.cells_on(path, key);
-        match self.cells.collect(lane, &cells[..path.len()]) {
-            Ok(words) => Ok(walk(path, &words)),
+        let mut cells = [0; 16];
+        self.cells_on(path, key, &mut cells);
+        match self.cells.nearest(lane, &cells[..path.len()]) {
+            Ok(Some(nearest)) => Ok(found_at(path[nearest.place], nearest.word)),
+            Ok(None) => Ok(Look::Absent),
             Err(CellRefusal::Contended) => Err(Refusal::Contended),
             Err(
                 CellRefusal::Busy
@@ -310,6 +310,29 @@ impl<V: StoreValue + Drop> Store<V> {
         let Some(key) = self.directory.number_of(key) else {
             return Err(Refusal::UnknownKey);
         };
+        self.get_numbered(lane, context, key)
+    }
+
+    /// As `get`, for the declared key of this number, as `Directory::number_of` gives it: so a key that is looked up often
+    /// is hashed once. It is a condition that the number is a declared key's; refused as `Contended` alone. Takes no
+    /// memory. Own rule.
+    #[tactic(auto, unfolding(crate::specs::Frames::Frame))]
+    pub fn get_numbered(
+        &self,
+        lane: &mut Lane<V>,
+        context: ContextNo,
+        key: KeyNo,
+    ) -> Result<Look, Refusal>
+        requires lane { IsLaneOf self.now.id lane.old }
+        requires context { context < length self.now.tree }
+        requires key { key < length self.now.keys }
+        ensures answer { Gets self.now context key lane.old.cells lane.new.cells result }
+        ensures known { lane.new.known ≡ lane.old.known }
+        ensures lane { IsLaneOf self.now.id lane.new }
+        ensures kept { StillKeeps lane.old lane.new }
+        ensures frame { Frame self.now.id [] lane.old lane.new }
+        ensures steps { steps_of lane.old.cells lane.new.cells ≤ 16 * (self.now.tries + 1) }
+    {
         let path = self.tree.path(context);
         self.look_along(&mut lane.cells, path.as_slice(), key)
     }
@@ -346,6 +369,32 @@ impl<V: StoreValue + Drop> Store<V> {
         let Some(key) = self.directory.number_of(key) else {
             return Err((kept, Refusal::UnknownKey));
         };
+        self.put_numbered(lane, context, key, kept)
+    }
+
+    /// As `put`, for the declared key of this number, as `Directory::number_of` gives it: nothing is hashed. It is a
+    /// condition that the number is a declared key's; refused as `put` is, save as `UnknownKey`. Takes no memory. Own
+    /// rule.
+    #[tactic(auto, unfolding(crate::specs::Frames::Frame))]
+    pub fn put_numbered(
+        &self,
+        lane: &mut Lane<V>,
+        context: ContextNo,
+        key: KeyNo,
+        kept: Kept,
+    ) -> Result<Option<u32>, (Kept, Refusal)>
+        requires lane { IsLaneOf self.now.id lane.old }
+        requires context { context < length self.now.tree }
+        requires key { key < length self.now.keys }
+        requires kept { IsKeptBy lane.old kept }
+        ensures answer { Puts self.now context key kept lane.old.cells lane.new.cells result }
+        ensures handed_back { IfErr result (λ e. e.0 ≡ kept) }
+        ensures known { lane.new.known ≡ lane.old.known }
+        ensures lane { IsLaneOf self.now.id lane.new }
+        ensures kept { MatchResult result (λ _. StillKeepsBut kept lane.old lane.new) (λ _. StillKeeps lane.old lane.new) }
+        ensures frame { Frame self.now.id (stored_by kept result) lane.old lane.new }
+        ensures steps { steps_of lane.old.cells lane.new.cells ≤ self.now.tries + 1 }
+    {
         self.put_at(&mut lane.cells, context, key, kept)
     }
 
@@ -376,6 +425,29 @@ impl<V: StoreValue + Drop> Store<V> {
         let Some(key) = self.directory.number_of(key) else {
             return Err(Refusal::UnknownKey);
         };
+        self.remove_numbered(lane, context, key)
+    }
+
+    /// As `remove`, for the declared key of this number, as `Directory::number_of` gives it: nothing is hashed. It is a
+    /// condition that the number is a declared key's; refused as `remove` is, save as `UnknownKey`. Takes no memory. Own
+    /// rule.
+    #[tactic(auto, unfolding(crate::specs::Frames::Frame))]
+    pub fn remove_numbered(
+        &self,
+        lane: &mut Lane<V>,
+        context: ContextNo,
+        key: KeyNo,
+    ) -> Result<Option<u32>, Refusal>
+        requires lane { IsLaneOf self.now.id lane.old }
+        requires context { context < length self.now.tree }
+        requires key { key < length self.now.keys }
+        ensures answer { Removes self.now context key lane.old.cells lane.new.cells result }
+        ensures known { lane.new.known ≡ lane.old.known }
+        ensures lane { IsLaneOf self.now.id lane.new }
+        ensures kept { StillKeeps lane.old lane.new }
+        ensures frame { Frame self.now.id [] lane.old lane.new }
+        ensures steps { steps_of lane.old.cells lane.new.cells ≤ self.now.tries + 1 }
+    {
         self.remove_at(&mut lane.cells, context, key)
     }
 

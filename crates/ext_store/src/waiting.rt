@@ -1,6 +1,6 @@
 //! The waiting forms of the calls: what met a running factory is done again once a claim has ended, and what other lanes
 //! were in the way of at once.
-ghost use Rattle.std.specs.Prelude.{ℕ, ◌≡◌, ◌≢◌, ◌<◌, [], length, Contains, Err, IfErr, IfOk, MatchResult};
+ghost use Rattle.std.specs.Prelude.{ℕ, ◌≡◌, ◌≢◌, ◌<◌, [], length, Contains, Ok, Err, IfErr, IfOk, MatchResult};
 ghost use Rattle.std.specs.Fn.{FnOnceReturnsAt};
 ghost use Rattle.ext_model.specs.Calls.{IsHeld, MayStoreNow};
 ghost use Rattle.ext_tree.specs.Keys.{HasNumber};
@@ -59,8 +59,32 @@ impl<V: StoreValue + Drop> Store<V> {
         let Some(key) = self.directory.number_of(key) else {
             return Err(Refusal::UnknownKey);
         };
+        Ok(self.get_wait_numbered(rt, lane, context, key))
+    }
+
+    /// As `get_wait`, for the declared key of this number, as `Directory::number_of` gives it: so a key that is looked up
+    /// often is hashed once. It is a condition that the number is a declared key's; never refused. Takes no memory. It may
+    /// wait: it promises its clauses if it returns. Own rule.
+    #[tactic(auto, unfolding(crate::specs::Frames::Frame))]
+    pub fn get_wait_numbered<R: Wait>(
+        &self,
+        rt: &R,
+        lane: &mut Lane<V>,
+        context: ContextNo,
+        key: KeyNo,
+    ) -> Look
+        requires lane { IsLaneOf self.now.id lane.old }
+        requires context { context < length self.now.tree }
+        requires key { key < length self.now.keys }
+        ensures answer { Gets self.now context key lane.old.cells lane.new.cells (Ok result) }
+        ensures decided { IsDecidedLook result }
+        ensures known { lane.new.known ≡ lane.old.known }
+        ensures lane { IsLaneOf self.now.id lane.new }
+        ensures kept { StillKeeps lane.old lane.new }
+        ensures frame { Frame self.now.id [] lane.old lane.new }
+    {
         let path = self.tree.path(context);
-        Ok(self.wait_along(rt, &mut lane.cells, path.as_slice(), key))
+        self.wait_along(rt, &mut lane.cells, path.as_slice(), key)
     }
 
     /// As `put`, but where a lane computes a value for the context it waits, parked, until a claim has ended, and tries
@@ -94,6 +118,33 @@ impl<V: StoreValue + Drop> Store<V> {
         let Some(key) = self.directory.number_of(key) else {
             return Err((kept, Refusal::UnknownKey));
         };
+        self.put_wait_numbered(rt, lane, context, key, kept)
+    }
+
+    /// As `put_wait`, for the declared key of this number, as `Directory::number_of` gives it: nothing is hashed. It is a
+    /// condition that the number is a declared key's; refused as `put_wait` is, save as `UnknownKey`. Takes no memory. It
+    /// may wait: it promises its clauses if it returns. Own rule.
+    #[tactic(auto, unfolding(crate::specs::Frames::Frame))]
+    pub fn put_wait_numbered<R: Wait>(
+        &self,
+        rt: &R,
+        lane: &mut Lane<V>,
+        context: ContextNo,
+        key: KeyNo,
+        kept: Kept,
+    ) -> Result<Option<u32>, (Kept, Refusal)>
+        requires lane { IsLaneOf self.now.id lane.old }
+        requires context { context < length self.now.tree }
+        requires key { key < length self.now.keys }
+        requires kept { IsKeptBy lane.old kept }
+        ensures answer { Puts self.now context key kept lane.old.cells lane.new.cells result }
+        ensures decided { IfErr result (λ e. IsDecided e.1) }
+        ensures handed_back { IfErr result (λ e. e.0 ≡ kept) }
+        ensures known { lane.new.known ≡ lane.old.known }
+        ensures lane { IsLaneOf self.now.id lane.new }
+        ensures kept { MatchResult result (λ _. StillKeepsBut kept lane.old lane.new) (λ _. StillKeeps lane.old lane.new) }
+        ensures frame { Frame self.now.id (stored_by kept result) lane.old lane.new }
+    {
         self.wait_to_put(rt, &mut lane.cells, context, key, kept)
     }
 
@@ -124,6 +175,30 @@ impl<V: StoreValue + Drop> Store<V> {
         let Some(key) = self.directory.number_of(key) else {
             return Err(Refusal::UnknownKey);
         };
+        self.remove_wait_numbered(rt, lane, context, key)
+    }
+
+    /// As `remove_wait`, for the declared key of this number, as `Directory::number_of` gives it: nothing is hashed. It is a
+    /// condition that the number is a declared key's; refused as `remove_wait` is, save as `UnknownKey`. Takes no memory. It
+    /// may wait: it promises its clauses if it returns. Own rule.
+    #[tactic(auto, unfolding(crate::specs::Frames::Frame))]
+    pub fn remove_wait_numbered<R: Wait>(
+        &self,
+        rt: &R,
+        lane: &mut Lane<V>,
+        context: ContextNo,
+        key: KeyNo,
+    ) -> Result<Option<u32>, Refusal>
+        requires lane { IsLaneOf self.now.id lane.old }
+        requires context { context < length self.now.tree }
+        requires key { key < length self.now.keys }
+        ensures answer { Removes self.now context key lane.old.cells lane.new.cells result }
+        ensures decided { IfErr result IsDecided }
+        ensures known { lane.new.known ≡ lane.old.known }
+        ensures lane { IsLaneOf self.now.id lane.new }
+        ensures kept { StillKeeps lane.old lane.new }
+        ensures frame { Frame self.now.id [] lane.old lane.new }
+    {
         self.wait_to_remove(rt, &mut lane.cells, context, key)
     }
 

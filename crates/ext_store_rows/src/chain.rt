@@ -5,7 +5,7 @@ ghost use Rattle.ext_store.specs.Stores.{IsCloserOf};
 use crate::asked::{key, open_chain, same};
 use crate::closes::Recorder;
 use crate::opening::{Letter, Opened, plain};
-use ext_closing::{CloseFault, Closed, close};
+use ext_closing::{CloseFault, Closes, close};
 use ext_model::{ContextNo, Fault, Look};
 use ext_store::{Closer, Compute, KeepFault, Lane, Refusal, Store};
 use ext_tree::Key;
@@ -179,7 +179,7 @@ impl Chain {
         lane: usize,
         context: ContextNo,
         action: &mut Recorder,
-    ) -> Result<Closed, CloseFault> {
+    ) -> Result<Closes, CloseFault> {
         assert!(rt; lane < 2);
         let hand = lane + 1;
         let closer = take_closer(rt, &self.store, &mut self.closers, context);

@@ -2,7 +2,7 @@
 use crate::asked::same;
 use crate::chain::{Call, Chain, rows};
 use crate::opening::{Letter, closeable, plain};
-use ext_closing::{CloseAction, CloseFault, Closed};
+use ext_closing::{CloseAction, CloseFault, Closes};
 use ext_model::{Fault, Look};
 use std::alloc::Global;
 use std::process::Abort;
@@ -94,7 +94,7 @@ fn values_that_are_not_closeable_stay(rt: HostRuntime) {
 }
 
 /// Closes the method, where each of its three values fails to close.
-fn close_with_faults<R: Abort>(rt: &R, alloc: Global) -> (Closed, [u32; 4]) {
+fn close_with_faults<R: Abort>(rt: &R, alloc: Global) -> (Closes, [u32; 4]) {
     let mut chain = Chain::open(rt, alloc, 8);
     for (name, number) in [("a", 1), ("b", 2), ("c", 3)] {
         let put = chain.put(rt, 0, 2, name, closeable('x'));

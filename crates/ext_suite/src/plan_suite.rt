@@ -8,6 +8,7 @@ ghost use Rattle.ext_suite.specs.PlanSuites.{asked};
 
 use crate::PlanAction;
 use ext_engine::{Call, Callbacks, Kind, Mode, Outcome, Suite};
+use ext_lifecycle::RunListener;
 use ext_locks::{Held, LockKey, LockMode, LockRequest};
 use ext_model::ContextNo;
 use ext_plan_model::{KeyNumbers, Plan, PlanKey, PlanLock};
@@ -20,17 +21,18 @@ use std::marker::Model;
 use std::sync::Wait;
 
 /// The suite of a plan: its nodes are those of the plan, in the order of the plan, and their calls make the plan's steps. It is seen as
-/// the plan. Own rule.
+/// the plan. A listener is told of each node that has ended. Own rule.
 #[derive(Drop)]
-pub struct PlanSuite<'a> {
+pub struct PlanSuite<'a, L> {
     alloc: Global,
     plan: &'a Plan,
+    listener: &'a L,
     numbers: KeyNumbers,
     // For each label, in the order of the plan.
     keys: Vec<Key>,
 }
 
-impl<'a> Model for PlanSuite<'a> {
+impl<'a, L> Model for PlanSuite<'a, L> {
     ghost use Rattle.ext_plan_model.specs.Plans.{PlanText, plan_view};
     ghost use Rattle.ext_suite.specs.Helpers.{IsSuiteOf};
 
@@ -41,12 +43,16 @@ impl<'a> Model for PlanSuite<'a> {
     ghost invariant = { λ s. IsSuiteOf (plan_view s.plan.now) s.numbers s.keys.items };
 }
 
-impl<'a> PlanSuite<'a> {
-    /// The suite of a plan. It takes memory for the keys of the plan's labels, which it makes, and for what the steps of a run take.
+impl<'a, L> PlanSuite<'a, L> {
+    /// The suite of a plan, and who is told of the nodes that have ended. It takes memory for the keys of the plan's labels, which it makes, and for what the steps of a run take.
     ///
     /// The labels name at most 64 different keys; each step names a label of the plan, or none; lists of steps and of callbacks are not
     /// longer than a plan's. All this holds of each plan that was read. `AllocError` comes only where memory is refused. Own rule.
-    pub fn new(alloc: Global, plan: &'a Plan) -> Result<PlanSuite<'a>, AllocError>
+    pub fn new(
+        alloc: Global,
+        plan: &'a Plan,
+        listener: &'a L,
+    ) -> Result<PlanSuite<'a, L>, AllocError>
         requires keys { length (different_keys (plan_view plan.now).keys) ≤ 64 }
         requires parts { NamespacesHaveParts (plan_view plan.now) }
         requires labels { StepsNameLabels (plan_view plan.now) }
@@ -59,6 +65,7 @@ impl<'a> PlanSuite<'a> {
             Ok(numbers) => Ok(PlanSuite {
                 alloc,
                 plan,
+                listener,
                 numbers,
                 keys,
             }),
@@ -83,7 +90,7 @@ fn keys_of(alloc: Global, keys: &[PlanKey]) -> Result<Vec<Key>, AllocError>
     Ok(list)
 }
 
-impl Callbacks for PlanSuite<'_> {
+impl<L> Callbacks for PlanSuite<'_, L> {
     ghost use Rattle.ext_plan_model.specs.PlanCalls.{registered};
 
     ghost registered = { registered };
@@ -93,7 +100,7 @@ impl Callbacks for PlanSuite<'_> {
     }
 }
 
-impl<'a> Suite<StoredValue<'a>> for PlanSuite<'a> {
+impl<'a, L: RunListener> Suite<StoredValue<'a>> for PlanSuite<'a, L> {
     ghost use Rattle.ext_suite.specs.PlanSuites.{suite_of, HasKeys, RunsCall};
 
     type Action = PlanAction;
@@ -122,13 +129,19 @@ impl<'a> Suite<StoredValue<'a>> for PlanSuite<'a> {
         self.plan.locks_of(node).len()
     }
 
-    fn lock<'l>(&'l self, node: ContextNo, i: usize) -> LockRequest<'l> {
-        request(&self.plan.locks_of(node)[i])
+    fn lock<'l>(&'l self, node: ContextNo, i: usize) -> Option<LockRequest<'l>> {
+        let lock = self.plan.locks_of(node).get(i)?;
+        Some(request(lock))
     }
 
     /// An action that closes the node's values, as it does those of each node.
     fn action(&self, _node: ContextNo) -> PlanAction {
         PlanAction::new(self.alloc)
+    }
+
+    /// Tells the listener.
+    fn ended(&self, node: ContextNo) {
+        self.listener.ended(node, self.plan.nodes.len());
     }
 
     /// Makes the steps of the call, in the node's context, up to the first that isn't successful.

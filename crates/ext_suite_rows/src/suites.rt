@@ -8,6 +8,7 @@ ghost use Rattle.ext_suite.specs.PlanSuites.{HasKeys};
 use ext_closing::CloseAction;
 use ext_engine::{Call, Callbacks, Kind, Mode, Outcome, Suite, Verdict};
 use ext_ids::UniqueId;
+use ext_lifecycle::NoListener;
 use ext_locks::{LockKey, LockMode, LockRequest};
 use ext_model::Fault;
 use ext_plan::read_plan;
@@ -94,21 +95,19 @@ fn says<'a, S: Suite<StoredValue<'a>>>(rt: &impl Abort, suite: &S) {
     same(rt, suite.is_test(1), true, "the test is one");
     same(rt, suite.count(Kind::BeforeAll, 0), 2, "callbacks");
     same(rt, suite.lock_count(0), 0, "the root's locks");
-    let count = suite.lock_count(1);
-    same(rt, count, 2, "the test's locks");
-    if count == 2 {
-        let wanted = LockRequest {
-            key: LockKey::Named("net"),
-            mode: LockMode::ReadWrite,
-        };
-        same(rt, suite.lock(1, 1), wanted, "the second lock");
-    }
+    same(rt, suite.lock_count(1), 2, "the test's locks");
+    let second = LockRequest {
+        key: LockKey::Named("net"),
+        mode: LockMode::ReadWrite,
+    };
+    same(rt, suite.lock(1, 1), Some(second), "the second lock");
+    same(rt, suite.lock(1, 2), None, "no third lock");
 }
 
 #[test]
 fn suite_says_what_its_plan_does(rt: HostRuntime) -> Result<(), Fail> {
     let plan = read_plan(rt.alloc(), PLAN)?;
-    let suite = PlanSuite::new(rt.alloc(), &plan)?;
+    let suite = PlanSuite::new(rt.alloc(), &plan, &NoListener)?;
     says(&rt, &suite);
     Ok(())
 }
@@ -116,7 +115,7 @@ fn suite_says_what_its_plan_does(rt: HostRuntime) -> Result<(), Fail> {
 #[test]
 fn calls_of_a_suite_make_their_steps(rt: HostRuntime) -> Result<(), Fail> {
     let plan = read_plan(rt.alloc(), PLAN)?;
-    let suite = PlanSuite::new(rt.alloc(), &plan)?;
+    let suite = PlanSuite::new(rt.alloc(), &plan, &NoListener)?;
     let Some(Opened { store, mut lane }) = open(rt.alloc(), &plan) else {
         panic!(&rt; "no store");
     };
@@ -146,7 +145,7 @@ fn calls_of_a_suite_make_their_steps(rt: HostRuntime) -> Result<(), Fail> {
 #[test]
 fn actions_of_a_suite_fail_for_bad_texts(rt: HostRuntime) -> Result<(), Fail> {
     let plan = read_plan(rt.alloc(), PLAN)?;
-    let suite = PlanSuite::new(rt.alloc(), &plan)?;
+    let suite = PlanSuite::new(rt.alloc(), &plan, &NoListener)?;
     let mut action = suite.action(1);
     let bad = StoredValue {
         value: PlanValue::closeable("bad2"),

@@ -1,10 +1,11 @@
-//! The code of docs/GUIDE.md: its first hour, and a server that is made once.
-ghost use Rattle.std.specs.Prelude.{◌≡◌, ◌<◌, true, length};
-ghost use Rattle.ext_store.specs.Stores.{IsLaneOf};
+//! The code of docs/GUIDE.md: its first hour, a server that is made once, and its end.
+ghost use Rattle.std.specs.Prelude.{◌≡◌, ◌<◌, true, length, All};
+ghost use Rattle.ext_store.specs.Stores.{IsCloserOf, IsLaneOf};
 
 use crate::same::same;
+use ext_closing::{CloseAction, CloseFault, close};
 use ext_model::{Fault, Look};
-use ext_store::{Compute, Lane, Limits, Refusal, Store, StoreValue};
+use ext_store::{Closer, Compute, Lane, Limits, Refusal, Store, StoreValue};
 use ext_store_rows::{Opened, open_store};
 use ext_tree::{Directory, Key, Namespace};
 use std::alloc::Global;
@@ -43,6 +44,7 @@ fn server_keys(alloc: Global) -> Result<Directory, Fail> {
 fn open_for_servers<R: Abort>(rt: &R, alloc: Global, directory: Directory) -> Opened<Server>
     ensures first { IsLaneOf result.store.id result.first }
     ensures second { IsLaneOf result.store.id result.second }
+    ensures closers { All (IsCloserOf result.store) result.closers.items }
     ensures contexts { 2 < length result.store.tree }
 {
     let limits = Limits {
@@ -171,5 +173,102 @@ fn server_made_once(rt: HostRuntime) -> Result<(), Fail> {
         (Some((1, 8080)), Some((1, 8080))),
         "what both have",
     );
+    Ok(())
+}
+
+/// The same, but that it waits while another test makes the server.
+fn find_or_wait<R: Wait>(
+    rt: &R,
+    store: &Store<Server>,
+    lane: &mut Lane<Server>,
+    key: &Key,
+) -> Option<u32>
+    requires lane { IsLaneOf store.now.id lane.old }
+    requires engine { 0 < length store.now.tree }
+    ensures { IsLaneOf store.now.id lane.new }
+{
+    let start = |_key: &Key| -> Result<Server, Fault> { Ok(Server { port: 8080 }) };
+    match store.compute_wait(rt, lane, 0, key, start) {
+        Compute::Computed { number } | Compute::Found { number, .. } => Some(number),
+        _ => None,
+    }
+}
+
+/// What stops a server.
+#[derive(Drop)]
+struct Stop {
+    stopped: u32,
+}
+
+impl CloseAction<Server> for Stop {
+    ghost close_gives = { λ before number server answer after. Unit {0} };
+
+    fn close(&mut self, _number: u32, _server: &Server) -> Result<(), Fault> {
+        self.stopped = self.stopped.saturating_add(1);
+        Ok(())
+    }
+}
+
+/// A close of the engine's context without the lane that stored the server: nothing is closed, and the closer comes back.
+fn end_too_early<R: Abort>(
+    rt: &R,
+    store: &Store<Server>,
+    closer: Closer,
+    second: Lane<Server>,
+) -> (Closer, Lane<Server>)
+    requires lane { IsLaneOf store.now.id second }
+    requires closer { IsCloserOf store.now closer }
+    ensures closer { IsCloserOf store.now result.0 }
+    ensures lane { IsLaneOf store.now.id result.1 }
+{
+    let mut hand = [second];
+    let mut stop = Stop { stopped: 0 };
+    let Err((closer, fault)) = close(store, closer, &mut hand, &mut stop) else {
+        panic!(rt; "closed by a lane that does not know the server");
+    };
+    let told = (fault, stop.stopped);
+    same(rt, told, (CloseFault::Unjoined(1), 0), "the refusal");
+    let [second] = hand;
+    (closer, second)
+}
+
+/// The close of the engine's context by both lanes: the server is stopped.
+fn end<R: Abort>(
+    rt: &R,
+    store: &Store<Server>,
+    closer: Closer,
+    first: Lane<Server>,
+    second: Lane<Server>,
+)
+    requires first { IsLaneOf store.now.id first }
+    requires second { IsLaneOf store.now.id second }
+    requires closer { IsCloserOf store.now closer }
+{
+    let mut hand = [first, second];
+    let mut stop = Stop { stopped: 0 };
+    let Ok(closed) = close(store, closer, &mut hand, &mut stop) else {
+        panic!(rt; "not closed");
+    };
+    same(rt, (closed.closed, stop.stopped), (1, 1), "the close");
+}
+
+#[test]
+fn server_is_stopped_once(rt: HostRuntime) -> Result<(), Fail> {
+    let key = &server_key(rt.alloc())?;
+    let Opened {
+        store,
+        mut first,
+        mut second,
+        mut closers,
+    } = open_for_servers(&rt, rt.alloc(), server_keys(rt.alloc())?);
+    let made = find_or_wait(&rt, &store, &mut first, key);
+    let found = find_or_wait(&rt, &store, &mut second, key);
+    same(&rt, (made, found), (Some(1), Some(1)), "the server");
+
+    // The closer of the context 0, the engine's.
+    assert!(rt; closers.len() == 3);
+    let closer = closers.remove(0);
+    let (closer, second) = end_too_early(&rt, &store, closer, second);
+    end(&rt, &store, closer, first, second);
     Ok(())
 }

@@ -2,10 +2,16 @@
 #![tactic(auto)]
 
 #[cfg(test)]
+mod calls;
+#[cfg(test)]
+mod gates;
+#[cfg(test)]
 mod guide;
 #[cfg(test)]
 mod held;
 #[cfg(test)]
 mod moving;
+#[cfg(test)]
+mod rising;
 #[cfg(test)]
 mod same;

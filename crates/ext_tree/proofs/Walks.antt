@@ -1,6 +1,6 @@
 -- Paths to the root: how long they are, that they go down in number, and that there is one.
-use Rattle.std.proofs.Common.{◌≡◌, ◌<◌, ◌+◌, ℕ, zero, suc, List, [], ◌∷◌, ◌++◌, length, get_or, set, take, refl, ap, sym, subst, ◌∙◌, arith, append_assoc}
-use Rattle.std.proofs.lemmas.List.{get_or_default, take_more_set, append-nil}
+use Rattle.std.proofs.Common.{◌≡◌, ◌<◌, ◌+◌, ℕ, zero, suc, List, [], ◌∷◌, ◌++◌, length, get_or, slice_index, set, take, refl, ap, sym, subst, ◌∙◌, arith, append_assoc}
+use Rattle.std.proofs.lemmas.List.{take_more_set, append-nil}
 use Rattle.ext_tree.specs.Trees.{Id, id_at, IsTree}
 use Rattle.ext_tree.specs.Paths.{IsParentOf, IsWalk, IsPathOf}
 use Rattle.ext_tree.specs.Building.{Follows, AreParents}
@@ -54,13 +54,11 @@ pub record Stepped (ids : List Id) (k p i depth : ℕ) : Type 0 where
   pub is : IsParentOf ids p k
   pub deeper : length (id_at ids p) + (i + 1) ≡ depth + 1
 
-pub stepped : (ids : List Id) (parents : List ℕ) (k p i depth : ℕ) → IsTree ids → AreParents ids (length ids) parents → k < length ids → p ≡ get_or parents k p
+pub stepped : (ids : List Id) (parents : List ℕ) (k p i depth : ℕ) → IsTree ids → AreParents ids (length ids) parents → k < length ids → p ≡ slice_index parents k
     → length (id_at ids k) + i ≡ depth + 1 → i < depth → Stepped ids k p i depth
 stepped ids parents k p i depth tree are less read deep below =
     let some : 0 < k = not_root k (λ e. let one = tree.first.root in let here : length (id_at ids k) ≡ 1 = ap (λ n. length (id_at ids n)) e ∙ one in omega (arith, here, deep, below)) in
-    let inside : k < length parents = (let count = are.count in omega (arith, less, count)) in
-    let same : get_or parents k 0 ≡ p = get_or_default parents k 0 p inside ∙ sym read in
-    let is = parent_of ids tree k p less (subst (Follows ids k) same (are.each k some less)) in
+    let is = parent_of ids tree k p less (subst (Follows ids k) (sym read) (are.each k some less)) in
     let long = longer (id_at ids p) (id_at ids k) is.ids_are in
     record { is = is; deeper = omega (arith, long, deep) }
   where

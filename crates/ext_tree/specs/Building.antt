@@ -1,9 +1,9 @@
 -- Words for the contracts within the crate: what the steps of building a tree find.
-use Rattle.std.specs.Prelude.{ℕ, ◌≡◌, ◌<◌, List, length, slice_index, HoldsAt, Option, Some, None, Result, Ok, Err}
+use Rattle.std.specs.Prelude.{ℕ, ◌≡◌, ◌<◌, ◌≤◌, List, length, slice_index, HoldsAt, Option, Some, None, Result, Ok, Err}
 use Rattle.std.specs.Global.{Vec}
 use Rattle.ext_tree.specs.declared.fault.TreeFault.{TreeFault}
 use Rattle.ext_tree.specs.Trees.{Id, id_at, IsParent, HasParentBefore, MayFollow, IsWrong, IsTree}
-use Rattle.ext_tree.specs.Paths.{children_below}
+use Rattle.ext_tree.specs.Paths.{children_below, IsPathOf}
 
 -- the id at k may stand where it does, and has the parent at this place
 pub record Follows (ids : List Id) (k parent : ℕ) : Type 0 where
@@ -31,8 +31,13 @@ pub record AreChildren (ids : List Id) (n : ℕ) (lists : List (Vec ℕ)) : Type
   pub count : length lists ≡ length ids
   pub each : (c : ℕ) → c < length ids → HoldsAt (λ v. v.items ≡ children_below ids c n) lists c
 
+-- the paths of the first n contexts
+pub record ArePaths (ids : List Id) (n : ℕ) (paths : List (List ℕ)) : Type 0 where
+  pub count : length paths ≡ n
+  pub each : (c : ℕ) → c < n → HoldsAt (λ path. IsPathOf ids c path × (length path ≤ 16)) paths c
+
 -- what a tree holds beside its ids
-pub record IsShaped (ids : List Id) (parents : List ℕ) (lists : List (Vec ℕ)) : Type 0 where
+pub record IsShaped (ids : List Id) (paths : List (List ℕ)) (lists : List (Vec ℕ)) : Type 0 where
   pub tree : IsTree ids
-  pub parents_are : AreParents ids (length ids) parents
+  pub paths_are : ArePaths ids (length ids) paths
   pub lists_are : AreChildren ids (length ids) lists

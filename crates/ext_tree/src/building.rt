@@ -1,11 +1,13 @@
-//! From a list of ids to the places of their parents, or to what is wrong with the list.
+//! From a list of ids to the places of their parents, their children and their paths, or to what is wrong with the list.
 ghost use Rattle.std.specs.Prelude.{ℕ, ◌≡◌, ◌≢◌, ◌+◌, ◌<◌, ◌≤◌, ◌↔◌, IsTrue, IfOk, IfErr, OnOk, MatchResult, length, take, Contains};
 ghost use Rattle.ext_tree.specs.Trees.{StandsBefore, HasRoot, IsTree, HasFault, IsWrong};
-ghost use Rattle.ext_tree.specs.Building.{IsParentBefore, IsJudged, AreParents, AreChildren, Follows};
+ghost use Rattle.ext_tree.specs.Building.{IsParentBefore, IsJudged, AreParents, AreChildren, ArePaths, Follows};
+ghost use Rattle.ext_tree.specs.Paths.{IsPathOf};
 ghost use Rattle.ext_tree.specs.declared.fault.TreeFault.TheVariants.{Memory};
 
-use crate::TreeFault;
+use crate::path::MAX_DEPTH;
 use crate::trail::Trail;
+use crate::{Path, TreeFault};
 use ext_ids::UniqueId;
 use ext_model::ContextNo;
 use indexmap::IndexSet;
@@ -178,4 +180,39 @@ fn empty_lists(alloc: Global, ids: &[UniqueId]) -> Result<Vec<Vec<ContextNo>>, A
         lists.push(Vec::new(alloc))?;
     }
     Ok(lists)
+}
+
+/// The path of each context.
+pub fn paths_of(
+    alloc: Global,
+    ids: &[UniqueId],
+    parents: &[ContextNo],
+) -> Result<Vec<Path>, AllocError>
+    requires tree { IsTree ids.now }
+    requires parents { AreParents ids.now (length ids.now) parents.now }
+    ensures { IfOk result (λ v. ArePaths ids.now (length ids.now) v.items) }
+{
+    let mut paths = Vec::with_capacity(alloc, ids.len())?;
+    for context in 0..ids.len() {
+        paths.push(path_of(ids, parents, context))?;
+    }
+    Ok(paths)
+}
+
+/// The path of a context. Takes no memory.
+fn path_of(ids: &[UniqueId], parents: &[ContextNo], context: ContextNo) -> Path
+    requires tree { IsTree ids.now }
+    requires parents { AreParents ids.now (length ids.now) parents.now }
+    requires context { context < length ids.now }
+    ensures path { IsPathOf ids.now context result }
+    ensures few { length result ≤ 16 }
+{
+    let depth = ids[context].len();
+    let mut contexts = [context; MAX_DEPTH];
+    let mut at = context;
+    for i in 1..depth {
+        at = parents[at];
+        contexts[i] = at;
+    }
+    Path::of(contexts, depth)
 }

@@ -7,8 +7,7 @@ ghost use Rattle.ext_tree.specs.Building.{AreParents};
 ghost use Rattle.ext_tree.specs.declared.fault.TreeFault.{TreeFault};
 ghost use Rattle.ext_tree.specs.declared.fault.TreeFault.TheVariants.{Memory};
 
-use crate::building::{check_root, children_lists, parents_of, refusal};
-use crate::path::MAX_DEPTH;
+use crate::building::{check_root, children_lists, parents_of, paths_of, refusal};
 use crate::{Path, TreeFault};
 use ext_ids::UniqueId;
 use ext_model::ContextNo;
@@ -21,8 +20,7 @@ use std::marker::Model;
 #[derive(Drop)]
 pub struct Tree {
     ids: Vec<UniqueId>,
-    // Of the root any.
-    parents: Vec<ContextNo>,
+    paths: Vec<Path>,
     lists: Vec<Vec<ContextNo>>,
 }
 
@@ -35,7 +33,7 @@ impl Model for Tree {
 
     ghost view = { λ t. t.ids.items };
 
-    ghost invariant = { λ t. IsShaped t.ids.items t.parents.items t.lists.items };
+    ghost invariant = { λ t. IsShaped t.ids.items t.paths.items t.lists.items };
 }
 
 impl Tree {
@@ -58,7 +56,7 @@ impl Tree {
     {
         check_root(ids)?;
         match parents_of(alloc, ids) {
-            Ok(parents) => Ok(Tree::of(alloc, ids, parents)?),
+            Ok(parents) => Ok(Tree::of(alloc, ids, parents.as_slice())?),
             Err(fault) => Err(refusal(ids, fault)),
         }
     }
@@ -66,23 +64,16 @@ impl Tree {
     /// The context, its parent, and so on to the root. Takes no memory.
     ///
     /// JUnit 5 User Guide, section "Keeping State in Extensions".
-    pub fn path(&self, context: ContextNo) -> Path
+    pub fn path(&self, context: ContextNo) -> &Path
         requires { context < length self.now }
-        ensures path { IsPathOf self.now context result }
-        ensures depth { length result ≡ length (id_at self.now context) }
-        ensures some { 0 < length result }
-        ensures few { length result ≤ 16 }
-        ensures within { All (λ c. c < length self.now) result }
-        ensures different { AllPairs (λ a b. a ≢ b) result }
+        ensures path { IsPathOf self.now context result.now }
+        ensures depth { length result.now ≡ length (id_at self.now context) }
+        ensures some { 0 < length result.now }
+        ensures few { length result.now ≤ 16 }
+        ensures within { All (λ c. c < length self.now) result.now }
+        ensures different { AllPairs (λ a b. a ≢ b) result.now }
     {
-        let depth = self.ids[context].len();
-        let mut contexts = [context; MAX_DEPTH];
-        let mut at = context;
-        for i in 1..depth {
-            at = self.parents[at];
-            contexts[i] = at;
-        }
-        Path::of(contexts, depth)
+        &self.paths[context]
     }
 
     /// The context's children, in order. Takes no memory.
@@ -112,19 +103,20 @@ impl Tree {
     }
 
     // The tree with copies of the ids, whose parents stand at these places.
-    fn of(alloc: Global, ids: &[UniqueId], parents: Vec<ContextNo>) -> Result<Tree, AllocError>
+    fn of(alloc: Global, ids: &[UniqueId], parents: &[ContextNo]) -> Result<Tree, AllocError>
         requires tree { IsTree ids.now }
-        requires parents { AreParents ids.now (length ids.now) parents.items }
+        requires parents { AreParents ids.now (length ids.now) parents.now }
         ensures { IfOk result (λ t. t ≡ ids.now) }
     {
-        let lists = children_lists(alloc, ids, parents.as_slice())?;
+        let lists = children_lists(alloc, ids, parents)?;
+        let paths = paths_of(alloc, ids, parents)?;
         let mut own = Vec::new(alloc);
         for id in ids {
             own.push(id.clone()?)?;
         }
         Ok(Tree {
             ids: own,
-            parents,
+            paths,
             lists,
         })
     }

@@ -4,7 +4,7 @@ ghost use Rattle.ext_store.specs.Stores.{IsLaneOf};
 
 use crate::held::same;
 use crate::opening::{Letter, key_a, open_pair};
-use ext_model::{ContextNo, Fault, Look};
+use ext_model::{ContextNo, Fault, KeyNo, Look};
 use ext_store::{Compute, Lane, Store};
 use ext_tree::Key;
 use std::process::Abort;
@@ -97,8 +97,69 @@ fn find_and_remove<R: Abort + Wait>(
     );
 }
 
+/// What stands where, and what was taken, of a letter that is put at the root, found from the method and taken out, by the key's number.
+fn calls_by_number(
+    store: &Store<Letter>,
+    lane: &mut Lane<Letter>,
+    key: KeyNo,
+) -> Option<(Look, Option<u32>)>
+    requires lane { IsLaneOf store.now.id lane.old }
+    requires context { 2 < length store.now.tree }
+    requires key { key < length store.now.keys }
+    ensures { IsLaneOf store.now.id lane.new }
+{
+    let Ok(kept) = store.keep(lane, Letter { letter: 'x' }) else {
+        return None;
+    };
+    let Ok(None) = store.put_numbered(lane, 0, key, kept) else {
+        return None;
+    };
+    let found = store.get_numbered(lane, 2, key).ok()?;
+    let taken = store.remove_numbered(lane, 0, key).ok()?;
+    Some((found, taken))
+}
+
+/// The same by the forms that wait.
+fn waiting_calls_by_number<R: Wait>(
+    rt: &R,
+    store: &Store<Letter>,
+    lane: &mut Lane<Letter>,
+    key: KeyNo,
+) -> Option<(Look, Option<u32>)>
+    requires lane { IsLaneOf store.now.id lane.old }
+    requires context { 2 < length store.now.tree }
+    requires key { key < length store.now.keys }
+    ensures { IsLaneOf store.now.id lane.new }
+{
+    let Ok(kept) = store.keep_wait(rt, lane, Letter { letter: 'x' }) else {
+        return None;
+    };
+    let Ok(None) = store.put_wait_numbered(rt, lane, 0, key, kept) else {
+        return None;
+    };
+    let found = store.get_wait_numbered(rt, lane, 2, key);
+    let taken = store.remove_wait_numbered(rt, lane, 0, key).ok()?;
+    Some((found, taken))
+}
+
 #[test]
-fn waiting_forms_row(rt: HostRuntime) -> Result<(), Fail> {
+fn calls_by_the_number_of_a_key(rt: HostRuntime) -> Result<(), Fail> {
+    let a = key_a(rt.alloc())?;
+    let mut pair = open_pair(rt.alloc())?;
+    let (store, lane) = (&pair.store, &mut pair.first);
+    let Some(key) = store.directory().number_of(&a) else {
+        panic!(rt; "no key");
+    };
+    let first = Some((Look::Found { at: 0, number: 1 }, Some(1)));
+    same(&rt, calls_by_number(store, lane, key), first, "the calls");
+    let second = Some((Look::Found { at: 0, number: 2 }, Some(2)));
+    let answers = waiting_calls_by_number(&rt, store, lane, key);
+    same(&rt, answers, second, "the waiting calls");
+    Ok(())
+}
+
+#[test]
+fn waiting_forms_alone(rt: HostRuntime) -> Result<(), Fail> {
     let a = key_a(rt.alloc())?;
     let mut pair = open_pair(rt.alloc())?;
     let (store, lane) = (&pair.store, &mut pair.first);

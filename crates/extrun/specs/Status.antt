@@ -6,7 +6,7 @@ use Rattle.ext_ids.specs.declared.fault.IdFault.TheVariants as ids
 use Rattle.ext_ids.specs.Faults.{HasFault}
 use Rattle.ext_run.specs.declared.fault.RunFault.{RunFault}
 use Rattle.ext_run.specs.declared.fault.RunFault.TheVariants as runs
-use Rattle.ext_run.specs.declared.runs.Summary.{Summary}
+use Rattle.ext_run.specs.declared.options.Summary.{Summary}
 use Rattle.extrun.specs.declared.status.Fault.{Fault}
 use Rattle.extrun.specs.declared.status.Fault.TheVariants as faults
 
@@ -16,6 +16,7 @@ status_of_run_fault runs.Read = 3
 status_of_run_fault runs.Write = 3
 status_of_run_fault runs.TooLong = 2
 status_of_run_fault (runs.Plan fault) = 2
+status_of_run_fault (runs.Engine fault) = 3
 status_of_run_fault runs.Memory = 3
 
 -- of a request that was not done

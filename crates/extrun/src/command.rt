@@ -1,6 +1,7 @@
 //! The command line, over clap.
+use crate::help::AFTER_HELP;
 use clap::error::ErrorKind;
-use clap::{Arg, ArgAction, Command, Error, value_parser};
+use clap::{Arg, ArgAction, ArgMatches, Command, Error, value_parser};
 use ext_run::Options;
 use std::alloc::{AllocError, Global};
 use std::io;
@@ -12,21 +13,32 @@ const LANES: u8 = 4;
 /// What a command line asks for.
 #[derive(Debug, Drop)]
 pub(crate) enum Request {
-    /// To run the plan from standard input.
-    Run(Options),
+    /// To do this with the plan from standard input, and to explain its fault where it is refused, if that is asked for.
+    Plan { task: Task, explain: bool },
     /// To read this id.
     Id(String),
     /// Nothing more: the help was printed.
     Help,
     /// Nothing more: the command line is refused, and what is wrong with it was printed.
     Refused,
+    /// Nothing more: the help could not be printed.
+    Unwritten,
     /// Nothing more: memory was wanted and refused.
     Memory,
 }
 
-/// What the command line asks for: `run`, with `--lanes` of 1 to 16 and `--store plain`, or no word at all,
-/// which is `run` too. Prints the help to standard output, and what is wrong with a command line to
-/// standard error. Takes memory for the words and what clap makes of them. Own rule.
+/// What is done with a plan.
+#[derive(Clone, Copy, Debug, PartialEq, Eq)]
+pub(crate) enum Task {
+    /// To run it, to write its report, and to tell how far the run is or not.
+    Run { options: Options, progress: bool },
+    /// To read it, and to write how many nodes, tests and keys it has.
+    Check,
+}
+
+/// What the command line asks for: `run`, with `--lanes` of 1 to 16, `--store plain` or `cells`, and `--progress`, or no word at all,
+/// which is `run` on 4 lanes over the store for several threads; `check`; either with `--explain`; or `id`. Prints the help to standard
+/// output, and what is wrong with a command line to standard error. Takes memory for the words and what clap makes of them. Own rule.
 pub(crate) fn request_of<R: Env + AllocGlobal + Print + Eprint>(rt: &R) -> Request {
     match parsed(rt) {
         Ok(request) => request,
@@ -49,20 +61,42 @@ fn parsed<R: Env + AllocGlobal + Print + Eprint>(rt: &R) -> Result<Request, Allo
                 let text = id.get_str("TEXT").unwrap_or("");
                 Ok(Request::Id(String::from_str(alloc, text)?))
             }
-            Some((_, run)) => Ok(run_on(run.get_one::<u8>("lanes").unwrap_or(LANES))),
-            None => Ok(run_on(LANES)),
+            Some(("check", check)) => Ok(plan_request(Task::Check, check)),
+            Some((_, run)) => Ok(plan_request(run_of(run), run)),
+            None => Ok(Request::Plan {
+                task: run_on(LANES, false, false),
+                explain: false,
+            }),
         },
         Err(fault) if fault.kind() == ErrorKind::OutOfMemory => Err(AllocError),
         Err(fault) => Ok(refused(rt, &fault)),
     }
 }
 
-/// To run the plan on so many lanes.
-fn run_on(lanes: u8) -> Request {
-    Request::Run(Options {
+/// To run the plan as these words say.
+fn run_of(words: &ArgMatches<'_>) -> Task {
+    run_on(
+        words.get_one::<u8>("lanes").unwrap_or(LANES),
+        words.get_str("store") == Some("plain"),
+        words.get_flag("progress"),
+    )
+}
+
+/// To run the plan on so many lanes, or as a plain run, and to tell how far the run is or not.
+fn run_on(lanes: u8, plain: bool, progress: bool) -> Task {
+    let options = Options {
         lanes: usize::from(lanes),
-        plain: true,
-    })
+        plain,
+    };
+    Task::Run { options, progress }
+}
+
+/// To do this with a plan, explained or not.
+fn plan_request(task: Task, words: &ArgMatches<'_>) -> Request {
+    Request::Plan {
+        task,
+        explain: words.get_flag("explain"),
+    }
 }
 
 /// Tells that a word of the command line is not UTF-8: clap takes texts alone.
@@ -71,11 +105,11 @@ fn no_text(rt: &impl Eprint) -> Request {
     Request::Refused
 }
 
-/// Prints the help, or what is wrong with the command line. Where that fails too, nothing is left to do
-/// about it.
+/// Prints the help, or what is wrong with the command line. Where what is wrong can't be printed, nothing is left to do about it.
 fn refused<R: Print + Eprint>(rt: &R, fault: &Error) -> Request {
-    let _ = fault.print(rt);
+    let printed = fault.print(rt);
     match fault.exit_code() {
+        0 if printed.is_err() => Request::Unwritten,
         0 => Request::Help,
         _ => Request::Refused,
     }
@@ -83,33 +117,62 @@ fn refused<R: Print + Eprint>(rt: &R, fault: &Error) -> Request {
 
 /// The program's command line: `run` may be left out.
 fn program<'a>(alloc: Global) -> Result<Command<'a>, AllocError> {
-    let lanes = Arg::new(alloc, "lanes")
-        .long("lanes")
-        .help("How many lanes run the plan")
-        .action(ArgAction::Set)
-        .value_parser(value_parser!(u8).range(1..17))
-        .default_value("4");
-    let store = Arg::new(alloc, "store")
-        .long("store")
-        .help("The store that the plan runs on")
-        .action(ArgAction::Set)
-        .value_parser(["plain"].as_slice())
-        .default_value("plain");
-    let run = Command::new(alloc, "run")
-        .about("Reads a plan from standard input, runs it and prints its report")
-        .arg(lanes)?
-        .arg(store)?;
     let text = Arg::new(alloc, "TEXT")
-        .help("The id")
+        .help("The id, such as '[engine:x]/[class:A]'")
         .required(true)
         .action(ArgAction::Set);
     let id = Command::new(alloc, "id")
         .about("Prints the segments of a unique id, decoded, and the id written again")
         .arg(text)?;
+    let check = Command::new(alloc, "check")
+        .about(
+            "Reads a plan from standard input and says how many nodes, tests and keys it has, without running it",
+        )
+        .arg(explain_flag(alloc))?;
     Command::new(alloc, "extrun")
         .about(
-            "Runs plans of contexts, keys and test steps over the extension store; without a word it does `run`",
+            "Runs plans of contexts, keys and test steps over the extension store; without a command it does `run`",
         )
-        .subcommand(run)?
+        .after_help(AFTER_HELP)
+        .subcommand(run_command(alloc)?)?
+        .subcommand(check)?
         .subcommand(id)
+}
+
+/// The command `run`.
+fn run_command<'a>(alloc: Global) -> Result<Command<'a>, AllocError> {
+    let lanes = Arg::new(alloc, "lanes")
+        .long("lanes")
+        .value_name("N")
+        .help("How many lanes run the plan, 1 to 16, each at most by one thread")
+        .action(ArgAction::Set)
+        .value_parser(value_parser!(u8).range(1..17))
+        .default_value("4");
+    let store = Arg::new(alloc, "store")
+        .long("store")
+        .value_name("STORE")
+        .help(
+            "The store that the plan runs on: `cells` is for several threads; `plain` is for one, which then runs all",
+        )
+        .action(ArgAction::Set)
+        .value_parser(["plain", "cells"].as_slice())
+        .default_value("cells");
+    let progress = Arg::new(alloc, "progress")
+        .long("progress")
+        .help("Says on standard error how many nodes have ended, at most once a second")
+        .action(ArgAction::SetTrue);
+    Command::new(alloc, "run")
+        .about("Reads a plan from standard input, runs it and prints its report")
+        .arg(lanes)?
+        .arg(store)?
+        .arg(progress)?
+        .arg(explain_flag(alloc))
+}
+
+/// The flag `--explain`.
+fn explain_flag<'a>(alloc: Global) -> Arg<'a> {
+    Arg::new(alloc, "explain")
+        .long("explain")
+        .help("Says in a second line on standard error what is meant, where the plan is refused")
+        .action(ArgAction::SetTrue)
 }

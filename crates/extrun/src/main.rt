@@ -2,37 +2,47 @@
 //!
 //! The exit status is 0 where no node failed, 1 where one did, 2 where the command line or the plan is
 //! refused, and 3 where reading, writing or memory failed. Reports go to standard output, faults to
-//! standard error as one line.
+//! standard error as one line, and what is meant by a plan's fault in a second one where `--explain` asks for it.
 #![tactic(auto)]
 
 mod command;
+mod help;
+mod plans;
+mod progress;
 mod status;
 
 use command::{Request, request_of};
-use ext_run::{RunFault, Summary, run};
+use ext_run::{RunFault, Summary};
+use plans::outcome_of_plan;
 use status::{Fault, read_id, status_of, tell};
-use std::io;
+use std::io::{self, Input};
 use std::process::ExitCode;
+use std::rt::Env;
+use std::sync::Wait;
+use std::thread::Threads;
+use std::time::Clock;
 
 fn main(rt: HostRuntime) -> ExitCode {
     // An error out of `main` would be the status 1, which says that a node failed.
     let outcome = outcome_of(&rt);
-    if let Err(fault) = outcome {
-        tell(&rt, fault);
-    }
     ExitCode::from(status_of(&outcome))
 }
 
-/// Does what the command line asks.
-fn outcome_of(rt: &HostRuntime) -> Result<Summary, Fault> {
+/// Does what the command line asks, and tells why where it was not done.
+fn outcome_of<R: Threads + Wait + Sync + Clock + Env + AllocGlobal + Input + Print + Eprint>(
+    rt: &R,
+) -> Result<Summary, Fault> {
     let mut writer = io::writer(rt);
-    match request_of(rt) {
-        Request::Run(options) => {
-            run(rt.alloc(), &mut rt.reader(), &mut writer, options).map_err(Fault::Run)
-        }
+    let outcome = match request_of(rt) {
+        Request::Plan { task, explain } => return outcome_of_plan(rt, &mut writer, task, explain),
         Request::Id(text) => read_id(rt, &mut writer, text.as_str()),
         Request::Help => Ok(Summary { failed: false }),
         Request::Refused => Err(Fault::CommandLine),
+        Request::Unwritten => Err(Fault::Run(RunFault::Write)),
         Request::Memory => Err(Fault::Run(RunFault::Memory)),
+    };
+    if let Err(fault) = outcome {
+        tell(rt, fault);
     }
+    outcome
 }

@@ -53,6 +53,7 @@ fn status_of_run_fault(fault: RunFault) -> u8
         RunFault::Write => 3,
         RunFault::TooLong => 2,
         RunFault::Plan(_) => 2,
+        RunFault::Engine(_) => 3,
         RunFault::Memory => 3,
     }
 }

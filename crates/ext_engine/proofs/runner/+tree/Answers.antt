@@ -11,18 +11,19 @@ use Rattle.ext_crew.proofs.Runs.{run-weaker, run-keeps, turn-keeps, calls-from, 
 use Rattle.ext_lifecycle.specs.declared.call.Call.{Call}
 use Rattle.ext_lifecycle.specs.declared.outcome.Outcome.{Outcome}
 use Rattle.ext_lifecycle.specs.Callbacks.{befores_of, afters_of}
-use Rattle.ext_engine.specs.declared.closers.Item.{Item}
-use Rattle.ext_engine.specs.declared.fault.EngineFault.{EngineFault}
-use Rattle.ext_engine.specs.declared.results.RanNode.{RanNode}
-use Rattle.ext_engine.specs.Closers.{IsNode}
-use Rattle.ext_engine.specs.Helpers.{ran_view}
+use Rattle.ext_node_run.specs.declared.closers.Item.{Item}
+use Rattle.ext_node_run.specs.declared.fault.EngineFault.{EngineFault}
+use Rattle.ext_node_run.specs.declared.results.RanNode.{RanNode}
+use Rattle.ext_node_run.specs.Closers.{IsNode}
+use Rattle.ext_node_run.specs.Helpers.{ran_view}
 use Rattle.ext_engine.specs.TreeRun.{Lanes, setting_of, IsUsable, IsIdle, IsFault, TreeRun, TestRun, ContainerRun, BodyMade}
-use Rattle.ext_engine.proofs.Trees.{usable_part, usable-shown, usable-then, at_item, node_at, outcomes-meet, ran-first, ran-none, ran-push, tree-of-test, tree-of-container, body-of, befores-on, afters-on}
+use Rattle.ext_engine.proofs.Trees.{usable_part, usable-shown, usable-then, at_item, node_at, outcomes-meet, ran-none, ran-push, tree-of-test, tree-of-container, body-of}
+use Rattle.ext_node_run.proofs.Firsts.{ran-first, befores-on, afters-on}
 use Rattle.ext_engine.proofs.runner.+tree.Goals as goal
 
 pub TreeRunner::run_beside-run_children-requires-clause-accepts : goal.TreeRunner::run_beside-run_children-requires-clause-accepts
 TreeRunner::run_beside-run_children-requires-clause-accepts g t c κs inside from size some_here room done s run job item at first second e f =
-    let st = c.args.self.now.store.now in let lk = c.args.self.now.locks.now in
+    let st = c.args.self.now.nodes.store.now in let lk = c.args.self.now.nodes.locks.now in
     let Y : Lanes g.row.V.Denot → Lanes g.row.V.Denot → Type 0 = λ a b. IsUsable st lk b in
     let whole : Lanes g.row.V.Denot = record { first = c.args.lanes.now; second = c.args.lock_lanes.now } in
     let here : IsUsable st lk s = turn-keeps _ (IsUsable st lk) (λ j a o b k r. calls-from _ _ Y r.calls (search rules)) done _ s (usable_part st lk whole from size c.requires.lanes some_here room) run in
@@ -32,7 +33,7 @@ TreeRunner::run_beside-run_children-requires-clause-accepts g t c κs inside fro
 
 pub TreeRunner::run_beside-returns-in-Ok-clause-lanes : goal.TreeRunner::run_beside-returns-in-Ok-clause-lanes
 TreeRunner::run_beside-returns-in-Ok-clause-lanes g t c =
-    let st = c.args.self.now.store.now in let lk = c.args.self.now.locks.now in
+    let st = c.args.self.now.nodes.store.now in let lk = c.args.self.now.nodes.locks.now in
     let l : length c.run_children.new.first ≡ length c.args.lanes.now = search rules in
     let m : length c.run_children.new.second ≡ length c.args.lock_lanes.now = search rules in
     let P : StoreLane g.row.V.Denot → Type 0 = IsLaneOf st.id in
@@ -46,7 +47,7 @@ TreeRunner::run_beside-returns-in-Ok-clause-lanes g t c =
 
 pub TreeRunner::run_beside-returns-in-Ok-clause-run : goal.TreeRunner::run_beside-returns-in-Ok-clause-run
 TreeRunner::run_beside-returns-in-Ok-clause-run g t c =
-    let r = c.args.self.now in
+    let r = c.args.self.now.nodes in
     let Tree : ℕ → Lanes g.row.V.Denot → List _ → Lanes g.row.V.Denot → Type 0 = TreeRun (setting_of r.store.now r.locks.now (g.S.Suite.nodes r.suite.now) (g.S.Callbacks.registered r.suite.now) g.V.StoreValue.is_closeable) (g.S.Suite.call_gives r.suite.now r.store.now) (g.S.Suite.action_gives r.suite.now) g.S.Action.CloseAction.close_gives c.args.depth in
     run-weaker _ _ c.in-Ok.ensures.run (λ job u o v r.
     let X : Lanes g.row.V.Denot → Lanes g.row.V.Denot → Type 0 = λ s z. IfOk o (λ w. Tree r.item.node s (map ran_view w.items) z) in
@@ -56,7 +57,7 @@ TreeRunner::run_beside-returns-in-Ok-clause-run g t c =
 
 pub TreeRunner::run_beside-returns-in-Ok-clause-faults : goal.TreeRunner::run_beside-returns-in-Ok-clause-faults
 TreeRunner::run_beside-returns-in-Ok-clause-faults g t c =
-    let r = c.args.self.now in
+    let r = c.args.self.now.nodes in
     let P : Result (Vec RanNode Global) EngineFault → Type 0 = λ o. IfErr o (IsFault (setting_of r.store.now r.locks.now (g.S.Suite.nodes r.suite.now) (g.S.Callbacks.registered r.suite.now) g.V.StoreValue.is_closeable) (g.S.Suite.action_gives r.suite.now) g.S.Action.CloseAction.close_gives) in
     outcomes-meet _ P _ _ _ _ c.in-Ok.outcomes.items (λ job u o v less r.
     let X : Lanes g.row.V.Denot → Lanes g.row.V.Denot → Type 0 = λ s z. P o in
@@ -64,7 +65,7 @@ TreeRunner::run_beside-returns-in-Ok-clause-faults g t c =
 
 pub TreeRunner::run_body-returns-clause-run : goal.TreeRunner::run_body-returns-clause-run
 TreeRunner::run_body-returns-clause-run g t c =
-    let r = c.args.self.now in
+    let r = c.args.self.now.nodes in
     let ts = setting_of r.store.now r.locks.now (g.S.Suite.nodes r.suite.now) (g.S.Callbacks.registered r.suite.now) g.V.StoreValue.is_closeable in
     let makes = g.S.Suite.call_gives r.suite.now r.store.now in
     let actions = g.S.Suite.action_gives r.suite.now in
@@ -80,7 +81,7 @@ TreeRunner::run_body-returns-clause-run g t c =
 
 pub TreeRunner::run_in_turn-loop-item-init : goal.TreeRunner::run_in_turn-loop-item-init
 TreeRunner::run_in_turn-loop-item-init g t c =
-    let r = c.args.self.now in
+    let r = c.args.self.now.nodes in
     record {
       can = tt;
       finite = tt;
@@ -92,7 +93,7 @@ TreeRunner::run_in_turn-loop-item-init g t c =
 
 pub TreeRunner::run_in_turn-loop-item-preserved : goal.TreeRunner::run_in_turn-loop-item-preserved
 TreeRunner::run_in_turn-loop-item-preserved g t c =
-    let r = c.args.self.now in
+    let r = c.args.self.now.nodes in
     let I = c.loop-item.invariant in
     let list : c.loop-item.yielded ++ c.in-Some.item ∷ c.next.new.self.rest.items ≡ c.args.items.items = search rules in
     let is : c.append.new.self.items ≡ c.loop-item.ran.items ++ c.in_ok-below.below.items = search rules in
@@ -108,7 +109,7 @@ TreeRunner::run_in_turn-loop-item-preserved g t c =
 
 pub TreeRunner::run_node-returns-then-is_test-clause-run : goal.TreeRunner::run_node-returns-then-is_test-clause-run
 TreeRunner::run_node-returns-then-is_test-clause-run g t c =
-    let r = c.args.self.now in
+    let r = c.args.self.now.nodes in
     let ts = setting_of r.store.now r.locks.now (g.S.Suite.nodes r.suite.now) (g.S.Callbacks.registered r.suite.now) g.V.StoreValue.is_closeable in
     let makes = g.S.Suite.call_gives r.suite.now r.store.now in
     let actions = g.S.Suite.action_gives r.suite.now in
@@ -122,7 +123,7 @@ TreeRunner::run_node-returns-then-is_test-clause-run g t c =
 
 pub TreeRunner::run_node-returns-else-is_test-clause-run : goal.TreeRunner::run_node-returns-else-is_test-clause-run
 TreeRunner::run_node-returns-else-is_test-clause-run g t c =
-    let r = c.args.self.now in
+    let r = c.args.self.now.nodes in
     let ts = setting_of r.store.now r.locks.now (g.S.Suite.nodes r.suite.now) (g.S.Callbacks.registered r.suite.now) g.V.StoreValue.is_closeable in
     let makes = g.S.Suite.call_gives r.suite.now r.store.now in
     let actions = g.S.Suite.action_gives r.suite.now in
@@ -136,7 +137,7 @@ TreeRunner::run_node-returns-else-is_test-clause-run g t c =
 
 pub TreeRunner::run_container-returns-in-Ok-clause-run : goal.TreeRunner::run_container-returns-in-Ok-clause-run
 TreeRunner::run_container-returns-in-Ok-clause-run g t c =
-    let r = c.args.self.now in
+    let r = c.args.self.now.nodes in
     let st = r.store.now in
     let registered = g.S.Callbacks.registered r.suite.now in
     let ts = setting_of st r.locks.now (g.S.Suite.nodes r.suite.now) registered g.V.StoreValue.is_closeable in
@@ -144,7 +145,7 @@ TreeRunner::run_container-returns-in-Ok-clause-run g t c =
     let actions = g.S.Suite.action_gives r.suite.now in
     let closing = g.S.Action.CloseAction.close_gives in
     let node = c.args.item.node in
-    let path = c.path-path.result in
+    let path = c.path-path.result.now in
     let path_is = subst (λ u. IsPathOf u node path) c.tree.ensures c.path-path.ensures.path in
     let bs = c.as_slice-3.ensures.value ∙ (c.in_ok-befores.ensures.calls ∙ ap (befores_of registered false node) c.as_slice.ensures.contexts) in
     let as_ = c.as_slice-4.ensures.value ∙ (c.in_ok-afters.ensures.calls ∙ ap (afters_of registered false node) c.as_slice-2.ensures.contexts) in

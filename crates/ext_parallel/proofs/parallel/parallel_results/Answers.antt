@@ -1,8 +1,8 @@
-use Rattle.std.proofs.Common.{◌≡◌, ◌∙◌, ℕ, List, length, map, ap, sym, subst}
+use Rattle.std.proofs.Common.{◌≡◌, ◌∙◌, ℕ, ◌<◌, All, List, length, map, ap, sym, subst}
 use Rattle.std.proofs.lemmas.List.Sorted.{Contains-permutation}
 use Rattle.ext_plan_model.specs.Locks.{lock_names}
 use Rattle.ext_lifecycle.specs.Results.{told}
-use Rattle.ext_plan_model.specs.Plans.{PlanText, plan_view}
+use Rattle.ext_plan_model.specs.Plans.{PlanText, node_view, plan_view}
 use Rattle.ext_store.specs.Stores.{StoreLane}
 use Rattle.ext_store_steps.specs.declared.stored_value.StoredValue.{StoredValue}
 use Rattle.ext_locks.specs.Views.{Lane}
@@ -12,8 +12,9 @@ use Rattle.ext_engine.specs.TreeRun.{IsFit, IsUsable, Lanes, TreeRun, all_result
 use Rattle.ext_suite.specs.PlanSuites.{HasKeys, suite_of}
 use Rattle.ext_suite.proofs.Fitting.{keys_fit, tree_fits}
 use Rattle.ext_parallel.specs.ParallelRun.{MakesCall, IsAction, ClosesValue}
+use Rattle.ext_parallel.proofs.InTree.{results_within}
 use Rattle.ext_parallel.proofs.Refusals.{refused_run}
-use Rattle.ext_parallel.proofs.Usable.{fresh_usable}
+use Rattle.ext_engine.proofs.Fresh.{fresh_usable}
 use Rattle.ext_parallel.proofs.parallel.parallel_results.Goals as goal
 
 pub run_tree-requires-clause-lanes : goal.run_tree-requires-clause-lanes
@@ -64,6 +65,14 @@ returns-in-Ok-clause-run g c =
       only_met = c.meet_all.ensures.only_met;
       shared = c.meet_all.ensures.shared;
     }
+
+pub returns-in-Ok-clause-in_tree : goal.returns-in-Ok-clause-in_tree
+returns-in-Ok-clause-in_tree g c =
+    let plan = plan_view c.args.plan.now in
+    let st = c.in_ok-store.store in
+    let count : length st.tree ≡ length c.args.plan.now.nodes.items = ap length c.in_ok-store.ensures.store.tree ∙ length-map plan.nodes (λ n. n.id) ∙ length-map c.args.plan.now.nodes.items node_view in
+    let P : ℕ → Type 0 = λ count. All (λ r. r.node < count) c.in-Ok.results.items in
+    subst P count (results_within (suite_of c.in_ok-suite.suite) (length st.tree) c.in-Ok.ensures.run.0 c.in-Ok.results.items c.in-Ok.ensures.run.2)
 
 pub returns-clause-fault : goal.returns-clause-fault
 returns-clause-fault g c =

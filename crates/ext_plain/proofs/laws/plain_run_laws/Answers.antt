@@ -3,6 +3,8 @@ use Rattle.ext_plain.proofs.Below.{runs_below}
 use Rattle.ext_plain.proofs.Sound.{result_of_each_node, tests_of_plan}
 use Rattle.ext_plain.proofs.Reached.{each_node_runs, runs_body, runs_node, skips_body}
 use Rattle.ext_plain.proofs.Seals.{node-free, node-sealed}
+use Rattle.ext_plain.proofs.Lacking.{does_or_lacks}
+use Rattle.ext_plain.proofs.Skipping.{skips_below}
 use Rattle.ext_plain.proofs.Values.{node-values, put_is_found}
 use Rattle.ext_plain.proofs.laws.plain_run_laws.Goals as goal
 
@@ -10,11 +12,13 @@ pub returns : goal.returns
 returns c = record {
   results = result_of_each_node;
   tests = tests_of_plan;
+  lacking = does_or_lacks;
   each_node = each_node_runs;
   runs = runs_node;
   body = runs_body;
   skipped = skips_body;
   parents = runs_below;
+  ancestors = skips_below;
   opening = (λ place claimed. claimed, refl);
   unclaimed = node-free;
   sealed = node-sealed;

@@ -3,21 +3,28 @@ use Rattle.std.proofs.lemmas.List.{length-map}
 use Rattle.ext_lifecycle.specs.FaultTexts.{results_view}
 use Rattle.ext_plan_model.specs.Plans.{node_view, nodes_view, plan_view}
 use Rattle.ext_plain.specs.Helpers.{state_view}
-use Rattle.ext_plain.specs.PlainRun.{RunState, node_run, plain_run, run_opening, skipped_from}
+use Rattle.ext_plain.specs.PlainRun.{RunState, node_run, plain_run_by, run_opening, skipped_from, ArePlain}
+use Rattle.ext_plain.specs.ValueStates.{with_memory}
 use Rattle.ext_plain.proofs.Sound.{results_within}
 use Rattle.ext_plain.proofs.plain.run_plain.Goals as goal
 
-pub returns-clause-in_tree : goal.returns-clause-in_tree
-returns-clause-in_tree c =
+pub returns : goal.returns
+returns g c =
     let nodes = c.args.plan.now.nodes.items in
     let plan = plan_view c.args.plan.now in
-    let ran = c.in_ok-run_node.ensures.run.each (0 ∷ []) (refl, refl) in
+    let ran = c.in_ok-run_node.ensures.run.each (0 ∷ []) (refl, refl) [] in
+    let memory = ran.0 in
+    let results = results_view c.in_ok-skipped.field-0.items in
     let skipped = c.in_ok-skipped.ensures ∙ ap (λ ns. skipped_from 0 (nodes_view ns)) c.as_slice.ensures.value in
-    let opening : RunState = record { state = state_view c.new.result; results = results_view c.in_ok-skipped.field-0.items } in
-    let opened : opening ≡ run_opening plan =
-    ap (λ s. record { state = s; results = results_view c.in_ok-skipped.field-0.items }) c.new.ensures ∙ ap (λ rs. record { state = (run_opening plan).state; results = rs }) skipped in
+    let opening : RunState = record { state = with_memory memory (state_view c.new.result); results = results } in
+    let opened : opening ≡ run_opening memory plan =
+    ap (λ s. record { state = with_memory memory s; results = results }) c.new.ensures ∙ ap (λ rs. record { state = (run_opening memory plan).state; results = rs }) skipped in
     let levels = c.len-levels.ensures ∙ sym c.as_slice.ensures.len ∙ ap length c.as_slice.ensures.value ∙ sym (length-map nodes node_view) in
-    let is : results_view c.run_node.new.self.results.items ≡ plain_run plan =
-    ap (λ (r : RunState). r.results) (ran ∙ ap (λ p. node_run p c.len-levels.result (0 ∷ []) opening) c.of.ensures.plan ∙ ap (λ n. node_run plan n (0 ∷ []) opening) levels ∙ ap (node_run plan (length plan.nodes) (0 ∷ [])) opened) in
+    let is : results_view c.run_node.new.self.results.items ≡ plain_run_by memory plan =
+    ap (λ (r : RunState). r.results) (ran.1 ∙ ap (λ p. node_run p c.len-levels.result (0 ∷ []) opening) c.of.ensures.plan ∙ ap (λ n. node_run plan n (0 ∷ []) opening) levels ∙ ap (node_run plan (length plan.nodes) (0 ∷ [])) opened) in
+    let are : ArePlain plan (results_view c.run_node.new.self.results.items) = record { memory = memory; exact = is } in
     let count : length plan.nodes ≡ length c.args.tree.now = length-map nodes node_view ∙ sym (ap length c.requires.nodes ∙ length-map nodes (λ n. n.id)) in
-    subst (λ n. All (λ r. r.node < n) c.run_node.new.self.results.items) count (results_within plan c.run_node.new.self.results.items is)
+    record {
+      results = are;
+      in_tree = subst (λ n. All (λ r. r.node < n) c.run_node.new.self.results.items) count (results_within plan c.run_node.new.self.results.items are);
+    }

@@ -4,12 +4,14 @@ use Rattle.ext_steps.specs.Values.{close_fault}
 use Rattle.ext_plain.specs.Closes.{closeables, closes}
 use Rattle.ext_plain.specs.Helpers.{calls_end, state_view}
 use Rattle.ext_plain.specs.PlainRun.{node_end}
+use Rattle.ext_plain.specs.ValueStates.{with_memory}
+use Rattle.ext_plain.proofs.Memories.{seal_keys-with}
 use Rattle.ext_plain.proofs.Nodes.{end_is, outcome_is}
 use Rattle.ext_plain.proofs.plain.PlainRunner.end_node.Goals as goal
 
 pub returns-clause-end : goal.returns-clause-end
-returns-clause-end c = record {
-  each = λ outcomes tallied.
+returns-clause-end g c = record {
+  each = λ outcomes tallied later.
       let old = c.args.self.now in
       let setting = old.caller.setting in
       let at = c.args.at in
@@ -21,10 +23,12 @@ returns-clause-end c = record {
       let counted = c.in_ok-closes.ensures in
       let shown = outcome_is at c.args.is_test s closed outcomes counted.faults c.result.result (c.result.ensures outcomes counted.faults tallied counted.counted) counted.texts in
       let results = results_view old.results.items in
-      let end = end_is setting.key_count at c.args.is_test (calls_end s outcomes) results sealed closed (result_view c.result.result) c.in_ok-numbers.ensures.state told shown in
-      let store = ap (λ caller. state_view caller.store) c.set_result.ensures.caller in
+      let left = with_memory later sealed in
+      let sealing = ap (with_memory later) c.in_ok-numbers.ensures.state ∙ seal_keys-with later setting.key_count at s in
+      let end = end_is setting.key_count at c.args.is_test (calls_end (with_memory later s) outcomes) results left closed (result_view c.result.result) sealing told shown in
+      let store = ap (λ caller. with_memory later (state_view caller.store)) c.set_result.ensures.caller in
       ap (λ t. record { state = t; results = results_view c.set_result.new.self.results.items }) store
-      ∙ ap (λ rs. record { state = sealed; results = rs }) c.set_result.ensures.results
+      ∙ ap (λ rs. record { state = left; results = rs }) c.set_result.ensures.results
       ∙ end
-      ∙ ap (λ keys. node_end keys at c.args.is_test (calls_end s outcomes) results) setting.counted;
+      ∙ ap (λ keys. node_end keys at c.args.is_test (calls_end (with_memory later s) outcomes) results) setting.counted;
 }

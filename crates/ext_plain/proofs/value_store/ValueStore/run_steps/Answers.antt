@@ -1,4 +1,4 @@
-use Rattle.std.proofs.Common.{◌∙◌, ◌+◌, drop, map, ap, sym, arith}
+use Rattle.std.proofs.Common.{◌∙◌, ◌+◌, ◌∷◌, drop, map, ap, sym, arith}
 use Rattle.std.proofs.lemmas.List.{drop_all}
 use Rattle.ext_plan_model.specs.Plans.{step_view}
 use Rattle.ext_lifecycle.specs.Lifecycle.{ending_of}
@@ -6,38 +6,58 @@ use Rattle.ext_lifecycle.proofs.OtherFaults.{is_successful-to}
 use Rattle.ext_lifecycle.specs.FaultTexts.{fault_text}
 use Rattle.ext_plan_model.proofs.Lists.{map-drop}
 use Rattle.ext_plain.specs.Steps.{steps_run}
-use Rattle.ext_plain.specs.Helpers.{state_view, end_view}
-use Rattle.ext_plain.proofs.Stepping.{after_steps, steps-go, steps-stop, steps-end}
+use Rattle.ext_plain.specs.ValueStates.{with_memory}
+use Rattle.ext_plain.specs.Helpers.{state_view, step_end}
+use Rattle.ext_plain.proofs.Memories.{next_step-is}
+use Rattle.ext_plain.proofs.Stepping.{after_steps, no_steps, steps-go, steps-stop, steps-end}
 use Rattle.ext_plain.proofs.value_store.ValueStore.run_steps.Goals as goal
 use Rattle.ext_steps.specs.Calls.{keys_in}
 
+pub loop-step-init : goal.loop-step-init
+loop-step-init c = record { rest = λ later. (later, sym (no_steps (steps_run (keys_in c.args.keys.now) c.args.path.now (map step_view c.args.steps.now) (with_memory later (state_view c.args.self.now))))); computed = omega arith; found = omega arith }
+
 pub returns-then-not-is_successful : goal.returns-then-not-is_successful
-returns-then-not-is_successful c =
+returns-then-not-is_successful c = λ later.
     let keys = keys_in c.args.keys.now in
+    let path = c.args.path.now in
     let steps = c.args.steps.now in
-    let s = state_view c.loop-step.self in
+    let made = c.make_step-outcome.ensures.end in
+    let here = made.0 ∷ later in
+    let s = with_memory here (state_view c.loop-step.self) in
     let more = map-drop step_view steps c.loop-step.step-index c.step-item.result (omega arith) c.step-item.is in
-    let first = end_view c.run_step.new.self c.in_ok-outcome.outcome in
-    let stop = steps-stop keys c.args.path.now (step_view c.step-item.result) (map step_view (drop (c.loop-step.step-index + 1) steps)) s first c.in_ok-outcome.ensures.end (is_successful-to fault_text (ending_of c.in_ok-outcome.outcome.verdict) ∙ sym c.if-not-is_successful.ensures) in
-    sym (c.loop-step.invariant.rest ∙ ap (after_steps c.loop-step.computed c.loop-step.found) (ap (λ ss. steps_run keys c.args.path.now ss s) more ∙ stop))
+    let first = step_end (with_memory later (state_view c.make_step-outcome.new.self)) c.make_step-outcome.result in
+    let is = next_step-is keys path (step_view c.step-item.result) made.0 later (state_view c.loop-step.self) (state_view c.make_step-outcome.new.self) c.make_step-outcome.result made.1 in
+    let stop = steps-stop keys path (step_view c.step-item.result) (map step_view (drop (c.loop-step.step-index + 1) steps)) s first is (is_successful-to fault_text (ending_of c.make_step-outcome.result.verdict) ∙ sym c.if-not-is_successful.ensures) in
+    let before = c.loop-step.invariant.rest here in
+    (before.0, sym (before.1 ∙ ap (after_steps c.loop-step.computed c.loop-step.found) (ap (λ ss. steps_run keys path ss s) more ∙ stop)))
 
 pub loop-step-preserved : goal.loop-step-preserved
 loop-step-preserved c =
     let keys = keys_in c.args.keys.now in
+    let path = c.args.path.now in
     let steps = c.args.steps.now in
-    let s = state_view c.loop-step.self in
+    let made = c.make_step-outcome.ensures.end in
     let more = map-drop step_view steps c.loop-step.step-index c.step-item.result (omega arith) c.step-item.is in
-    let first = end_view c.run_step.new.self c.in_ok-outcome.outcome in
-    let go = steps-go keys c.args.path.now (step_view c.step-item.result) (map step_view (drop (c.loop-step.step-index + 1) steps)) s first c.loop-step.computed c.loop-step.found c.in_ok-outcome.ensures.end (is_successful-to fault_text (ending_of c.in_ok-outcome.outcome.verdict) ∙ sym c.if-not-is_successful.ensures) in
     record {
-      rest = c.loop-step.invariant.rest ∙ ap (λ ss. after_steps c.loop-step.computed c.loop-step.found (steps_run keys c.args.path.now ss s)) more ∙ go;
-      computed = omega (arith, c.loop-step.invariant.computed, c.in_ok-outcome.ensures.few.computed);
-      found = omega (arith, c.loop-step.invariant.found, c.in_ok-outcome.ensures.few.found);
+      rest = λ later.
+          let here = made.0 ∷ later in
+          let s = with_memory here (state_view c.loop-step.self) in
+          let first = step_end (with_memory later (state_view c.make_step-outcome.new.self)) c.make_step-outcome.result in
+          let is = next_step-is keys path (step_view c.step-item.result) made.0 later (state_view c.loop-step.self) (state_view c.make_step-outcome.new.self) c.make_step-outcome.result made.1 in
+          let go = steps-go keys path (step_view c.step-item.result) (map step_view (drop (c.loop-step.step-index + 1) steps)) s first c.loop-step.computed c.loop-step.found is (is_successful-to fault_text (ending_of c.make_step-outcome.result.verdict) ∙ sym c.if-not-is_successful.ensures) in
+          let before = c.loop-step.invariant.rest here in
+          (before.0, before.1 ∙ ap (λ ss. after_steps c.loop-step.computed c.loop-step.found (steps_run keys path ss s)) more ∙ go);
+      computed = omega (arith, c.loop-step.invariant.computed, c.make_step-outcome.ensures.few.computed);
+      found = omega (arith, c.loop-step.invariant.found, c.make_step-outcome.ensures.few.found);
     }
 
 pub returns : goal.returns
-returns c =
+returns c = λ later.
     let keys = keys_in c.args.keys.now in
+    let s = with_memory later (state_view c.loop-step.self) in
     let rest = drop_all c.loop-step.step-index c.args.steps.now (omega (arith, c.loop-step-test.false)) in
-    sym (c.loop-step.invariant.rest ∙ ap (λ ss. after_steps c.loop-step.computed c.loop-step.found (steps_run keys c.args.path.now (map step_view ss) (state_view c.loop-step.self))) rest
-    ∙ steps-end keys c.args.path.now (state_view c.loop-step.self) c.loop-step.computed c.loop-step.found)
+    let before = c.loop-step.invariant.rest later in (
+      before.0,
+      sym (before.1 ∙ ap (λ ss. after_steps c.loop-step.computed c.loop-step.found (steps_run keys c.args.path.now (map step_view ss) s)) rest
+          ∙ steps-end keys c.args.path.now s c.loop-step.computed c.loop-step.found),
+    )

@@ -1,23 +1,9 @@
-use Rattle.std.proofs.Common.{rules, refl, ◌≡◌, ◌≤◌, ap, subst, arith, length}
-use Rattle.ext_tree.specs.Paths.{IsPathOf}
-use Rattle.ext_store.specs.Stores.{StoreLane}
+use Rattle.std.proofs.Common.{rules, ◌≡◌, subst}
 use Rattle.ext_store.specs.Calls.{Gets}
-use Rattle.ext_store.proofs.LookUps.{looks_answer}
-use Rattle.ext_store.proofs.Keeping.{one_number, looks_quiet}
-use Rattle.ext_store.proofs.Frames.{quiet_frame}
+use Rattle.ext_store.proofs.Keeping.{one_number}
 use Rattle.ext_store.proofs.store.Store.get.Goals as goal
 
 pub returns-clause-answer : goal.returns-clause-answer
-unfolding Gets
 returns-clause-answer g c number has =
     let same : c.in-Some.key ≡ number = one_number c.in-Some.key number (c.in-Some.ensures.found number (search rules)) in
-    let some : 1 ≤ length c.as_slice.result.now = (let l = ap length c.as_slice.ensures.contexts in let s = c.path-path.ensures.some in omega (arith, l, s)) in
-    let answers = looks_answer c.args.self.now c.as_slice.result.now c.in-Some.key c.lane.inside.cells c.look_along.new.lane c.look_along.result some c.look_along.ensures.look in
-    let path : IsPathOf c.args.self.now.tree c.args.context c.as_slice.result.now = search rules in
-    subst (λ k. Gets c.args.self.now c.args.context k c.args.lane.now.cells c.look_along.new.lane c.look_along.result) same
-    (subst (λ l. Gets c.args.self.now c.args.context c.in-Some.key l c.look_along.new.lane c.look_along.result) (ap (λ (l : StoreLane g.row.V.Denot). l.cells) c.lane.view_is) (c.as_slice.result.now, path, answers))
-
-pub returns-clause-frame : goal.returns-clause-frame
-returns-clause-frame g c =
-    quiet_frame c.args.self.now.id (record { cells = c.lane.inside.cells; known = c.lane.inside.notes }) c.args.lane.now (record { cells = c.look_along.new.lane; known = c.lane.inside.notes }) c.lane.view_is c.requires.lane c.look_along.ensures.lane refl
-    (looks_quiet c.args.self.now c.as_slice.result.now c.in-Some.key c.lane.inside.cells c.look_along.new.lane c.look_along.result c.look_along.ensures.look)
+    subst (λ k. Gets c.args.self.now c.args.context k c.args.lane.now.cells c.get_numbered.new.lane.cells c.get_numbered.result) same c.get_numbered.ensures.answer

@@ -1,0 +1,278 @@
+//! What the Rust peers have in common: the cases of `ext_bench`, measured in the same way on a store of the peer's.
+//!
+//! A peer takes the words `CASE THREADS ROUNDS MILLIS` and prints a line `PEER CASE THREADS WALL PROCESSOR` for each round, in
+//! nanoseconds an operation. Case by case it does what `ext_bench` does, in batches of the same size, each on a store of its own.
+use std::hint::black_box;
+use std::process::ExitCode;
+use std::thread;
+use std::time::{Duration, Instant};
+
+/// A key: a namespace of texts and a name, as the store of the repository has it.
+#[derive(Clone, Debug, PartialEq, Eq, Hash)]
+pub struct Key {
+    pub created: bool,
+    pub parts: Vec<String>,
+    pub name: String,
+}
+
+/// A value: a number, and whether it is to be closed.
+#[derive(Clone, Copy, Debug)]
+pub struct Payload {
+    pub number: u32,
+    pub closeable: bool,
+}
+
+/// Where a look-up found a value, and the value's number in the order of addition.
+#[derive(Clone, Copy, Debug)]
+pub struct Found {
+    pub at: usize,
+    pub number: u32,
+}
+
+/// A store of contexts, each below an earlier one; context 0 is the root.
+pub trait Peer: Sync + Sized {
+    const NAME: &'static str;
+
+    /// A store of contexts with these parents (the root is its own) and of these keys, for so many values.
+    fn open(parents: &[usize], keys: &[Key], values: u32) -> Self;
+
+    /// What stands nearest under the key, in the context or above it.
+    fn get(&self, context: usize, key: &Key) -> Option<Found>;
+
+    /// Puts a value over what stands under the key in the context. Says whether it was done.
+    fn put(&self, context: usize, key: &Key, value: Payload) -> bool;
+
+    /// Takes out what stands under the key in the context. Says whether anything did.
+    fn remove(&self, context: usize, key: &Key) -> bool;
+
+    /// Makes a value where none stands in the context or above it. Says whether it was made or found.
+    fn compute(&self, context: usize, key: &Key, make: impl FnOnce() -> Payload) -> bool;
+
+    /// Ends the context, and calls the action with its closeable values, the latest first.
+    fn close(&self, context: usize, action: impl FnMut(u32, Payload));
+}
+
+const LOOKS: u32 = 200_000;
+const VALUES: u32 = 65_535;
+const KEYS: u32 = 16;
+
+fn key(number: u32) -> Key {
+    Key {
+        created: false,
+        parts: Vec::new(),
+        name: format!("key{number}"),
+    }
+}
+
+fn keys(count: u32) -> Vec<Key> {
+    (0..count).map(key).collect()
+}
+
+fn chain(contexts: usize) -> Vec<usize> {
+    (0..contexts).map(|it| it.saturating_sub(1)).collect()
+}
+
+fn resource(number: u32) -> Payload {
+    Payload {
+        number,
+        closeable: true,
+    }
+}
+
+// ---- time
+
+#[repr(C)]
+struct Timespec {
+    seconds: i64,
+    nanoseconds: i64,
+}
+
+extern "C" {
+    fn clock_gettime(clock: i32, time: *mut Timespec) -> i32;
+}
+
+/// The processor time of this thread.
+fn processor_time() -> Duration {
+    const THREAD_CLOCK: i32 = 3;
+    let mut time = Timespec {
+        seconds: 0,
+        nanoseconds: 0,
+    };
+    // SAFETY: the pointer is to a live value of the layout that the call writes.
+    let status = unsafe { clock_gettime(THREAD_CLOCK, &mut time) };
+    assert_eq!(status, 0);
+    Duration::new(time.seconds as u64, time.nanoseconds as u32)
+}
+
+struct Span {
+    started: Instant,
+    ended: Instant,
+    processor: Duration,
+    operations: u64,
+}
+
+fn measured(work: impl FnOnce() -> u64) -> Span {
+    let processor = processor_time();
+    let started = Instant::now();
+    let operations = work();
+    let ended = Instant::now();
+    Span {
+        started,
+        ended,
+        processor: processor_time() - processor,
+        operations,
+    }
+}
+
+#[derive(Default)]
+struct Spent {
+    wall: Duration,
+    processor: Duration,
+    operations: u64,
+}
+
+impl Spent {
+    fn add(&mut self, spans: &[Span]) {
+        let first = spans.iter().map(|it| it.started).min();
+        let last = spans.iter().map(|it| it.ended).max();
+        if let (Some(first), Some(last)) = (first, last) {
+            self.wall += last - first;
+        }
+        for span in spans {
+            self.processor += span.processor;
+            self.operations += span.operations;
+        }
+    }
+
+    fn each(&self, time: Duration) -> f64 {
+        time.as_nanos() as f64 / self.operations.max(1) as f64
+    }
+}
+
+// ---- operations
+
+fn look_up<P: Peer>(store: &P, context: usize, key: &Key, there: bool) -> u64 {
+    let mut right = true;
+    for _ in 0..LOOKS {
+        right &= match black_box(store.get(context, key)) {
+            Some(found) => there && found.at <= context && found.number > 0,
+            None => !there,
+        };
+    }
+    assert!(right);
+    u64::from(LOOKS)
+}
+
+fn put_over<P: Peer>(store: &P, context: usize, key: &Key, times: u32) -> u64 {
+    for value in 0..times {
+        assert!(store.put(context, key, resource(value)));
+    }
+    u64::from(times)
+}
+
+fn put_and_remove<P: Peer>(store: &P, context: usize, key: &Key, times: u32) -> u64 {
+    for value in 0..times {
+        assert!(store.put(context, key, resource(value)));
+        assert!(store.remove(context, key));
+    }
+    u64::from(times)
+}
+
+fn compute_often<P: Peer>(store: &P, context: usize, key: &Key) -> u64 {
+    for value in 0..LOOKS {
+        assert!(store.compute(context, key, || resource(value)));
+    }
+    u64::from(LOOKS)
+}
+
+fn opening<P: Peer>() -> Span {
+    let (parents, keys) = (vec![0; 256], keys(KEYS));
+    let mut store = None;
+    let span = measured(|| {
+        store = Some(P::open(&parents, &keys, VALUES));
+        1
+    });
+    black_box(&store);
+    span
+}
+
+fn computing<P: Peer>() -> Span {
+    let names = keys(KEYS);
+    let store = P::open(&vec![0; 256], &names, VALUES);
+    let mut closed = 0;
+    measured(|| {
+        for context in (1..256).rev() {
+            for name in &names {
+                assert!(store.compute(context, name, || resource(1)));
+            }
+            store.close(context, |number, value| {
+                closed += u64::from(number > 0 && value.number > 0);
+            });
+        }
+        assert_eq!(closed, 255 * u64::from(KEYS));
+        closed
+    })
+}
+
+/// A thread's operations; none is counted of the thread that writes beside the others.
+fn work<P: Peer>(store: &P, case: &str, writes: bool, deepest: usize) -> Option<Span> {
+    let (one, other) = (key(0), key(1));
+    let span = measured(|| match case {
+        "get-root-3-beside-other" if writes => put_over(store, 0, &other, 60_000),
+        "get-root-3-beside-same" if writes => put_over(store, 0, &one, 60_000),
+        "get-absent-3" => look_up(store, deepest, &one, false),
+        "put-over" => put_over(store, deepest, &one, VALUES / 16),
+        "put-remove" => put_and_remove(store, deepest, &one, VALUES / 16),
+        "compute-hot" => compute_often(store, deepest, &one),
+        _ => look_up(store, deepest, &one, true),
+    });
+    (!writes).then_some(span)
+}
+
+fn batch<P: Peer>(case: &str, threads: usize) -> Vec<Span> {
+    let parents = chain(if case == "get-root-16" { 16 } else { 3 });
+    let deepest = parents.len() - 1;
+    let store = P::open(&parents, &keys(2), VALUES);
+    match case {
+        "get-absent-3" => {}
+        "get-own-3" | "put-over" => assert!(store.put(deepest, &key(0), resource(1))),
+        _ => assert!(store.put(0, &key(0), resource(1))),
+    }
+    let beside = case.contains("-beside-");
+    let store = &store;
+    thread::scope(|scope| {
+        let spawn = |it| scope.spawn(move || work(store, case, beside && it == threads, deepest));
+        let handles: Vec<_> = (0..threads + usize::from(beside)).map(spawn).collect();
+        let joined = handles.into_iter().map(|it| it.join().unwrap());
+        joined.flatten().collect()
+    })
+}
+
+fn round<P: Peer>(case: &str, threads: usize, limit: Duration) -> Spent {
+    let mut spent = Spent::default();
+    while spent.wall < limit {
+        match case {
+            "open-256x16" => spent.add(&[opening::<P>()]),
+            "compute-fresh-and-close" => spent.add(&[computing::<P>()]),
+            _ => spent.add(&batch::<P>(case, threads)),
+        }
+    }
+    spent
+}
+
+/// The peer as a program.
+pub fn run<P: Peer>() -> ExitCode {
+    let words: Vec<String> = std::env::args().skip(1).collect();
+    let [case, threads, rounds, millis] = words.as_slice() else {
+        eprintln!("usage: {} CASE THREADS ROUNDS MILLIS", P::NAME);
+        return ExitCode::from(2);
+    };
+    let threads: usize = threads.parse().unwrap();
+    let limit = Duration::from_millis(millis.parse().unwrap());
+    for _ in 0..rounds.parse().unwrap() {
+        let spent = round::<P>(case, threads, limit);
+        let (wall, processor) = (spent.each(spent.wall), spent.each(spent.processor));
+        println!("{} {case} {threads} {wall:.1} {processor:.1}", P::NAME);
+    }
+    ExitCode::SUCCESS
+}

@@ -1,0 +1,130 @@
+use Rattle.std.proofs.Common.{◌≡◌, ◌<◌, ◌^◌, ◌++◌, [], take, drop, length, ◌-◌, sym, refl, ap, ◌∙◌, subst, arith}
+use Rattle.std.specs.Prelude.{All, sum_by}
+use Rattle.std.proofs.lemmas.List.{length-drop, take_all}
+use Rattle.ext_cells.specs.Passes.{FirstPass, ReadPass, version_in}
+use Rattle.ext_cells.proofs.Collecting.{passes_again, passes_overtaken, steps_within, steps_all, stood}
+use Rattle.ext_cells.proofs.Readings.{still_none, still_some, begun_here, same_again, nearest_of, within_two}
+use Rattle.ext_cells.proofs.cells.Cells.nearest.Goals as goal
+
+pub returns-in-Some-clause-nearest : goal.returns-in-Some-clause-nearest
+returns-in-Some-clause-nearest c =
+    let limits = c.args.lane.now.cells.limits in
+    let few = subst (λ z. z.limits.numbers < 2 ^ 20) (sym c.requires.lane) c.look_back.ensures.numbers in
+    let known = subst (λ z. All (λ cell. cell < z.limits.cells) c.args.cells.now) (sym c.requires.lane) c.requires.known in
+    let mid = c.read_empty-stands.new.lane in
+    let empty = c.read_empty-stands.result.0 in
+    let three = c.read_on-again.ensures.read [] c.new.ensures.reading in
+    let on = subst (λ z. ReadPass z.limits c.read_empty-stands.new.lane.view c.read_on-again.new.lane.view (take c.read_empty-stands.result.0.count c.args.cells.now) three.0) c.read_empty-stands.ensures.lane three.1 in
+    let t = subst (λ s. FirstPass c.args.lane.now.cells.limits c.args.lane.now.view c.read_empty-stands.new.lane.view c.args.cells.now c.read_empty-stands.result.0 s) c.in-Some.is c.read_empty-stands.ensures.read in
+    let r = still_some c.args.lane.now c.read_on-again.new.lane mid.view c.args.cells.now empty c.read_on-again.result few known three.0 on three.2 c.in-Some.word t c.if-again-empty.true in r.0
+
+pub returns-in-Some-clause-steps : goal.returns-in-Some-clause-steps
+returns-in-Some-clause-steps c =
+    let limits = c.args.lane.now.cells.limits in
+    let few = subst (λ z. z.limits.numbers < 2 ^ 20) (sym c.requires.lane) c.look_back.ensures.numbers in
+    let known = subst (λ z. All (λ cell. cell < z.limits.cells) c.args.cells.now) (sym c.requires.lane) c.requires.known in
+    let mid = c.read_empty-stands.new.lane in
+    let empty = c.read_empty-stands.result.0 in
+    let three = c.read_on-again.ensures.read [] c.new.ensures.reading in
+    let on = subst (λ z. ReadPass z.limits c.read_empty-stands.new.lane.view c.read_on-again.new.lane.view (take c.read_empty-stands.result.0.count c.args.cells.now) three.0) c.read_empty-stands.ensures.lane three.1 in
+    let t = subst (λ s. FirstPass c.args.lane.now.cells.limits c.args.lane.now.view c.read_empty-stands.new.lane.view c.args.cells.now c.read_empty-stands.result.0 s) c.in-Some.is c.read_empty-stands.ensures.read in
+    let r = still_some c.args.lane.now c.read_on-again.new.lane mid.view c.args.cells.now empty c.read_on-again.result few known three.0 on three.2 c.in-Some.word t c.if-again-empty.true in within_two _ _ _ c.look_back.ensures.tries r.1
+
+pub returns-in-None-clause-nearest : goal.returns-in-None-clause-nearest
+returns-in-None-clause-nearest c =
+    let limits = c.args.lane.now.cells.limits in
+    let few = subst (λ z. z.limits.numbers < 2 ^ 20) (sym c.requires.lane) c.look_back.ensures.numbers in
+    let known = subst (λ z. All (λ cell. cell < z.limits.cells) c.args.cells.now) (sym c.requires.lane) c.requires.known in
+    let mid = c.read_empty-stands.new.lane in
+    let empty = c.read_empty-stands.result.0 in
+    let three = c.read_on-again.ensures.read [] c.new.ensures.reading in
+    let on = subst (λ z. ReadPass z.limits c.read_empty-stands.new.lane.view c.read_on-again.new.lane.view (take c.read_empty-stands.result.0.count c.args.cells.now) three.0) c.read_empty-stands.ensures.lane three.1 in
+    let t = subst (λ s. FirstPass c.args.lane.now.cells.limits c.args.lane.now.view c.read_empty-stands.new.lane.view c.args.cells.now c.read_empty-stands.result.0 s) c.in-None.is c.read_empty-stands.ensures.read in
+    let r = still_none c.args.lane.now c.read_on-again.new.lane mid.view c.args.cells.now empty c.read_on-again.result few known three.0 on three.2 t c.if-again-empty.true in r.0
+
+pub returns-in-None-clause-steps : goal.returns-in-None-clause-steps
+returns-in-None-clause-steps c =
+    let limits = c.args.lane.now.cells.limits in
+    let few = subst (λ z. z.limits.numbers < 2 ^ 20) (sym c.requires.lane) c.look_back.ensures.numbers in
+    let known = subst (λ z. All (λ cell. cell < z.limits.cells) c.args.cells.now) (sym c.requires.lane) c.requires.known in
+    let mid = c.read_empty-stands.new.lane in
+    let empty = c.read_empty-stands.result.0 in
+    let three = c.read_on-again.ensures.read [] c.new.ensures.reading in
+    let on = subst (λ z. ReadPass z.limits c.read_empty-stands.new.lane.view c.read_on-again.new.lane.view (take c.read_empty-stands.result.0.count c.args.cells.now) three.0) c.read_empty-stands.ensures.lane three.1 in
+    let t = subst (λ s. FirstPass c.args.lane.now.cells.limits c.args.lane.now.view c.read_empty-stands.new.lane.view c.args.cells.now c.read_empty-stands.result.0 s) c.in-None.is c.read_empty-stands.ensures.read in
+    let r = still_none c.args.lane.now c.read_on-again.new.lane mid.view c.args.cells.now empty c.read_on-again.result few known three.0 on three.2 t c.if-again-empty.true in within_two _ _ _ c.look_back.ensures.tries r.1
+
+pub loop-init : goal.loop-init
+loop-init c =
+    let limits = c.args.lane.now.cells.limits in
+    let few = subst (λ z. z.limits.numbers < 2 ^ 20) (sym c.requires.lane) c.look_back.ensures.numbers in
+    let known = subst (λ z. All (λ cell. cell < z.limits.cells) c.args.cells.now) (sym c.requires.lane) c.requires.known in
+    let mid = c.read_empty-stands.new.lane in
+    let empty = c.read_empty-stands.result.0 in
+    let three = c.read_on-again.ensures.read [] c.new.ensures.reading in
+    let on = subst (λ z. ReadPass z.limits c.read_empty-stands.new.lane.view c.read_on-again.new.lane.view (take c.read_empty-stands.result.0.count c.args.cells.now) three.0) c.read_empty-stands.ensures.lane three.1 in
+    let four = c.read_on-seen.ensures.read three.0 three.2 in
+    let long = length-drop c.read_empty-stands.result.0.count c.args.cells.now in
+    let all : take (length c.args.cells.now - c.read_empty-stands.result.0.count) (drop c.read_empty-stands.result.0.count c.args.cells.now) ≡ drop c.read_empty-stands.result.0.count c.args.cells.now = take_all _ _ (omega (arith, long)) in
+    let behind = subst (λ cs. ReadPass c.read_on-again.new.lane.cells.limits c.read_on-again.new.lane.view c.read_on-seen.new.lane.view cs four.0) all four.1 in
+    let rest = subst (λ z. ReadPass z.limits c.read_on-again.new.lane.view c.read_on-seen.new.lane.view (drop c.read_empty-stands.result.0.count c.args.cells.now) four.0) (c.read_on-again.ensures.lane ∙ c.read_empty-stands.ensures.lane) behind in
+    record {
+      cells = c.read_on-seen.ensures.lane ∙ (c.read_on-again.ensures.lane ∙ c.read_empty-stands.ensures.lane);
+      passes = (
+        three.0 ++ four.0,
+        four.2,
+        begun_here c.args.lane.now c.read_on-again.new.lane mid.view c.args.cells.now empty c.read_on-again.result few known three.0 on three.2 c.read_on-seen.new.lane.view c.read_empty-stands.result.1 four.0 c.read_empty-stands.ensures.read
+            c.if-again-empty.false rest,
+      );
+    }
+
+pub returns-then-again-seen-clause-nearest : goal.returns-then-again-seen-clause-nearest
+returns-then-again-seen-clause-nearest c =
+    let few = subst (λ z. z.limits.numbers < 2 ^ 20) (sym c.requires.lane) c.look_back.ensures.numbers in
+    let i = c.loop.invariant in
+    let words = i.passes.0 in
+    let again = c.read_on-again-in-loop.ensures.read [] c.new-in-loop.ensures.reading in
+    let read = subst (λ z. ReadPass z.limits c.loop.lane.view c.read_on-again-in-loop.new.lane.view c.args.cells.now again.0) i.cells again.1 in
+    let same = same_again c.args.lane.now.cells.limits _ _ _ _ words again.0 c.loop.counter i.passes.2 read few (sym again.2.versions ∙ (c.if-again-seen.true ∙ i.passes.1.versions)) in
+    nearest_of c.args.lane.now c.read_on-again-in-loop.new.lane c.args.cells.now again.0 c.read_on-again-in-loop.result
+    (stood c.args.lane.now.cells.limits _ _ _ _ words again.0 c.loop.counter i.passes.2 read same few c.args.lane.now c.read_on-again-in-loop.new.lane refl refl refl) again.2
+
+pub returns-then-again-seen-clause-steps : goal.returns-then-again-seen-clause-steps
+returns-then-again-seen-clause-steps c =
+    let few = subst (λ z. z.limits.numbers < 2 ^ 20) (sym c.requires.lane) c.look_back.ensures.numbers in
+    let i = c.loop.invariant in
+    let words = i.passes.0 in
+    let again = c.read_on-again-in-loop.ensures.read [] c.new-in-loop.ensures.reading in
+    let read = subst (λ z. ReadPass z.limits c.loop.lane.view c.read_on-again-in-loop.new.lane.view c.args.cells.now again.0) i.cells again.1 in
+    let tries = c.tries-end.ensures.tries in
+    let less = c.loop-test.true in
+    steps_within c.args.lane.now.cells.limits _ _ _ _ words again.0 c.loop.counter i.passes.2 read _ (omega (arith, tries, less))
+
+pub loop-preserved : goal.loop-preserved
+loop-preserved c =
+    let few = subst (λ z. z.limits.numbers < 2 ^ 20) (sym c.requires.lane) c.look_back.ensures.numbers in
+    let i = c.loop.invariant in
+    let words = i.passes.0 in
+    let again = c.read_on-again-in-loop.ensures.read [] c.new-in-loop.ensures.reading in
+    let read = subst (λ z. ReadPass z.limits c.loop.lane.view c.read_on-again-in-loop.new.lane.view c.args.cells.now again.0) i.cells again.1 in
+    record {
+      cells = c.read_on-again-in-loop.ensures.lane ∙ i.cells;
+      passes = (
+        again.0,
+        again.2,
+        passes_again c.args.lane.now.cells.limits _ _ _ _ words again.0 c.loop.counter i.passes.2 read (λ e. c.if-again-seen.false (again.2.versions ∙ (ap (sum_by version_in) e ∙ sym i.passes.1.versions))),
+      );
+    }
+
+pub returns-clause-nearest : goal.returns-clause-nearest
+returns-clause-nearest c =
+    let tries = c.tries-end.ensures.tries in
+    let all = c.loop-test.false in
+    (refl, passes_overtaken c.args.lane.now.cells.limits _ _ _ c.loop.invariant.passes.0 c.loop.counter c.requires.different c.loop.invariant.passes.2 _ (omega (arith, tries, all)))
+
+pub returns-clause-steps : goal.returns-clause-steps
+returns-clause-steps c =
+    let tries = c.tries-end.ensures.tries in
+    let some = c.look_back.ensures.tries in
+    let end = c.loop.auto.counter-end in
+    steps_all c.args.lane.now.cells.limits _ _ _ c.loop.invariant.passes.0 c.loop.counter c.requires.different c.loop.invariant.passes.2 _ (omega (arith, tries, some, end))

@@ -1,0 +1,12 @@
+use Rattle.std.specs.Prelude.{[]}
+use Rattle.std.proofs.lemmas.List.Elements.{All-nil}
+use Rattle.ext_node_run.specs.Suites.{Asked}
+use Rattle.ext_engine.specs.TreeRun.{IsNamedLock}
+use Rattle.ext_engine_rows.proofs.Fitting.{leaves_fit}
+use Rattle.ext_engine_rows.proofs.page.run_both.Goals as goal
+
+pub run_tree-requires-clause-fit : goal.run_tree-requires-clause-fit
+run_tree-requires-clause-fit g c κs inside =
+    let locks = c.in-Some-Some.opened.locks in
+    let P : Asked → Type 0 = λ a. IsNamedLock locks.names a.name in
+    leaves_fit c.in-Some-Some.opened.store locks c.tree-2.result.now [] c.tree-2.ensures (All-nil P)

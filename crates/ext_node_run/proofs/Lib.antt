@@ -1,0 +1,11 @@
+-- Lemmas of this crate.
+pub mod Contexts
+pub mod Firsts
+pub mod Gathering
+pub mod Items
+pub mod NodeCalls
+pub mod Placing
+pub mod Refusals
+pub mod Requests
+pub mod Seen
+pub mod Within

@@ -1,0 +1,58 @@
+//! The close of a node's context, asked again until nobody is in its way.
+ghost use Rattle.std.specs.Prelude.{◌≡◌, ◌≤◌, List, length, All, IfOk, IfErr, IfNone, IfSome, Err};
+ghost use Rattle.ext_closing.specs.declared.fault.CloseFault.TheVariants as close_fault;
+ghost use Rattle.ext_closing.specs.Closes as closing;
+ghost use Rattle.ext_closing.specs.Closes.{IsClosedBy};
+ghost use Rattle.ext_closing.specs.Steps.{IsOfKey};
+ghost use Rattle.ext_store.specs.Stores.{StoreLane, IsCloserOf, IsLaneOf};
+
+use ext_closing::{CloseAction, CloseFault, close};
+use ext_lifecycle::Closes;
+use ext_store::{Closer, Lane, Store, StoreValue};
+use std::sync::Wait;
+use std::thread;
+
+/// Closes the context, and asks again where a lane computes a value for it or others are in the way.
+pub(crate) fn close_again<R: Wait, V: StoreValue + Drop, A: CloseAction<V>>(
+    rt: &R,
+    store: &Store<V>,
+    closer: Closer,
+    lanes: &mut [Lane<V>],
+    action: &mut A,
+) -> Result<Closes, u32>
+    requires lanes { 1 ≤ length lanes.old }
+    requires own_lanes { All (IsLaneOf store.now.id) lanes.old }
+    requires closer { IsCloserOf store.now closer }
+    ensures closes { IfOk result (λ closed. IsClosedBy V.is_closeable A.close_gives store.now closer lanes.old action.old closed lanes.new action.new) }
+    ensures unjoined { IfErr result (λ number. (before : List (StoreLane V)) × All (IsLaneOf store.now.id) before
+        × closing.Closes V.is_closeable A.close_gives store.now closer before action.old (Err (closer, close_fault.Unjoined number)) lanes.new action.old) }
+    ensures own_lanes { All (IsLaneOf store.now.id) lanes.new }
+    ensures count { length lanes.new ≡ length lanes.old }
+{
+    let mut left = closer;
+    for _ in rt.forever() {
+        match close(store, left, lanes, action) {
+            Ok(closed) => return Ok(closed),
+            Err((back, why)) => {
+                if let Some(number) = unjoined(why) {
+                    return Err(number);
+                }
+                left = back;
+            }
+        }
+        thread::yield_now();
+    }
+    unreachable!()
+}
+
+/// The number of a close that was refused as unjoined.
+fn unjoined(why: CloseFault) -> Option<u32>
+    ensures key { IfNone result (IsOfKey why) }
+    ensures number { IfSome result (λ number. why ≡ close_fault.Unjoined number) }
+{
+    match why {
+        CloseFault::Busy(_) => None,
+        CloseFault::Contended(_) => None,
+        CloseFault::Unjoined(number) => Some(number),
+    }
+}

@@ -1,0 +1,139 @@
+//! How one node is run.
+ghost use Rattle.std.specs.Prelude.{◌≡◌, ◌≤◌, ℕ, List, Option, length, map, All, IfOk, IfErr, true};
+ghost use Rattle.ext_model.specs.declared.look.Fault.{Fault};
+ghost use Rattle.ext_tree.specs.Paths.{IsPathOf};
+ghost use Rattle.ext_lifecycle.specs.Results.{closes_of};
+ghost use Rattle.ext_store.specs.Stores.{IsCloserOf, IsLaneOf};
+ghost use Rattle.ext_node_run.specs.Closers.{IsNode};
+ghost use Rattle.ext_node_run.specs.Helpers.{ran_view};
+ghost use Rattle.ext_node_run.specs.NodeRun.{setting_of, ClosesNode, IsUnjoined, IsUsable, IsFit, IsFault, TestRun};
+
+use crate::closing::close_again;
+use crate::locking::{give_locks, take_locks, test_set};
+use crate::node_calls::call_test;
+use crate::{EngineFault, Item, RanNode, Suite, take_own};
+use ext_lifecycle::{Call, Closes, Kind, afters_of, befores_of};
+use ext_locks::{LockLane, Locks};
+use ext_model::ContextNo;
+use ext_store::{Closer, Lane, Store, StoreValue};
+use std::alloc::Global;
+use std::sync::Wait;
+
+/// What runs a node: the runtime, the suite of the nodes, the store and the locks. Own rule.
+#[derive(Drop)]
+pub struct NodeRunner<'a, R, V: StoreValue + Drop, S: Suite<V>> {
+    /// What waits.
+    pub rt: &'a R,
+    /// What the nodes are, and what their calls do.
+    pub suite: &'a S,
+    /// The store whose contexts the nodes are.
+    pub store: &'a Store<V>,
+    /// The locks that tests take.
+    pub locks: &'a Locks,
+}
+
+impl<'a, R: Wait, V: StoreValue + Drop, S: Suite<V>> NodeRunner<'a, R, V, S> {
+    /// Runs a test: takes its locks on the first lock lane, makes its calls on the first lane, each of which is lent the locks, closes its
+    /// context with all lanes, and gives the locks back. What ran is this node alone.
+    ///
+    /// The item is a test with the closer of its context, and no node is below it. There are 1 to 16 lanes of the store and as many of the
+    /// locks, which hold nothing. The locks have every name that the test and the nodes above it ask for, and the store is one that the suite
+    /// may be run over. `depth` is 17 less the levels from the root to the test.
+    ///
+    /// Refused as `Memory` where memory for its lists or for its locks is refused, and then nothing was called; and as `Unjoined` where its context
+    /// can't be closed, as no lane in hand knows a value that remains in it: its calls were made then, its locks are given back, and its context
+    /// stays open. Takes memory, all of it before the locks, so that these are given back whatever happens. May wait: it promises its clauses if it
+    /// returns.
+    ///
+    /// JUnit 5 User Guide, sections "Relative Execution Order of User Code and Extensions", "Synchronization" and "Keeping State in Extensions"; lanes
+    /// and locks of ancestors are own rules.
+    pub fn run_test(
+        &self,
+        alloc: Global,
+        depth: usize,
+        item: Item,
+        lanes: &mut [Lane<V>],
+        lock_lanes: &mut [LockLane],
+    ) -> Result<Vec<RanNode>, EngineFault>
+        requires item { IsNode self.now.store.now depth item }
+        requires fit { IsFit self.now.store.now self.now.locks.now (S.nodes self.now.suite.now) }
+        requires suite_fits { S.fits self.now.suite.now self.now.store.now }
+        requires test { (S.nodes self.now.suite.now).is_test item.node ≡ true }
+        requires lanes { IsUsable self.now.store.now self.now.locks.now (record { first = lanes.old; second = lock_lanes.old }) }
+        ensures lanes { IsUsable self.now.store.now self.now.locks.now (record { first = lanes.new; second = lock_lanes.new }) }
+        ensures count { length lanes.new ≡ length lanes.old }
+        ensures run { IfOk result (λ ran. (path : List ℕ) × IsPathOf self.now.store.now.tree item.node path × TestRun (setting_of self.now.store.now self.now.locks.now (S.nodes self.now.suite.now) (S.registered self.now.suite.now) V.is_closeable) (S.call_gives self.now.suite.now self.now.store.now) (S.action_gives self.now.suite.now) S.Action.close_gives item.node path
+            (record { first = lanes.old; second = lock_lanes.old }) (map ran_view ran.items) (record { first = lanes.new; second = lock_lanes.new })) }
+        ensures fault { IfErr result (IsFault (setting_of self.now.store.now self.now.locks.now (S.nodes self.now.suite.now) (S.registered self.now.suite.now) V.is_closeable) (S.action_gives self.now.suite.now) S.Action.close_gives) }
+    {
+        let Item { node, mut closers } = item;
+        let closer = take_own(self.store, node, &mut closers);
+        let path = self.store.tree().path(node);
+        let befores = befores_of(alloc, self.suite, true, node, path.as_slice())?;
+        let afters = afters_of(alloc, self.suite, true, node, path.as_slice())?;
+        let set = test_set(alloc, self.suite, self.locks, path.as_slice())?;
+        let mut ran = Vec::with_capacity(alloc, 1)?;
+        let body = Call {
+            kind: Kind::Test,
+            from: node,
+            index: 0,
+        };
+        let held = take_locks(self.rt, self.locks, &mut lock_lanes[0], &set);
+        let tally = call_test(
+            self.rt,
+            self.suite,
+            self.store,
+            node,
+            &held,
+            &mut lanes[0],
+            befores.as_slice(),
+            body,
+            afters.as_slice(),
+        );
+        let closed = self.close_node(node, closer, lanes);
+        give_locks(self.locks, &mut lock_lanes[0], held);
+        match closed {
+            Ok(closes) => {
+                ran.push_reserved(RanNode {
+                    result: tally.result(node, true, closes),
+                    went_on: true,
+                });
+                Ok(ran)
+            }
+            Err(number) => Err(EngineFault::Unjoined(node, number)),
+        }
+    }
+
+    /// Closes the context of a node with the lanes in hand, by an action of the suite, and asks again where a lane computes a value for it or others are in
+    /// the way. Then tells the suite that the node has ended.
+    ///
+    /// There is at least one lane, all are of the store, and the closer is that of the node's context. Refused with the number of a remaining value that no lane
+    /// in hand knows: then the action was not called, and the closer is dropped, so that the context stays open. Takes no memory but what the action takes. May
+    /// wait: it promises its clauses if it returns.
+    ///
+    /// JUnit 5 User Guide, section "Keeping State in Extensions"; that a close is asked again is an own rule.
+    pub fn close_node(
+        &self,
+        node: ContextNo,
+        closer: Closer,
+        lanes: &mut [Lane<V>],
+    ) -> Result<Closes, u32>
+        requires lanes { 1 ≤ length lanes.old }
+        requires own_lanes { All (IsLaneOf self.now.store.now.id) lanes.old }
+        requires closer { IsCloserOf self.now.store.now closer }
+        requires context { closer.context ≡ node }
+        ensures closes { IfOk result (λ closes. (faults : List (Option Fault)) × ClosesNode (setting_of self.now.store.now self.now.locks.now (S.nodes self.now.suite.now) (S.registered self.now.suite.now) V.is_closeable) (S.call_gives self.now.suite.now self.now.store.now) (S.action_gives self.now.suite.now) S.Action.close_gives node lanes.old faults lanes.new × (closes ≡ closes_of faults)) }
+        ensures unjoined { IfErr result (IsUnjoined (setting_of self.now.store.now self.now.locks.now (S.nodes self.now.suite.now) (S.registered self.now.suite.now) V.is_closeable) (S.action_gives self.now.suite.now) S.Action.close_gives node) }
+        ensures own_lanes { All (IsLaneOf self.now.store.now.id) lanes.new }
+        ensures count { length lanes.new ≡ length lanes.old }
+    {
+        let mut action = self.suite.action(node);
+        match close_again(self.rt, self.store, closer, lanes, &mut action) {
+            Ok(closes) => {
+                self.suite.ended(node);
+                Ok(closes)
+            }
+            Err(number) => Err(number),
+        }
+    }
+}

@@ -1,0 +1,70 @@
+//! What a step found no memory for.
+ghost use Rattle.std.specs.Prelude.{◌≡◌};
+ghost use Rattle.ext_lifecycle.specs.declared.outcome.Verdict.TheVariants as verdicts;
+ghost use Rattle.ext_model.specs.declared.look.Fault.TheVariants as faults;
+
+use ext_lifecycle::{Outcome, Verdict};
+use ext_model::Fault;
+use std::alloc::{AllocError, AllocFailed};
+
+/// What a step found no memory for. The step then fails with `no memory`, and the run goes on.
+#[derive(Clone, Copy)]
+pub enum Lack {
+    /// A value that was to be kept.
+    Value,
+    /// A place of the store that was to be used.
+    Place,
+    /// What the step was to say.
+    Words {
+        /// How many values the step had found where it would have computed one.
+        found: u32,
+    },
+}
+
+impl<T: Drop> From<AllocFailed<T>> for Lack {
+    ghost use Rattle.std.specs.Prelude.{◌≡◌};
+    ghost use Rattle.ext_plain.specs.declared.lack.Lack.TheVariants.{Value};
+
+    ghost from_gives = { λ _ lack. lack ≡ Value };
+
+    // Only the list of kept values hands back what it could not take.
+    fn from(_error: AllocFailed<T>) -> Lack {
+        Lack::Value
+    }
+}
+
+impl From<AllocError> for Lack {
+    ghost use Rattle.std.specs.Prelude.{◌≡◌};
+    ghost use Rattle.ext_plain.specs.declared.lack.Lack.TheVariants.{Words};
+
+    ghost from_gives = { λ _ lack. lack ≡ Words 0 };
+
+    // Only the words of a step take memory by themselves.
+    fn from(_error: AllocError) -> Lack {
+        Lack::Words { found: 0 }
+    }
+}
+
+impl Lack {
+    ghost use Rattle.ext_plain.specs.Helpers.{found_lacking};
+
+    /// How a step ends that lacks memory.
+    pub fn outcome(self) -> Outcome
+        ensures { result ≡ record {
+          verdict = verdicts.Failed faults.Memory;
+          computed = 0;
+          found = found_lacking self;
+        } }
+    {
+        let found = match self {
+            Lack::Value => 0,
+            Lack::Place => 0,
+            Lack::Words { found } => found,
+        };
+        Outcome {
+            verdict: Verdict::Failed(Fault::Memory),
+            computed: 0,
+            found,
+        }
+    }
+}

@@ -1,0 +1,32 @@
+-- What is written of a plan that was read and is not run: how many nodes it has, how many of them are tests, and how many `[[key]]` tables. Numbers are decimal. Own
+-- rule.
+use Rattle.std.specs.Prelude.{◌≡◌, ℕ, true, codes, List, ◌++◌, length, is_some, Result, Ok, Err}
+use Rattle.std.specs.Fmt.{decimal}
+use Rattle.std.specs.List.{count_by}
+use Rattle.ext_plan_model.specs.Plans.{NodeText, PlanText}
+use Rattle.ext_run.specs.declared.fault.RunFault.{RunFault}
+use Rattle.ext_run.specs.declared.options.Options.{Options}
+use Rattle.ext_run.specs.Answers.{RefusedAs}
+
+-- how many of the nodes are tests
+abbrev pub test_count : List NodeText → ℕ
+test_count nodes = count_by (λ node. is_some node.test) nodes
+
+-- `ok, 7 nodes, 3 tests, 2 keys` and a line feed
+unfoldable pub counts_line : PlanText → List ℕ
+counts_line plan =
+    codes "ok, " ++ decimal (length plan.nodes) ++ codes " nodes, " ++ decimal (test_count plan.nodes) ++ codes " tests, " ++ decimal (length plan.keys) ++ codes " keys\n"
+
+-- the line of what was read; a plan that is refused has none
+abbrev pub IsCountsOf : Result PlanText RunFault → List ℕ → Type 0
+IsCountsOf (Ok plan) line = line ≡ counts_line plan
+IsCountsOf (Err fault) line = ⊥
+
+-- it is refused as a plain run of it would be
+abbrev pub RefusedUnrun : RunFault → Result PlanText RunFault → Type 0
+RefusedUnrun fault read = RefusedAs (record { lanes = 1; plain = true }) fault read
+
+-- what a function returned is the line of what was read, or a fault that goes with it
+abbrev pub ChecksAs : {X : Type 0} → (X → List ℕ) → Result X RunFault → Result PlanText RunFault → Type 0
+ChecksAs view (Ok x) read = IsCountsOf read (view x)
+ChecksAs view (Err fault) read = RefusedUnrun fault read

@@ -1,0 +1,71 @@
+//! Reading a plan without running it.
+ghost use Rattle.std.specs.Prelude.{◌≡◌, ◌≢◌, ◌≤◌, ◌+◌, ℕ, List, length, string_bytes, IfOk, IfErr, IfSome, OnOk};
+ghost use Rattle.std.specs.Io.KnownBytes.{Consumes, Appends};
+ghost use Rattle.ext_plan_model.specs.Plans.{nodes_view, plan_view};
+ghost use Rattle.ext_run.specs.Answers.{input_limit, plan_of_bytes, plan_of_input};
+ghost use Rattle.ext_run.specs.Checks.{ChecksAs, counts_line, IsCountsOf, RefusedUnrun, test_count};
+
+use crate::fault::RunFault;
+use crate::input::read_input;
+use crate::runs::write_whole;
+use ext_plan::{Plan, PlanFault, PlanNode, read_plan};
+use std::alloc::{AllocError, Global};
+use std::io::{Read, Write};
+
+/// Reads a plan and writes, in one line, how many nodes, tests and `[[key]]` tables it has, as `ok, 7 nodes, 3 tests, 2 keys`; it is not run. Two labels of one key
+/// are two of its `[[key]]` tables. Own rule.
+///
+/// It reads as `run` does, and is refused as a plain run of the plan is: with `Read`, `TooLong`, `Plan` or `Memory`, with nothing written, or with `Write`.
+///
+/// Takes memory for the input, the plan and the line, and gives all of it back. It waits where the reader and the writer do.
+#[tactic(auto, unfolding(crate::specs::Answers::plan_of_input))]
+pub fn check<I: Read, W: Write>(
+    alloc: Global,
+    reader: &mut I,
+    writer: &mut W,
+) -> Result<(), RunFault>
+    ensures written { OnOk result (IfSome (I.remaining reader.old) (λ input. (line : List ℕ)
+        × IsCountsOf (plan_of_input input) line
+        × Appends (W.contents writer.old) (W.contents writer.new) line)) }
+    ensures refused { IfErr result (λ fault. IfSome (I.remaining reader.old)
+        (λ input. RefusedUnrun fault (plan_of_input input))) }
+    ensures unwritten { IfErr result (λ fault. fault ≢ RunFault.Write → writer.new ≡ writer.old) }
+    ensures taken { (bytes : List ℕ) × (length bytes ≤ input_limit + 1)
+        × Consumes (I.remaining reader.old) (I.remaining reader.new) bytes }
+{
+    let input = read_input(alloc, reader)?;
+    let line = line_of(alloc, input.as_slice())?;
+    write_whole(writer, line.as_bytes())
+}
+
+/// The line of the plan that the bytes write.
+#[tactic(auto, unfolding(crate::specs::Answers::plan_of_bytes))]
+fn line_of(alloc: Global, input: &[u8]) -> Result<String, RunFault>
+    ensures { ChecksAs string_bytes result (plan_of_bytes input.now) }
+{
+    let Ok(text) = std::str::from_utf8(input) else {
+        return Err(RunFault::Plan(PlanFault::NotUtf8));
+    };
+    match read_plan(alloc, text) {
+        Ok(plan) => Ok(counts_line(alloc, &plan)?),
+        Err(fault) => Err(RunFault::Plan(fault)),
+    }
+}
+
+/// The line of a plan.
+#[tactic(auto, unfolding(crate::specs::Checks::counts_line))]
+fn counts_line(alloc: Global, plan: &Plan) -> Result<String, AllocError>
+    ensures { IfOk result (λ line. string_bytes line ≡ counts_line (plan_view plan.now)) }
+{
+    let nodes = plan.nodes.len();
+    let tests = test_count(plan.nodes.as_slice());
+    let keys = plan.keys.len();
+    format!(in alloc; "ok, {nodes} nodes, {tests} tests, {keys} keys\n")
+}
+
+/// How many of the nodes are tests.
+fn test_count(nodes: &[PlanNode]) -> usize
+    ensures { result ≡ test_count (nodes_view nodes.now) }
+{
+    nodes.iter().filter(|node| node.test.is_some()).count()
+}

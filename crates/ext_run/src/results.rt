@@ -1,0 +1,65 @@
+//! What a run of a plan tells of its nodes.
+ghost use Rattle.std.specs.Prelude.{◌≡◌, ◌≤◌, ◌<◌, false, length, IfOk, IfErr, All};
+ghost use Rattle.ext_plan_model.specs.KeyNumbers.{different_keys, numbering, HasParts};
+ghost use Rattle.ext_plan_model.specs.Laws.{CallbacksAreFew, HasFewCells, HasFewLocks, NamespacesHaveParts, NodesAreTree, StepListsAreShort, StepsNameLabels, TestsHaveNoChildren, ids_of_nodes};
+ghost use Rattle.ext_plan_model.specs.Plans.{keys_view, plan_view};
+ghost use Rattle.ext_lifecycle.specs.FaultTexts.{results_view};
+ghost use Rattle.ext_run.specs.Answers.{IsRunAs};
+ghost use Rattle.ext_run.specs.Helpers.{IsPlanFault};
+
+use crate::fault::RunFault;
+use crate::options::Options;
+use ext_lifecycle::{NodeResult, RunListener};
+use ext_parallel::parallel_results;
+use ext_plain::run_plain;
+use ext_plan_model::{KeyNumbers, Plan, PlanKey};
+use ext_tree::{Tree, TreeFault};
+use std::alloc::{AllocError, Global};
+use std::sync::Wait;
+use std::thread::Threads;
+
+/// One result for each node of a plan, by its plain run or by a run on several lanes.
+pub(crate) fn results_of<R: Threads + Wait + Sync, L: RunListener + Sync>(
+    rt: &R,
+    alloc: Global,
+    plan: &Plan,
+    tree: &Tree,
+    options: Options,
+    listener: &L,
+) -> Result<Vec<NodeResult>, RunFault>
+    requires lanes { options.plain ≡ false → (1 ≤ options.lanes) × (options.lanes ≤ 16) }
+    requires tree { NodesAreTree (plan_view plan.now) }
+    requires contexts { tree.now ≡ ids_of_nodes (plan_view plan.now).nodes }
+    requires tests { TestsHaveNoChildren (plan_view plan.now) }
+    requires cells { HasFewCells (plan_view plan.now) }
+    requires locks { HasFewLocks (plan_view plan.now) }
+    requires namespaces { NamespacesHaveParts (plan_view plan.now) }
+    requires labels { StepsNameLabels (plan_view plan.now) }
+    requires short { StepListsAreShort (plan_view plan.now) }
+    requires few { CallbacksAreFew (plan_view plan.now) }
+    ensures run { IfOk result (λ results. IsRunAs options (plan_view plan.now) (results_view results.items)) }
+    ensures in_tree { IfOk result (λ results. All (λ r. r.node < length tree.now) results.items) }
+    ensures fault { IfErr result (IsPlanFault options (plan_view plan.now)) }
+{
+    if options.plain {
+        let keys = numbers_of(alloc, plan.keys.as_slice())?;
+        return Ok(run_plain(alloc, plan, &keys, tree, listener)?);
+    }
+    match parallel_results(rt, alloc, plan, options.lanes, listener) {
+        Ok(results) => Ok(results),
+        Err(fault) => Err(RunFault::Engine(fault)),
+    }
+}
+
+/// The numbers of a plan's keys, which are few.
+fn numbers_of(alloc: Global, keys: &[PlanKey]) -> Result<KeyNumbers, AllocError>
+    requires parts { All HasParts (keys_view keys.now) }
+    requires few { length (different_keys (keys_view keys.now)) ≤ 64 }
+    ensures { IfOk result (λ n. n ≡ numbering (keys_view keys.now)) }
+{
+    match KeyNumbers::of(alloc, keys) {
+        Ok(numbers) => Ok(numbers),
+        Err(TreeFault::Memory) => Err(AllocError),
+        Err(_) => unreachable!(),
+    }
+}

@@ -1,0 +1,6 @@
+use Rattle.std.specs.Prelude.{◌≤◌, All, length}
+use Rattle.ext_store.specs.Stores.{IsCloserOf, IsLaneOf}
+use Rattle.ext_soak.proofs.closing.close_some.Given as goal
+
+abbrev pub invariant-loop : goal.invariant-loop
+invariant-loop g l = (1 ≤ length l.hand) × All (IsLaneOf l.shared.store.id) l.hand × All (IsCloserOf l.shared.store) l.closers.items × All (IsCloserOf l.shared.store) l.left.items

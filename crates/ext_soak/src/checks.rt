@@ -1,0 +1,231 @@
+//! What is checked once all lanes of a round have ended: each reply against those of all other lanes.
+use crate::fault::SoakFault;
+use crate::opening::{CLASS, CONTEXTS, KEYS, LAST_IN_CLASS, MOVED, NUMBERS, Place, STANDING};
+use crate::told::{Log, Told};
+use std::alloc::{AllocError, Global};
+
+/// What became of a number.
+#[derive(Clone, Copy, Debug)]
+struct Fate {
+    drawn: u32,
+    stored: Option<Place>,
+    closeable: bool,
+    left: bool,
+}
+
+/// The fates of all numbers, how often each place was filled and emptied, and the first fault.
+#[derive(Drop)]
+pub(crate) struct Checks {
+    fates: Vec<Fate>,
+    filled: Vec<u32>,
+    emptied: Vec<u32>,
+    fault: Option<SoakFault>,
+}
+
+/// So many zeros.
+fn zeros(alloc: Global, count: usize) -> Result<Vec<u32>, AllocError> {
+    let mut all = Vec::new(alloc);
+    for _ in 0..count {
+        all.push(0)?;
+    }
+    Ok(all)
+}
+
+/// Numbers from 0 to the greatest, of which nothing is known yet.
+fn unknown_fates(alloc: Global) -> Result<Vec<Fate>, AllocError> {
+    let mut fates = Vec::new(alloc);
+    for _ in 0..NUMBERS + 1 {
+        fates.push(Fate {
+            drawn: 0,
+            stored: None,
+            closeable: false,
+            left: false,
+        })?;
+    }
+    Ok(fates)
+}
+
+/// Counts one more at the place.
+fn count(counts: &mut [u32], place: Place) {
+    let at = place.context.saturating_mul(KEYS).saturating_add(place.key);
+    if let Some(word) = counts.get_mut(at) {
+        *word = word.wrapping_add(1);
+    }
+}
+
+impl Checks {
+    /// Takes memory for each number.
+    pub(crate) fn new(alloc: Global) -> Result<Checks, AllocError> {
+        Ok(Checks {
+            fates: unknown_fates(alloc)?,
+            filled: zeros(alloc, CONTEXTS * KEYS)?,
+            emptied: zeros(alloc, CONTEXTS * KEYS)?,
+            fault: None,
+        })
+    }
+
+    /// The first fault that was found.
+    pub(crate) fn fault(&self) -> Option<SoakFault> {
+        self.fault
+    }
+
+    /// Notes the fault unless this is right.
+    pub(crate) fn wrong_unless(&mut self, right: bool, fault: SoakFault) {
+        if !right && self.fault.is_none() {
+            self.fault = Some(fault);
+        }
+    }
+
+    // ---- what a lane drew and stored
+
+    /// Reads what a lane drew and stored. Its numbers rise.
+    pub(crate) fn read_stored(&mut self, log: &Log) {
+        self.wrong_unless(log.whole, SoakFault::Memory);
+        let mut last = 0;
+        for told in &log.replies {
+            last = self.stored_by(*told, last);
+        }
+    }
+
+    /// Reads one reply of a lane that drew this number last. Answers the number that it has drawn last then.
+    fn stored_by(&mut self, told: Told, last: u32) -> u32 {
+        match told {
+            Told::Kept(number) => self.draw(number, last),
+            Told::Put {
+                place,
+                number,
+                closeable,
+                stood,
+            } => {
+                self.store(place, number, closeable);
+                if stood.is_none() {
+                    count(self.filled.as_mut_slice(), place);
+                }
+                last
+            }
+            Told::Computed {
+                place,
+                number,
+                closeable,
+            } => {
+                self.store(place, number, closeable);
+                count(self.filled.as_mut_slice(), place);
+                self.draw(number, last)
+            }
+            Told::Wrong(fault) => {
+                self.wrong_unless(false, fault);
+                last
+            }
+            _ => last,
+        }
+    }
+
+    fn draw(&mut self, number: u32, last: u32) -> u32 {
+        self.wrong_unless(last < number, SoakFault::Numbers);
+        match self.fates.get_mut(number as usize) {
+            Some(fate) => fate.drawn = fate.drawn.wrapping_add(1),
+            None => self.wrong_unless(false, SoakFault::Numbers),
+        }
+        number
+    }
+
+    fn store(&mut self, place: Place, number: u32, closeable: bool) {
+        let Some(fate) = self.fates.get_mut(number as usize) else {
+            self.wrong_unless(false, SoakFault::Numbers);
+            return;
+        };
+        let is_first = fate.stored.is_none();
+        fate.stored = Some(place);
+        fate.closeable = closeable;
+        self.wrong_unless(is_first, SoakFault::Numbers);
+    }
+
+    // ---- what left, once it is known what was stored
+
+    /// Reads what a lane replaced, removed and closed, and what it found. What it found of the value that is moved never
+    /// falls.
+    pub(crate) fn read_left(&mut self, log: &Log) {
+        let mut last = 0;
+        for told in &log.replies {
+            last = self.left_by(*told, last);
+        }
+    }
+
+    /// Reads one reply of a lane that found this number last, of the value that is moved. Answers the one found last then.
+    fn left_by(&mut self, told: Told, last: u32) -> u32 {
+        match told {
+            Told::Put {
+                place,
+                stood: Some(number),
+                ..
+            } => self.leave(place, number),
+            Told::Removed { place, number } => {
+                self.leave(place, number);
+                count(self.emptied.as_mut_slice(), place);
+            }
+            Told::Closed { place, number } => self.leave(place, number),
+            Told::Found {
+                key,
+                from,
+                at,
+                number,
+            } => {
+                self.find(Place { context: at, key }, number);
+                if key == MOVED && (CLASS..=LAST_IN_CLASS).contains(&from) {
+                    self.wrong_unless(last <= number, SoakFault::Misplaced);
+                    return number;
+                }
+            }
+            Told::Absent { key, from } => {
+                let always = key == STANDING
+                    || (key == MOVED && (CLASS..=LAST_IN_CLASS).contains(&from));
+                self.wrong_unless(!always, SoakFault::Missed);
+            }
+            _ => {}
+        }
+        last
+    }
+
+    fn leave(&mut self, place: Place, number: u32) {
+        let Some(fate) = self.fates.get_mut(number as usize) else {
+            self.wrong_unless(false, SoakFault::Numbers);
+            return;
+        };
+        let right = fate.stored == Some(place) && !fate.left;
+        fate.left = true;
+        self.wrong_unless(right, SoakFault::LeftTwice);
+    }
+
+    fn find(&mut self, place: Place, number: u32) {
+        let stored = match self.fates.get(number as usize) {
+            Some(fate) => fate.stored,
+            None => None,
+        };
+        self.wrong_unless(stored == Some(place), SoakFault::Misplaced);
+    }
+
+    // ---- what is left
+
+    /// The first fault, where all replies were read: each number up to the last was drawn once, a place was filled as often
+    /// as it was emptied, or once more, and no closeable value that was stored is still there.
+    pub(crate) fn settled(&mut self) -> Option<SoakFault> {
+        let drawn = self.fates.iter().filter(|fate| fate.drawn == 1).count();
+        let once = self
+            .fates
+            .iter()
+            .skip(1)
+            .take(drawn)
+            .all(|fate| fate.drawn == 1);
+        let twice = self.fates.iter().any(|fate| fate.drawn > 1);
+        self.wrong_unless(once && !twice, SoakFault::Numbers);
+        let one = self
+            .filled
+            .iter()
+            .zip(self.emptied.iter())
+            .all(|(filled, emptied)| filled.wrapping_sub(*emptied) <= 1);
+        self.wrong_unless(one, SoakFault::TwoFactories);
+        let stays = self.fates.iter().any(|fate| fate.closeable && !fate.left);
+        self.wrong_unless(!stays, SoakFault::NotClosed);
+        self.fault
+    }
+}

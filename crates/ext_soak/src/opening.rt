@@ -1,0 +1,211 @@
+//! What the lanes of a round share: a store of seven contexts and four keys.
+ghost use Rattle.std.specs.Prelude.{◌≡◌, All, IfOk, length};
+ghost use Rattle.ext_store.specs.Stores.{IsCloserOf, IsLaneOf};
+
+use crate::fault::SoakFault;
+use ext_ids::UniqueId;
+use ext_model::{ContextNo, KeyNo};
+use ext_store::{Closer, Lane, Limits, Store, StoreValue};
+use ext_tree::{Directory, Key, Namespace, Tree};
+use std::alloc::Global;
+use std::sync::atomic::AtomicU64;
+
+/// How many contexts there are, and the engine and the class A among them.
+pub(crate) const CONTEXTS: usize = 7;
+
+pub(crate) const ENGINE: ContextNo = 0;
+
+pub(crate) const CLASS: ContextNo = 1;
+
+/// The last context of class A.
+pub(crate) const LAST_IN_CLASS: ContextNo = 4;
+
+/// How many keys there are.
+pub(crate) const KEYS: usize = 4;
+
+/// The key under which a value stands in the engine all along.
+pub(crate) const STANDING: KeyNo = 0;
+
+/// The key whose value one lane moves from the engine to class A and back; no other lane stores under it.
+pub(crate) const MOVED: KeyNo = 1;
+
+/// How many numbers a round has.
+pub(crate) const NUMBERS: u32 = 16_384;
+
+/// A key in a context.
+#[derive(Clone, Copy, Debug, PartialEq, Eq)]
+pub(crate) struct Place {
+    pub(crate) context: ContextNo,
+    pub(crate) key: KeyNo,
+}
+
+/// A value: the place that it is for, and whether it is closeable.
+#[derive(Clone, Copy, Debug, PartialEq, Eq)]
+pub(crate) struct Payload {
+    pub(crate) place: Place,
+    pub(crate) closeable: bool,
+}
+
+impl StoreValue for Payload {
+    ghost is_closeable = { λ v. v.closeable };
+
+    fn closeable(&self) -> bool {
+        self.closeable
+    }
+}
+
+/// What the lanes of a round share.
+#[derive(Drop)]
+pub(crate) struct Shared {
+    pub(crate) store: Store<Payload>,
+    pub(crate) names: [Key; KEYS],
+    /// The places for which a factory runs, one bit each.
+    pub(crate) running: AtomicU64,
+    ghost contexts: { length store.tree ≡ 7 },
+}
+
+/// A round's store, its lanes and its closers.
+#[derive(Drop)]
+pub(crate) struct Opened {
+    pub(crate) shared: Shared,
+    pub(crate) lanes: Vec<Lane<Payload>>,
+    pub(crate) closers: Vec<Closer>,
+}
+
+/// An engine with two classes, of which A has a class of its own, and a method in each of the three.
+fn contexts(alloc: Global) -> Option<Tree> {
+    let mut ids = Vec::new(alloc);
+    for text in [
+        "[engine:x]",
+        "[engine:x]/[class:A]",
+        "[engine:x]/[class:A]/[method:m()]",
+        "[engine:x]/[class:A]/[class:B]",
+        "[engine:x]/[class:A]/[class:B]/[method:m()]",
+        "[engine:x]/[class:C]",
+        "[engine:x]/[class:C]/[method:m()]",
+    ] {
+        ids.push(UniqueId::parse(alloc, text).ok()?).ok()?;
+    }
+    Tree::build(alloc, ids.as_slice()).ok()
+}
+
+fn key(alloc: Global, name: &str) -> Option<Key> {
+    Key::new(alloc, Namespace::global(), name).ok()
+}
+
+/// The four keys.
+fn names(alloc: Global) -> Option<[Key; KEYS]> {
+    Some([
+        key(alloc, "standing")?,
+        key(alloc, "moved")?,
+        key(alloc, "c")?,
+        key(alloc, "d")?,
+    ])
+}
+
+/// The four keys, declared in their order.
+fn directory(alloc: Global) -> Option<Directory> {
+    let mut directory = Directory::new(alloc);
+    for key in names(alloc)? {
+        directory.declare(key).ok()?;
+    }
+    Some(directory)
+}
+
+/// A round's store with so many lanes and tries.
+pub(crate) fn open(alloc: Global, lanes: usize, tries: u32) -> Result<Opened, SoakFault>
+    ensures lanes { IfOk result (λ o. All (IsLaneOf o.shared.store.id) o.lanes.items) }
+    ensures closers { IfOk result (λ o. All (IsCloserOf o.shared.store) o.closers.items) }
+{
+    let limits = Limits {
+        lanes,
+        tries,
+        numbers: NUMBERS,
+    };
+    let (Some(tree), Some(directory), Some(names)) = (
+        contexts(alloc),
+        directory(alloc),
+        names(alloc),
+    ) else {
+        return Err(SoakFault::Memory);
+    };
+    if tree.len() != CONTEXTS {
+        return Err(SoakFault::Answer);
+    }
+    let Ok((store, lanes, closers)) = Store::open(alloc, tree, directory, limits) else {
+        return Err(SoakFault::Memory);
+    };
+    let running = AtomicU64::new(0);
+    let shared = Shared {
+        store,
+        names,
+        running,
+    };
+    Ok(Opened {
+        shared,
+        lanes,
+        closers,
+    })
+}
+
+/// A store of sixteen contexts, one below the other, and one key.
+#[derive(Drop)]
+pub(crate) struct Deep {
+    pub(crate) store: Store<Payload>,
+    pub(crate) name: Key,
+    ghost contexts: { length store.tree ≡ 16 },
+}
+
+/// The deep store and its two lanes.
+#[derive(Drop)]
+pub(crate) struct OpenedDeep {
+    pub(crate) deep: Deep,
+    pub(crate) first: Lane<Payload>,
+    pub(crate) second: Lane<Payload>,
+}
+
+/// An engine, and fifteen classes one below the other.
+fn chain(alloc: Global) -> Option<Tree> {
+    let mut ids = Vec::new(alloc);
+    let mut text = String::from_str(alloc, "[engine:x]").ok()?;
+    ids.push(UniqueId::parse(alloc, text.as_str()).ok()?).ok()?;
+    for _ in 0..15 {
+        text.push_str("/[class:x]").ok()?;
+        ids.push(UniqueId::parse(alloc, text.as_str()).ok()?).ok()?;
+    }
+    Tree::build(alloc, ids.as_slice()).ok()
+}
+
+/// The deep store with two lanes.
+pub(crate) fn open_deep(alloc: Global) -> Result<OpenedDeep, SoakFault>
+    ensures first { IfOk result (λ o. IsLaneOf o.deep.store.id o.first) }
+    ensures second { IfOk result (λ o. IsLaneOf o.deep.store.id o.second) }
+{
+    let limits = Limits {
+        lanes: 2,
+        tries: 64,
+        numbers: NUMBERS,
+    };
+    let (Some(tree), Some(directory), Some(name)) = (
+        chain(alloc),
+        directory(alloc),
+        key(alloc, "standing"),
+    ) else {
+        return Err(SoakFault::Memory);
+    };
+    if tree.len() != 16 {
+        return Err(SoakFault::Answer);
+    }
+    let Ok((store, mut lanes, _)) = Store::open(alloc, tree, directory, limits) else {
+        return Err(SoakFault::Memory);
+    };
+    let (Some(second), Some(first)) = (lanes.pop(), lanes.pop()) else {
+        return Err(SoakFault::Answer);
+    };
+    let deep = Deep { store, name };
+    Ok(OpenedDeep {
+        deep,
+        first,
+        second,
+    })
+}

@@ -1,0 +1,79 @@
+//! What a lane was answered, in the order of its calls.
+use crate::fault::SoakFault;
+use crate::opening::Place;
+use ext_model::{ContextNo, KeyNo};
+use std::alloc::Global;
+
+/// A reply that is checked once all lanes have ended.
+#[derive(Clone, Copy, Debug, PartialEq, Eq)]
+pub(crate) enum Told {
+    /// The number was drawn for a value.
+    Kept(u32),
+    /// It was put in the place, over this one.
+    Put {
+        place: Place,
+        number: u32,
+        closeable: bool,
+        stood: Option<u32>,
+    },
+    /// The number was drawn for the place's factory, and stored there.
+    Computed {
+        place: Place,
+        number: u32,
+        closeable: bool,
+    },
+    /// It was taken out of the place.
+    Removed {
+        place: Place,
+        number: u32,
+    },
+    /// It was closed, as the place's.
+    Closed {
+        place: Place,
+        number: u32,
+    },
+    /// A look-up from a context found it in this one or above.
+    Found {
+        key: KeyNo,
+        from: ContextNo,
+        at: ContextNo,
+        number: u32,
+    },
+    /// A look-up from a context found nothing.
+    Absent {
+        key: KeyNo,
+        from: ContextNo,
+    },
+    /// A reply that is wrong whatever the others are.
+    Wrong(SoakFault),
+}
+
+/// All replies of a lane.
+#[derive(Drop)]
+pub(crate) struct Log {
+    pub(crate) replies: Vec<Told>,
+    /// Whether each of them found memory.
+    pub(crate) whole: bool,
+}
+
+impl Log {
+    pub(crate) fn new(alloc: Global) -> Log {
+        Log {
+            replies: Vec::new(alloc),
+            whole: true,
+        }
+    }
+
+    /// One more reply.
+    pub(crate) fn tell(&mut self, told: Told) {
+        let kept = self.replies.push(told).is_ok();
+        self.whole = self.whole && kept;
+    }
+
+    /// One more reply, where it is wrong.
+    pub(crate) fn wrong_unless(&mut self, right: bool, fault: SoakFault) {
+        if !right {
+            self.tell(Told::Wrong(fault));
+        }
+    }
+}

@@ -1,0 +1,76 @@
+//! The words of the command line.
+use crate::fault::SoakFault;
+use std::alloc::AllocError;
+use std::rt::Env;
+
+/// What `--help` prints.
+pub(crate) const USAGE: &str = "\
+usage: ext_soak SEED LANES ROUNDS SECONDS
+       ext_soak --help
+
+Makes ROUNDS (1 to 1000000) rounds, and begins none after SECONDS (1 to 86400). In each of them LANES
+(3 to 16) lanes make calls of one store, drawn from SEED (0 to 4294967295), and their replies are
+checked afterwards. The exit status is 0 where each reply is as it has to be, else 1.
+";
+
+/// How many rounds of how many lanes are made, for how many seconds, from which seed.
+#[derive(Clone, Copy, Debug, PartialEq, Eq)]
+pub(crate) struct Soak {
+    pub(crate) seed: u32,
+    pub(crate) lanes: usize,
+    pub(crate) rounds: u32,
+    pub(crate) seconds: u32,
+}
+
+/// What the words ask for.
+#[derive(Clone, Copy, Debug, PartialEq, Eq)]
+pub(crate) enum Request {
+    /// The usage alone.
+    Usage,
+    /// A soak.
+    Rounds(Soak),
+    /// They are refused.
+    Refused(SoakFault),
+}
+
+/// What the command line asks for. Takes memory for the words. Own rule.
+pub(crate) fn request_of<R: Env + AllocGlobal>(rt: &R) -> Request {
+    match words_of(rt) {
+        Ok(Some(words)) => request_in(words.as_slice()),
+        _ => Request::Refused(SoakFault::Words),
+    }
+}
+
+/// The words after the program's name, where they are texts.
+fn words_of<R: Env + AllocGlobal>(rt: &R) -> Result<Option<Vec<String>>, AllocError> {
+    let Ok(words) = std::env::args(rt) else {
+        return Ok(None);
+    };
+    Ok(Some(words.skip(1).collect(rt.alloc())?))
+}
+
+fn request_in(words: &[String]) -> Request {
+    match words {
+        [help] if help.as_str() == "--help" => Request::Usage,
+        [seed, lanes, rounds, seconds] => match soak_in(seed, lanes, rounds, seconds) {
+            Some(soak) => Request::Rounds(soak),
+            None => Request::Refused(SoakFault::Words),
+        },
+        _ => Request::Refused(SoakFault::Words),
+    }
+}
+
+fn soak_in(seed: &str, lanes: &str, rounds: &str, seconds: &str) -> Option<Soak> {
+    Some(Soak {
+        seed: seed.parse().ok()?,
+        lanes: usize::try_from(number_in(lanes, 3, 16)?).ok()?,
+        rounds: number_in(rounds, 1, 1_000_000)?,
+        seconds: number_in(seconds, 1, 86_400)?,
+    })
+}
+
+/// The number that the word has, from the least to the greatest.
+fn number_in(word: &str, least: u32, greatest: u32) -> Option<u32> {
+    let number: u32 = word.parse().ok()?;
+    (least..=greatest).contains(&number).then_some(number)
+}

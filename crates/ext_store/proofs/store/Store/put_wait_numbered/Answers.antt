@@ -1,0 +1,21 @@
+use Rattle.std.proofs.Common.{refl, subst}
+use Rattle.std.specs.Prelude.{MatchResult}
+use Rattle.ext_store.specs.Stores.{StoreLane, StillKeeps, StillKeepsBut}
+use Rattle.ext_store.proofs.Keeping.{put_calls, put_keeps}
+use Rattle.ext_store.proofs.Frames.{put_frame}
+use Rattle.ext_store.proofs.store.Store.put_wait_numbered.Goals as goal
+
+pub returns-clause-kept : goal.returns-clause-kept
+returns-clause-kept g c =
+    let before : StoreLane g.row.V.Denot = record { cells = c.lane.inside.cells; known = c.lane.inside.notes } in
+    let after : StoreLane g.row.V.Denot = record { cells = c.wait_to_put.new.lane; known = c.lane.inside.notes } in
+    subst (λ l. MatchResult c.wait_to_put.result (λ _. StillKeepsBut c.args.kept l after) (λ _. StillKeeps l after)) c.lane.view_is
+    (put_keeps c.args.self.now c.args.context c.args.key before after refl c.args.kept c.wait_to_put.result
+    (put_calls c.args.self.now c.args.context c.args.key before after c.args.kept c.wait_to_put.result c.wait_to_put.ensures.answer c.wait_to_put.ensures.handed_back))
+
+pub returns-clause-frame : goal.returns-clause-frame
+returns-clause-frame g c =
+    let before : StoreLane g.row.V.Denot = record { cells = c.lane.inside.cells; known = c.lane.inside.notes } in
+    let after : StoreLane g.row.V.Denot = record { cells = c.wait_to_put.new.lane; known = c.lane.inside.notes } in
+    put_frame c.args.self.now.id before c.args.lane.now after c.lane.view_is c.requires.lane c.wait_to_put.ensures.lane refl c.args.self.now c.args.context c.args.key c.args.kept c.wait_to_put.result
+    (put_calls c.args.self.now c.args.context c.args.key before after c.args.kept c.wait_to_put.result c.wait_to_put.ensures.answer c.wait_to_put.ensures.handed_back)

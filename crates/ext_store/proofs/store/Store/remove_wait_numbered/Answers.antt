@@ -1,0 +1,19 @@
+use Rattle.std.proofs.Common.{refl, subst}
+use Rattle.ext_store.specs.Stores.{StoreLane, StillKeeps}
+use Rattle.ext_store.proofs.Keeping.{remove_calls, remove_keeps}
+use Rattle.ext_store.proofs.Frames.{remove_frame}
+use Rattle.ext_store.proofs.store.Store.remove_wait_numbered.Goals as goal
+
+pub returns-clause-kept : goal.returns-clause-kept
+returns-clause-kept g c =
+    let before : StoreLane g.row.V.Denot = record { cells = c.lane.inside.cells; known = c.lane.inside.notes } in
+    let after : StoreLane g.row.V.Denot = record { cells = c.wait_to_remove.new.lane; known = c.lane.inside.notes } in
+    subst (λ l. StillKeeps l after) c.lane.view_is
+    (remove_keeps c.args.self.now c.args.context c.args.key before after refl c.wait_to_remove.result (remove_calls c.args.self.now c.args.context c.args.key before after c.wait_to_remove.result c.wait_to_remove.ensures.answer))
+
+pub returns-clause-frame : goal.returns-clause-frame
+returns-clause-frame g c =
+    let before : StoreLane g.row.V.Denot = record { cells = c.lane.inside.cells; known = c.lane.inside.notes } in
+    let after : StoreLane g.row.V.Denot = record { cells = c.wait_to_remove.new.lane; known = c.lane.inside.notes } in
+    remove_frame c.args.self.now.id before c.args.lane.now after c.lane.view_is c.requires.lane c.wait_to_remove.ensures.lane refl c.args.self.now c.args.context c.args.key c.wait_to_remove.result
+    (remove_calls c.args.self.now c.args.context c.args.key before after c.wait_to_remove.result c.wait_to_remove.ensures.answer)

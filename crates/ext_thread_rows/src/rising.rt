@@ -1,0 +1,149 @@
+//! A lane that puts number after number while another lane looks.
+ghost use Rattle.std.specs.Prelude.{◌<◌, length};
+ghost use Rattle.ext_store.specs.Stores.{IsLaneOf};
+
+use crate::gates::is_raised;
+use crate::same::same;
+use ext_model::Look;
+use ext_store::{Lane, Limits, Refusal, Store};
+use ext_store_rows::{Letter, Opened, key, keys, open_store, plain};
+use ext_tree::Key;
+use std::sync::atomic::{AtomicU64, Ordering};
+use std::thread::join;
+use std::time::Clock;
+
+// How many numbers are put, and how often the other lane looks at most.
+const NUMBERS: u32 = 1_000;
+
+const LOOKS: u64 = 100_000_000;
+
+/// Signs of two lanes: that one has begun to look, and that the other has put all its numbers.
+#[derive(Drop)]
+struct Signs {
+    looks: AtomicU64,
+    has_put: AtomicU64,
+}
+
+/// Keeps the value of the number that comes next and puts it in the engine. Says whether it stands over the one before.
+fn put_next(store: &Store<Letter>, lane: &mut Lane<Letter>, key: &Key, next: u32) -> bool
+    requires lane { IsLaneOf store.now.id lane.old }
+    requires context { 0 < length store.now.tree }
+    ensures { IsLaneOf store.now.id lane.new }
+{
+    let Ok(kept) = store.keep(lane, plain('x')) else {
+        return false;
+    };
+    let is_next = kept.number() == next;
+    match store.put(lane, 0, key, kept) {
+        Ok(None) => is_next && next == 1,
+        Ok(Some(stood)) => is_next && stood < next && next - stood == 1,
+        Err(_) => false,
+    }
+}
+
+/// Puts all numbers once the other lane looks. Says whether no call was refused.
+fn put_all<C: Clock>(
+    clock: &C,
+    store: &Store<Letter>,
+    lane: &mut Lane<Letter>,
+    key: &Key,
+    signs: &Signs,
+) -> bool
+    requires lane { IsLaneOf store.now.id lane.old }
+    requires context { 0 < length store.now.tree }
+    ensures { IsLaneOf store.now.id lane.new }
+{
+    let mut has_put = is_raised(clock, &signs.looks);
+    for number in 1..NUMBERS + 1 {
+        let put = put_next(store, lane, key, number);
+        has_put = has_put && put;
+    }
+    signs.has_put.store(1, Ordering::SeqCst);
+    has_put
+}
+
+/// The number that was found last, 0 before the first, where this look-up may follow it.
+fn follow(last: u32, seen: Result<Look, Refusal>) -> Option<u32> {
+    match seen {
+        Ok(Look::Absent) if last == 0 => Some(0),
+        Ok(Look::Found { at: 0, number }) if last <= number && number <= NUMBERS => Some(number),
+        Err(Refusal::Contended) => Some(last),
+        _ => None,
+    }
+}
+
+/// Looks from the method until all numbers are put. Says whether none was less than one before, and all were put in time.
+fn look_on(store: &Store<Letter>, lane: &mut Lane<Letter>, key: &Key, signs: &Signs) -> bool
+    requires lane { IsLaneOf store.now.id lane.old }
+    requires contexts { 2 < length store.now.tree }
+    ensures { IsLaneOf store.now.id lane.new }
+{
+    let mut last = 0;
+    for _ in 0..LOOKS {
+        let Some(found) = follow(last, store.get(lane, 2, key)) else {
+            return false;
+        };
+        last = found;
+        signs.looks.store(1, Ordering::SeqCst);
+        if signs.has_put.load(Ordering::SeqCst) == 1 {
+            return true;
+        }
+    }
+    false
+}
+
+#[test]
+fn numbers_never_fall(rt: HostRuntime) {
+    let alloc = rt.alloc();
+    let limits = Limits {
+        lanes: 2,
+        tries: 1,
+        numbers: NUMBERS,
+    };
+    let (Some(directory), Some(a)) = (keys(alloc, 1), key(alloc, "a")) else {
+        panic!(rt; "no memory")
+    };
+    let Some(opened) = open_store(alloc, directory, limits) else {
+        panic!(rt; "no store")
+    };
+    let Opened {
+        store,
+        first: looker,
+        second: putter,
+        ..
+    } = opened;
+    let signs = Signs {
+        looks: AtomicU64::new(0),
+        has_put: AtomicU64::new(0),
+    };
+    let (runtime, shared, name, given) = (&rt, &store, &a, &signs);
+    let ((mut looker, rising), (mut putter, put)) = join(
+        &rt,
+        move || -> (Lane<Letter>, bool)
+            requires lane { IsLaneOf shared.now.id looker }
+            requires contexts { 2 < length shared.now.tree }
+            ensures { IsLaneOf shared.entry.now.id result.0 }
+        {
+            let mut looker = looker;
+            let rising = look_on(shared, &mut looker, name, given);
+            (looker, rising)
+        },
+        move || -> (Lane<Letter>, bool)
+            requires lane { IsLaneOf shared.now.id putter }
+            requires contexts { 2 < length shared.now.tree }
+            ensures { IsLaneOf shared.entry.now.id result.0 }
+        {
+            let mut putter = putter;
+            let put = put_all(runtime, shared, &mut putter, name, given);
+            (putter, put)
+        },
+    );
+    same(&rt, (rising, put), (true, true), "what both threads say");
+    store.meet(&mut putter, &mut looker);
+    let last = Look::Found {
+        at: 0,
+        number: NUMBERS,
+    };
+    let seen = store.get(&mut looker, 2, &a);
+    same(&rt, seen, Ok(last), "the number that was put last");
+}
