@@ -17,7 +17,7 @@ use Rattle.ext_history.proofs.Fronts.{last_append}
 use Rattle.ext_history.proofs.Lanes.{own_push_other}
 use Rattle.ext_cells.specs.declared.rule.CellLimits.{CellLimits}
 use Rattle.ext_cells.specs.declared.rule.View.{View}
-use Rattle.ext_cells.specs.Rule.{IsWordAt, AreWordsOf, place_in, limits_of, shown, Fits, Kept, FoundBy, Looked, Exchanged}
+use Rattle.ext_cells.specs.Rule.{IsWordAt, AreWordsOf, place_in, limits_of, shown, Fits, Kept, FoundBy, Loaded, Exchanged}
 use Rattle.ext_cells.proofs.CellWords.{words_after}
 
 -- a view that stands after a step of one seat had the same number and count before it
@@ -79,7 +79,7 @@ stays limits s k id place v at =
     (subst (AreWordsOf (limits_of limits) k.history) (sym (set-get_or s.words place 0)) k.words_are)
 
 -- a load
-pub loads : (limits : CellLimits) (slots id : ℕ) (me : Me (Act ℕ) View) (place lane : ℕ) → me.0.lane ≡ Some lane → Allows (Kept limits) slots id me place (λ n. n) (Looked (step slots place 0 0 none) me)
+pub loads : (limits : CellLimits) (slots id : ℕ) (me : Me (Act ℕ) View) (place lane : ℕ) → me.0.lane ≡ Some lane → Allows (Kept limits) slots id me place (λ n. n) (Loaded (step slots place 0 0 none) me)
 loads limits slots id me place lane mine s k _ at _ = (
   shown me.0 k.history,
   keeps,

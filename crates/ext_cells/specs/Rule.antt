@@ -105,13 +105,13 @@ pub record FoundBy (v : View) (place word : ℕ) (h : History) : Type 0 where
   pub own_is : (n : ℕ) → v.lane ≡ Some n → own n h ≡ own n (seen v.fronts)
 
 -- a load finds a history and leaves it
-abbrev pub Looked : Step (Act ℕ) → Me (Act ℕ) View → ℕ → Me (Act ℕ) View → Type 0
-Looked s me found after = (h : History) × FoundBy me.0 s.word found h × (after ≡ (shown me.0 h, me.1))
+abbrev pub Loaded : Step (Act ℕ) → Me (Act ℕ) View → ℕ → Me (Act ℕ) View → Type 0
+Loaded s me found after = (h : History) × FoundBy me.0 s.word found h × (after ≡ (shown me.0 h, me.1))
 
 -- an exchange that finds another word is a load; else the history goes on by the act that was announced
 abbrev pub Exchanged : Step (Act ℕ) → Me (Act ℕ) View → ℕ → Me (Act ℕ) View → Type 0
 Exchanged s me found after =
-    (found ≢ s.first → Looked s me found after)
+    (found ≢ s.first → Loaded s me found after)
     × (found ≡ s.first
     → (lane : ℕ) (act : Act ℕ) → me.0.lane ≡ Some lane → s.said ≡ some act
     → (h : History) × FoundBy me.0 s.word found h × IsAllowed (limits_of me.0.limits) h (by lane act) × (after ≡ (shown me.0 (h ++ by lane act ∷ []), me.1)))

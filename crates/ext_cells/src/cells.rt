@@ -153,7 +153,7 @@ impl Cells {
     {
         let place = self.limits.cells;
         let most = u64::from(self.limits.numbers);
-        let mut count = self.look(lane, place);
+        let mut count = self.read(lane, place);
         for _ in 0..self.tries {
             if count >= most {
                 return Err(CellRefusal::NumbersFull);
@@ -315,7 +315,7 @@ impl Cells {
         ensures contended { ComesLast lane.old lane.new act result }
         ensures steps { length (call_fronts lane.old.view lane.new.view) ≤ self.now.tries + 1 }
     {
-        let mut word = self.look(lane, cell);
+        let mut word = self.read(lane, cell);
         for _ in 0..self.tries {
             let (next, answer) = match decide(word, act) {
                 Decision::Change { next, answer } => (next, answer),
@@ -343,7 +343,7 @@ impl Cells {
         ensures steps { length (call_fronts lane.old.view lane.new.view) ≡ 2 }
     {
         lane.look_back();
-        let word = self.look(lane, cell);
+        let word = self.read(lane, cell);
         let (_, number, version) = parts(word);
         let next = next_word(act, number, version);
         match self.exchange(lane, cell, word, next, act) {
@@ -363,7 +363,7 @@ impl Cells {
     {
         let mut words = Words::new();
         for cell in cells {
-            let word = self.look(lane, *cell);
+            let word = self.read(lane, *cell);
             words.push(word);
         }
         words
@@ -371,7 +371,7 @@ impl Cells {
 
     /// The word at a place as it stands, for a lane. The words of the cells stand at their numbers, and the count of
     /// numbers behind them.
-    pub(crate) fn look(&self, lane: &mut CellLane, place: usize) -> u64
+    pub(crate) fn read(&self, lane: &mut CellLane, place: usize) -> u64
         requires lane { lane.old.cells ≡ self.now.id }
         requires place { place ≤ self.now.id.limits.cells }
         ensures found { (h : History) × Finds lane.old.cells.limits lane.old.view place result h × (lane.new ≡ stepped lane.old h) }

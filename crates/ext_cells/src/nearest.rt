@@ -128,7 +128,7 @@ impl Cells {
         lane.look_back();
         let mut empty = Reading::new();
         for cell in cells {
-            let word = self.look(lane, *cell);
+            let word = self.read(lane, *cell);
             if word % 16 != 0 {
                 return (empty, Some(word));
             }
@@ -151,7 +151,7 @@ impl Cells {
         lane.look_back();
         let mut reading = before;
         for cell in cells {
-            let word = self.look(lane, *cell);
+            let word = self.read(lane, *cell);
             reading = reading.with(word);
         }
         reading

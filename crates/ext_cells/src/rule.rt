@@ -49,9 +49,9 @@ impl TableRule<Act<CellNo>, View, CellLimits> for OneHistory {
 pub(crate) struct Load;
 
 impl Play<Act<CellNo>, View> for Load {
-    ghost use Rattle.ext_cells.specs.Rule.{Looked};
+    ghost use Rattle.ext_cells.specs.Rule.{Loaded};
 
-    ghost then = { Looked };
+    ghost then = { Loaded };
 }
 
 /// An exchange, which is a load where it fails.

@@ -15,7 +15,7 @@ use Rattle.ext_crew.specs.declared.rule.Drawn.{Drawn}
 use Rattle.ext_crew.specs.declared.slot.Slot.{Slot}
 use Rattle.ext_crew.specs.declared.slot.Slot.TheVariants as slot
 use Rattle.ext_crew.specs.Dealing.{times}
-use Rattle.ext_crew.specs.Counter.{drawn, item_in, slot_of, done_at, giving, done_by, jobs_of, total, ends, Fits, Stands, Kept, Looked, Took, DrawsIf, hirer, hired, together, spent, HoldsOutcome, IsDrawing, HasDrawn, HasEnded}
+use Rattle.ext_crew.specs.Counter.{drawn, item_in, slot_of, done_at, giving, done_by, jobs_of, total, ends, Fits, Stands, Kept, Loaded, Took, DrawsIf, hirer, hired, together, spent, HoldsOutcome, IsDrawing, HasDrawn, HasEnded}
 use Rattle.ext_crew.proofs.Totals.{total_set, total_push, total_one, total_two, total_most, total_sole, times-append, ends-append, ends_none, below_next, is_below, at_most_once, end_once, end_none, end_most, none_below, same_once, done_counted}
 
 set_same : (ws : List ℕ) (k : ℕ) → set ws k (get_or ws k 0) ≡ ws
@@ -40,8 +40,8 @@ module _ {T O : Type 0} (items : List T) where
       is_below x (slice_index s.words 0) (times x v.draws) drew (omega (arith, most, once))
 
   module _ (slots id : ℕ) (me : Me (Slot T O) (Drawn T O)) (some_part : 0 < me.0.parts) where
-    looked : (s : State (Slot T O) (Drawn T O)) → Kept items s → get_elem? s.views id ≡ some me.0 → Looked me (slice_index s.words 0) me
-    looked s kept at =
+    loaded : (s : State (Slot T O) (Drawn T O)) → Kept items s → get_elem? s.views id ≡ some me.0 → Loaded me (slice_index s.words 0) me
+    loaded s kept at =
         let same : me.0.items ≡ items = (kept.fits id me.0 at).knows some_part in
         let count : length me.0.items ≡ length items = ap length same in
         let bound = word_bound s kept in
@@ -53,8 +53,8 @@ module _ {T O : Type 0} (items : List T) where
         let V : List (Drawn T O) → Type 0 = λ vs. Kept items (record { words = s.words; homes = s.homes; views = vs }) in
         subst W (sym (set_same s.words 0)) (subst V (sym (set_again s.views id me.0 at)) kept)
 
-    pub looks : Allows (λ s. Kept items s) slots id me 0 (λ n. n) (λ found w. Looked me found w)
-    looks s kept same at small = (me.0, keeps, tt, stays s kept at, looked s kept at)
+    pub loads : Allows (λ s. Kept items s) slots id me 0 (λ n. n) (λ found w. Loaded me found w)
+    loads s kept same at small = (me.0, keeps, tt, stays s kept at, loaded s kept at)
 
     module _ (drew : me.0.draws ≡ jobs_of (done_by me)) (no_end : ends (length items) me.0.draws ≡ 0) (holds : HoldsOutcome me.1) where
       unended : ends (length items) me.0.draws < me.0.parts
@@ -289,7 +289,7 @@ module _ {T O : Type 0} (items : List T) where
               let next_is : slice_index s.words 0 + 1 ≡ new = ap (λ (n : ℕ). n + 1) (eqb-true _ _ hit) ∙ sym is in
               let G : ℕ → Type 0 = λ n. (w : Drawn T O) × (a : Act (Slot T O)) × Valid s.homes me.1 a × Kept items (stepped s 0 n id me.1 w a) × Took me (slice_index s.words 0) (w, carried_after me.1 a) in
               subst G next_is (⊎_elim (λ (l : slice_index s.words 0 < length items). took_job s kept at l) (λ (l : length items ≤ slice_index s.words 0). took_end s kept at l) (cases_lt (slice_index s.words 0) (length items)))
-          go false miss = (me.0, keeps, tt, stays s kept at, looked s kept at)
+          go false miss = (me.0, keeps, tt, stays s kept at, loaded s kept at)
 
   -- ---- seats that are split off and joined in
 
@@ -472,8 +472,8 @@ module _ {T O : Type 0} (items : List T) where
     part : 0 < me.0.parts
     part = let p = is.parts in omega (arith, p)
 
-    pub may_look : Allows (λ s. Kept items s) slots id me 0 (λ n. n) (λ found w. Looked me found w)
-    may_look = looks slots id me part
+    pub may_load : Allows (λ s. Kept items s) slots id me 0 (λ n. n) (λ found w. Loaded me found w)
+    may_load = loads slots id me part
 
     pub may_draw : (old new : ℕ) → new ≡ old + 1 → Allows (λ s. Kept items s) slots id me 0 (λ n. either (n == old) new n) (λ found w. DrawsIf (found == old) me found w)
     may_draw = draws slots id me part is.draws is.no_end is.holds

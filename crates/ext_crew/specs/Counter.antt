@@ -104,7 +104,7 @@ pub record Kept {T O : Type 0} (items : List T) (s : State (Slot T O) (Drawn T O
 -- ---- what the steps tell
 
 -- nothing changed, and the counter is not far past the items
-pub record Looked {T O : Type 0} (v : Me (Slot T O) (Drawn T O)) (found : ℕ) (w : Me (Slot T O) (Drawn T O)) : Type 0 where
+pub record Loaded {T O : Type 0} (v : Me (Slot T O) (Drawn T O)) (found : ℕ) (w : Me (Slot T O) (Drawn T O)) : Type 0 where
   pub same : w ≡ v
   pub bound : found ≤ length v.0.items + 17
 
@@ -114,10 +114,10 @@ pub record Took {T O : Type 0} (v : Me (Slot T O) (Drawn T O)) (found : ℕ) (w 
   pub slots : w.1 ≡ cond (ltb found (length v.0.items)) ((found, slot_of (slice_get v.0.items found)) ∷ rest v.1) (rest v.1)
   pub later : length v.0.draws ≤ found
 
--- an exchange that found what it expected is a draw, and any other is a look
+-- an exchange that found what it expected is a draw, and any other is a load
 abbrev pub DrawsIf : {T O : Type 0} → Bool → Me (Slot T O) (Drawn T O) → ℕ → Me (Slot T O) (Drawn T O) → Type 0
 DrawsIf true v found w = Took v found w
-DrawsIf false v found w = Looked v found w
+DrawsIf false v found w = Loaded v found w
 
 -- ---- seats that are split off and joined in
 

@@ -6,7 +6,7 @@ ghost use Rattle.ext_crew.specs.declared.slot.Slot.TheVariants.{Item, Empty};
 
 use crate::Done;
 use crate::job::Job;
-use crate::rule::{Counter, CounterTable, Draws, Hand, Looks};
+use crate::rule::{Counter, CounterTable, Draws, Hand, Loads};
 use crate::slot::Slot;
 use atomic_table::{Refused, Table};
 use std::alloc::{AllocError, Allocator};
@@ -64,7 +64,7 @@ pub(crate) fn draw<R: Wait, T: Drop, O: Drop, M: Allocator>(
     ensures drawn { IfSome result (λ job. HasDrawn counter.now.key.value.items hand.new.me (done_by hand.old.me) job.index) }
     ensures ended { IfNone result (HasEnded counter.now.key.value.items hand.new.me (done_by hand.old.me)) }
 {
-    let mut number = counter.load::<Looks>(hand, 0);
+    let mut number = counter.load::<Loads>(hand, 0);
     for _ in rt.forever() {
         let found = counter.compare_exchange::<Draws>(hand, 0, number, number + 1);
         if found == number {

@@ -47,13 +47,13 @@ impl<T, O, M: Allocator> TableRule<Slot<T, O>, Drawn<T, O>, Snapshot<Vec<T, M>>>
     ghost first = { λ key. drawn 17 [] [] key.value.items };
 }
 
-/// A look at the counter.
-pub(crate) struct Looks;
+/// A load of the counter.
+pub(crate) struct Loads;
 
-impl<T, O> Play<Slot<T, O>, Drawn<T, O>> for Looks {
-    ghost use Rattle.ext_crew.specs.Counter.{Looked};
+impl<T, O> Play<Slot<T, O>, Drawn<T, O>> for Loads {
+    ghost use Rattle.ext_crew.specs.Counter.{Loaded};
 
-    ghost then = { λ _ v found w. Looked v found w };
+    ghost then = { λ _ v found w. Loaded v found w };
 }
 
 /// A draw: the counter goes from the number that it is told of to the next one.

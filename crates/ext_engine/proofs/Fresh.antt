@@ -26,7 +26,7 @@ pub fresh_idle : (locks : LocksView) (lanes n : ℕ) → All (IsIdle locks) (loc
 fresh_idle locks lanes zero = All-nil (IsIdle locks)
 fresh_idle locks lanes (suc n) =
     All-push (IsIdle locks) (locking.fresh_lanes locks.table lanes n) (locking.fresh_lane locks.table lanes n) (fresh_idle locks lanes n)
-    (record { of_table = refl; nothing = record { each = λ key mode. refl } })
+    (record { of_table = refl; nothing = record { each = λ lock mode. refl } })
 
 -- ---- that they can be used
 

@@ -117,7 +117,7 @@ fn placed_and_found(
     if let Err(back) = notes.place(values, number, value) {
         return Err(*back);
     }
-    match notes.look(values, number) {
+    match notes.get(values, number) {
         Some(found) => Ok(*found),
         None => unreachable!(),
     }
@@ -136,8 +136,8 @@ fn found_by_both(
     ensures notes { AreNotesOf values.now notes.new }
     ensures others { AreNotesOf values.now others.new }
 {
-    let first = *notes.look(values, number)?;
-    let second = *others.look(values, number)?;
+    let first = *notes.get(values, number)?;
+    let second = *others.get(values, number)?;
     notes.meet(others);
     Some((first, second))
 }

@@ -7,8 +7,8 @@ use ext_model::ContextNo;
 /// tells it until it returns. What it does has no effect on the results. JUnit Platform, Javadoc `EngineExecutionListener`, `executionFinished`;
 /// that nothing else is told is an own rule.
 pub trait RunListener {
-    /// The node has ended: its calls were made and its context was closed. Told once for each node that ran, and not for those that were
-    /// skipped. `nodes` is how many the run has in all.
+    /// The node has ended: its calls were made and its context was closed. Told once for each node of which that is so, and not for those that
+    /// were skipped, nor where the run is refused before that. `nodes` is how many the run has in all.
     fn ended(&self, node: ContextNo, nodes: usize);
 }
 

@@ -46,19 +46,19 @@ module _ (now : Lane) (s : Seat (Unit {0}) SeatView) (l : ℕ) (view : lane_at s
   undone_same refusal = λ i. undone (view i).view.number (same i) refusal
 
 -- the modes of a set that is within the locks
-pub within : (modes : List (Option LockMode)) (set : List (ℕ × LockMode)) (count keys : ℕ) → locks_of modes ≡ set → AllBelow count set → count ≡ keys → IsWithin modes keys
-within modes set count keys same all is = within_of modes count keys (subst (AllBelow count) (sym same) all) is
+pub within : (modes : List (Option LockMode)) (set : List (ℕ × LockMode)) (count locks : ℕ) → locks_of modes ≡ set → AllBelow count set → count ≡ locks → IsWithin modes locks
+within modes set count locks same all is = within_of modes count locks (subst (AllBelow count) (sym same) all) is
 
 -- a lane that made no event since it took a set still holds it
 pub still_held : (names : List (List ℕ)) (taken now : Lane) (held : HeldView) (s : Seat (Unit {0}) SeatView) (l : ℕ) (modes : List (Option LockMode)) (set : List (ℕ × LockMode)) → lane_at s l ≡ now → locks_of modes ≡ set
     → record { table = taken.table; lane = taken.view.number; names = names; set = set; own_events = own_of taken } ≡ held → HoldsExactly taken set → IsHeldBy held now → HoldsBetween s.me.0.fronts l modes 0 (length modes)
 still_held names taken now held s l modes set view same made exactly since = held_all s.me.0.fronts l modes each
   where
-    each : (key : ℕ) (mode : LockMode) → holds (seen s.me.0.fronts) key mode l ≡ wants (locks_of modes) key mode
-    each key mode =
-        (λ i. holds (seen_by (view i).view) key mode (view i).view.number)
-        ∙ (by_own (seen_by now.view) key mode now.view.number
-        ∙ (ap (λ o. holds o key mode now.view.number) (since.no_event ∙ sym (ap (λ (h : HeldView). h.own_events) made))
-        ∙ (ap (λ n. holds (own_of taken) key mode n) (since.same_lane ∙ sym (ap (λ (h : HeldView). h.lane) made))
-        ∙ (sym (by_own (seen_by taken.view) key mode taken.view.number)
-        ∙ (exactly.each key mode ∙ ap (λ t. wants t key mode) (sym same))))))
+    each : (lock : ℕ) (mode : LockMode) → holds (seen s.me.0.fronts) lock mode l ≡ wants (locks_of modes) lock mode
+    each lock mode =
+        (λ i. holds (seen_by (view i).view) lock mode (view i).view.number)
+        ∙ (by_own (seen_by now.view) lock mode now.view.number
+        ∙ (ap (λ o. holds o lock mode now.view.number) (since.no_event ∙ sym (ap (λ (h : HeldView). h.own_events) made))
+        ∙ (ap (λ n. holds (own_of taken) lock mode n) (since.same_lane ∙ sym (ap (λ (h : HeldView). h.lane) made))
+        ∙ (sym (by_own (seen_by taken.view) lock mode taken.view.number)
+        ∙ (exactly.each lock mode ∙ ap (λ t. wants t lock mode) (sym same))))))

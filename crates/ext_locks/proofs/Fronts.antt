@@ -11,7 +11,7 @@ use Rattle.ext_locks.specs.declared.event.LockEvent.{LockEvent}
 use Rattle.ext_locks.specs.declared.seat.SeatView.{SeatView}
 use Rattle.ext_locks.specs.History.{LockHistory, event, lane_of, IsLegal}
 use Rattle.ext_locks.specs.Views.{Lane, Calls, LaneCalls}
-use Rattle.ext_locks.specs.Rule.{lane_view, seeing, Looked, Stepped, told_of}
+use Rattle.ext_locks.specs.Rule.{lane_view, seeing, Loaded, Stepped, told_of}
 use Rattle.ext_locks.specs.Steps.{lane_at, IsLane, Makes}
 
 -- what is seen last is what the last step showed
@@ -19,8 +19,8 @@ pub seen_now : (v w : SeatView) (h : LockHistory) → w ≡ seeing v h → seen 
 seen_now v w h is = ap (λ x. seen x.fronts) is ∙ last_append [] v.fronts (h ∷ [])
 
 -- a step that showed a history is a call without an event,
-looked_calls : (v w : SeatView) (l k n : ℕ) → Looked v l k n w → Calls v.lanes (lane_view v l) (lane_view w l) []
-looked_calls v w l k n it =
+loaded_calls : (v w : SeatView) (l k n : ℕ) → Loaded v l k n w → Calls v.lanes (lane_view v l) (lane_view w l) []
+loaded_calls v w l k n it =
     subst (λ x. Calls v.lanes (lane_view v l) (lane_view x l) []) (sym it.view)
     (single.step_calls it.meets.on).0
 
@@ -30,8 +30,8 @@ stepped_calls v w l k m t it =
     subst (λ x. Calls v.lanes (lane_view v l) (lane_view x l) (event l k m t ∷ [])) (sym it.view)
     (single.event_calls it.meets.on (event l k m t) refl it.allowed).0
 
-pub looked_stepped : (v w : SeatView) (l k n : ℕ) → Looked v l k n w → IsStepped (lane_view v l) (lane_view w l)
-looked_stepped v w l k n it = subst (λ x. IsStepped (lane_view v l) (lane_view x l)) (sym it.view) (single.stepped (lane_view v l) it.history)
+pub loaded_stepped : (v w : SeatView) (l k n : ℕ) → Loaded v l k n w → IsStepped (lane_view v l) (lane_view w l)
+loaded_stepped v w l k n it = subst (λ x. IsStepped (lane_view v l) (lane_view x l)) (sym it.view) (single.stepped (lane_view v l) it.history)
 
 -- ---- calls on lanes
 
@@ -63,19 +63,19 @@ module _ (s t u : Seat (Unit {0}) SeatView) (l : ℕ) where
 pub makes_legal : (s t : Seat (Unit {0}) SeatView) (l : ℕ) (xs : List LockEvent) → Makes s t l xs → IsLegal t.me.0.lanes (seen t.me.0.fronts)
 makes_legal s t l xs makes = subst (λ n. IsLegal n (seen t.me.0.fronts)) (sym makes.calls.lanes) makes.calls.calls.legal
 
-pub lane_makes : (table : TableId) (keys l : ℕ) (s t : Seat (Unit {0}) SeatView) (xs : List LockEvent) → IsLane table keys s l → Makes s t l xs → IsLane table keys t l
-lane_makes table keys l s t xs lane makes = record {
+pub lane_makes : (table : TableId) (locks l : ℕ) (s t : Seat (Unit {0}) SeatView) (xs : List LockEvent) → IsLane table locks s l → Makes s t l xs → IsLane table locks t l
+lane_makes table locks l s t xs lane makes = record {
   same_table = makes.calls.table ∙ lane.same_table;
-  same_keys = lane.same_keys;
+  same_locks = lane.same_locks;
   number = makes.number ∙ lane.number;
   few = lane.few;
   legal = makes_legal s t l xs makes;
 }
 
-pub looked_makes : (s t : Seat (Unit {0}) SeatView) (l k n : ℕ) → t.table_id ≡ s.table_id → Looked s.me.0 l k n t.me.0 → Makes s t l []
-looked_makes s t l k n same it = record {
+pub loaded_makes : (s t : Seat (Unit {0}) SeatView) (l k n : ℕ) → t.table_id ≡ s.table_id → Loaded s.me.0 l k n t.me.0 → Makes s t l []
+loaded_makes s t l k n same it = record {
   number = ap (λ x. x.number) it.view;
-  calls = record { table = same; lanes = ap (λ x. x.lanes) it.view; calls = looked_calls s.me.0 t.me.0 l k n it };
+  calls = record { table = same; lanes = ap (λ x. x.lanes) it.view; calls = loaded_calls s.me.0 t.me.0 l k n it };
 }
 
 pub stepped_makes : (s t : Seat (Unit {0}) SeatView) (l k : ℕ) (m : LockMode) (b : Bool) → t.table_id ≡ s.table_id → Stepped s.me.0 l k m b t.me.0 → Makes s t l (event l k m b ∷ [])
@@ -84,11 +84,11 @@ stepped_makes s t l k m b same it = record {
   calls = record { table = same; lanes = ap (λ x. x.lanes) it.view; calls = stepped_calls s.me.0 t.me.0 l k m b it };
 }
 
--- a lane that was told of a history, and then looked
-pub told_makes : (s t : Seat (Unit {0}) SeatView) (v : SeatView) (l k n : ℕ) → t.table_id ≡ s.table_id → Looked (told_of s.me.0 v) l k n t.me.0 → Makes s t l []
+-- a lane that was told of a history, and then loaded
+pub told_makes : (s t : Seat (Unit {0}) SeatView) (v : SeatView) (l k n : ℕ) → t.table_id ≡ s.table_id → Loaded (told_of s.me.0 v) l k n t.me.0 → Makes s t l []
 told_makes s t v l k n same it = record {
   number = ap (λ x. x.number) it.view;
-  calls = record { table = same; lanes = ap (λ x. x.lanes) it.view; calls = looked_calls (told_of s.me.0 v) t.me.0 l k n it };
+  calls = record { table = same; lanes = ap (λ x. x.lanes) it.view; calls = loaded_calls (told_of s.me.0 v) t.me.0 l k n it };
 }
 
 -- a lane of which another was told

@@ -22,23 +22,23 @@ same_mode_self Read = refl
 same_mode_self ReadWrite = refl
 
 pub record About (e : LockEvent) (k : ℕ) (m : LockMode) (l : ℕ) : Type 0 where
-  pub key : e.key ≡ k
+  pub lock : e.lock ≡ k
   pub lane : e.lane ≡ l
   pub mode : e.mode ≡ m
 
 pub about : (e : LockEvent) (k : ℕ) (m : LockMode) (l : ℕ) → is_about e k m l ≡ true → About e k m l
 about e k m l is =
-    let p = and_parts ((e.key == k) && (e.lane == l)) (same_mode e.mode m) is in
-    let q = and_parts (e.key == k) (e.lane == l) p.0 in
-    record { key = eqb-true _ _ q.0; lane = eqb-true _ _ q.1; mode = same_mode-true _ _ p.1 }
+    let p = and_parts ((e.lock == k) && (e.lane == l)) (same_mode e.mode m) is in
+    let q = and_parts (e.lock == k) (e.lane == l) p.0 in
+    record { lock = eqb-true _ _ q.0; lane = eqb-true _ _ q.1; mode = same_mode-true _ _ p.1 }
 
 -- one event more
 pub holds-push : (h : LockHistory) (e : LockEvent) (k : ℕ) (m : LockMode) (l : ℕ) → holds (h ++ e ∷ []) k m l ≡ (if is_about e k m l then e.takes else holds h k m l)
 holds-push h e k m l = fold-append (holds_then k m l) false h (e ∷ [])
 
--- an event on another key, or of another lane, changes nothing
-pub other_key : (e : LockEvent) (h : LockHistory) (k : ℕ) (m : LockMode) (l : ℕ) → e.key ≢ k → holds (h ++ e ∷ []) k m l ≡ holds h k m l
-other_key e h k m l ne = holds-push h e k m l ∙ cond-false (is_about e k m l) e.takes (holds h k m l) (false_from_ne_true _ (λ is. ne (about e k m l is).key))
+-- an event on another lock, or of another lane, changes nothing
+pub other_lock : (e : LockEvent) (h : LockHistory) (k : ℕ) (m : LockMode) (l : ℕ) → e.lock ≢ k → holds (h ++ e ∷ []) k m l ≡ holds h k m l
+other_lock e h k m l ne = holds-push h e k m l ∙ cond-false (is_about e k m l) e.takes (holds h k m l) (false_from_ne_true _ (λ is. ne (about e k m l is).lock))
 
 -- what a lane holds is decided by its own events
 from_own : (h : LockHistory) (b : Bool) (k : ℕ) (m : LockMode) (l : ℕ) → fold (holds_then k m l) b h ≡ fold (holds_then k m l) b (own l h)
@@ -72,8 +72,8 @@ lawful_more lanes e h may old k w l m writes holds_it =
     takes n o is it =
         let t : e.takes ≡ true = sym (holds-push h e k n o ∙ cond-true (is_about e k n o) e.takes (holds h k n o) is) ∙ it in
         let a = about e k n o is in
-        let free : IsFree h e.key e.mode = subst (λ b. IsAllowedAs b h e) t may.may in
-        subst (λ (x : ℕ × LockMode). IsFree h x.0 x.1) (λ i. (a.key i, a.mode i)) free
+        let free : IsFree h e.lock e.mode = subst (λ b. IsAllowedAs b h e) t may.may in
+        subst (λ (x : ℕ × LockMode). IsFree h x.0 x.1) (λ i. (a.lock i, a.mode i)) free
 
     before : (n : LockMode) (o : ℕ) → is_about e k n o ≡ false → holds (h ++ e ∷ []) k n o ≡ true → holds h k n o ≡ true
     before n o isnt it = sym (holds-push h e k n o ∙ cond-false (is_about e k n o) e.takes (holds h k n o) isnt) ∙ it

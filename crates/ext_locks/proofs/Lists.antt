@@ -11,31 +11,31 @@ use Rattle.ext_locks.specs.Sets.{locks_from, locks_of, locks_below, wants}
 use Rattle.ext_locks.specs.Steps.{has_mode}
 
 -- the locks from a number on have no lower one
-pub wants_low : (n : ℕ) (modes : List (Option LockMode)) (key : ℕ) (mode : LockMode) → key < n → wants (locks_from n modes) key mode ≡ false
-wants_low n [] key mode low = refl
-wants_low n (None ∷ modes) key mode low = wants_low (suc n) modes key mode (omega arith)
-wants_low n (Some m ∷ modes) key mode low =
-    ap (λ b. (b && same_mode m mode) || wants (locks_from (suc n) modes) key mode) (ne_eqb n key (omega arith)) ∙ wants_low (suc n) modes key mode (omega arith)
+pub wants_low : (n : ℕ) (modes : List (Option LockMode)) (lock : ℕ) (mode : LockMode) → lock < n → wants (locks_from n modes) lock mode ≡ false
+wants_low n [] lock mode low = refl
+wants_low n (None ∷ modes) lock mode low = wants_low (suc n) modes lock mode (omega arith)
+wants_low n (Some m ∷ modes) lock mode low =
+    ap (λ b. (b && same_mode m mode) || wants (locks_from (suc n) modes) lock mode) (ne_eqb n lock (omega arith)) ∙ wants_low (suc n) modes lock mode (omega arith)
 
 or_false : (b : Bool) → (b || false) ≡ b
 or_false true = refl
 or_false false = refl
 
-wants_from : (n : ℕ) (modes : List (Option LockMode)) (key : ℕ) (mode : LockMode) → wants (locks_from n modes) (n + key) mode ≡ has_mode modes key mode
-wants_from n [] key mode = refl
+wants_from : (n : ℕ) (modes : List (Option LockMode)) (lock : ℕ) (mode : LockMode) → wants (locks_from n modes) (n + lock) mode ≡ has_mode modes lock mode
+wants_from n [] lock mode = refl
 wants_from n (None ∷ modes) zero mode = wants_low (suc n) modes (n + 0) mode (omega arith)
-wants_from n (None ∷ modes) (suc key) mode =
-    ap (λ k. wants (locks_from (suc n) modes) k mode) (let e : n + suc key ≡ suc n + key = omega arith in e) ∙ wants_from (suc n) modes key mode
+wants_from n (None ∷ modes) (suc lock) mode =
+    ap (λ k. wants (locks_from (suc n) modes) k mode) (let e : n + suc lock ≡ suc n + lock = omega arith in e) ∙ wants_from (suc n) modes lock mode
 wants_from n (Some m ∷ modes) zero mode =
     ap (λ b. (b && same_mode m mode) || wants (locks_from (suc n) modes) (n + 0) mode) (eq-eqb n (n + 0) (omega arith))
     ∙ (ap (λ b. same_mode m mode || b) (wants_low (suc n) modes (n + 0) mode (omega arith)) ∙ or_false (same_mode m mode))
-wants_from n (Some m ∷ modes) (suc key) mode =
-    ap (λ b. (b && same_mode m mode) || wants (locks_from (suc n) modes) (n + suc key) mode) (ne_eqb n (n + suc key) (omega arith))
-    ∙ (ap (λ k. wants (locks_from (suc n) modes) k mode) (let e : n + suc key ≡ suc n + key = omega arith in e) ∙ wants_from (suc n) modes key mode)
+wants_from n (Some m ∷ modes) (suc lock) mode =
+    ap (λ b. (b && same_mode m mode) || wants (locks_from (suc n) modes) (n + suc lock) mode) (ne_eqb n (n + suc lock) (omega arith))
+    ∙ (ap (λ k. wants (locks_from (suc n) modes) k mode) (let e : n + suc lock ≡ suc n + lock = omega arith in e) ∙ wants_from (suc n) modes lock mode)
 
 -- the set has just the locks that have a mode
-pub wants_modes : (modes : List (Option LockMode)) (key : ℕ) (mode : LockMode) → wants (locks_of modes) key mode ≡ has_mode modes key mode
-wants_modes modes key mode = ap (λ k. wants (locks_of modes) k mode) (let e : key ≡ 0 + key = omega arith in e) ∙ wants_from 0 modes key mode
+pub wants_modes : (modes : List (Option LockMode)) (lock : ℕ) (mode : LockMode) → wants (locks_of modes) lock mode ≡ has_mode modes lock mode
+wants_modes modes lock mode = ap (λ k. wants (locks_of modes) k mode) (let e : lock ≡ 0 + lock = omega arith in e) ∙ wants_from 0 modes lock mode
 
 pub locks_from-append : (n : ℕ) (xs ys : List (Option LockMode)) → locks_from n (xs ++ ys) ≡ locks_from n xs ++ locks_from (n + length xs) ys
 locks_from-append n [] ys = ap (λ k. locks_from k ys) (let e : n ≡ n + 0 = omega arith in e)

@@ -9,15 +9,15 @@ use Rattle.ext_locks.specs.declared.event.LockMode.{LockMode}
 use Rattle.ext_locks.specs.declared.event.LockMode.TheVariants.{ReadWrite}
 use Rattle.ext_locks.specs.declared.seat.SeatView.{SeatView}
 use Rattle.ext_locks.specs.History.{LockHistory, lane_of, holds, own}
-use Rattle.ext_locks.specs.Rule.{Looked, told_of, noted}
+use Rattle.ext_locks.specs.Rule.{Loaded, told_of, noted}
 use Rattle.ext_locks.specs.Sets.{Excludes}
 use Rattle.ext_locks.specs.Steps.{lane_at}
 use Rattle.ext_locks.proofs.Histories.{lawful, same_held}
 use Rattle.ext_locks.proofs.Fronts.{seen_now}
-use Rattle.ext_locks.proofs.Holding.{looked_held}
+use Rattle.ext_locks.proofs.Holding.{loaded_held}
 
--- a second lane looked once it was told of the first, and then the first once it was told of the second
-module _ (v w v' w' : SeatView) (one other k n m : ℕ) (apart : one ≢ other) (first : Looked (told_of w (noted v)) other k n w') (second : Looked (told_of v (noted w')) one k m v') where
+-- a second lane loaded once it was told of the first, and then the first once it was told of the second
+module _ (v w v' w' : SeatView) (one other k n m : ℕ) (apart : one ≢ other) (first : Loaded (told_of w (noted v)) other k n w') (second : Loaded (told_of v (noted w')) one k m v') where
   told : seen w'.fronts ≡ first.history
   told = seen_now (told_of w (noted v)) w' first.history first.view
 
@@ -28,19 +28,19 @@ module _ (v w v' w' : SeatView) (one other k n m : ℕ) (apart : one ≢ other) 
   mine : own one first.history ≡ own one (seen v.fronts)
   mine = own_between lane_of one (seen v.fronts) first.history second.history first.meets.told reaches second.meets.on.own_same
 
-  one_holds : (key : ℕ) (mode : LockMode) → holds first.history key mode one ≡ holds (seen v'.fronts) key mode one
-  one_holds key mode = same_held first.history (seen v.fronts) key mode one mine ∙ sym ((looked_held (told_of v (noted w')) v' one k m second).each key mode)
+  one_holds : (lock : ℕ) (mode : LockMode) → holds first.history lock mode one ≡ holds (seen v'.fronts) lock mode one
+  one_holds lock mode = same_held first.history (seen v.fronts) lock mode one mine ∙ sym ((loaded_held (told_of v (noted w')) v' one k m second).each lock mode)
 
-  other_holds : (key : ℕ) (mode : LockMode) → holds first.history key mode other ≡ holds (seen w'.fronts) key mode other
-  other_holds key mode = sym (ap (λ h. holds h key mode other) told)
+  other_holds : (lock : ℕ) (mode : LockMode) → holds first.history lock mode other ≡ holds (seen w'.fronts) lock mode other
+  other_holds lock mode = sym (ap (λ h. holds h lock mode other) told)
 
-  pub shuts_out : (key : ℕ) (mode : LockMode) → holds (seen v'.fronts) key ReadWrite one ≡ true → holds (seen w'.fronts) key mode other ≡ false
-  shuts_out key mode writes =
-      false_from_ne_true _ (λ held. apart (lawful w.lanes first.history first.meets.on.legal key one other mode (one_holds key ReadWrite ∙ writes) (other_holds key mode ∙ held)))
+  pub shuts_out : (lock : ℕ) (mode : LockMode) → holds (seen v'.fronts) lock ReadWrite one ≡ true → holds (seen w'.fronts) lock mode other ≡ false
+  shuts_out lock mode writes =
+      false_from_ne_true _ (λ held. apart (lawful w.lanes first.history first.meets.on.legal lock one other mode (one_holds lock ReadWrite ∙ writes) (other_holds lock mode ∙ held)))
 
-  pub is_shut_out : (key : ℕ) (mode : LockMode) → holds (seen w'.fronts) key ReadWrite other ≡ true → holds (seen v'.fronts) key mode one ≡ false
-  is_shut_out key mode writes =
-      false_from_ne_true _ (λ held. apart (sym (lawful w.lanes first.history first.meets.on.legal key other one mode (other_holds key ReadWrite ∙ writes) (one_holds key mode ∙ held))))
+  pub is_shut_out : (lock : ℕ) (mode : LockMode) → holds (seen w'.fronts) lock ReadWrite other ≡ true → holds (seen v'.fronts) lock mode one ≡ false
+  is_shut_out lock mode writes =
+      false_from_ne_true _ (λ held. apart (sym (lawful w.lanes first.history first.meets.on.legal lock other one mode (other_holds lock ReadWrite ∙ writes) (one_holds lock mode ∙ held))))
 
   pub sees : IsPrefix (seen w'.fronts) (seen v'.fronts)
   sees =
@@ -49,21 +49,21 @@ module _ (v w v' w' : SeatView) (one other k n m : ℕ) (apart : one ≢ other) 
 
 -- what both telling steps leave, at the seats that the code has: p is the first lane's seat after it was copied, q the second's after it was told,
 -- r the second's after it was copied, and s the first's after it was told
-module _ (one other p q r s : Seat (Unit {0}) SeatView) (a b n m : ℕ) (apart : a ≢ b) (copied : p.me ≡ one.me) (told : Looked (told_of other.me.0 (noted one.me.0)) b 0 n q.me.0)
-    (copied_back : r.me ≡ q.me) (told_back : Looked (told_of p.me.0 (noted q.me.0)) a 0 m s.me.0) where
-  back : Looked (told_of one.me.0 (noted q.me.0)) a 0 m s.me.0
-  back = subst (λ (x : SeatView). Looked (told_of x (noted q.me.0)) a 0 m s.me.0) (ap (λ x. x.0) copied) told_back
+module _ (one other p q r s : Seat (Unit {0}) SeatView) (a b n m : ℕ) (apart : a ≢ b) (copied : p.me ≡ one.me) (told : Loaded (told_of other.me.0 (noted one.me.0)) b 0 n q.me.0)
+    (copied_back : r.me ≡ q.me) (told_back : Loaded (told_of p.me.0 (noted q.me.0)) a 0 m s.me.0) where
+  back : Loaded (told_of one.me.0 (noted q.me.0)) a 0 m s.me.0
+  back = subst (λ (x : SeatView). Loaded (told_of x (noted q.me.0)) a 0 m s.me.0) (ap (λ x. x.0) copied) told_back
 
   pub exclusive_one : Excludes (lane_at s a) (lane_at r b)
   exclusive_one = record {
-    each = λ key mode writes. subst (λ (x : SeatView). holds (seen x.fronts) key mode b ≡ false) (sym (ap (λ x. x.0) copied_back))
-        (shuts_out one.me.0 other.me.0 s.me.0 q.me.0 a b 0 n m apart told back key mode writes);
+    each = λ lock mode writes. subst (λ (x : SeatView). holds (seen x.fronts) lock mode b ≡ false) (sym (ap (λ x. x.0) copied_back))
+        (shuts_out one.me.0 other.me.0 s.me.0 q.me.0 a b 0 n m apart told back lock mode writes);
   }
 
   pub exclusive_other : Excludes (lane_at r b) (lane_at s a)
   exclusive_other = record {
-    each = λ key mode writes. is_shut_out one.me.0 other.me.0 s.me.0 q.me.0 a b 0 n m apart told back key mode
-        (subst (λ (x : SeatView). holds (seen x.fronts) key ReadWrite b ≡ true) (ap (λ x. x.0) copied_back) writes);
+    each = λ lock mode writes. is_shut_out one.me.0 other.me.0 s.me.0 q.me.0 a b 0 n m apart told back lock mode
+        (subst (λ (x : SeatView). holds (seen x.fronts) lock ReadWrite b ≡ true) (ap (λ x. x.0) copied_back) writes);
   }
 
   pub sees_other : IsPrefix (seen r.me.0.fronts) (seen s.me.0.fronts)

@@ -32,15 +32,15 @@ strong_then Read ReadWrite c x y = absurd (true≢false (sym x))
 strong_then ReadWrite b Read x y = refl
 strong_then ReadWrite b ReadWrite x y = refl
 
-none_wanted : (n count key : ℕ) (mode : LockMode) → wants (locks_from n (replicate count None)) key mode ≡ true → ⊥
-none_wanted n zero key mode is = true≢false (sym is)
-none_wanted n (suc count) key mode is = none_wanted (suc n) count key mode is
+none_wanted : (n count lock : ℕ) (mode : LockMode) → wants (locks_from n (replicate count None)) lock mode ≡ true → ⊥
+none_wanted n zero lock mode is = true≢false (sym is)
+none_wanted n (suc count) lock mode is = none_wanted (suc n) count lock mode is
 
 pub merged_none : (names : List (List ℕ)) (requests : List LockRequest) → MergedBelow names requests (replicate 64 None) 0
 merged_none names requests = record {
   granted = λ k d below. absurd (omega arith);
   asked = λ lock mode is. absurd (none_wanted 0 64 lock mode is);
-  within = record { each = λ key mode is. absurd (none_wanted 0 64 key mode is) };
+  within = record { each = λ lock mode is. absurd (none_wanted 0 64 lock mode is) };
   size = length-replicate {A = Option LockMode} 64 None;
 }
 

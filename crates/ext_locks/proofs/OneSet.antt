@@ -51,56 +51,56 @@ or_here true b is = refl
 or_here false b is = absurd (true≢false (sym is))
 
 -- a number below all of them has no lock
-low_unwanted : (n : ℕ) (set : List (ℕ × LockMode)) (key : ℕ) (mode : LockMode) → Rises n set → key < n → wants set key mode ≡ true → ⊥
-low_unwanted n [] key mode up low is = true≢false (sym is)
-low_unwanted n (x ∷ set) key mode up low is =
-    low_unwanted (suc x.0) set key mode up.1 (let b = up.0 in omega arith) (or_right _ _ (ap (λ b. b && same_mode x.1 mode) (ne_eqb x.0 key (let b = up.0 in omega arith))) is)
+low_unwanted : (n : ℕ) (set : List (ℕ × LockMode)) (lock : ℕ) (mode : LockMode) → Rises n set → lock < n → wants set lock mode ≡ true → ⊥
+low_unwanted n [] lock mode up low is = true≢false (sym is)
+low_unwanted n (x ∷ set) lock mode up low is =
+    low_unwanted (suc x.0) set lock mode up.1 (let b = up.0 in omega arith) (or_right _ _ (ap (λ b. b && same_mode x.1 mode) (ne_eqb x.0 lock (let b = up.0 in omega arith))) is)
 
 -- the first lock, where it is wanted there
-record Here (x : ℕ × LockMode) (key : ℕ) (mode : LockMode) : Type 0 where
-  pub number : x.0 ≡ key
+record Here (x : ℕ × LockMode) (lock : ℕ) (mode : LockMode) : Type 0 where
+  pub number : x.0 ≡ lock
   pub mode_is : x.1 ≡ mode
 
-here : (x : ℕ × LockMode) (key : ℕ) (mode : LockMode) → is_lock key mode x ≡ true → Here x key mode
-here x key mode is = let p = and_parts (x.0 == key) (same_mode x.1 mode) is in record { number = eqb-true _ _ p.0; mode_is = same_mode-true _ _ p.1 }
+here : (x : ℕ × LockMode) (lock : ℕ) (mode : LockMode) → is_lock lock mode x ≡ true → Here x lock mode
+here x lock mode is = let p = and_parts (x.0 == lock) (same_mode x.1 mode) is in record { number = eqb-true _ _ p.0; mode_is = same_mode-true _ _ p.1 }
 
-where_wanted : (x : ℕ × LockMode) (set : List (ℕ × LockMode)) (key : ℕ) (mode : LockMode) → wants (x ∷ set) key mode ≡ true → Here x key mode ⊎ (wants set key mode ≡ true)
-where_wanted x set key mode is = go (is_lock key mode x) refl is
+where_wanted : (x : ℕ × LockMode) (set : List (ℕ × LockMode)) (lock : ℕ) (mode : LockMode) → wants (x ∷ set) lock mode ≡ true → Here x lock mode ⊎ (wants set lock mode ≡ true)
+where_wanted x set lock mode is = go (is_lock lock mode x) refl is
   where
-    go : (b : Bool) → is_lock key mode x ≡ b → (b || wants set key mode) ≡ true → Here x key mode ⊎ (wants set key mode ≡ true)
-    go true at it = inl (here x key mode at)
+    go : (b : Bool) → is_lock lock mode x ≡ b → (b || wants set lock mode) ≡ true → Here x lock mode ⊎ (wants set lock mode ≡ true)
+    go true at it = inl (here x lock mode at)
     go false at it = inr it
 
 -- a lock is wanted in one mode
-one_mode : (n : ℕ) (set : List (ℕ × LockMode)) (key : ℕ) (a b : LockMode) → Rises n set → wants set key a ≡ true → wants set key b ≡ true → a ≡ b
-one_mode n [] key a b up p q = absurd (true≢false (sym p))
-one_mode n (x ∷ set) key a b up p q =
+one_mode : (n : ℕ) (set : List (ℕ × LockMode)) (lock : ℕ) (a b : LockMode) → Rises n set → wants set lock a ≡ true → wants set lock b ≡ true → a ≡ b
+one_mode n [] lock a b up p q = absurd (true≢false (sym p))
+one_mode n (x ∷ set) lock a b up p q =
     ⊎_elim
-    (λ (s : Here x key a). ⊎_elim
-    (λ (t : Here x key b). sym s.mode_is ∙ t.mode_is)
-    (λ t. absurd (low_unwanted (suc x.0) set key b up.1 (let e = s.number in omega arith) t))
-    (where_wanted x set key b q))
+    (λ (s : Here x lock a). ⊎_elim
+    (λ (t : Here x lock b). sym s.mode_is ∙ t.mode_is)
+    (λ t. absurd (low_unwanted (suc x.0) set lock b up.1 (let e = s.number in omega arith) t))
+    (where_wanted x set lock b q))
     (λ s. ⊎_elim
-    (λ (t : Here x key b). absurd (low_unwanted (suc x.0) set key a up.1 (let e = t.number in omega arith) s))
-    (λ t. one_mode (suc x.0) set key a b up.1 s t)
-    (where_wanted x set key b q))
-    (where_wanted x set key a p)
+    (λ (t : Here x lock b). absurd (low_unwanted (suc x.0) set lock a up.1 (let e = t.number in omega arith) s))
+    (λ t. one_mode (suc x.0) set lock a b up.1 s t)
+    (where_wanted x set lock b q))
+    (where_wanted x set lock a p)
 
 first_wanted : (x : ℕ × LockMode) (set : List (ℕ × LockMode)) → wants (x ∷ set) x.0 x.1 ≡ true
 first_wanted x set = or_here _ _ (and_from _ _ (eq-eqb x.0 x.0 refl) (same_mode_self x.1))
 
 -- what is wanted past the first lock of one list is wanted past that of the other
-wanted_past : (x y : ℕ × LockMode) (set other : List (ℕ × LockMode)) → Rises (suc x.0) set → x.0 ≡ y.0 → ((key : ℕ) (mode : LockMode) → wants (x ∷ set) key mode ≡ true → wants (y ∷ other) key mode ≡ true)
-    → (key : ℕ) (mode : LockMode) → wants set key mode ≡ true → wants other key mode ≡ true
-wanted_past x y set other up same all key mode is =
+wanted_past : (x y : ℕ × LockMode) (set other : List (ℕ × LockMode)) → Rises (suc x.0) set → x.0 ≡ y.0 → ((lock : ℕ) (mode : LockMode) → wants (x ∷ set) lock mode ≡ true → wants (y ∷ other) lock mode ≡ true)
+    → (lock : ℕ) (mode : LockMode) → wants set lock mode ≡ true → wants other lock mode ≡ true
+wanted_past x y set other up same all lock mode is =
     ⊎_elim
-    (λ (h : Here y key mode). absurd (low_unwanted (suc x.0) set key mode up (let e = h.number in omega arith) is))
+    (λ (h : Here y lock mode). absurd (low_unwanted (suc x.0) set lock mode up (let e = h.number in omega arith) is))
     (λ w. w)
-    (where_wanted y other key mode (all key mode (or_more _ _ is)))
+    (where_wanted y other lock mode (all lock mode (or_more _ _ is)))
 
 -- two lists that want the same locks are equal
-same_locks : (n m : ℕ) (set other : List (ℕ × LockMode)) → Rises n set → Rises m other → ((key : ℕ) (mode : LockMode) → wants set key mode ≡ true → wants other key mode ≡ true)
-    → ((key : ℕ) (mode : LockMode) → wants other key mode ≡ true → wants set key mode ≡ true) → set ≡ other
+same_locks : (n m : ℕ) (set other : List (ℕ × LockMode)) → Rises n set → Rises m other → ((lock : ℕ) (mode : LockMode) → wants set lock mode ≡ true → wants other lock mode ≡ true)
+    → ((lock : ℕ) (mode : LockMode) → wants other lock mode ≡ true → wants set lock mode ≡ true) → set ≡ other
 same_locks n m [] [] up over to from = refl
 same_locks n m [] (y ∷ other) up over to from = absurd (true≢false (sym (from y.0 y.1 (first_wanted y other))))
 same_locks n m (x ∷ set) [] up over to from = absurd (true≢false (sym (to x.0 x.1 (first_wanted x set))))
@@ -145,28 +145,28 @@ both_strong ReadWrite Read p q = absurd (true≢false (sym q))
 both_strong ReadWrite ReadWrite p q = refl
 
 -- what a set wants, in a mode that is as strong
-record Stronger (set : List (ℕ × LockMode)) (key : ℕ) (mode : LockMode) : Type 0 where
+record Stronger (set : List (ℕ × LockMode)) (lock : ℕ) (mode : LockMode) : Type 0 where
   pub wanted_as : LockMode
-  pub wanted : wants set key wanted_as ≡ true
+  pub wanted : wants set lock wanted_as ≡ true
   pub strong : is_as_strong wanted_as mode ≡ true
 
 module _ (names : List (List ℕ)) (requests : List LockRequest) (apart : AreDifferent names) where
-  granted_as : (other : List (ℕ × LockMode)) (key : ℕ) (mode : LockMode) (r : LockRequest) → AsksFor names key mode r → IsGranted names other r → Stronger other key mode
-  granted_as other key mode r asks g = record {
+  granted_as : (other : List (ℕ × LockMode)) (lock : ℕ) (mode : LockMode) (r : LockRequest) → AsksFor names lock mode r → IsGranted names other r → Stronger other lock mode
+  granted_as other lock mode r asks g = record {
     wanted_as = g.mode;
-    wanted = subst (λ k. wants other k g.mode ≡ true) (one_number names r.key g.lock key apart g.number asks.number) g.wanted;
+    wanted = subst (λ k. wants other k g.mode ≡ true) (one_number names r.key g.lock lock apart g.number asks.number) g.wanted;
     strong = subst (λ m. is_as_strong g.mode m ≡ true) asks.mode_is g.strong;
   }
 
-  also : (set other : List (ℕ × LockMode)) → IsMerged names requests set → IsMerged names requests other → (key : ℕ) (mode : LockMode) → wants set key mode ≡ true → Stronger other key mode
-  also set other a b key mode is = let r = a.asked key mode is in granted_as other key mode r.1 r.4 (subst (IsGranted names other) r.3 (b.granted r.0 r.1 r.2))
+  also : (set other : List (ℕ × LockMode)) → IsMerged names requests set → IsMerged names requests other → (lock : ℕ) (mode : LockMode) → wants set lock mode ≡ true → Stronger other lock mode
+  also set other a b lock mode is = let r = a.asked lock mode is in granted_as other lock mode r.1 r.4 (subst (IsGranted names other) r.3 (b.granted r.0 r.1 r.2))
 
-  covers : (set other : List (ℕ × LockMode)) → IsMerged names requests set → IsMerged names requests other → (key : ℕ) (mode : LockMode) → wants set key mode ≡ true → wants other key mode ≡ true
-  covers set other a b key mode is =
-      let there = also set other a b key mode is in
-      let back = also other set b a key there.wanted_as there.wanted in
-      let same = one_mode 0 set key back.wanted_as mode (rises_all set a.ordered) back.wanted is in
-      subst (λ m. wants other key m ≡ true) (both_strong there.wanted_as mode there.strong (subst (λ m. is_as_strong m there.wanted_as ≡ true) same back.strong)) there.wanted
+  covers : (set other : List (ℕ × LockMode)) → IsMerged names requests set → IsMerged names requests other → (lock : ℕ) (mode : LockMode) → wants set lock mode ≡ true → wants other lock mode ≡ true
+  covers set other a b lock mode is =
+      let there = also set other a b lock mode is in
+      let back = also other set b a lock there.wanted_as there.wanted in
+      let same = one_mode 0 set lock back.wanted_as mode (rises_all set a.ordered) back.wanted is in
+      subst (λ m. wants other lock m ≡ true) (both_strong there.wanted_as mode there.strong (subst (λ m. is_as_strong m there.wanted_as ≡ true) same back.strong)) there.wanted
 
   pub one_merged : (set other : List (ℕ × LockMode)) → IsMerged names requests set → IsMerged names requests other → set ≡ other
   one_merged set other a b = same_locks 0 0 set other (rises_all set a.ordered) (rises_all other b.ordered) (covers set other a b) (covers other set b a)

@@ -58,10 +58,10 @@ counts_from lanes views counts j u from = record {
   gives = λ next is. ⊎_elim (λ (s : Same views j u). sym s.lanes ∙ (counts j s.view s.there).gives next (s.next ∙ is)) (λ (n : Numberless u). none-some n.next is) from;
 }
 
-module _ (keys lanes : ℕ) (words : List ℕ) (views : List SeatView) (kept : Kept keys lanes words views) where
+module _ (locks lanes : ℕ) (words : List ℕ) (views : List SeatView) (kept : Kept locks lanes words views) where
   -- views with the old numbers and no others keep the rule, where what they know fits
   kept_as : (new : List SeatView) → ((j : ℕ) (u : SeatView) → get_elem? new j ≡ some u → Same views j u ⊎ Numberless u)
-      → ((j : ℕ) (u : SeatView) → get_elem? new j ≡ some u → Fits kept.history u) → Kept keys lanes words new
+      → ((j : ℕ) (u : SeatView) → get_elem? new j ≡ some u → Fits kept.history u) → Kept locks lanes words new
   kept_as new from fits = record {
     size = kept.size;
     history = kept.history;
@@ -102,12 +102,12 @@ module _ (keys lanes : ℕ) (words : List ℕ) (views : List SeatView) (kept : K
   same_here : (j : ℕ) (u : SeatView) → get_elem? views j ≡ some u → Same views j u
   same_here j u there = record { view = u; there = there; number = refl; next = refl; lanes = refl }
 
-  kept_note : (id : ℕ) (v : SeatView) → get_elem? views id ≡ some v → Kept keys lanes words (views ++ noted v ∷ [])
+  kept_note : (id : ℕ) (v : SeatView) → get_elem? views id ≡ some v → Kept locks lanes words (views ++ noted v ∷ [])
   kept_note id v at = kept_as (views ++ noted v ∷ [])
       (λ j u there. ⊎_elim (λ old. inl (same_here j u old)) (λ (x : (j ≡ length views) × (noted v ≡ u)). inr (record { number = sym (ap (λ y. y.number) x.1); next = sym (ap (λ y. y.next) x.1) })) (at_push views (noted v) u j there))
       (λ j u there. ⊎_elim (kept.fits j u) (λ (x : (j ≡ length views) × (noted v ≡ u)). subst (λ y. Fits kept.history y) x.1 (noted_fits kept.history v (kept.fits id v at))) (at_push views (noted v) u j there))
 
-  kept_join : (id other : ℕ) (v w : SeatView) → get_elem? views id ≡ some v → get_elem? views other ≡ some w → Kept keys lanes words (set (set views id (told_of v w)) other nobody)
+  kept_join : (id other : ℕ) (v w : SeatView) → get_elem? views id ≡ some v → get_elem? views other ≡ some w → Kept locks lanes words (set (set views id (told_of v w)) other nobody)
   kept_join id other v w at there = kept_as (set (set views id (told_of v w)) other nobody)
       (λ j u q. ⊎_elim
       (λ (x : (j ≡ other) × (nobody ≡ u)). inr (record { number = sym (ap (λ y. y.number) x.1); next = sym (ap (λ y. y.next) x.1) }))
@@ -125,16 +125,16 @@ module _ (keys lanes : ℕ) (words : List ℕ) (views : List SeatView) (kept : K
       (at_set views id j (told_of v w) u x.1))
       (at_set (set views id (told_of v w)) other j nobody u q))
 
-pub notes : (keys lanes id : ℕ) (v : SeatView) → Splits {S = Unit {0}} (λ s. Kept keys lanes s.words s.views) id v v (noted v)
-notes keys lanes id v s kept at = subst (λ (l : List SeatView). Kept keys lanes s.words (l ++ noted v ∷ [])) (sym (set_again s.views id v at)) (kept_note keys lanes s.words s.views kept id v at)
+pub notes : (locks lanes id : ℕ) (v : SeatView) → Splits {S = Unit {0}} (λ s. Kept locks lanes s.words s.views) id v v (noted v)
+notes locks lanes id v s kept at = subst (λ (l : List SeatView). Kept locks lanes s.words (l ++ noted v ∷ [])) (sym (set_again s.views id v at)) (kept_note locks lanes s.words s.views kept id v at)
 
-pub joins : (keys lanes id other : ℕ) (v w : SeatView) → Joins {S = Unit {0}} (λ s. Kept keys lanes s.words s.views) id v other w (told_of v w) nobody
-joins keys lanes id other v w s kept at apart there =
-    kept_join keys lanes s.words s.views kept id other v w at
+pub joins : (locks lanes id other : ℕ) (v w : SeatView) → Joins {S = Unit {0}} (λ s. Kept locks lanes s.words s.views) id v other w (told_of v w) nobody
+joins locks lanes id other v w s kept at apart there =
+    kept_join locks lanes s.words s.views kept id other v w at
     (⊎_elim (λ (x : (other ≡ id) × (told_of v w ≡ w)). absurd (apart x.0)) (λ (x : (other ≢ id) × (get_elem? s.views other ≡ some w)). x.1) (at_set s.views id other (told_of v w) w there))
 
 -- a lane is dealt
-module _ (keys lanes : ℕ) (words : List ℕ) (views : List SeatView) (kept : Kept keys lanes words views) (id n : ℕ) (v : SeatView) (at : get_elem? views id ≡ some v) (next_is : v.next ≡ Some n) (few : n < lanes) where
+module _ (locks lanes : ℕ) (words : List ℕ) (views : List SeatView) (kept : Kept locks lanes words views) (id n : ℕ) (v : SeatView) (at : get_elem? views id ≡ some v) (next_is : v.next ≡ Some n) (few : n < lanes) where
   some-of : {x y : ℕ} → Some x ≡ Some y → x ≡ y
   some-of e = cc
 
@@ -194,7 +194,7 @@ module _ (keys lanes : ℕ) (words : List ℕ) (views : List SeatView) (kept : K
       r)
       (source j u there)
 
-  kept_deal : Kept keys lanes words (set views id (dealer v) ++ dealt v ∷ [])
+  kept_deal : Kept locks lanes words (set views id (dealer v) ++ dealt v ∷ [])
   kept_deal = record {
     size = kept.size;
     history = kept.history;
@@ -232,8 +232,8 @@ module _ (keys lanes : ℕ) (words : List ℕ) (views : List SeatView) (kept : K
         (record { most = omega arith; below = below_new; unused = λ lane many. mine.unused lane (omega arith) });
   }
 
-pub deals : (keys lanes id n : ℕ) (v : SeatView) → v.next ≡ Some n → n < lanes → Splits {S = Unit {0}} (λ s. Kept keys lanes s.words s.views) id v (dealer v) (dealt v)
-deals keys lanes id n v is few s kept at = kept_deal keys lanes s.words s.views kept id n v at is few
+pub deals : (locks lanes id n : ℕ) (v : SeatView) → v.next ≡ Some n → n < lanes → Splits {S = Unit {0}} (λ s. Kept locks lanes s.words s.views) id v (dealer v) (dealt v)
+deals locks lanes id n v is few s kept at = kept_deal locks lanes s.words s.views kept id n v at is few
 
 -- the new lane has made no step
 pub dealt_lane : (v w : SeatView) (n lanes : ℕ) → w ≡ dealt v → v.next ≡ Some n → v.lanes ≡ lanes → n < lanes → lanes ≤ 16
@@ -250,8 +250,8 @@ at_first : (v w : SeatView) (j : ℕ) → get_elem? (v ∷ []) j ≡ some w → 
 at_first v w zero e = (refl, some-injective v w e)
 at_first v w (suc j) e = absurd (some-ne-none w (sym e))
 
-pub opens : (keys lanes : ℕ) (words : List ℕ) → lanes ≤ 16 → length words ≡ keys → ((k : ℕ) → get_or words k 0 ≡ 0) → Kept keys lanes words (founder lanes ∷ [])
-opens keys lanes words few size zeros = record {
+pub opens : (locks lanes : ℕ) (words : List ℕ) → lanes ≤ 16 → length words ≡ locks → ((k : ℕ) → get_or words k 0 ≡ 0) → Kept locks lanes words (founder lanes ∷ [])
+opens locks lanes words few size zeros = record {
   size = size;
   history = [];
   legal = legal_empty (IsAllowed lanes);
@@ -271,5 +271,5 @@ opens keys lanes words few size zeros = record {
       });
 }
 
-pub opens_zero : (keys lanes : ℕ) (words : List ℕ) → lanes ≤ 16 → words ≡ replicate keys 0 → Kept keys lanes words (founder lanes ∷ [])
-opens_zero keys lanes words few is = subst (λ ws. Kept keys lanes ws (founder lanes ∷ [])) (sym is) (opens keys lanes (replicate keys 0) few (length-replicate keys 0) (at_zeros keys))
+pub opens_zero : (locks lanes : ℕ) (words : List ℕ) → lanes ≤ 16 → words ≡ replicate locks 0 → Kept locks lanes words (founder lanes ∷ [])
+opens_zero locks lanes words few is = subst (λ ws. Kept locks lanes ws (founder lanes ∷ [])) (sym is) (opens locks lanes (replicate locks 0) few (length-replicate locks 0) (at_zeros locks))

@@ -19,12 +19,12 @@ use Rattle.ext_locks.specs.declared.refusal.LockRefusal.TheVariants.{Taken, Cont
 use Rattle.ext_locks.specs.History.{LockHistory, event, lane_of, is_about, holds, own, IsLegal}
 use Rattle.ext_locks.specs.Views.{LaneView, Calls}
 use Rattle.ext_locks.specs.Words.{as_bit, IsWord, IsFreeWord}
-use Rattle.ext_locks.specs.Rule.{lane_view, seeing, Looked, Stepped, TakesIf}
+use Rattle.ext_locks.specs.Rule.{lane_view, seeing, Loaded, Stepped, TakesIf}
 use Rattle.ext_locks.specs.Refusals.{excludes_mode, IsTakenBy}
 use Rattle.ext_locks.specs.Steps.{Makes, AddsAtMost, SameHeld, HeldBut, Missed}
 use Rattle.ext_locks.proofs.Words.{free_word}
-use Rattle.ext_locks.proofs.Holding.{looked_held, stepped_held}
-use Rattle.ext_locks.proofs.Fronts.{seen_now, looked_stepped, makes_self, makes_then, makes_quiet, looked_makes, stepped_makes}
+use Rattle.ext_locks.proofs.Holding.{loaded_held, stepped_held}
+use Rattle.ext_locks.proofs.Fronts.{seen_now, loaded_stepped, makes_self, makes_then, makes_quiet, loaded_makes, stepped_makes}
 
 -- a number of 32 bits, whose upper 16 are clear
 low_bits : (n : ℕ) → n < 2 ^ 32 → ((i : ℕ) → i < 16 → bit_at n (16 + i) ≡ 0) → n < 2 ^ 16
@@ -101,7 +101,7 @@ one_word h k n m a b = same_from_bits_below 32 n m a.small b.small each
 
 -- ---- the loop
 
--- since the seat was at `start`, so many exchanges failed, and the last look found this word
+-- since the seat was at `start`, so many exchanges failed, and the last load found this word
 pub record Tried (start now : Seat (Unit {0}) SeatView) (l k found n : ℕ) : Type 0 where
   pub makes : Makes start now l []
   pub held : SameHeld start.me.0.fronts now.me.0.fronts l
@@ -110,32 +110,32 @@ pub record Tried (start now : Seat (Unit {0}) SeatView) (l k found n : ℕ) : Ty
   pub count : n + others lane_of l (seen start.me.0.fronts) ≤ others lane_of l (seen now.me.0.fronts)
   pub steps : AddsAtMost n start.me.0.fronts now.me.0.fronts
 
-looked_word : (v w : SeatView) (l k n : ℕ) → Looked v l k n w → IsWord (seen w.fronts) k n
-looked_word v w l k n it = subst (λ h. IsWord h k n) (sym (seen_now v w it.history it.view)) it.word
+loaded_word : (v w : SeatView) (l k n : ℕ) → Loaded v l k n w → IsWord (seen w.fronts) k n
+loaded_word v w l k n it = subst (λ h. IsWord h k n) (sym (seen_now v w it.history it.view)) it.word
 
-looked_few : (v w : SeatView) (l k n : ℕ) → Looked v l k n w → (other : ℕ) → 16 ≤ other → own other (seen w.fronts) ≡ []
-looked_few v w l k n it other many = ap (λ h. own other h) (seen_now v w it.history it.view) ∙ it.meets.few other many
+loaded_few : (v w : SeatView) (l k n : ℕ) → Loaded v l k n w → (other : ℕ) → 16 ≤ other → own other (seen w.fronts) ≡ []
+loaded_few v w l k n it other many = ap (λ h. own other h) (seen_now v w it.history it.view) ∙ it.meets.few other many
 
-looked_legal : (v w : SeatView) (l k n : ℕ) → Looked v l k n w → IsLegal w.lanes (seen w.fronts)
-looked_legal v w l k n it =
+loaded_legal : (v w : SeatView) (l k n : ℕ) → Loaded v l k n w → IsLegal w.lanes (seen w.fronts)
+loaded_legal v w l k n it =
     subst (λ (x : ℕ × LockHistory). IsLegal x.0 x.1) (λ i. (sym (ap (λ x. x.lanes) it.view) i, sym (seen_now v w it.history it.view) i)) it.meets.on.legal
 
-pub tried_first : (s t : Seat (Unit {0}) SeatView) (l k n : ℕ) → Looked s.me.0 l k n t.me.0 → Tried t t l k n 0
+pub tried_first : (s t : Seat (Unit {0}) SeatView) (l k n : ℕ) → Loaded s.me.0 l k n t.me.0 → Tried t t l k n 0
 tried_first s t l k n it = record {
-  makes = makes_self t l (looked_legal s.me.0 t.me.0 l k n it);
-  held = record { each = λ key mode. refl };
-  word = looked_word s.me.0 t.me.0 l k n it;
-  few = looked_few s.me.0 t.me.0 l k n it;
+  makes = makes_self t l (loaded_legal s.me.0 t.me.0 l k n it);
+  held = record { each = λ lock mode. refl };
+  word = loaded_word s.me.0 t.me.0 l k n it;
+  few = loaded_few s.me.0 t.me.0 l k n it;
   count = omega arith;
   steps = omega arith;
 }
 
--- a look adds a front, and so does an exchange
+-- a load adds a front, and so does an exchange
 one_more : (v w : SeatView) (h : LockHistory) → w ≡ seeing v h → length w.fronts ≡ length v.fronts + 1
 one_more v w h is = ap (λ x. length x.fronts) is ∙ length-append v.fronts (h ∷ [])
 
-pub looked_adds : (v w : SeatView) (l k n : ℕ) → Looked v l k n w → length w.fronts ≡ length v.fronts + 1
-looked_adds v w l k n it = one_more v w it.history it.view
+pub loaded_adds : (v w : SeatView) (l k n : ℕ) → Loaded v l k n w → length w.fronts ≡ length v.fronts + 1
+loaded_adds v w l k n it = one_more v w it.history it.view
 
 pub stepped_adds : (v w : SeatView) (l k : ℕ) (m : LockMode) (t : Bool) → Stepped v l k m t w → length w.fronts ≡ length v.fronts + 1
 stepped_adds v w l k m t it = one_more v w (it.history ++ event l k m t ∷ []) it.view
@@ -144,16 +144,16 @@ pub tried_again : (start s t : Seat (Unit {0}) SeatView) (l k found next n : ℕ
     → Tried start t l k next (n + 1)
 tried_again start s t l k found next n m tried same true is isnt it = absurd (cc)
 tried_again start s t l k found next n m tried same false is isnt it = record {
-  makes = makes_quiet start s t l [] tried.makes (looked_makes s t l k next same it);
-  held = record { each = λ key mode. (looked_held s.me.0 t.me.0 l k next it).each key mode ∙ tried.held.each key mode };
-  word = looked_word s.me.0 t.me.0 l k next it;
-  few = looked_few s.me.0 t.me.0 l k next it;
+  makes = makes_quiet start s t l [] tried.makes (loaded_makes s t l k next same it);
+  held = record { each = λ lock mode. (loaded_held s.me.0 t.me.0 l k next it).each lock mode ∙ tried.held.each lock mode };
+  word = loaded_word s.me.0 t.me.0 l k next it;
+  few = loaded_few s.me.0 t.me.0 l k next it;
   count = (
       let more = others_more lane_of l (seen s.me.0.fronts) it.history it.meets.on.begins it.meets.on.own_same other in
       let c = tried.count in
       let e = ap (others lane_of l) (seen_now s.me.0 t.me.0 it.history it.view) in
       omega arith);
-  steps = (let was = tried.steps in let e = looked_adds s.me.0 t.me.0 l k next it in omega arith);
+  steps = (let was = tried.steps in let e = loaded_adds s.me.0 t.me.0 l k next it in omega arith);
 }
   where
     other : it.history ≢ seen s.me.0.fronts
@@ -161,32 +161,32 @@ tried_again start s t l k found next n m tried same false is isnt it = record {
 
 exchange_adds : (b : Bool) (v w : SeatView) (l k n : ℕ) (m : LockMode) → TakesIf b v l k m n w → length w.fronts ≡ length v.fronts + 1
 exchange_adds true v w l k n m it = stepped_adds v w l k m true it
-exchange_adds false v w l k n m it = looked_adds v w l k n it
+exchange_adds false v w l k n m it = loaded_adds v w l k n it
 
 taken_then : (start s t : Seat (Unit {0}) SeatView) (l k found next n : ℕ) (m : LockMode) → Tried start s l k found n → t.table_id ≡ s.table_id → (b : Bool) → b ≡ true → TakesIf b s.me.0 l k m next t.me.0
     → Makes start t l (event l k m true ∷ []) × HeldBut start.me.0.fronts t.me.0.fronts l k m true
 taken_then start s t l k found next n m tried same true is it = (
   makes_then start s t l [] (event l k m true ∷ []) tried.makes (stepped_makes s t l k m true same it),
-  record { each = λ key mode. (stepped_held s.me.0 t.me.0 l k m true it).each key mode ∙ ap (λ x. if is_about (event l k m true) key mode l then true else x) (tried.held.each key mode) },
+  record { each = λ lock mode. (stepped_held s.me.0 t.me.0 l k m true it).each lock mode ∙ ap (λ x. if is_about (event l k m true) lock mode l then true else x) (tried.held.each lock mode) },
 )
 taken_then start s t l k found next n m tried same false isnt it = absurd (cc)
 
--- a look's one front is the first
-looked_first : (v w : SeatView) (l k n : ℕ) (it : Looked v l k n w) → first_front (lane_view v l) (lane_view w l) ≡ it.history
-looked_first v w l k n it =
+-- a load's one front is the first
+loaded_first : (v w : SeatView) (l k n : ℕ) (it : Loaded v l k n w) → first_front (lane_view v l) (lane_view w l) ≡ it.history
+loaded_first v w l k n it =
     subst (λ x. first_front (lane_view v l) (lane_view x l) ≡ it.history) (sym it.view)
     (ap (first_or (seen v.fronts)) (moved_fronts (lane_view v l) (it.history ∷ [])))
 
--- the whole of a call that began with a look
-module _ (before start now : Seat (Unit {0}) SeatView) (l k first found n : ℕ) (b : start.table_id ≡ before.table_id) (it : Looked before.me.0 l k first start.me.0) (tried : Tried start now l k found n) where
+-- the whole of a call that began with a load
+module _ (before start now : Seat (Unit {0}) SeatView) (l k first found n : ℕ) (b : start.table_id ≡ before.table_id) (it : Loaded before.me.0 l k first start.me.0) (tried : Tried start now l k found n) where
   pub all_makes : Makes before now l []
-  all_makes = makes_then before start now l [] [] (looked_makes before start l k first b it) tried.makes
+  all_makes = makes_then before start now l [] [] (loaded_makes before start l k first b it) tried.makes
 
   pub all_held : SameHeld before.me.0.fronts now.me.0.fronts l
-  all_held = record { each = λ key mode. tried.held.each key mode ∙ (looked_held before.me.0 start.me.0 l k first it).each key mode }
+  all_held = record { each = λ lock mode. tried.held.each lock mode ∙ (loaded_held before.me.0 start.me.0 l k first it).each lock mode }
 
   pub all_steps : (tries : ℕ) → n ≤ tries → AddsAtMost (tries + 1) before.me.0.fronts now.me.0.fronts
-  all_steps tries most = let e = looked_adds before.me.0 start.me.0 l k first it in let s = tried.steps in omega arith
+  all_steps tries most = let e = loaded_adds before.me.0 start.me.0 l k first it in let s = tried.steps in omega arith
 
   abbrev pub B : LaneView
   B = lane_view before.me.0 l
@@ -197,23 +197,23 @@ module _ (before start now : Seat (Unit {0}) SeatView) (l k first found n : ℕ)
   abbrev pub N : LaneView
   N = lane_view now.me.0 l
 
-  looked : Calls before.me.0.lanes B S []
-  looked = (looked_makes before start l k first b it).calls.calls
+  loaded : Calls before.me.0.lanes B S []
+  loaded = (loaded_makes before start l k first b it).calls.calls
 
   then_tried : Calls before.me.0.lanes S N []
-  then_tried = subst (λ n. Calls n S N []) (looked_makes before start l k first b it).calls.lanes tried.makes.calls.calls
+  then_tried = subst (λ n. Calls n S N []) (loaded_makes before start l k first b it).calls.lanes tried.makes.calls.calls
 
   first_step : IsStepped B S
-  first_step = looked_stepped before.me.0 start.me.0 l k first it
+  first_step = loaded_stepped before.me.0 start.me.0 l k first it
 
   all_stepped : IsStepped B N
-  all_stepped = steps_stay looked then_tried (inl first_step)
+  all_stepped = steps_stay loaded then_tried (inl first_step)
 
   -- the call's first front is what it saw at first
   first_is : first_front B N ≡ seen start.me.0.fronts
   first_is =
-      first_decides looked then_tried first_step
-      ∙ (looked_first before.me.0 start.me.0 l k first it ∙ sym (seen_now before.me.0 start.me.0 it.history it.view))
+      first_decides loaded then_tried first_step
+      ∙ (loaded_first before.me.0 start.me.0 l k first it ∙ sym (seen_now before.me.0 start.me.0 it.history it.view))
 
   crowded : (tries : ℕ) → tries ≤ n → IsCrowded lane_of tries B N
   crowded tries most =
@@ -233,13 +233,13 @@ module _ (before start now : Seat (Unit {0}) SeatView) (l k first found n : ℕ)
       → Makes before after l (event l k m true ∷ []) × HeldBut before.me.0.fronts after.me.0.fronts l k m true
   then_taken after next m same x is step =
       let t = taken_then start now after l k found next n m tried same x is step in (
-        makes_then before start after l [] (event l k m true ∷ []) (looked_makes before start l k first b it) t.0,
-        record { each = λ key mode. t.1.each key mode ∙ ap (λ y. if is_about (event l k m true) key mode l then true else y) ((looked_held before.me.0 start.me.0 l k first it).each key mode) },
+        makes_then before start after l [] (event l k m true ∷ []) (loaded_makes before start l k first b it) t.0,
+        record { each = λ lock mode. t.1.each lock mode ∙ ap (λ y. if is_about (event l k m true) lock mode l then true else y) ((loaded_held before.me.0 start.me.0 l k first it).each lock mode) },
       )
 
   pub then_steps : (after : Seat (Unit {0}) SeatView) (next tries : ℕ) (m : LockMode) (x : Bool) → TakesIf x now.me.0 l k m next after.me.0 → n < tries → AddsAtMost (tries + 1) before.me.0.fronts after.me.0.fronts
   then_steps after next tries m x step few =
       let a = exchange_adds x now.me.0 after.me.0 l k next m step in
-      let e = looked_adds before.me.0 start.me.0 l k first it in
+      let e = loaded_adds before.me.0 start.me.0 l k first it in
       let s = tried.steps in
       omega arith

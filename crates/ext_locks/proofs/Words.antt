@@ -1,4 +1,4 @@
--- The bits of a key's word, after an event.
+-- The bits of a lock's word, after an event.
 use Rattle.std.proofs.Common.{◌≡◌, ◌≢◌, ℕ, ◌+◌, ◌-◌, ◌^◌, ◌<◌, ◌≤◌, Bool, true, false, List, [], ◌∷◌, ◌++◌, refl, sym, ap, ◌∙◌, subst, ⊎_elim, arith, min, w64}
 use Rattle.std.specs.Int.{bit_at, bit_not}
 use Rattle.std.specs.Int.RustNames.{bit_and, bit_or}
@@ -11,7 +11,7 @@ use Rattle.ext_locks.specs.declared.event.LockMode.TheVariants.{Read, ReadWrite}
 use Rattle.ext_locks.specs.declared.event.LockEvent.{LockEvent}
 use Rattle.ext_locks.specs.History.{event, is_about, same_mode, holds, own, IsFree}
 use Rattle.ext_locks.specs.Words.{bit_of, as_bit, IsWord, IsFreeWord}
-use Rattle.ext_locks.proofs.Histories.{About, about, holds-push, other_key, same_mode_self, none_held}
+use Rattle.ext_locks.proofs.Histories.{About, about, holds-push, other_lock, same_mode_self, none_held}
 
 bit_small : (m : LockMode) (l : ℕ) → l < 16 → bit_of m l < 32
 bit_small Read l h = omega arith
@@ -33,9 +33,9 @@ apart_bit l k m t n o a b isnt same =
     let s = same_bit m n l o a b (sym same) in
     both_ways _ isnt (and_from _ _ (and_from _ _ (eq-eqb k k refl) (eq-eqb l o s.1)) s.0)
 
--- an event on another key leaves the word
-pub word_stays : (e : LockEvent) (h : List LockEvent) (k n : ℕ) → e.key ≢ k → IsWord h k n → IsWord (h ++ e ∷ []) k n
-word_stays e h k n ne w = record { small = w.small; bits = λ m l below. w.bits m l below ∙ ap as_bit (sym (other_key e h k m l ne)) }
+-- an event on another lock leaves the word
+pub word_stays : (e : LockEvent) (h : List LockEvent) (k n : ℕ) → e.lock ≢ k → IsWord h k n → IsWord (h ++ e ∷ []) k n
+word_stays e h k n ne w = record { small = w.small; bits = λ m l below. w.bits m l below ∙ ap as_bit (sym (other_lock e h k m l ne)) }
 
 pub taken_word : (h : List LockEvent) (l k : ℕ) (m : LockMode) (n : ℕ) → l < 16 → IsWord h k n → IsWord (h ++ event l k m true ∷ []) k (bit_or n (2 ^ bit_of m l))
 taken_word h l k m n few w = record {

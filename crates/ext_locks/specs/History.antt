@@ -13,7 +13,7 @@ LockHistory = List LockEvent
 
 -- this lane takes the lock in this mode, or gives it back
 abbrev pub event : ℕ → ℕ → LockMode → Bool → LockEvent
-event lane key mode takes = record { lane = lane; key = key; mode = mode; takes = takes }
+event lane lock mode takes = record { lane = lane; lock = lock; mode = mode; takes = takes }
 
 -- which lane an event is by
 abbrev pub lane_of : LockEvent → ℕ
@@ -33,26 +33,26 @@ same_mode ReadWrite ReadWrite = true
 
 -- whether the event takes or gives back this lock in this mode, by this lane
 abbrev pub is_about : LockEvent → ℕ → LockMode → ℕ → Bool
-is_about e key mode lane = ((e.key == key) && (e.lane == lane)) && same_mode e.mode mode
+is_about e lock mode lane = ((e.lock == lock) && (e.lane == lane)) && same_mode e.mode mode
 
 -- whether the lane holds the lock in this mode once the event has happened, by whether it held it before
 abbrev pub holds_then : ℕ → LockMode → ℕ → Bool → LockEvent → Bool
-holds_then key mode lane held e = if is_about e key mode lane then e.takes else held
+holds_then lock mode lane held e = if is_about e lock mode lane then e.takes else held
 
 -- whether the lane holds the lock in this mode after these events: the latest that is about the three decides
 abbrev pub holds : LockHistory → ℕ → LockMode → ℕ → Bool
-holds h key mode lane = fold (holds_then key mode lane) false h
+holds h lock mode lane = fold (holds_then lock mode lane) false h
 
 -- ---- legal histories
 
 -- A lock is free for reading where no lane writes by it, and for writing where no lane holds it
 abbrev pub IsFree : LockHistory → ℕ → LockMode → Type 0
-IsFree h key Read = (lane : ℕ) → holds h key ReadWrite lane ≡ false
-IsFree h key ReadWrite = (lane : ℕ) (mode : LockMode) → holds h key mode lane ≡ false
+IsFree h lock Read = (lane : ℕ) → holds h lock ReadWrite lane ≡ false
+IsFree h lock ReadWrite = (lane : ℕ) (mode : LockMode) → holds h lock mode lane ≡ false
 
 abbrev pub IsAllowedAs : Bool → LockHistory → LockEvent → Type 0
-IsAllowedAs true h e = IsFree h e.key e.mode
-IsAllowedAs false h e = holds h e.key e.mode e.lane ≡ true
+IsAllowedAs true h e = IsFree h e.lock e.mode
+IsAllowedAs false h e = holds h e.lock e.mode e.lane ≡ true
 
 -- The event may come directly after these, where there are so many lanes
 pub record IsAllowed (lanes : ℕ) (before : LockHistory) (e : LockEvent) : Type 0 where
@@ -67,4 +67,4 @@ IsLegal lanes h = histories.IsLegal (IsAllowed lanes) h
 
 -- A history is lawful where at most one lane writes by a lock, and then no other lane holds it
 abbrev pub IsLawful : LockHistory → Type 0
-IsLawful h = (key writer other : ℕ) (mode : LockMode) → holds h key ReadWrite writer ≡ true → holds h key mode other ≡ true → writer ≡ other
+IsLawful h = (lock writer other : ℕ) (mode : LockMode) → holds h lock ReadWrite writer ≡ true → holds h lock mode other ≡ true → writer ≡ other

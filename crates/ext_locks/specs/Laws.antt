@@ -19,11 +19,11 @@ LegalIsLawful = (lanes : ℕ) (h : LockHistory) → IsLegal lanes h → IsLawful
 
 -- What a lane holds is decided by its own events: so a lane that makes none holds what it held, whatever others do
 abbrev pub OwnEventsDecide : Type 0
-OwnEventsDecide = (h later : LockHistory) (key : ℕ) (mode : LockMode) (lane : ℕ) → own lane later ≡ own lane h → holds later key mode lane ≡ holds h key mode lane
+OwnEventsDecide = (h later : LockHistory) (lock : ℕ) (mode : LockMode) (lane : ℕ) → own lane later ≡ own lane h → holds later lock mode lane ≡ holds h lock mode lane
 
 -- A lock that is free for either mode has no writer
 abbrev pub FreeIsNotHeld : Type 0
-FreeIsNotHeld = (h : LockHistory) (key : ℕ) (mode : LockMode) → IsFree h key mode → (lane : ℕ) → holds h key ReadWrite lane ≡ false
+FreeIsNotHeld = (h : LockHistory) (lock : ℕ) (mode : LockMode) → IsFree h lock mode → (lane : ℕ) → holds h lock ReadWrite lane ≡ false
 
 -- Before the first event nobody holds anything, and that is legal
 abbrev pub EmptyIsLegal : Type 0
@@ -35,7 +35,7 @@ FreshIsEmpty = (lanes : ℕ) (h : LockHistory) → IsLegal lanes h → ((lane : 
 
 -- Nobody holds a lock but the lanes that there are
 abbrev pub OnlyLanesHold : Type 0
-OnlyLanesHold = (lanes : ℕ) (h : LockHistory) → IsLegal lanes h → (lane : ℕ) → lanes ≤ lane → (key : ℕ) (mode : LockMode) → holds h key mode lane ≡ false
+OnlyLanesHold = (lanes : ℕ) (h : LockHistory) → IsLegal lanes h → (lane : ℕ) → lanes ≤ lane → (lock : ℕ) (mode : LockMode) → holds h lock mode lane ≡ false
 
 -- What a legal history goes on from is legal: so is each front of a lane, and each point of a call
 abbrev pub BeginningsAreLegal : Type 0

@@ -21,48 +21,48 @@ excludes_mode ReadWrite Read = true
 excludes_mode ReadWrite ReadWrite = true
 
 -- another lane holds the lock, in a mode that keeps this one from it
-pub record IsTakenBy (h : LockHistory) (lane key : ℕ) (mode : LockMode) : Type 0 where
+pub record IsTakenBy (h : LockHistory) (lane lock : ℕ) (mode : LockMode) : Type 0 where
   pub other : ℕ
   pub held : LockMode
   pub apart : other ≢ lane
-  pub holds_it : holds h key held other ≡ true
+  pub holds_it : holds h lock held other ≡ true
   pub excludes : excludes_mode held mode ≡ true
 
--- the key that a refusal names
-abbrev pub key_of : LockRefusal → ℕ
-key_of (Taken key) = key
-key_of (Contended key) = key
+-- the lock that a refusal names
+abbrev pub lock_of : LockRefusal → ℕ
+lock_of (Taken lock) = lock
+lock_of (Contended lock) = lock
 
 -- the lane took the locks of the set below the one that refused it, and gave them back
 abbrev pub undone : ℕ → List (ℕ × LockMode) → LockRefusal → List LockEvent
-undone lane set refusal = takes_of lane (locks_below (key_of refusal) set) ++ gives_of lane (locks_below (key_of refusal) set)
+undone lane set refusal = takes_of lane (locks_below (lock_of refusal) set) ++ gives_of lane (locks_below (lock_of refusal) set)
 
 -- Taken: at a point of the call, once it had taken the locks before this one, another lane held this one.
 -- Contended: at such a point the lock was free for the mode, and other lanes had made so many events since the call's first step
 abbrev pub StoodAt : LockRefusal → LockMode → ℕ → LaneView → LaneView → LockHistory → Type 0
-StoodAt (Taken key) mode tries before after p = IsTakenBy p before.number key mode
-StoodAt (Contended key) mode tries before after p = IsFree p key mode × IsCrowdedAt lane_of tries before after p
+StoodAt (Taken lock) mode tries before after p = IsTakenBy p before.number lock mode
+StoodAt (Contended lock) mode tries before after p = IsFree p lock mode × IsCrowdedAt lane_of tries before after p
 
 -- ---- how many steps a call makes at most
 
--- where it takes the set: for each lock a look, and as many exchanges as there are tries
+-- where it takes the set: for each lock a load, and as many exchanges as there are tries
 abbrev pub steps_to_take : ℕ → List (ℕ × LockMode) → ℕ
 steps_to_take tries set = length set * (tries + 1)
 
 -- where the set is refused: the same for the locks below the one that refused it, which are then given back by a step each, and for that one
 abbrev pub steps_to_refuse : ℕ → List (ℕ × LockMode) → LockRefusal → ℕ
-steps_to_refuse tries set refusal = length (locks_below (key_of refusal) set) * (tries + 2) + (tries + 1)
+steps_to_refuse tries set refusal = length (locks_below (lock_of refusal) set) * (tries + 2) + (tries + 1)
 
 -- ---- why a set was refused
 
 -- Why the set was refused: by which lock of it, and at which point of the call
 pub record IsRefused (tries : ℕ) (set : List (ℕ × LockMode)) (before after : Lane) (refusal : LockRefusal) : Type 0 where
   pub mode : LockMode
-  pub wanted : wants set (key_of refusal) mode ≡ true
+  pub wanted : wants set (lock_of refusal) mode ≡ true
   pub stepped : IsStepped before.view after.view
   pub point : LockHistory
   -- the point is not before the call's first step
   pub since_first : IsPrefix (first_front before.view after.view) point
   -- there the lane had taken the locks of the set below this one, and given none back
-  pub is_point : IsPointAfter lane_of before.view after.view (takes_of before.view.number (locks_below (key_of refusal) set)) point
+  pub is_point : IsPointAfter lane_of before.view after.view (takes_of before.view.number (locks_below (lock_of refusal) set)) point
   pub stood : StoodAt refusal mode tries before.view after.view point

@@ -33,12 +33,12 @@ pub record Gives (lanes : ℕ) (h : LockHistory) (views : List SeatView) (next :
   pub unused : (lane : ℕ) → next ≤ lane → own lane h ≡ []
 
 -- The rule over all words and views of a table of so many locks and lanes
-pub record Kept (keys lanes : ℕ) (words : List ℕ) (views : List SeatView) : Type 0 where
-  pub size : length words ≡ keys
+pub record Kept (locks lanes : ℕ) (words : List ℕ) (views : List SeatView) : Type 0 where
+  pub size : length words ≡ locks
   pub few : lanes ≤ 16
   pub history : LockHistory
   pub legal : IsLegal lanes history
-  pub bits : (key : ℕ) → key < keys → IsWord history key (slice_index words key)
+  pub bits : (lock : ℕ) → lock < locks → IsWord history lock (slice_index words lock)
   pub fits : (seat : ℕ) (v : SeatView) → get_elem? views seat ≡ some v → Fits history v
   pub counts : (seat : ℕ) (v : SeatView) → get_elem? views seat ≡ some v → Counts lanes v
   pub apart : (one other lane : ℕ) (v w : SeatView) → get_elem? views one ≡ some v → get_elem? views other ≡ some w → v.number ≡ Some lane → w.number ≡ Some lane → one ≡ other
@@ -62,23 +62,23 @@ pub record Meets (v : SeatView) (lane : ℕ) (h : LockHistory) : Type 0 where
   pub few : (other : ℕ) → 16 ≤ other → own other h ≡ []
 
 -- the lane met a history in which this was the lock's word, and saw it
-pub record Looked (v : SeatView) (lane key found : ℕ) (w : SeatView) : Type 0 where
+pub record Loaded (v : SeatView) (lane lock found : ℕ) (w : SeatView) : Type 0 where
   pub history : LockHistory
   pub meets : Meets v lane history
-  pub word : IsWord history key found
+  pub word : IsWord history lock found
   pub view : w ≡ seeing v history
 
 -- the event was allowed after a history that the lane met, and was added to it
-pub record Stepped (v : SeatView) (lane key : ℕ) (mode : LockMode) (takes : Bool) (w : SeatView) : Type 0 where
+pub record Stepped (v : SeatView) (lane lock : ℕ) (mode : LockMode) (takes : Bool) (w : SeatView) : Type 0 where
   pub history : LockHistory
   pub meets : Meets v lane history
-  pub allowed : IsAllowed v.lanes history (event lane key mode takes)
-  pub view : w ≡ seeing v (history ++ event lane key mode takes ∷ [])
+  pub allowed : IsAllowed v.lanes history (event lane lock mode takes)
+  pub view : w ≡ seeing v (history ++ event lane lock mode takes ∷ [])
 
--- an exchange that found the word it expected took the lock, and any other was a look
+-- an exchange that found the word it expected took the lock, and any other was a load
 abbrev pub TakesIf : Bool → SeatView → ℕ → ℕ → LockMode → ℕ → SeatView → Type 0
-TakesIf true v lane key mode found w = Stepped v lane key mode true w
-TakesIf false v lane key mode found w = Looked v lane key found w
+TakesIf true v lane lock mode found w = Stepped v lane lock mode true w
+TakesIf false v lane lock mode found w = Loaded v lane lock found w
 
 abbrev pub Takes : LockMode → Step Unit → Me Unit SeatView → ℕ → Me Unit SeatView → Type 0
 Takes mode s v found w = (w.1 ≡ v.1) × ((lane : ℕ) → v.0.number ≡ Some lane → TakesIf (found == s.first) v.0 lane s.word mode found w.0)
@@ -86,8 +86,8 @@ Takes mode s v found w = (w.1 ≡ v.1) × ((lane : ℕ) → v.0.number ≡ Some 
 abbrev pub GivesBack : LockMode → Step Unit → Me Unit SeatView → ℕ → Me Unit SeatView → Type 0
 GivesBack mode s v found w = (w.1 ≡ v.1) × ((lane : ℕ) → v.0.number ≡ Some lane → Stepped v.0 lane s.word mode false w.0)
 
-abbrev pub Looks : Step Unit → Me Unit SeatView → ℕ → Me Unit SeatView → Type 0
-Looks s v found w = (w.1 ≡ v.1) × ((lane : ℕ) → v.0.number ≡ Some lane → Looked v.0 lane s.word found w.0)
+abbrev pub Loads : Step Unit → Me Unit SeatView → ℕ → Me Unit SeatView → Type 0
+Loads s v found w = (w.1 ≡ v.1) × ((lane : ℕ) → v.0.number ≡ Some lane → Loaded v.0 lane s.word found w.0)
 
 -- ---- seats that are split off and joined in
 

@@ -12,27 +12,27 @@ use Rattle.ext_locks.specs.Views.{Lane, own_of}
 
 -- the locks of a set, where each lock from a number on has the mode in which the set wants it, or none
 abbrev pub locks_from : ℕ → List (Option LockMode) → List (ℕ × LockMode)
-locks_from key [] = []
-locks_from key (None ∷ modes) = locks_from (suc key) modes
-locks_from key (Some mode ∷ modes) = (key, mode) ∷ locks_from (suc key) modes
+locks_from lock [] = []
+locks_from lock (None ∷ modes) = locks_from (suc lock) modes
+locks_from lock (Some mode ∷ modes) = (lock, mode) ∷ locks_from (suc lock) modes
 
 abbrev pub locks_of : List (Option LockMode) → List (ℕ × LockMode)
 locks_of modes = locks_from 0 modes
 
 -- the locks of a set below a number
 abbrev pub locks_below : ℕ → List (ℕ × LockMode) → List (ℕ × LockMode)
-locks_below key set = filter (λ lock. nat_lt lock.0 key) set
+locks_below number set = filter (λ lock. nat_lt lock.0 number) set
 
 abbrev pub is_lock : ℕ → LockMode → ℕ × LockMode → Bool
-is_lock key mode lock = (lock.0 == key) && same_mode lock.1 mode
+is_lock lock mode member = (member.0 == lock) && same_mode member.1 mode
 
 -- whether the set has this lock in this mode
 abbrev pub wants : List (ℕ × LockMode) → ℕ → LockMode → Bool
-wants set key mode = list_any (is_lock key mode) set
+wants set lock mode = list_any (is_lock lock mode) set
 
 -- each lock of the set has a number below this one
 pub record AllBelow (count : ℕ) (set : List (ℕ × LockMode)) : Type 0 where
-  pub each : (key : ℕ) (mode : LockMode) → wants set key mode ≡ true → key < count
+  pub each : (lock : ℕ) (mode : LockMode) → wants set lock mode ≡ true → lock < count
 
 -- ---- the events of a whole set
 
@@ -48,15 +48,15 @@ gives_of lane set = map (λ lock. event lane lock.0 lock.1 false) set
 
 -- the lane holds no lock
 pub record HoldsNothing (lane : Lane) : Type 0 where
-  pub each : (key : ℕ) (mode : LockMode) → holds (seen_by lane.view) key mode lane.view.number ≡ false
+  pub each : (lock : ℕ) (mode : LockMode) → holds (seen_by lane.view) lock mode lane.view.number ≡ false
 
 -- the lane holds each lock of the set in its mode, and nothing else
 pub record HoldsExactly (lane : Lane) (set : List (ℕ × LockMode)) : Type 0 where
-  pub each : (key : ℕ) (mode : LockMode) → holds (seen_by lane.view) key mode lane.view.number ≡ wants set key mode
+  pub each : (lock : ℕ) (mode : LockMode) → holds (seen_by lane.view) lock mode lane.view.number ≡ wants set lock mode
 
 -- where the one lane writes by a lock, the other holds nothing on it
 pub record Excludes (one other : Lane) : Type 0 where
-  pub each : (key : ℕ) (mode : LockMode) → holds (seen_by one.view) key ReadWrite one.view.number ≡ true → holds (seen_by other.view) key mode other.view.number ≡ false
+  pub each : (lock : ℕ) (mode : LockMode) → holds (seen_by one.view) lock ReadWrite one.view.number ≡ true → holds (seen_by other.view) lock mode other.view.number ≡ false
 
 -- A held set as contracts see it: the lane that took it, the names of its locks, the set, and the lane's own events as they were once it
 -- was taken. How many these are tells one taking of a lane from every other

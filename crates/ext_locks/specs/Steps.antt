@@ -18,9 +18,9 @@ abbrev pub lane_at : Seat (Unit {0}) SeatView → ℕ → Lane
 lane_at seat lane = record { table = seat.table_id; lanes = seat.me.0.lanes; view = lane_view seat.me.0 lane }
 
 -- the seat is this lane's, of a table with a word for each lock, and what it has seen is legal
-pub record IsLane (table : TableId) (keys : ℕ) (seat : Seat (Unit {0}) SeatView) (lane : ℕ) : Type 0 where
+pub record IsLane (table : TableId) (locks : ℕ) (seat : Seat (Unit {0}) SeatView) (lane : ℕ) : Type 0 where
   pub same_table : seat.table_id ≡ table
-  pub same_keys : keys ≡ table.words
+  pub same_locks : locks ≡ table.words
   pub number : seat.me.0.number ≡ Some lane
   pub few : lane < 16
   pub legal : IsLegal seat.me.0.lanes (seen seat.me.0.fronts)
@@ -42,26 +42,26 @@ is_mode (Some m) mode = same_mode m mode
 
 -- whether the modes have this one for the lock
 abbrev pub has_mode : List (Option LockMode) → ℕ → LockMode → Bool
-has_mode modes key mode = is_mode (slice_index_or modes key None) mode
+has_mode modes lock mode = is_mode (slice_index_or modes lock None) mode
 
 abbrev pub is_between : ℕ → ℕ → ℕ → Bool
-is_between from end key = leb from key && ltb key end
+is_between from end lock = leb from lock && ltb lock end
 
 -- the lane holds the locks of the set from one number up to another, and no others
 pub record HoldsBetween (fronts : List LockHistory) (lane : ℕ) (modes : List (Option LockMode)) (from end : ℕ) : Type 0 where
-  pub each : (key : ℕ) (mode : LockMode) → holds (seen fronts) key mode lane ≡ (is_between from end key && has_mode modes key mode)
+  pub each : (lock : ℕ) (mode : LockMode) → holds (seen fronts) lock mode lane ≡ (is_between from end lock && has_mode modes lock mode)
 
 -- what the lane holds stayed the same
 pub record SameHeld (before after : List LockHistory) (lane : ℕ) : Type 0 where
-  pub each : (key : ℕ) (mode : LockMode) → holds (seen after) key mode lane ≡ holds (seen before) key mode lane
+  pub each : (lock : ℕ) (mode : LockMode) → holds (seen after) lock mode lane ≡ holds (seen before) lock mode lane
 
 -- it stayed the same, but for one lock and mode, which the lane holds now, or holds no more
-pub record HeldBut (before after : List LockHistory) (lane key : ℕ) (mode : LockMode) (held : Bool) : Type 0 where
-  pub each : (k : ℕ) (m : LockMode) → holds (seen after) k m lane ≡ (if is_about (event lane key mode held) k m lane then held else holds (seen before) k m lane)
+pub record HeldBut (before after : List LockHistory) (lane lock : ℕ) (mode : LockMode) (held : Bool) : Type 0 where
+  pub each : (k : ℕ) (m : LockMode) → holds (seen after) k m lane ≡ (if is_about (event lane lock mode held) k m lane then held else holds (seen before) k m lane)
 
 -- no lock of the set is past the last one
-pub record IsWithin (modes : List (Option LockMode)) (keys : ℕ) : Type 0 where
-  pub each : (key : ℕ) (mode : LockMode) → slice_index_or modes key None ≡ Some mode → key < keys
+pub record IsWithin (modes : List (Option LockMode)) (locks : ℕ) : Type 0 where
+  pub each : (lock : ℕ) (mode : LockMode) → slice_index_or modes lock None ≡ Some mode → lock < locks
 
 -- ---- why one lock was not taken
 

@@ -16,9 +16,9 @@ as_bit true = 1
 as_bit false = 0
 
 -- the word has the bits of this lock's holders, and no others
-pub record IsWord (h : LockHistory) (key : ℕ) (word : ℕ) : Type 0 where
+pub record IsWord (h : LockHistory) (lock : ℕ) (word : ℕ) : Type 0 where
   pub small : word < 2 ^ 32
-  pub bits : (mode : LockMode) (lane : ℕ) → lane < 16 → bit_at word (bit_of mode lane) ≡ as_bit (holds h key mode lane)
+  pub bits : (mode : LockMode) (lane : ℕ) → lane < 16 → bit_at word (bit_of mode lane) ≡ as_bit (holds h lock mode lane)
 
 -- the words at which a lock is free for a mode: without a writer's bit, or without any
 abbrev pub IsFreeWord : LockMode → ℕ → Type 0

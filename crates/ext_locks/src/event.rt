@@ -21,7 +21,7 @@ pub struct LockEvent {
     /// Who did it.
     pub lane: usize,
     /// The lock.
-    pub key: LockNo,
+    pub lock: LockNo,
     /// How it was taken.
     pub mode: LockMode,
     /// Whether it was taken, and not given back.

@@ -12,9 +12,9 @@ use crate::rule::{Deals, LockCounts, LockRule};
 use crate::seat::SeatView;
 use crate::set::MAX_LOCKS;
 use crate::steps::MAX_LANES;
-use crate::taking::{give_keys, take_keys};
+use crate::taking::{give_locks, take_locks};
 use crate::telling::exclude;
-use crate::waiting::{SharedLocks, wait_for_keys};
+use crate::waiting::{SharedLocks, wait_for_locks};
 use crate::{Held, LockFault, LockLane, LockMode, LockNo, LockRefusal, LockRequest, LockSet};
 use atomic_table::Table;
 use ext_waiters::Waiters;
@@ -135,11 +135,11 @@ impl Locks {
     }
 
     /// Takes all locks of a set, in the order of their numbers, or none. Takes no memory, and waits for nobody: for each lock
-    /// it looks once and makes at most `tries` exchanges.
+    /// it loads the word once and makes at most `tries` exchanges.
     ///
     /// Refused as `Taken(lock)` where another lane held that lock, in a mode that excludes the one wanted, at a moment of
     /// the call, and as `Contended(lock)` where other lanes made at least as many lock events during the call as there are
-    /// tries, though the lock was free when it was last looked at. After either the lane holds nothing: what it had taken
+    /// tries, though the lock was free when its word was last read. After either the lane holds nothing: what it had taken
     /// it gave back, and it has then woken the lanes that wait for locks. JUnit 5 User Guide, section "Synchronization";
     /// refusals in place of waiting are an own rule.
     pub fn try_take(&self, lane: &mut LockLane, set: &LockSet) -> Result<Held, LockRefusal>
@@ -156,7 +156,7 @@ impl Locks {
         ensures refused_events { IfErr result (λ refusal. LaneCalls lane.old lane.new (undone lane.old.view.number set.now refusal)) }
         ensures refusal { IfErr result (λ refusal. IsRefused self.now.tries set.now lane.old lane.new refusal) }
     {
-        match take_keys(
+        match take_locks(
             &self.table.shared,
             &mut lane.seat,
             lane.number,
@@ -198,7 +198,7 @@ impl Locks {
             waiters: &self.waiters,
             tries: self.tries,
         };
-        wait_for_keys(rt, &shared, &mut lane.seat, lane.number, &set.modes);
+        wait_for_locks(rt, &shared, &mut lane.seat, lane.number, &set.modes);
         Held {
             set: LockSet { modes: set.modes },
             taken: Snapshot::of(lane),
@@ -223,7 +223,7 @@ impl Locks {
             names: _,
         } = held;
         let modes: &[Option<LockMode>] = &set.modes;
-        give_keys(
+        give_locks(
             &self.table.shared,
             &mut lane.seat,
             lane.number,
@@ -233,8 +233,8 @@ impl Locks {
         self.waiters.wake_all();
     }
 
-    /// Shows that of two different lanes, where one writes by a lock, the other holds nothing on it. Each looks
-    /// once at the locks and makes no event. Cannot fail, takes no memory, and waits for nobody.
+    /// Shows that of two different lanes, where one writes by a lock, the other holds nothing on it. Each loads
+    /// one word once and makes no event. Cannot fail, takes no memory, and waits for nobody.
     ///
     /// JUnit 5 User Guide, section "Synchronization".
     pub fn exclusive(&self, one: &mut LockLane, other: &mut LockLane)

@@ -66,13 +66,13 @@ impl Play<(), SeatView> for GivesWrite {
     ghost then = { GivesBack ReadWrite };
 }
 
-/// A look at a lock's word.
+/// A load of a lock's word.
 pub(crate) struct Sees;
 
 impl Play<(), SeatView> for Sees {
-    ghost use Rattle.ext_locks.specs.Rule.{Looks};
+    ghost use Rattle.ext_locks.specs.Rule.{Loads};
 
-    ghost then = { Looks };
+    ghost then = { Loads };
 }
 
 /// A note of what a lane has seen, for another lane.

@@ -33,10 +33,10 @@ impl LockSet {
     {
         let modes: &[Option<LockMode>] = &self.modes;
         let mut left = i;
-        for key in 0..modes.len() {
-            if let Some(mode) = modes[key] {
+        for lock in 0..modes.len() {
+            if let Some(mode) = modes[lock] {
                 if left == 0 {
-                    return Some((key, mode));
+                    return Some((lock, mode));
                 }
                 left -= 1;
             }

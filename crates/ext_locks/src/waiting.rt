@@ -7,7 +7,7 @@ ghost use Rattle.ext_locks.specs.Sets.{locks_of, takes_of, HoldsNothing, HoldsEx
 ghost use Rattle.ext_locks.specs.Steps.{lane_at, IsLane, Makes, HeldBut, IsWithin};
 
 use crate::rule::{LaneSeat, LockWords};
-use crate::steps::take_key;
+use crate::steps::take_lock;
 use crate::{LockMode, LockNo, LockRefusal};
 use ext_waiters::Waiters;
 use std::sync::Wait;
@@ -22,23 +22,23 @@ pub(crate) struct SharedLocks<'a> {
 
 /// Takes a lock, however often it has to try: what met another holder is done again after a wake, and what other lanes
 /// were in the way of at once.
-fn wait_for_key<R: Wait>(
+fn wait_for_lock<R: Wait>(
     rt: &R,
     locks: &SharedLocks<'_>,
     seat: &mut LaneSeat,
     lane: usize,
-    key: LockNo,
+    lock: LockNo,
     mode: LockMode,
 )
     requires lane { IsLane locks.now.words.now.table_id locks.now.words.now.key.locks seat.old lane }
-    requires key { key < locks.now.words.now.key.locks }
-    requires unheld { (held : LockMode) → holds (seen seat.old.me.0.fronts) key held lane ≡ false }
-    ensures taken { Makes seat.old seat.new lane (event lane key mode true ∷ []) }
-    ensures held { HeldBut seat.old.me.0.fronts seat.new.me.0.fronts lane key mode true }
+    requires lock { lock < locks.now.words.now.key.locks }
+    requires unheld { (held : LockMode) → holds (seen seat.old.me.0.fronts) lock held lane ≡ false }
+    ensures taken { Makes seat.old seat.new lane (event lane lock mode true ∷ []) }
+    ensures held { HeldBut seat.old.me.0.fronts seat.new.me.0.fronts lane lock mode true }
 {
     let mut waiting = locks.waiters.begin();
     for _ in rt.forever() {
-        match take_key(locks.words, seat, lane, key, mode, locks.tries) {
+        match take_lock(locks.words, seat, lane, lock, mode, locks.tries) {
             Ok(()) => return,
             Err(LockRefusal::Taken(_)) => waiting.announce_or_sleep(rt),
             Err(LockRefusal::Contended(_)) => {}
@@ -48,7 +48,7 @@ fn wait_for_key<R: Wait>(
 }
 
 /// Takes all locks of a set, one after another, and waits for each until it is free.
-pub(crate) fn wait_for_keys<R: Wait>(
+pub(crate) fn wait_for_locks<R: Wait>(
     rt: &R,
     locks: &SharedLocks<'_>,
     seat: &mut LaneSeat,
@@ -56,14 +56,14 @@ pub(crate) fn wait_for_keys<R: Wait>(
     modes: &[Option<LockMode>],
 )
     requires lane { IsLane locks.now.words.now.table_id locks.now.words.now.key.locks seat.old lane }
-    requires keys { IsWithin modes.now locks.now.words.now.key.locks }
+    requires locks { IsWithin modes.now locks.now.words.now.key.locks }
     requires nothing { HoldsNothing (lane_at seat.old lane) }
     ensures taken { Makes seat.old seat.new lane (takes_of lane (locks_of modes.now)) }
     ensures held { HoldsExactly (lane_at seat.new lane) (locks_of modes.now) }
 {
-    for key in 0..modes.len() {
-        if let Some(mode) = modes[key] {
-            wait_for_key(rt, locks, seat, lane, key, mode);
+    for lock in 0..modes.len() {
+        if let Some(mode) = modes[lock] {
+            wait_for_lock(rt, locks, seat, lane, lock, mode);
         }
     }
 }

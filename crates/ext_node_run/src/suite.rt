@@ -61,8 +61,8 @@ pub trait Suite<V: StoreValue + Drop>: Callbacks {
     fn action(&self, node: ContextNo) -> Self::Action
         ensures { action_gives self.now node result };
 
-    /// The node has ended: its calls were made and its context was closed. Told once for each node that ran, by the thread that ran it, and not for
-    /// those that were skipped. Does nothing, unless the suite says otherwise. JUnit Platform, Javadoc `EngineExecutionListener`,
+    /// The node has ended: its calls were made and its context was closed. Told once for each node of which that is so, by the thread that ran
+    /// it, and not for those that were skipped, nor where the run is refused before that. Does nothing, unless the suite says otherwise. JUnit Platform, Javadoc `EngineExecutionListener`,
     /// `executionFinished`.
     fn ended(&self, _node: ContextNo) {}
 

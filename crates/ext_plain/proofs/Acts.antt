@@ -82,8 +82,8 @@ computefails_by found call s = computefail_by found call.name call.label (start_
 
 -- ---- the value that a step gives
 
-pub opened : (v : PlanValue) (a b : List ℕ) → value_view v ≡ record { text = a; closeable = false } → a ≡ b → value_view v ≡ record { text = b; closeable = false }
-opened v a b is same = is ∙ ap (λ t. record { text = t; closeable = false }) same
+pub made_not_closeable : (v : PlanValue) (a b : List ℕ) → value_view v ≡ record { text = a; closeable = false } → a ≡ b → value_view v ≡ record { text = b; closeable = false }
+made_not_closeable v a b is same = is ∙ ap (λ t. record { text = t; closeable = false }) same
 
 pub made_closeable : (v : PlanValue) (a b : List ℕ) → value_view v ≡ record { text = a; closeable = true } → a ≡ b → value_view v ≡ record { text = b; closeable = true }
 made_closeable v a b is same = is ∙ ap (λ t. record { text = t; closeable = true }) same

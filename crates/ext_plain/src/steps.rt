@@ -85,7 +85,7 @@ impl<'a> ValueStore<'a> {
                 self.put_value(
                     alloc,
                     &keys.call("put", *key, path, *up),
-                    PlanValue::open(text.as_str()),
+                    PlanValue::not_closeable(text.as_str()),
                 )
             }
             Step::PutCloseable { key, text, up } => {
@@ -111,7 +111,7 @@ impl<'a> ValueStore<'a> {
                 self.compute(
                     alloc,
                     &keys.call("compute", *key, path, *up),
-                    PlanValue::open(text.as_str()),
+                    PlanValue::not_closeable(text.as_str()),
                 )
             }
             Step::ComputeCloseable { key, text, up } => {

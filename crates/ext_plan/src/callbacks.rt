@@ -14,7 +14,7 @@ use ext_plan_model::Step;
 use std::alloc::Global;
 use toml::Table;
 
-/// The greatest number of callbacks of a kind at a node. A text with more has over 4 MB.
+/// The greatest number of callbacks of a kind at a node. A text with more has over 3 MB.
 const CALLBACK_LIMIT: usize = 1_048_576;
 
 /// The callbacks of a node after the first pass: for each kind whose field is given, the texts of the steps of each.

@@ -70,7 +70,7 @@ pub enum PlanFault {
     BadTree,
     /// P8: a text in the `test` or in a callback of a node is no step, names no label of the plan, or goes up past the root
     /// from a test or container in which it will run; or a test or a callback has 2^32 steps or more, or a node more than
-    /// 1,048,576 callbacks of a kind, which takes a text of over 16 GB or 4 MB.
+    /// 1,048,576 callbacks of a kind, which takes a text of over 12 GB or 3 MB.
     #[error("plan: P8 node {0}")]
     BadStep(usize),
     /// P9: a text in the `locks` of a node is not `READ NAME` or `READ_WRITE NAME`, with one space and one word NAME, or its

@@ -18,7 +18,7 @@ const HEIGHTS: [&str; 15] = [
 ];
 
 /// The greatest number of steps of a test or a callback, so that what they compute and find is counted in 32 bits. A text
-/// with more has over 16 GB.
+/// with more has over 12 GB.
 const STEP_LIMIT: usize = 4_294_967_295;
 
 /// The steps that the texts of a test or a callback are, in order, if they are not too many. `node` is the place of its

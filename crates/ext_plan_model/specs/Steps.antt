@@ -28,10 +28,10 @@ height (compute_fail key text up) = up
 height (fail text) = 0
 height (abort text) = 0
 
--- A test or a callback has at most so many steps, so that what they compute and find is counted in 32 bits: a text with more has over 16 GB
+-- A test or a callback has at most so many steps, so that what they compute and find is counted in 32 bits: a text with more has over 12 GB
 abbrev pub step_limit : ℕ
 step_limit = 4294967295
 
--- a node has at most so many callbacks of a kind: a text with more has over 4 MB
+-- a node has at most so many callbacks of a kind: a text with more has over 3 MB
 abbrev pub callback_limit : ℕ
 callback_limit = 1048576

@@ -18,7 +18,7 @@ pub struct PlanValue<'a> {
 
 impl<'a> PlanValue<'a> {
     /// A value that isn't closeable. Takes no memory. Own rule.
-    pub fn open(text: &'a str) -> PlanValue<'a>
+    pub fn not_closeable(text: &'a str) -> PlanValue<'a>
         ensures { value_view result ≡ record { text = text.now; closeable = false } }
     {
         PlanValue {

@@ -1,5 +1,5 @@
 -- What a call leaves of the numbers that a lane keeps, and what the drawing of a number says.
-use Rattle.std.proofs.Common.{◌≡◌, ◌≢◌, ℕ, ◌+◌, ◌≤◌, Bool, true, false, List, [], ◌∷◌, sym, refl, ap, ◌∙◌, arith, nat_lt, Option, None, Some}
+use Rattle.std.proofs.Common.{◌≡◌, ◌≢◌, ℕ, ◌+◌, ◌≤◌, Bool, true, false, List, [], ◌∷◌, sym, refl, ap, ◌∙◌, subst, arith, nat_lt, Option, None, Some}
 use Rattle.std.specs.Prelude.{Result, Ok, Err, All, IfErr, MatchResult, if◌then◌else◌}
 use Rattle.std.proofs.lemmas.List.Elements.{All-nil, All-cons}
 use Rattle.std.proofs.lemmas.Bool.Decides.{nat_tests}
@@ -10,6 +10,7 @@ use Rattle.ext_model.specs.Events as events
 use Rattle.ext_model.specs.History.{Limits, state_after, stored_number}
 use Rattle.ext_model.specs.Plain.{number_drawn}
 use Rattle.ext_model.specs.Calls.{Calls}
+use Rattle.ext_tree.specs.Keys.{KeyValue, HasNumber}
 use Rattle.ext_values.specs.Known.{Learns, known_at}
 use Rattle.ext_cells.specs.declared.refusal.CellRefusal.{CellRefusal}
 use Rattle.ext_cells.specs.declared.refusal.CellRefusal.TheVariants as cell
@@ -27,6 +28,10 @@ use Rattle.ext_store.specs.Calls.{HoldsAtPoint, reply_to, put_acts, remove_acts,
 -- where two are there, they are one
 pub one_number : (a b : ℕ) → (let x : Option ℕ = Some a in let y : Option ℕ = Some b in x ≡ y) → a ≡ b
 one_number a b e = cc e
+
+-- under one number one key was declared
+pub one_key : (declared keys : List KeyValue) (number : ℕ) (a b : KeyValue) → declared ≡ keys → HasNumber declared a number → HasNumber keys b number → a ≡ b
+one_key declared keys number a b same first second = cc (sym (subst (λ l. HasNumber l a number) same first) ∙ second)
 
 -- the act stores another number, or none
 abbrev pub StoresNot : ℕ → Act ℕ → Type 0

@@ -3,7 +3,7 @@ ghost use Rattle.std.specs.Prelude.{ℕ, ◌≡◌, ◌≢◌, ◌+◌, ◌*◌,
 ghost use Rattle.std.specs.Fn.{FnOnceReturnsAt};
 ghost use Rattle.ext_model.specs.Calls.{IsHeld, MayStoreNow};
 ghost use Rattle.ext_model.specs.declared.event.Act.TheVariants as act_is;
-ghost use Rattle.ext_tree.specs.Keys.{HasNumber};
+ghost use Rattle.ext_tree.specs.Keys.{HasNumber, KeyValue};
 ghost use Rattle.ext_values.specs.Known.{KeepsKnown, Learns};
 ghost use Rattle.ext_cells.specs.Calls.{EndsClaim};
 ghost use Rattle.ext_store.specs.declared.fault.Refusal.TheVariants.{UnknownKey};
@@ -35,7 +35,8 @@ impl<V: StoreValue + Drop> Store<V> {
     /// Refused, step by step, as `UnknownKey` where the key was not declared, which is no step of the lane; at the
     /// first look-up as `Contended`, or as `Busy` or `Closed` where that decides it; at the claim also as `Exhausted`,
     /// where there were more than 2^40 - 4 events in the context under the key; and at the second look-up as at the
-    /// first. Where the answer is `Found` or `Refused`, the factory was not called, and comes back.
+    /// first: then the lane has claimed the cell and given it up, two events there. Where the answer is `Found` or
+    /// `Refused`, the factory was not called, and comes back.
     ///
     /// `Failed` where the factory fails, and `Unkept`, with the value, where it is not kept, with the causes of
     /// `keep`. Nothing is stored then.
@@ -70,11 +71,39 @@ impl<V: StoreValue + Drop> Store<V> {
                 unused: factory,
             };
         };
-        let claim = match self.claim_missing(&mut lane.cells, context, number) {
+        self.compute_numbered(lane, context, number, factory)
+    }
+
+    /// As `compute`, for the declared key of this number, as `Directory::number_of` gives it: nothing is hashed. The factory
+    /// is called with the key as it was declared. It is a condition that the number is a declared key's; refused as
+    /// `compute` is, save as `UnknownKey`. Takes memory for the value. Own rule.
+    #[tactic(auto, unfolding(crate::specs::Frames::Frame))]
+    pub fn compute_numbered<F: FnOnce(&Key) -> Result<V, Fault>>(
+        &self,
+        lane: &mut Lane<V>,
+        context: ContextNo,
+        key: KeyNo,
+        factory: F,
+    ) -> Compute<V, F>
+        requires lane { IsLaneOf self.now.id lane.old }
+        requires context { context < length self.now.tree }
+        requires key { key < length self.now.keys }
+        requires factory { F.IsAlwaysCallable factory }
+        ensures answer { Computes self.now context key lane.old.cells lane.new.cells (without_factory result) }
+        ensures factory { (name : KeyValue) → HasNumber self.now.keys name key → Uses (λ answer. FnOnceReturnsAt F.FnOnce factory name answer) lane.old.known lane.new.known (without_factory result) }
+        ensures handed_back { HandsBack factory result }
+        ensures known { KeepsKnown lane.old.known lane.new.known }
+        ensures lane { IsLaneOf self.now.id lane.new }
+        ensures kept { StillKeeps lane.old lane.new }
+        ensures apart { IfComputed result (λ number. (m : ℕ) → IsKeptBy lane.old m → m ≢ number) }
+        ensures frame { Frame self.now.id [] lane.old lane.new }
+        ensures steps { steps_of lane.old.cells lane.new.cells ≤ 34 * (self.now.tries + 1) + 2 }
+    {
+        let claim = match self.claim_missing(&mut lane.cells, context, key) {
             Ok(claim) => claim,
             Err(why) => return why.hand_back(factory),
         };
-        let value = match factory(key) {
+        let value = match factory(self.directory.key(key)) {
             Ok(value) => value,
             Err(fault) => {
                 self.abandon(&mut lane.cells, claim);

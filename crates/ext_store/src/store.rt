@@ -466,7 +466,7 @@ impl<V: StoreValue + Drop> Store<V> {
         ensures kept { StillKeeps lane.old lane.new }
         ensures frame { Frame self.now.id [] lane.old lane.new }
     {
-        lane.notes.look(&self.values, number)
+        lane.notes.get(&self.values, number)
     }
 
     /// Afterwards what the first lane has seen is a prefix of what the second has seen: so both speak of one history.

@@ -3,7 +3,7 @@
 ghost use Rattle.std.specs.Prelude.{ℕ, ◌≡◌, ◌≢◌, ◌<◌, [], length, Contains, Ok, Err, IfErr, IfOk, MatchResult};
 ghost use Rattle.std.specs.Fn.{FnOnceReturnsAt};
 ghost use Rattle.ext_model.specs.Calls.{IsHeld, MayStoreNow};
-ghost use Rattle.ext_tree.specs.Keys.{HasNumber};
+ghost use Rattle.ext_tree.specs.Keys.{HasNumber, KeyValue};
 ghost use Rattle.ext_values.specs.Known.{KeepsKnown, Learns};
 ghost use Rattle.ext_cells.specs.declared.refusal.CellRefusal.TheVariants as cell_refusal;
 ghost use Rattle.ext_cells.specs.Calls as cells;
@@ -273,11 +273,40 @@ impl<V: StoreValue + Drop> Store<V> {
                 unused: factory,
             };
         };
-        let claim = match self.wait_to_claim(rt, &mut lane.cells, context, number) {
+        self.compute_wait_numbered(rt, lane, context, number, factory)
+    }
+
+    /// As `compute_wait`, for the declared key of this number, as `Directory::number_of` gives it: nothing is hashed. The
+    /// factory is called with the key as it was declared. It is a condition that the number is a declared key's; refused as
+    /// `compute_wait` is, save as `UnknownKey`. Takes memory for the value; may wait. Own rule.
+    #[tactic(auto, unfolding(crate::specs::Frames::Frame))]
+    pub fn compute_wait_numbered<R: Wait, F: FnOnce(&Key) -> Result<V, Fault>>(
+        &self,
+        rt: &R,
+        lane: &mut Lane<V>,
+        context: ContextNo,
+        key: KeyNo,
+        factory: F,
+    ) -> Compute<V, F>
+        requires lane { IsLaneOf self.now.id lane.old }
+        requires context { context < length self.now.tree }
+        requires key { key < length self.now.keys }
+        requires factory { F.IsAlwaysCallable factory }
+        ensures answer { ComputesAfterWaits self.now context key lane.old.cells lane.new.cells (without_factory result) }
+        ensures decided { IsDecidedCompute result }
+        ensures factory { (name : KeyValue) → HasNumber self.now.keys name key → Uses (λ answer. FnOnceReturnsAt F.FnOnce factory name answer) lane.old.known lane.new.known (without_factory result) }
+        ensures handed_back { HandsBack factory result }
+        ensures known { KeepsKnown lane.old.known lane.new.known }
+        ensures lane { IsLaneOf self.now.id lane.new }
+        ensures kept { StillKeeps lane.old lane.new }
+        ensures apart { IfComputed result (λ number. (m : ℕ) → IsKeptBy lane.old m → m ≢ number) }
+        ensures frame { Frame self.now.id [] lane.old lane.new }
+    {
+        let claim = match self.wait_to_claim(rt, &mut lane.cells, context, key) {
             Ok(claim) => claim,
             Err(why) => return why.hand_back(factory),
         };
-        let value = match factory(key) {
+        let value = match factory(self.directory.key(key)) {
             Ok(value) => value,
             Err(fault) => {
                 self.abandon(&mut lane.cells, claim);

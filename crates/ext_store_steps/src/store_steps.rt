@@ -122,7 +122,7 @@ impl<'b> StoreSteps<'b> {
         match step {
             Step::Put { key, text, up } => {
                 let call = self.names.call("put", *key, path, *up);
-                let value = StoredValue::open(text.as_str());
+                let value = StoredValue::not_closeable(text.as_str());
                 put_value(self.alloc, rt, store, lane, &call, self.key(*key), value)
             }
             Step::PutCloseable { key, text, up } => {
@@ -152,7 +152,7 @@ impl<'b> StoreSteps<'b> {
             }
             Step::Compute { key, text, up } => {
                 let call = self.names.call("compute", *key, path, *up);
-                let value = StoredValue::open(text.as_str());
+                let value = StoredValue::not_closeable(text.as_str());
                 compute(self.alloc, rt, store, lane, &call, self.key(*key), value)
             }
             Step::ComputeCloseable { key, text, up } => {

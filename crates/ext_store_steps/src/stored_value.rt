@@ -24,11 +24,11 @@ impl<'a> StoredValue<'a> {
     ghost use Rattle.ext_store_steps.specs.StoreCalls.{stored_view};
 
     // A value of this text that isn't closeable.
-    pub(crate) fn open(text: &'a str) -> StoredValue<'a>
+    pub(crate) fn not_closeable(text: &'a str) -> StoredValue<'a>
         ensures { stored_view result ≡ record { text = text.now; closeable = false } }
     {
         StoredValue {
-            value: PlanValue::open(text),
+            value: PlanValue::not_closeable(text),
         }
     }
 

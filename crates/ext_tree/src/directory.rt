@@ -74,6 +74,14 @@ impl Directory {
         self.keys.get_index_of(key)
     }
 
+    /// The declared key of this number. It is a condition that the number is a declared key's. Takes no memory. Own rule.
+    pub fn key(&self, number: KeyNo) -> &Key
+        requires number { number < length self.now }
+        ensures key { HasNumber self.now result.now number }
+    {
+        &self.keys.as_slice()[number]
+    }
+
     /// How many keys were declared: 0 to 64.
     pub fn len(&self) -> usize
         ensures count { result ≡ length self.now }

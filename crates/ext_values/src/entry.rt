@@ -48,7 +48,7 @@ impl<V> Entry<V> {
     }
 
     /// The value of the place, if one is found. A known value is always found.
-    pub fn look<'a>(&mut self, place: &'a OnceBox<V>) -> Option<&'a V>
+    pub fn get<'a>(&mut self, place: &'a OnceBox<V>) -> Option<&'a V>
         requires { self.old.place ≡ cell_name place.now }
         ensures place { self.new.place ≡ self.old.place }
         ensures found { IfSome result (λ x. self.new.value ≡ Some x.now) }

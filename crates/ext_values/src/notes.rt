@@ -55,7 +55,7 @@ impl<V> Notes<V> {
     ///
     /// `None`, with nothing changed, for a number outside 1 to the capacity, and where the thread finds the place free.
     /// Own rule.
-    pub fn look<'a>(&mut self, values: &'a Values<V>, number: u32) -> Option<&'a V>
+    pub fn get<'a>(&mut self, values: &'a Values<V>, number: u32) -> Option<&'a V>
         requires { AreNotesOf values.now self.old }
         ensures within { OnSome result (IsNumber values.now number) }
         ensures found { IfSome result (λ x. Learns self.old self.new number x.now) }
@@ -67,7 +67,7 @@ impl<V> Notes<V> {
         if !values.has_number(number) {
             return None;
         }
-        self.entries[number as usize - 1].look(values.place_at(number))
+        self.entries[number as usize - 1].get(values.place_at(number))
     }
 
     /// Shows that a number that both notes know has one value in both; it does nothing else. Takes no memory and never

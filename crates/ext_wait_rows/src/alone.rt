@@ -142,6 +142,40 @@ fn waiting_calls_by_number<R: Wait>(
     Some((found, taken))
 }
 
+/// A letter, where the factory is given this key.
+fn letter_of(given: &Key, wanted: &Key) -> Result<Letter, Fault> {
+    if given == wanted {
+        Ok(Letter { letter: 'z' })
+    } else {
+        Err(Fault::Memory)
+    }
+}
+
+/// The numbers under which letters are computed at the root by the key's number, the second by the form that waits, once the
+/// first was taken out.
+fn computes_by_number<R: Wait>(
+    rt: &R,
+    store: &Store<Letter>,
+    lane: &mut Lane<Letter>,
+    number: KeyNo,
+    key: &Key,
+) -> Option<(u32, u32)>
+    requires lane { IsLaneOf store.now.id lane.old }
+    requires context { 0 < length store.now.tree }
+    requires key { number < length store.now.keys }
+{
+    let make = |given: &Key| -> Result<Letter, Fault> { letter_of(given, key) };
+    let Compute::Computed { number: first } = store.compute_numbered(lane, 0, number, make) else {
+        return None;
+    };
+    let _taken = store.remove_numbered(lane, 0, number).ok()?;
+    let make = |given: &Key| -> Result<Letter, Fault> { letter_of(given, key) };
+    match store.compute_wait_numbered(rt, lane, 0, number, make) {
+        Compute::Computed { number: second } => Some((first, second)),
+        _ => None,
+    }
+}
+
 #[test]
 fn calls_by_the_number_of_a_key(rt: HostRuntime) -> Result<(), Fail> {
     let a = key_a(rt.alloc())?;
@@ -155,6 +189,8 @@ fn calls_by_the_number_of_a_key(rt: HostRuntime) -> Result<(), Fail> {
     let second = Some((Look::Found { at: 0, number: 2 }, Some(2)));
     let answers = waiting_calls_by_number(&rt, store, lane, key);
     same(&rt, answers, second, "the waiting calls");
+    let computed = computes_by_number(&rt, store, lane, key, &a);
+    same(&rt, computed, Some((3, 4)), "the computes");
     Ok(())
 }
 

@@ -37,8 +37,8 @@ impl Waiters {
     }
 }
 
-/// A lane's wait, from its first look to its last. Where it is dropped the lane waits no longer. In contracts it is
-/// whether the lane has announced that it waits, and is to look once more before it sleeps. Own rule.
+/// A lane's wait, from its first try to its last. Where it is dropped the lane waits no longer. In contracts it is
+/// whether the lane has announced that it waits, and is to try once more before it sleeps. Own rule.
 #[derive(Drop)]
 pub struct Waiting<'a> {
     waiters: &'a Waiters,
@@ -54,13 +54,13 @@ impl<'a> Model for Waiting<'a> {
 }
 
 impl<'a> Waiting<'a> {
-    /// What a lane does each time that it has looked in vain: it announces that it waits, and returns at once; or,
-    /// where it has announced that, and has looked once more since, it sleeps until somebody calls `wake_all`, if nobody
+    /// What a lane does each time that it has tried in vain: it announces that it waits, and returns at once; or,
+    /// where it has announced that, and has tried once more since, it sleeps until somebody calls `wake_all`, if nobody
     /// has since it announced itself. Takes no memory. It may wait: it promises its clause if it returns.
     ///
-    /// That second look is why no wake is missed. Who ends something ends it first, and then looks whether anybody has
+    /// That second try is why no wake is missed. Who ends something ends it first, and then reads whether anybody has
     /// announced himself. So either it finds this lane, and keeps it from sleeping or wakes it; or this lane announced
-    /// itself later than that, and its second look finds that the thing has ended. Own rule.
+    /// itself later than that, and its second try finds that the thing has ended. Own rule.
     pub fn announce_or_sleep<R: Wait>(&mut self, rt: &R)
         ensures { self.new ≡ not self.old }
     {

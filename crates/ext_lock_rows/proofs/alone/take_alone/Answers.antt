@@ -25,11 +25,11 @@ quiet lanes lane first (e ∷ more) one below legal =
 
 never : BeginningsAreLegal → OnlyLanesHold → (tries : ℕ) (set : List (ℕ × LockMode)) (before after : Lane) (refusal : LockRefusal) → before.lanes ≡ 1 → before.view.number < before.lanes → 1 ≤ tries
     → IsLegal before.lanes (seen_by after.view) → IsRefused tries set before after refusal → ⊥
-never beginnings only tries set before after (Taken key) one below least legal why =
+never beginnings only tries set before after (Taken lock) one below least legal why =
     let taken = why.stood in
     let apart = taken.apart in
-    both_ways _ (only before.lanes why.point (beginnings before.lanes why.point (seen_by after.view) why.is_point.until legal) taken.other (omega arith) key taken.held) taken.holds_it
-never beginnings only tries set before after (Contended key) one below least legal why =
+    both_ways _ (only before.lanes why.point (beginnings before.lanes why.point (seen_by after.view) why.is_point.until legal) taken.other (omega arith) lock taken.held) taken.holds_it
+never beginnings only tries set before after (Contended lock) one below least legal why =
     let crowd = why.stood.1 in
     let none = quiet before.lanes before.view.number _ crowd.0 one below (subst (IsLegal before.lanes) crowd.1 (beginnings before.lanes why.point (seen_by after.view) why.is_point.until legal)) in
     let many = crowd.2 in

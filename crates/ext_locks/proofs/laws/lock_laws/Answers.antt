@@ -9,7 +9,7 @@ pub returns-clause-lawful : goal.returns-clause-lawful
 returns-clause-lawful c = lawful
 
 pub returns-clause-own : goal.returns-clause-own
-returns-clause-own c = λ h later key mode lane same. same_held later h key mode lane same
+returns-clause-own c = λ h later lock mode lane same. same_held later h lock mode lane same
 
 pub returns-clause-free : goal.returns-clause-free
 returns-clause-free c = free_unwritten
@@ -21,7 +21,7 @@ pub returns-clause-fresh : goal.returns-clause-fresh
 returns-clause-fresh c = nothing_yet
 
 pub returns-clause-only_lanes : goal.returns-clause-only_lanes
-returns-clause-only_lanes c = λ lanes h legal lane many key mode. none_held h key mode lane (unmade lanes h legal lane many)
+returns-clause-only_lanes c = λ lanes h legal lane many lock mode. none_held h lock mode lane (unmade lanes h legal lane many)
 
 pub returns-clause-beginnings : goal.returns-clause-beginnings
 returns-clause-beginnings c = λ lanes f h begins legal. legal_begun f h begins legal

@@ -31,8 +31,8 @@ invariant_of-result c =
     let names = c.len-locks.ensures in
     let same = names_count c.args.names.now c.in_ok-names.names.items c.in_ok-names.ensures.names in
     let few = c.requires.names in (
-      (let key = ap (λ x. x.locks) made.5 in let size = made.0 in omega arith),
-      (let key = ap (λ x. x.locks) made.5 in omega arith),
+      (let locks = ap (λ x. x.locks) made.5 in let size = made.0 in omega arith),
+      (let locks = ap (λ x. x.locks) made.5 in omega arith),
       omega arith,
       c.in_ok-names.ensures.sorted,
       c.in_ok-names.ensures.different,

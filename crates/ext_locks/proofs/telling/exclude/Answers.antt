@@ -1,15 +1,15 @@
 use Rattle.std.proofs.Common.{◌+◌, length, ap, ◌∙◌}
 use Rattle.ext_locks.specs.Rule.{noted}
 use Rattle.ext_locks.proofs.Fronts.{makes_quiet, makes_legal, told_makes, kept_makes}
-use Rattle.ext_locks.proofs.Trying.{looked_adds}
+use Rattle.ext_locks.proofs.Trying.{loaded_adds}
 use Rattle.ext_locks.proofs.Meeting.{exclusive_one, exclusive_other, sees_other}
 use Rattle.ext_locks.proofs.telling.exclude.Goals as goal
 
 pub returns-clause-steps_one : goal.returns-clause-steps_one
-returns-clause-steps_one c = looked_adds _ _ _ _ _ c.tell-second.ensures.step ∙ ap (λ m. length m.0.fronts + 1) c.tell-first.ensures.from.1
+returns-clause-steps_one c = loaded_adds _ _ _ _ _ c.tell-second.ensures.step ∙ ap (λ m. length m.0.fronts + 1) c.tell-first.ensures.from.1
 
 pub returns-clause-steps_other : goal.returns-clause-steps_other
-returns-clause-steps_other c = ap (λ m. length m.0.fronts) c.tell-second.ensures.from.1 ∙ looked_adds _ _ _ _ _ c.tell-first.ensures.step
+returns-clause-steps_other c = ap (λ m. length m.0.fronts) c.tell-second.ensures.from.1 ∙ loaded_adds _ _ _ _ _ c.tell-first.ensures.step
 
 pub returns-clause-one : goal.returns-clause-one
 returns-clause-one c =

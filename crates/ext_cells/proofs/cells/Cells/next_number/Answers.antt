@@ -11,8 +11,8 @@ use Rattle.ext_cells.proofs.cells.Cells.next_number.Goals as goal
 pub loop-init : goal.loop-init
 loop-init c =
     let place : c.self.inside.limits.cells ≡ c.args.lane.now.cells.limits.cells = ap (λ z. z.id.limits.cells) c.self.view_is ∙ ap (λ z. z.limits.cells) (sym c.requires.lane) in
-    let f = c.look-count.ensures.found in
-    first_on _ _ _ _ f.0 (omega arith) (subst (λ p. Finds c.args.lane.now.cells.limits c.args.lane.now.view p c.look-count.result f.0) place f.1) f.2
+    let f = c.read-count.ensures.found in
+    first_on _ _ _ _ f.0 (omega arith) (subst (λ p. Finds c.args.lane.now.cells.limits c.args.lane.now.view p c.read-count.result f.0) place f.1) f.2
 
 pub returns-then-count-most-clause-reply : goal.returns-then-count-most-clause-reply
 returns-then-count-most-clause-reply c =

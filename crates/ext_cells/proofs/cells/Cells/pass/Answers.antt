@@ -5,8 +5,8 @@ use Rattle.ext_cells.specs.Steps.{Finds}
 use Rattle.ext_cells.proofs.Collecting.{known_at, take_next, read_length, pass_more}
 use Rattle.ext_cells.proofs.cells.Cells.pass.Goals as goal
 
-pub look-word-requires-clause-place : goal.look-word-requires-clause-place
-look-word-requires-clause-place c = let i = known_at _ _ c.loop-cell.cell-index c.requires.known c.loop-cell-test.true in omega (arith, i)
+pub read-word-requires-clause-place : goal.read-word-requires-clause-place
+read-word-requires-clause-place c = let i = known_at _ _ c.loop-cell.cell-index c.requires.known c.loop-cell-test.true in omega (arith, i)
 
 pub push-requires : goal.push-requires
 push-requires c =
@@ -17,14 +17,14 @@ push-requires c =
 
 pub loop-cell-preserved : goal.loop-cell-preserved
 loop-cell-preserved c =
-    let f = c.look-word.ensures.found in
+    let f = c.read-word.ensures.found in
     let i = c.loop-cell.cell-index in
     let old = c.loop-cell.invariant in
     let limits = c.args.lane.now.cells.limits in
     let below : get_or c.args.cells.now i 0 < c.args.lane.now.cells.limits.cells = subst (λ z. get_or c.args.cells.now i 0 < z.limits.cells) (sym c.requires.lane) (known_at _ _ i c.requires.known c.loop-cell-test.true) in
-    let found : Finds c.args.lane.now.cells.limits c.loop-cell.lane.view (get_or c.args.cells.now i 0) c.look-word.result f.0 = subst (λ z. Finds z.limits c.loop-cell.lane.view (get_or c.args.cells.now i 0) c.look-word.result f.0) old.cells f.1 in record {
+    let found : Finds c.args.lane.now.cells.limits c.loop-cell.lane.view (get_or c.args.cells.now i 0) c.read-word.result f.0 = subst (λ z. Finds z.limits c.loop-cell.lane.view (get_or c.args.cells.now i 0) c.read-word.result f.0) old.cells f.1 in record {
       cells = ap (λ (l : Lane). l.cells) f.2 ∙ old.cells;
-      read = subst (λ (z : List ℕ × List ℕ). ReadPass c.args.lane.now.cells.limits c.args.lane.now.view c.look-word.new.lane.view z.0 z.1)
+      read = subst (λ (z : List ℕ × List ℕ). ReadPass c.args.lane.now.cells.limits c.args.lane.now.view c.read-word.new.lane.view z.0 z.1)
           (λ k. (sym (take_next c.args.cells.now i c.loop-cell-test.true) k, sym c.push.ensures k))
           (pass_more _ _ _ _ _ _ _ _ f.0 old.read below found (ap (λ (l : Lane). l.view) f.2));
     }

@@ -14,20 +14,20 @@ loop-cell-init c =
       read = λ words is. ([], pass_none c.args.lane.now.cells.limits c.args.lane.now.view c.look_back.ensures.legal, subst (λ ws. IsReading ws c.args.before) (sym (append-nil words)) is);
     }
 
-pub look-word-requires-clause-place : goal.look-word-requires-clause-place
-look-word-requires-clause-place c = let i = known_at _ _ c.loop-cell.cell-index c.requires.known c.loop-cell-test.true in omega (arith, i)
+pub read-word-requires-clause-place : goal.read-word-requires-clause-place
+read-word-requires-clause-place c = let i = known_at _ _ c.loop-cell.cell-index c.requires.known c.loop-cell-test.true in omega (arith, i)
 
 pub loop-cell-preserved : goal.loop-cell-preserved
 loop-cell-preserved c =
-    let f = c.look-word.ensures.found in
+    let f = c.read-word.ensures.found in
     let i = c.loop-cell.cell-index in
     let old = c.loop-cell.invariant in
     let counted = old.count in
     let once = c.with-reading.ensures.count in
-    let word = c.look-word.result in
+    let word = c.read-word.result in
     let limits = c.args.lane.now.cells.limits in
     let below : get_or c.args.cells.now i 0 < c.args.lane.now.cells.limits.cells = subst (λ z. get_or c.args.cells.now i 0 < z.limits.cells) (sym c.requires.lane) (known_at _ _ i c.requires.known c.loop-cell-test.true) in
-    let found : Finds c.args.lane.now.cells.limits c.loop-cell.lane.view (get_or c.args.cells.now i 0) c.look-word.result f.0 = subst (λ z. Finds z.limits c.loop-cell.lane.view (get_or c.args.cells.now i 0) c.look-word.result f.0) old.cells f.1 in
+    let found : Finds c.args.lane.now.cells.limits c.loop-cell.lane.view (get_or c.args.cells.now i 0) c.read-word.result f.0 = subst (λ z. Finds z.limits c.loop-cell.lane.view (get_or c.args.cells.now i 0) c.read-word.result f.0) old.cells f.1 in
     record {
       cells = ap (λ (l : Lane). l.cells) f.2 ∙ old.cells;
       count = omega (arith, counted, once);
@@ -35,7 +35,7 @@ loop-cell-preserved c =
       read = λ words is.
           let more = old.read words is in (
             more.0 ++ word ∷ [],
-            subst (λ z. ReadPass c.args.lane.now.cells.limits c.args.lane.now.view c.look-word.new.lane.view z (more.0 ++ word ∷ [])) (sym (take_next c.args.cells.now i c.loop-cell-test.true))
+            subst (λ z. ReadPass c.args.lane.now.cells.limits c.args.lane.now.view c.read-word.new.lane.view z (more.0 ++ word ∷ [])) (sym (take_next c.args.cells.now i c.loop-cell-test.true))
                 (pass_more _ _ _ _ _ _ _ _ f.0 more.1 below found (ap (λ (l : Lane). l.view) f.2)),
             subst (λ ws. IsReading ws c.with-reading.result) (append_assoc words more.0 (word ∷ [])) (c.with-reading.ensures.reading (words ++ more.0) more.2),
           );

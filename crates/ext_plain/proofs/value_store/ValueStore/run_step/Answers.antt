@@ -8,7 +8,7 @@ use Rattle.ext_plain.specs.Helpers.{state_view, end_view}
 use Rattle.ext_plain.specs.declared.lack.Lack.TheVariants as lacks
 use Rattle.ext_plain.specs.ValueStates.{enough, no_words}
 use Rattle.ext_plain.proofs.Lacks.{at_lack, lack-into, unsaid}
-use Rattle.ext_plain.proofs.Acts.{outcome_ended, IfOk-into, computes_as, computefails_by, opened, made_closeable}
+use Rattle.ext_plain.proofs.Acts.{outcome_ended, IfOk-into, computes_as, computefails_by, made_not_closeable, made_closeable}
 use Rattle.ext_plain.proofs.value_store.ValueStore.run_step.Goals as goal
 use Rattle.ext_steps.specs.Verdicts.{want_verdict, none_verdict}
 use Rattle.ext_steps.specs.Calls.{CallText, call_view, keys_in}
@@ -36,7 +36,7 @@ pub returns-in-Compute-clause-end : goal.returns-in-Compute-clause-end
 returns-in-Compute-clause-end c =
     let s = state_view c.args.self.now in
     IfOk-into (end_view c.compute.new.self) _ _ c.compute.result c.compute.ensures.end
-    (computes_as enough (call_view c.call-in-Compute.result) _ (value_view c.open-in-Compute.result) _ s c.call-in-Compute.ensures (opened c.open-in-Compute.result _ _ c.open-in-Compute.ensures c.as_str-in-Compute.ensures.value)
+    (computes_as enough (call_view c.call-in-Compute.result) _ (value_view c.not_closeable-in-Compute.result) _ s c.call-in-Compute.ensures (made_not_closeable c.not_closeable-in-Compute.result _ _ c.not_closeable-in-Compute.ensures c.as_str-in-Compute.ensures.value)
     ∙ ap (λ step. step_run (keys_in c.args.keys.now) c.args.path.now (step_view step) s) (sym c.in-Compute.is))
 
 pub returns-in-ComputeCloseable-clause-end : goal.returns-in-ComputeCloseable-clause-end
@@ -78,7 +78,7 @@ pub returns-in-Compute-clause-lacks : goal.returns-in-Compute-clause-lacks
 returns-in-Compute-clause-lacks c =
     let s = state_view c.args.self.now in
     lack-into _ (λ m. step_by (keys_in c.args.keys.now) m c.args.path.now (step_view c.args.step.now) s) c.compute.result (state_view c.compute.new.self) (λ m.
-    computes_as m (call_view c.call-in-Compute.result) _ (value_view c.open-in-Compute.result) _ s c.call-in-Compute.ensures (opened c.open-in-Compute.result _ _ c.open-in-Compute.ensures c.as_str-in-Compute.ensures.value)
+    computes_as m (call_view c.call-in-Compute.result) _ (value_view c.not_closeable-in-Compute.result) _ s c.call-in-Compute.ensures (made_not_closeable c.not_closeable-in-Compute.result _ _ c.not_closeable-in-Compute.ensures c.as_str-in-Compute.ensures.value)
     ∙ ap (λ step. step_by (keys_in c.args.keys.now) m c.args.path.now (step_view step) s) (sym c.in-Compute.is)) c.compute.ensures.lacks
 
 pub returns-in-ComputeCloseable-clause-lacks : goal.returns-in-ComputeCloseable-clause-lacks

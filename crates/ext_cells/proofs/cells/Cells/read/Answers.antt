@@ -1,6 +1,6 @@
 use Rattle.std.proofs.Common.{ap, ◌∙◌}
 use Rattle.ext_cells.proofs.Lanes.{stays_lane, found_lane}
-use Rattle.ext_cells.proofs.cells.Cells.look.Goals as goal
+use Rattle.ext_cells.proofs.cells.Cells.read.Goals as goal
 
 pub load-requires-clause-table : goal.load-requires-clause-table
 load-requires-clause-table c = ap (λ z. z.cells.table) c.lane.view_is ∙ ap (λ z. z.table) c.requires.lane

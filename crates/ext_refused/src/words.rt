@@ -1,0 +1,86 @@
+//! The words of the command line.
+use std::alloc::AllocError;
+use std::rt::Env;
+
+/// What is printed without words, and where they are refused.
+pub(crate) const USAGE: &str = "\
+usage: ext_refused CASE ALLOCATIONS
+
+Makes and drops so many ALLOCATIONS (0 to 4294967295), and then makes the calls of the CASE: ids,
+plain, keys, places or store. It prints a line: ok; or no memory, where a call answered that and all
+was then as it has to be; or else what was not. The exit status is 0, or 1 where something was not
+as it has to be, 2 where the words are refused, or 3 where there was no memory before the case.";
+
+/// A case: what is called.
+#[derive(Clone, Copy)]
+pub(crate) enum Case {
+    /// An id is read and written.
+    Ids,
+    /// Calls of the one-thread store.
+    Plain,
+    /// Keys are made and declared, and a tree is built.
+    Keys,
+    /// Places for values are made, and a value is placed.
+    Places,
+    /// A store is opened, a value is kept and put, and one is computed.
+    Store,
+}
+
+impl Case {
+    /// The case of this word.
+    fn named(name: &str) -> Option<Case> {
+        match name {
+            "ids" => Some(Case::Ids),
+            "plain" => Some(Case::Plain),
+            "keys" => Some(Case::Keys),
+            "places" => Some(Case::Places),
+            "store" => Some(Case::Store),
+            _ => None,
+        }
+    }
+}
+
+/// What the words ask for.
+#[derive(Clone, Copy)]
+pub(crate) enum Request {
+    /// The usage alone.
+    Usage,
+    /// A case, after so many allocations.
+    Calls { case: Case, allocations: u32 },
+    /// They are refused.
+    Refused,
+    /// There is no memory for them.
+    Memory,
+}
+
+/// What the command line asks for. Takes memory for the words. Own rule.
+pub(crate) fn request_of<R: Env + AllocGlobal>(rt: &R) -> Request {
+    match words_of(rt) {
+        Ok(Some(words)) => request_in(words.as_slice()),
+        Ok(None) => Request::Refused,
+        Err(AllocError) => Request::Memory,
+    }
+}
+
+/// The words after the program's name, where they are texts.
+fn words_of<R: Env + AllocGlobal>(rt: &R) -> Result<Option<Vec<String>>, AllocError> {
+    let Ok(words) = std::env::args(rt) else {
+        return Ok(None);
+    };
+    Ok(Some(words.skip(1).collect(rt.alloc())?))
+}
+
+fn request_in(words: &[String]) -> Request {
+    match words {
+        [] => Request::Usage,
+        [case, allocations] => calls_in(case, allocations).unwrap_or(Request::Refused),
+        _ => Request::Refused,
+    }
+}
+
+fn calls_in(case: &str, allocations: &str) -> Option<Request> {
+    Some(Request::Calls {
+        case: Case::named(case)?,
+        allocations: allocations.parse().ok()?,
+    })
+}
