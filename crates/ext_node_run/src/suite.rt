@@ -62,8 +62,8 @@ pub trait Suite<V: StoreValue + Drop>: Callbacks {
         ensures { action_gives self.now node result };
 
     /// The node has ended: its calls were made and its context was closed. Told once for each node of which that is so, by the thread that ran
-    /// it, and not for those that were skipped, nor where the run is refused before that. Does nothing, unless the suite says otherwise. JUnit Platform, Javadoc `EngineExecutionListener`,
-    /// `executionFinished`.
+    /// it, and not for those that were skipped, nor where the run is refused before that. Does nothing, unless the suite says otherwise.
+    /// JUnit Platform, Javadoc `EngineExecutionListener`, `executionFinished`.
     fn ended(&self, _node: ContextNo) {}
 
     /// Makes one call of the node, on a lane of the store: a callback of the node or of one above it, or the test. A test is lent the
