@@ -11,6 +11,7 @@ use Rattle.ext_model.specs.History.{Limits, state_after, stored_number}
 use Rattle.ext_model.specs.Plain.{number_drawn}
 use Rattle.ext_model.specs.Calls.{Calls}
 use Rattle.ext_tree.specs.Keys.{KeyValue, HasNumber}
+use Rattle.ext_tree.proofs.KeyLaws.{numbers_tell}
 use Rattle.ext_values.specs.Known.{Learns, known_at}
 use Rattle.ext_cells.specs.declared.refusal.CellRefusal.{CellRefusal}
 use Rattle.ext_cells.specs.declared.refusal.CellRefusal.TheVariants as cell
@@ -31,7 +32,7 @@ one_number a b e = cc e
 
 -- under one number one key was declared
 pub one_key : (declared keys : List KeyValue) (number : ℕ) (a b : KeyValue) → declared ≡ keys → HasNumber declared a number → HasNumber keys b number → a ≡ b
-one_key declared keys number a b same first second = cc (sym (subst (λ l. HasNumber l a number) same first) ∙ second)
+one_key declared keys number a b same first second = numbers_tell.one_key keys a b number (subst (λ l. HasNumber l a number) same first) second
 
 -- the act stores another number, or none
 abbrev pub StoresNot : ℕ → Act ℕ → Type 0
