@@ -3,7 +3,7 @@ ghost use Rattle.std.specs.Prelude.{◌<◌, length};
 ghost use Rattle.ext_store.specs.Stores.{IsLaneOf};
 
 use crate::held::same;
-use crate::opening::{Letter, key_a, open_pair};
+use crate::opening::{Letter, with_pair};
 use ext_model::{ContextNo, Fault, KeyNo, Look};
 use ext_store::{Compute, Lane, Store};
 use ext_tree::Key;
@@ -176,36 +176,49 @@ fn computes_by_number<R: Wait>(
     }
 }
 
-#[test]
-fn calls_by_the_number_of_a_key(rt: HostRuntime) -> Result<(), Fail> {
-    let a = key_a(rt.alloc())?;
-    let mut pair = open_pair(rt.alloc())?;
-    let (store, lane) = (&pair.store, &mut pair.first);
-    let Some(key) = store.directory().number_of(&a) else {
+/// Asserts what the calls by the key's number answer.
+fn call_by_number<R: Abort + Wait>(
+    rt: &R,
+    store: &Store<Letter>,
+    key: &Key,
+    lane: &mut Lane<Letter>,
+)
+    requires lane { IsLaneOf store.now.id lane.old }
+    requires contexts { 2 < length store.now.tree }
+{
+    let Some(number) = store.directory().number_of(key) else {
         panic!(rt; "no key");
     };
     let first = Some((Look::Found { at: 0, number: 1 }, Some(1)));
-    same(&rt, calls_by_number(store, lane, key), first, "the calls");
+    same(rt, calls_by_number(store, lane, number), first, "the calls");
     let second = Some((Look::Found { at: 0, number: 2 }, Some(2)));
-    let answers = waiting_calls_by_number(&rt, store, lane, key);
-    same(&rt, answers, second, "the waiting calls");
-    let computed = computes_by_number(&rt, store, lane, key, &a);
-    same(&rt, computed, Some((3, 4)), "the computes");
-    Ok(())
+    let answers = waiting_calls_by_number(rt, store, lane, number);
+    same(rt, answers, second, "the waiting calls");
+    let computed = computes_by_number(rt, store, lane, number, key);
+    same(rt, computed, Some((3, 4)), "the computes");
+}
+
+#[test]
+fn calls_by_the_number_of_a_key(rt: HostRuntime) -> Result<(), Fail> {
+    with_pair(rt.alloc(), |store, key, lane, _other| {
+        call_by_number(&rt, store, key, lane)
+    })
+}
+
+/// Puts a letter, finds it, takes it out, and computes another one.
+fn call_alone<R: Abort + Wait>(rt: &R, store: &Store<Letter>, key: &Key, lane: &mut Lane<Letter>)
+    requires lane { IsLaneOf store.now.id lane.old }
+    requires contexts { 2 < length store.now.tree }
+{
+    same(rt, store_first(rt, store, lane, key), Some(1), "the put");
+    find_and_remove(rt, store, lane, key);
+    let told = compute(rt, store, lane, key, 'z');
+    same(rt, told, Told::Computed(2), "the compute");
 }
 
 #[test]
 fn waiting_forms_alone(rt: HostRuntime) -> Result<(), Fail> {
-    let a = key_a(rt.alloc())?;
-    let mut pair = open_pair(rt.alloc())?;
-    let (store, lane) = (&pair.store, &mut pair.first);
-    same(&rt, store_first(&rt, store, lane, &a), Some(1), "the put");
-    find_and_remove(&rt, store, lane, &a);
-    same(
-        &rt,
-        compute(&rt, store, lane, &a, 'z'),
-        Told::Computed(2),
-        "the compute",
-    );
-    Ok(())
+    with_pair(rt.alloc(), |store, key, lane, _other| {
+        call_alone(&rt, store, key, lane)
+    })
 }

@@ -1,9 +1,9 @@
 //! A put that waits for a factory whose context is closed once the factory has ended.
-ghost use Rattle.std.specs.Prelude.{◌<◌, All, IfErr, length};
+ghost use Rattle.std.specs.Prelude.{◌≡◌, ◌<◌, All, IfErr, length};
 ghost use Rattle.ext_store.specs.Stores.{IsCloserOf, IsLaneOf};
 
 use crate::held::{Gate, compute_held, same};
-use crate::opening::{Letter, Pair, key_a, open_pair};
+use crate::opening::{Letter, with_store};
 use ext_closing::{CloseAction, CloseFault, close};
 use ext_model::Fault;
 use ext_store::{Closer, Lane, Refusal, Store};
@@ -13,7 +13,7 @@ use std::process::Abort;
 use std::sync::Wait;
 use std::sync::atomic::{AtomicU64, Ordering};
 use std::test::Fail;
-use std::thread::{Threads, join};
+use std::thread::{Threads, join_mut};
 use std::time::Clock;
 
 // How often the put and the close race for the place, and by how many turns the close comes later each time.
@@ -40,32 +40,31 @@ type First = Result<u32, (Closer, CloseFault)>;
 fn compute_and_close<R: Abort + Clock>(
     rt: &R,
     store: &Store<Letter>,
-    lane: Lane<Letter>,
-    closer: Closer,
+    hand: &mut [Lane<Letter>],
+    closers: &mut Vec<Closer>,
     key: &Key,
     gate: &Gate,
     turns: u32,
-) -> (Lane<Letter>, First)
-    requires lane { IsLaneOf store.now.id lane }
-    requires closer { IsCloserOf store.now closer }
+) -> First
+    requires one { length hand.old ≡ 1 }
+    requires lane { All (IsLaneOf store.now.id) hand.old }
+    requires closers { All (IsCloserOf store.now) closers.old.items }
     requires context { 1 < length store.now.tree }
-    ensures lane { IsLaneOf store.now.id result.0 }
-    ensures closer { IfErr result.1 (λ e. IsCloserOf store.now e.0) }
+    ensures lane { All (IsLaneOf store.now.id) hand.new }
+    ensures closer { IfErr result (λ e. IsCloserOf store.now e.0) }
 {
-    let mut lane = lane;
-    assert!(rt; compute_held(rt, store, &mut lane, key, gate) == Some(2));
+    assert!(rt; compute_held(rt, store, &mut hand[0], key, gate) == Some(2));
     let word = AtomicU64::new(0);
     for _ in 0..turns {
         word.load(Ordering::SeqCst);
     }
-    let mut hand = [lane];
-    let first = match close(store, closer, &mut hand, &mut Close) {
+    assert!(rt; closers.len() == 3);
+    let closed = close(store, closers.remove(1), hand, &mut Close);
+    gate.watch(rt);
+    match closed {
         Ok(closed) => Ok(closed.closed),
         Err(refused) => Err(refused),
-    };
-    gate.watch(rt);
-    let [lane] = hand;
-    (lane, first)
+    }
 }
 
 /// What became of the second lane's put: it stored its number over another one, or its number came back.
@@ -80,25 +79,24 @@ enum Second {
 fn put_beside<R: Wait + Clock>(
     rt: &R,
     store: &Store<Letter>,
-    lane: Lane<Letter>,
+    lane: &mut Lane<Letter>,
     key: &Key,
     gate: &Gate,
-) -> (Lane<Letter>, Second)
-    requires lane { IsLaneOf store.now.id lane }
+) -> Second
+    requires lane { IsLaneOf store.now.id lane.old }
     requires context { 1 < length store.now.tree }
-    ensures lane { IsLaneOf store.now.id result.0 }
+    ensures lane { IsLaneOf store.now.id lane.new }
 {
-    let mut lane = lane;
-    let Ok(kept) = store.keep_wait(rt, &mut lane, Letter { letter: 'z' }) else {
-        return (lane, Second::Unkept);
+    let Ok(kept) = store.keep_wait(rt, lane, Letter { letter: 'z' }) else {
+        return Second::Unkept;
     };
     gate.come(rt);
-    let second = match store.put_wait(rt, &mut lane, 1, key, kept) {
+    let second = match store.put_wait(rt, lane, 1, key, kept) {
         Ok(stood) => Second::Stored(stood),
         Err((kept, why)) => Second::Back(kept.number(), why),
     };
     gate.end();
-    (lane, second)
+    second
 }
 
 /// Asserts that the second lane's value is not lost: it came back, or it was stored over the factory's, and is closed with its
@@ -106,38 +104,26 @@ fn put_beside<R: Wait + Clock>(
 fn settle<R: Abort>(
     rt: &R,
     store: &Store<Letter>,
-    lanes: [Lane<Letter>; 2],
+    lanes: &mut [Lane<Letter>],
     first: First,
     second: Second,
 )
-    requires lanes { All (IsLaneOf store.now.id) lanes }
+    requires two { length lanes.old ≡ 2 }
+    requires lanes { All (IsLaneOf store.now.id) lanes.old }
     requires closer { IfErr first (λ e. IsCloserOf store.now e.0) }
 {
     match first {
         Ok(count) => {
             same(rt, count, 1, "the values that are closed");
-            same(
-                rt,
-                second,
-                Second::Back(1, Refusal::Closed(1)),
-                "the put that came later",
-            );
+            let back = Second::Back(1, Refusal::Closed(1));
+            same(rt, second, back, "the put that came later");
         }
         Err((closer, fault)) => {
-            same(
-                rt,
-                fault,
-                CloseFault::Unjoined(1),
-                "the close by the first lane",
-            );
-            same(
-                rt,
-                second,
-                Second::Stored(Some(2)),
-                "the put that came first",
-            );
-            let mut hand = lanes;
-            let Ok(closed) = close(store, closer, &mut hand, &mut Close) else {
+            let unjoined = CloseFault::Unjoined(1);
+            same(rt, fault, unjoined, "the close by the first lane");
+            let stored = Second::Stored(Some(2));
+            same(rt, second, stored, "the put that came first");
+            let Ok(closed) = close(store, closer, lanes, &mut Close) else {
                 panic!(rt; "the value that was put is not closed");
             };
             same(rt, closed.closed, 1, "the values that are closed");
@@ -145,43 +131,64 @@ fn settle<R: Abort>(
     }
 }
 
-/// One race of the put and the close.
+/// One race of the put and the close, by the two lanes.
 fn race<R: Abort + Clock + Threads + Wait + Sync>(
+    rt: &R,
+    store: &Store<Letter>,
+    key: &Key,
+    lanes: &mut [Lane<Letter>],
+    closers: &mut Vec<Closer>,
+    turns: u32,
+)
+    requires lanes { All (IsLaneOf store.now.id) lanes.old }
+    requires closers { All (IsCloserOf store.now) closers.old.items }
+    requires contexts { 2 < length store.now.tree }
+{
+    assert!(rt; lanes.len() == 2);
+    let gate = Gate::new();
+    let held = &gate;
+    let (first, second) = lanes.split_at_mut(1);
+    let (closed, put) = join_mut(
+        rt,
+        &mut || -> First
+            requires one { length first.now ≡ 1 }
+            requires lane { All (IsLaneOf store.now.id) first.now }
+            requires closers { All (IsCloserOf store.now) closers.now.items }
+            requires context { 1 < length store.now.tree }
+            ensures lane { All (IsLaneOf store.entry.now.id) first.exit.now }
+            ensures closer { IfErr result (λ e. IsCloserOf store.entry.now e.0) }
+        { compute_and_close(rt, store, first, closers, key, held, turns) },
+        &mut || -> Second
+            requires one { length second.now ≡ 1 }
+            requires lane { All (IsLaneOf store.now.id) second.now }
+            requires context { 1 < length store.now.tree }
+            ensures { All (IsLaneOf store.entry.now.id) second.exit.now }
+        { put_beside(rt, store, &mut second[0], key, held) },
+    );
+    settle(rt, store, lanes, closed, put);
+}
+
+/// One race in a store of its own.
+fn race_in_store<R: Abort + Clock + Threads + Wait + Sync>(
     rt: &R,
     alloc: Global,
     turns: u32,
 ) -> Result<(), Fail> {
-    let a = key_a(alloc)?;
-    let Pair {
-        store,
-        first,
-        second,
-        mut closers,
-    } = open_pair(alloc)?;
-    assert!(rt; closers.len() == 3);
-    let closer = closers.remove(1);
-    let gate = Gate::new();
-    let (shared, key, held) = (&store, &a, &gate);
-    let ((first, closed), (second, put)) = join(
-        rt,
-        move || -> (Lane<Letter>, First)
-            requires { IsLaneOf shared.now.id first × IsCloserOf shared.now closer × (1 < length shared.now.tree) }
-            ensures lane { IsLaneOf shared.entry.now.id result.0 }
-            ensures closer { IfErr result.1 (λ e. IsCloserOf shared.entry.now e.0) }
-        { compute_and_close(rt, shared, first, closer, key, held, turns) },
-        move || -> (Lane<Letter>, Second)
-            requires { IsLaneOf shared.now.id second × (1 < length shared.now.tree) }
-            ensures { IsLaneOf shared.entry.now.id result.0 }
-        { put_beside(rt, shared, second, key, held) },
-    );
-    settle(rt, &store, [first, second], closed, put);
-    Ok(())
+    with_store(
+        alloc,
+        2,
+        |store: &Store<Letter>, key: &Key, lanes: &mut [Lane<Letter>], closers: &mut Vec<Closer>|
+            requires lanes { All (IsLaneOf store.now.id) lanes.old }
+            requires closers { All (IsCloserOf store.now) closers.old.items }
+            requires contexts { 2 < length store.now.tree }
+        { race(rt, store, key, lanes, closers, turns) },
+    )
 }
 
 #[test]
 fn put_beside_a_context_that_closes(rt: HostRuntime) -> Result<(), Fail> {
     for number in 0..RACES {
-        race(&rt, rt.alloc(), number * LATER)?;
+        race_in_store(&rt, rt.alloc(), number * LATER)?;
     }
     Ok(())
 }

@@ -3,9 +3,9 @@ ghost use Rattle.std.specs.Prelude.{◌<◌, All, length};
 ghost use Rattle.ext_store.specs.Stores.{IsLaneOf};
 
 use crate::held::{same, watch};
-use crate::opening::{Letter, Opened, key_a, open};
+use crate::opening::{Letter, with_store};
 use ext_model::{ContextNo, Fault, Look};
-use ext_store::{Compute, Lane, Store};
+use ext_store::{Closer, Compute, Lane, Store};
 use ext_tree::Key;
 use std::alloc::Global;
 use std::process::Abort;
@@ -221,29 +221,45 @@ fn run<R: Threads + Wait + Sync>(
     );
 }
 
-/// What all lanes of a store did together. The test fails where a lane has not made its rounds in time.
+/// What all lanes did together. The test fails where a lane has not made its rounds in time.
+fn told<R: Abort + Clock + Threads + Wait + Sync>(
+    rt: &R,
+    store: &Store<Letter>,
+    key: &Key,
+    lanes: &mut [Lane<Letter>],
+    all: bool,
+) -> [u64; 6]
+    requires lanes { All (IsLaneOf store.now.id) lanes.old }
+    requires contexts { 2 < length store.now.tree }
+{
+    let counts = Counts::new();
+    let shared = &counts;
+    join(
+        rt,
+        move ||
+            requires { All (IsLaneOf store.now.id) lanes.now × (2 < length store.now.tree) }
+        { run(rt, store, lanes, key, all, shared) },
+        || watch(rt, &shared.ended, 16),
+    );
+    counts.told()
+}
+
+/// What all lanes of a store did together.
 fn counted<R: Abort + Clock + Threads + Wait + Sync>(
     rt: &R,
     alloc: Global,
     all: bool,
 ) -> Result<[u64; 6], Fail> {
-    let a = key_a(alloc)?;
-    let Opened {
-        store,
-        mut lanes,
-        ..
-    } = open(alloc, 16)?;
-    let counts = Counts::new();
-    let (shared, key, told) = (&store, &a, &counts);
-    let hand = lanes.as_mut_slice();
-    join(
-        rt,
-        move ||
-            requires { All (IsLaneOf shared.now.id) hand.now × (2 < length shared.now.tree) }
-        { run(rt, shared, hand, key, all, told) },
-        || watch(rt, &told.ended, 16),
-    );
-    Ok(counts.told())
+    with_store(
+        alloc,
+        16,
+        |store: &Store<Letter>, key: &Key, lanes: &mut [Lane<Letter>], _closers: &mut Vec<
+            Closer,
+        >| -> [u64; 6]
+            requires lanes { All (IsLaneOf store.now.id) lanes.old }
+            requires contexts { 2 < length store.now.tree }
+        { told(rt, store, key, lanes, all) },
+    )
 }
 
 #[test]

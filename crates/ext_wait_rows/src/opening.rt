@@ -1,6 +1,8 @@
 //! The store of the tests: a chain of three contexts and the key a.
-ghost use Rattle.std.specs.Prelude.{◌<◌, All, IfOk, length};
-ghost use Rattle.ext_store.specs.Stores.{IsCloserOf, IsLaneOf};
+ghost use Rattle.std.specs.Prelude.{◌<◌, All, IfOk, List, length};
+ghost use Rattle.std.specs.Borrow.{Bor, MutBor};
+ghost use Rattle.ext_store.specs.Stores.{IsCloserOf, IsLaneOf, StoreLane, StoreView};
+ghost use Rattle.ext_wait_rows.specs.declared.opening.Letter.{Letter};
 
 use ext_ids::UniqueId;
 use ext_store::{Closer, Lane, Limits, Store, StoreValue};
@@ -48,20 +50,17 @@ fn contexts(alloc: Global) -> Result<Tree, Fail>
     Ok(tree)
 }
 
-/// A store, its lanes and its closers.
-#[derive(Drop)]
-pub(crate) struct Opened {
-    pub(crate) store: Store<Letter>,
-    pub(crate) lanes: Vec<Lane<Letter>>,
-    pub(crate) closers: Vec<Closer>,
-}
-
-/// Opens the store of the chain with so many lanes and 65,535 numbers.
-pub(crate) fn open(alloc: Global, lanes: usize) -> Result<Opened, Fail>
-    ensures lanes { IfOk result (λ o. All (IsLaneOf o.store.id) o.lanes.items) }
-    ensures closers { IfOk result (λ o. All (IsCloserOf o.store) o.closers.items) }
-    ensures contexts { IfOk result (λ o. 2 < length o.store.tree) }
+/// Opens the store of the chain with so many lanes and 65,535 numbers, and does the work with it: with the store, the key a, the
+/// lanes, and the closers of the contexts 0, 1 and 2.
+pub(crate) fn with_store<
+    T,
+    W: FnOnce(&Store<Letter>, &Key, &mut [Lane<Letter>], &mut Vec<Closer>) -> T,
+>(alloc: Global, lanes: usize, work: W) -> Result<T, Fail>
+    requires { (store : Bor StoreView) (key : _) (lanes : MutBor (List (StoreLane Letter))) (closers : _)
+        → All (IsLaneOf store.now.id) lanes.now → All (IsCloserOf store.now) closers.now.items → 2 < length store.now.tree
+        → W.pre work store key lanes closers }
 {
+    let key = key_a(alloc)?;
     let mut keys = Directory::new(alloc);
     keys.declare(key_a(alloc)?)?;
     let limits = Limits {
@@ -69,42 +68,26 @@ pub(crate) fn open(alloc: Global, lanes: usize) -> Result<Opened, Fail>
         tries: 8,
         numbers: 65_535,
     };
-    let (store, lanes, closers) = Store::open(alloc, contexts(alloc)?, keys, limits)?;
-    Ok(Opened {
-        store,
-        lanes,
-        closers,
-    })
+    let (store, mut lanes, mut closers) = Store::open(alloc, contexts(alloc)?, keys, limits)?;
+    Ok(work(&store, &key, lanes.as_mut_slice(), &mut closers))
 }
 
-/// A store with two lanes in hand.
-#[derive(Drop)]
-pub(crate) struct Pair {
-    pub(crate) store: Store<Letter>,
-    pub(crate) first: Lane<Letter>,
-    pub(crate) second: Lane<Letter>,
-    pub(crate) closers: Vec<Closer>,
-}
-
-/// Opens the store of the chain with two lanes.
-pub(crate) fn open_pair(alloc: Global) -> Result<Pair, Fail>
-    ensures first { IfOk result (λ p. IsLaneOf p.store.id p.first) }
-    ensures second { IfOk result (λ p. IsLaneOf p.store.id p.second) }
-    ensures closers { IfOk result (λ p. All (IsCloserOf p.store) p.closers.items) }
-    ensures contexts { IfOk result (λ p. 2 < length p.store.tree) }
+/// The same with two lanes in hand.
+pub(crate) fn with_pair<
+    T,
+    W: FnOnce(&Store<Letter>, &Key, &mut Lane<Letter>, &mut Lane<Letter>) -> T,
+>(alloc: Global, work: W) -> Result<T, Fail>
+    requires { (store : Bor StoreView) (key : _) (first second : MutBor (StoreLane Letter))
+        → IsLaneOf store.now.id first.now → IsLaneOf store.now.id second.now → 2 < length store.now.tree
+        → W.pre work store key first second }
 {
-    let Opened {
-        store,
-        mut lanes,
-        closers,
-    } = open(alloc, 2)?;
-    let (Some(second), Some(first)) = (lanes.pop(), lanes.pop()) else {
-        return Err(Fail::from("there are two lanes"));
+    let work_on = |store: &Store<Letter>, key: &Key, lanes: &mut [Lane<Letter>], _closers: &mut Vec<
+        Closer,
+    >| {
+        let [first, second] = lanes else {
+            return Err(Fail::from("there are two lanes"));
+        };
+        Ok(work(store, key, first, second))
     };
-    Ok(Pair {
-        store,
-        first,
-        second,
-        closers,
-    })
+    with_store(alloc, 2, work_on)?
 }
