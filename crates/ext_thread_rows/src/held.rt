@@ -1,18 +1,19 @@
 //! The calls of another lane while a factory runs.
-ghost use Rattle.std.specs.Prelude.{◌<◌, length};
+ghost use Rattle.std.specs.Prelude.{◌<◌, All, length};
 ghost use Rattle.ext_store.specs.Stores.{IsCloserOf, IsKeptBy, IsLaneOf};
 
 use crate::calls::{close_both, close_refused, compute_held, keep, look, put_first, put_refused};
 use crate::gates::Gate;
+use crate::opening::with_opened;
 use crate::same::same;
 use ext_closing::CloseFault;
 use ext_model::{Fault, Look};
 use ext_store::{Closer, Compute, Kept, Lane, Refusal, Store};
-use ext_store_rows::{Letter, Opened, closeable, key, open_chain};
+use ext_store_rows::{Letter, closeable, key, open_chain};
 use ext_tree::Key;
 use std::alloc::Global;
 use std::process::Abort;
-use std::thread::join;
+use std::thread::{Threads, join};
 use std::time::Clock;
 
 // The keys a, b and c.
@@ -23,31 +24,14 @@ fn keys_abc<R: Abort>(rt: &R, alloc: Global) -> [Key; 3] {
     [a, b, c]
 }
 
-// The store of the chain with eight numbers, and the closer of its class.
-fn open_with_closer<R: Abort>(rt: &R, alloc: Global) -> (Opened<Letter>, Closer)
-    ensures first { IsLaneOf result.0.store.id result.0.first }
-    ensures second { IsLaneOf result.0.store.id result.0.second }
-    ensures contexts { 2 < length result.0.store.tree }
-    ensures closer { IsCloserOf result.0.store result.1 }
+// The closer of the class.
+fn closer_of_class<R: Abort>(rt: &R, store: &Store<Letter>, closers: Vec<Closer>) -> Closer
+    requires { All (IsCloserOf store.now) closers.items }
+    ensures { IsCloserOf store.now result }
 {
-    let Some(opened) = open_chain(alloc, 8) else {
-        panic!(rt; "no memory")
-    };
-    let Opened {
-        store,
-        first,
-        second,
-        mut closers,
-    } = opened;
+    let mut closers = closers;
     assert!(rt; closers.len() == 3);
-    let closer = closers.remove(1);
-    let opened = Opened {
-        store,
-        first,
-        second,
-        closers,
-    };
-    (opened, closer)
+    closers.remove(1)
 }
 
 // A compute and a remove in the class, which are refused as busy there.
@@ -98,37 +82,50 @@ fn call_beside<R: Abort + Clock>(
     (closer, lane, kept)
 }
 
+// Another lane calls while a factory runs, then both close the class, and it calls once more.
+fn run_and_call_beside<R: Abort + Clock + Threads + Sync>(
+    rt: &R,
+    alloc: Global,
+    store: &Store<Letter>,
+    first: Lane<Letter>,
+    second: Lane<Letter>,
+    closers: Vec<Closer>,
+)
+    requires first { IsLaneOf store.now.id first }
+    requires second { IsLaneOf store.now.id second }
+    requires closers { All (IsCloserOf store.now) closers.items }
+    requires contexts { 2 < length store.now.tree }
+{
+    let closer = closer_of_class(rt, store, closers);
+    let (keys, gate) = (keys_abc(rt, alloc), Gate::new());
+    let (names, held) = (&keys, &gate);
+    let (first, (closer, second, kept)) = join(
+        rt,
+        move || -> Lane<Letter>
+            requires { IsLaneOf store.now.id first }
+            ensures { IsLaneOf store.entry.now.id result }
+        { compute_held(rt, store, first, &names[0], held, 2) },
+        move || -> (Closer, Lane<Letter>, Kept)
+            requires { IsLaneOf store.now.id second × IsCloserOf store.now closer }
+            ensures closer { IsCloserOf store.entry.now result.0 }
+            ensures lane { IsLaneOf store.entry.now.id result.1 }
+            ensures kept { IsKeptBy result.1 result.2 }
+        { call_beside(rt, alloc, store, closer, second, names, held) },
+    );
+    let mut hand = [first, second];
+    close_both(rt, alloc, store, closer, &mut hand, &[2]);
+    let (a, closed) = (&keys[0], Refusal::Closed(1));
+    let kept = put_refused(rt, store, &mut hand[1], a, kept, closed);
+    same(rt, kept.number(), 1, "the kept number");
+    look(rt, store, &mut hand[1], 2, a, Look::Closed(1));
+}
+
 #[test]
 fn busy_while_factory_runs(rt: HostRuntime) {
     let alloc = rt.alloc();
-    let (opened, closer) = open_with_closer(&rt, alloc);
-    let Opened {
-        store,
-        first,
-        second,
-        ..
-    } = opened;
-    let (keys, gate) = (keys_abc(&rt, alloc), Gate::new());
-    let (runtime, shared, names, held) = (&rt, &store, &keys, &gate);
-    let (first, (closer, second, kept)) = join(
-        &rt,
-        move || -> Lane<Letter>
-            requires { IsLaneOf shared.now.id first }
-            ensures { IsLaneOf shared.entry.now.id result }
-        { compute_held(runtime, shared, first, &names[0], held, 2) },
-        move || -> (Closer, Lane<Letter>, Kept)
-            requires { IsLaneOf shared.now.id second × IsCloserOf shared.now closer }
-            ensures closer { IsCloserOf shared.entry.now result.0 }
-            ensures lane { IsLaneOf shared.entry.now.id result.1 }
-            ensures kept { IsKeptBy result.1 result.2 }
-        { call_beside(runtime, alloc, shared, closer, second, names, held) },
-    );
-    let mut hand = [first, second];
-    close_both(&rt, alloc, &store, closer, &mut hand, &[2]);
-    let (a, closed) = (&keys[0], Refusal::Closed(1));
-    let kept = put_refused(&rt, &store, &mut hand[1], a, kept, closed);
-    same(&rt, kept.number(), 1, "the kept number");
-    look(&rt, &store, &mut hand[1], 2, a, Look::Closed(1));
+    with_opened(&rt, open_chain(alloc, 8), |store, first, second, closers| {
+        run_and_call_beside(&rt, alloc, store, first, second, closers);
+    });
 }
 
 // Puts a value in the engine while the factory in the class runs, which has looked there before.
@@ -149,38 +146,47 @@ fn put_above<R: Abort + Clock>(
     lane
 }
 
+// The factory's value stands in the class, and the other one above it.
+fn run_and_put_above<R: Abort + Clock + Threads + Sync>(
+    rt: &R,
+    alloc: Global,
+    store: &Store<Letter>,
+    first: Lane<Letter>,
+    second: Lane<Letter>,
+)
+    requires first { IsLaneOf store.now.id first }
+    requires second { IsLaneOf store.now.id second }
+{
+    let (keys, gate) = (keys_abc(rt, alloc), Gate::new());
+    let (name, held) = (&keys[0], &gate);
+    let (mut first, mut second) = join(
+        rt,
+        move || -> Lane<Letter>
+            requires { IsLaneOf store.now.id first }
+            ensures { IsLaneOf store.entry.now.id result }
+        { compute_held(rt, store, first, name, held, 2) },
+        move || -> Lane<Letter>
+            requires { IsLaneOf store.now.id second }
+            ensures { IsLaneOf store.entry.now.id result }
+        { put_above(rt, store, second, name, held) },
+    );
+    let below = Look::Found { at: 1, number: 2 };
+    let above = Look::Found { at: 0, number: 1 };
+    look(rt, store, &mut first, 2, name, below);
+    look(rt, store, &mut second, 2, name, below);
+    look(rt, store, &mut first, 0, name, above);
+}
+
 #[test]
 fn a_parent_value_after_the_second_look(rt: HostRuntime) {
     let alloc = rt.alloc();
-    let (Some(opened), Some(a)) = (open_chain(alloc, 8), key(alloc, "a")) else {
-        panic!(rt; "no memory")
-    };
-    let Opened {
-        store,
-        first,
-        second,
-        ..
-    } = opened;
-    let gate = Gate::new();
-    let (runtime, shared, name, held) = (&rt, &store, &a, &gate);
-    let (mut first, mut second) = join(
+    with_opened(
         &rt,
-        move || -> Lane<Letter>
-            requires { IsLaneOf shared.now.id first }
-            ensures { IsLaneOf shared.entry.now.id result }
-        { compute_held(runtime, shared, first, name, held, 2) },
-        move || -> Lane<Letter>
-            requires { IsLaneOf shared.now.id second }
-            ensures { IsLaneOf shared.entry.now.id result }
-        { put_above(runtime, shared, second, name, held) },
+        open_chain(alloc, 8),
+        |store, first, second, _closers| {
+            run_and_put_above(&rt, alloc, store, first, second);
+        },
     );
-    let (below, above) = (
-        Look::Found { at: 1, number: 2 },
-        Look::Found { at: 0, number: 1 },
-    );
-    look(&rt, &store, &mut first, 2, &a, below);
-    look(&rt, &store, &mut second, 2, &a, below);
-    look(&rt, &store, &mut first, 0, &a, above);
 }
 
 // Closes, puts and looks while the factory in the class runs under the key c. The keys before it are sealed then.
@@ -209,39 +215,48 @@ fn close_beside<R: Abort + Clock>(
     (closer, lane)
 }
 
+// The second lane puts two values, and closes while the factory runs; then both close.
+fn run_and_close_beside<R: Abort + Clock + Threads + Sync>(
+    rt: &R,
+    alloc: Global,
+    store: &Store<Letter>,
+    first: Lane<Letter>,
+    second: Lane<Letter>,
+    closers: Vec<Closer>,
+)
+    requires first { IsLaneOf store.now.id first }
+    requires second { IsLaneOf store.now.id second }
+    requires closers { All (IsCloserOf store.now) closers.items }
+{
+    let mut second = second;
+    let closer = closer_of_class(rt, store, closers);
+    let (keys, gate) = (keys_abc(rt, alloc), Gate::new());
+    put_first(rt, store, &mut second, 1, &keys[0], 1);
+    put_first(rt, store, &mut second, 1, &keys[1], 2);
+    let kept = keep(rt, store, &mut second, 3);
+    let (names, held) = (&keys, &gate);
+    let (first, (closer, second)) = join(
+        rt,
+        move || -> Lane<Letter>
+            requires { IsLaneOf store.now.id first }
+            ensures { IsLaneOf store.entry.now.id result }
+        { compute_held(rt, store, first, &names[2], held, 4) },
+        move || -> (Closer, Lane<Letter>)
+            requires { IsLaneOf store.now.id second × IsKeptBy second kept × IsCloserOf store.now closer }
+            ensures closer { IsCloserOf store.entry.now result.0 }
+            ensures lane { IsLaneOf store.entry.now.id result.1 }
+        { close_beside(rt, alloc, store, closer, second, kept, &names[0], held) },
+    );
+    let unjoined = CloseFault::Unjoined(4);
+    let (closer, second) = close_refused(rt, alloc, store, closer, second, unjoined);
+    let mut hand = [first, second];
+    close_both(rt, alloc, store, closer, &mut hand, &[4, 2, 1]);
+}
+
 #[test]
 fn close_waits_for_the_factory_and_its_lane(rt: HostRuntime) {
     let alloc = rt.alloc();
-    let (opened, closer) = open_with_closer(&rt, alloc);
-    let Opened {
-        store,
-        first,
-        mut second,
-        ..
-    } = opened;
-    let (keys, gate) = (keys_abc(&rt, alloc), Gate::new());
-    put_first(&rt, &store, &mut second, 1, &keys[0], 1);
-    put_first(&rt, &store, &mut second, 1, &keys[1], 2);
-    let kept = keep(&rt, &store, &mut second, 3);
-    let (runtime, shared, names, held) = (&rt, &store, &keys, &gate);
-    let (first, (closer, second)) = join(
-        &rt,
-        move || -> Lane<Letter>
-            requires { IsLaneOf shared.now.id first }
-            ensures { IsLaneOf shared.entry.now.id result }
-        { compute_held(runtime, shared, first, &names[2], held, 4) },
-        move || -> (Closer, Lane<Letter>)
-            requires { IsLaneOf shared.now.id second × IsKeptBy second kept × IsCloserOf shared.now closer }
-            ensures closer { IsCloserOf shared.entry.now result.0 }
-            ensures lane { IsLaneOf shared.entry.now.id result.1 }
-        {
-            close_beside(
-                runtime, alloc, shared, closer, second, kept, &names[0], held,
-            )
-        },
-    );
-    let unjoined = CloseFault::Unjoined(4);
-    let (closer, second) = close_refused(&rt, alloc, &store, closer, second, unjoined);
-    let mut hand = [first, second];
-    close_both(&rt, alloc, &store, closer, &mut hand, &[4, 2, 1]);
+    with_opened(&rt, open_chain(alloc, 8), |store, first, second, closers| {
+        run_and_close_beside(&rt, alloc, store, first, second, closers);
+    });
 }

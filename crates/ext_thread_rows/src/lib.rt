@@ -12,6 +12,8 @@ mod held;
 #[cfg(test)]
 mod moving;
 #[cfg(test)]
+mod opening;
+#[cfg(test)]
 mod rising;
 #[cfg(test)]
 mod same;

@@ -2,11 +2,13 @@
 ghost use Rattle.std.specs.Prelude.{◌≡◌, ◌<◌, length};
 ghost use Rattle.ext_store.specs.Stores.{IsLaneOf};
 
+use crate::opening::with_opened;
 use crate::same::same;
 use ext_model::{ContextNo, Look};
 use ext_store::{Lane, Refusal, Store};
-use ext_store_rows::{Letter, Opened, key, open_chain, plain};
+use ext_store_rows::{Letter, key, open_chain, plain};
 use ext_tree::Key;
+use std::process::Abort;
 use std::sync::Wait;
 use std::thread::{Threads, join};
 
@@ -122,27 +124,39 @@ fn move_and_look<R: Threads + Wait + Sync>(
     )
 }
 
-#[test]
-fn value_that_moves_is_never_missed(rt: HostRuntime) {
-    let opened = open_chain(rt.alloc(), 2 * ROUNDS + 1);
-    let (Some(opened), Some(a)) = (opened, key(rt.alloc(), "a")) else {
-        panic!(rt; "no memory");
-    };
-    let Opened {
-        store,
-        first: mut mover,
-        second: looker,
-        ..
-    } = opened;
-    assert!(rt; store_next(&store, &mut mover, &a, 0, 1));
-    let (moved, (found, mut looker)) = move_and_look(&rt, &store, mover, looker, &a);
-    same(&rt, (moved, found), (true, true), "what both threads say");
+/// Moves the value and looks it up meanwhile, and then looks where it is.
+fn never_missed<R: Abort + Threads + Wait + Sync>(
+    rt: &R,
+    store: &Store<Letter>,
+    mover: Lane<Letter>,
+    looker: Lane<Letter>,
+    key: &Key,
+)
+    requires mover { IsLaneOf store.now.id mover }
+    requires looker { IsLaneOf store.now.id looker }
+    requires contexts { 2 < length store.now.tree }
+{
+    let mut mover = mover;
+    assert!(rt; store_next(store, &mut mover, key, 0, 1));
+    let (moved, (found, mut looker)) = move_and_look(rt, store, mover, looker, key);
+    same(rt, (moved, found), (true, true), "what both threads say");
     let last = Look::Found {
         at: 0,
         number: 2 * ROUNDS + 1,
     };
-    let seen = store.get(&mut looker, 2, &a);
-    same(&rt, seen, Ok(last), "where the value is");
-    let shown = all_are_shown(&store, &mut looker);
-    same(&rt, shown, true, "each number's value is shown");
+    let seen = store.get(&mut looker, 2, key);
+    same(rt, seen, Ok(last), "where the value is");
+    let shown = all_are_shown(store, &mut looker);
+    same(rt, shown, true, "each number's value is shown");
+}
+
+#[test]
+fn value_that_moves_is_never_missed(rt: HostRuntime) {
+    let Some(a) = key(rt.alloc(), "a") else {
+        panic!(rt; "no memory");
+    };
+    let opened = open_chain(rt.alloc(), 2 * ROUNDS + 1);
+    with_opened(&rt, opened, |store, mover, looker, _closers| {
+        never_missed(&rt, store, mover, looker, &a);
+    });
 }

@@ -3,13 +3,15 @@ ghost use Rattle.std.specs.Prelude.{◌<◌, length};
 ghost use Rattle.ext_store.specs.Stores.{IsLaneOf};
 
 use crate::gates::is_raised;
+use crate::opening::with_opened;
 use crate::same::same;
 use ext_model::Look;
 use ext_store::{Lane, Limits, Refusal, Store};
 use ext_store_rows::{Letter, Opened, key, keys, open_store, plain};
 use ext_tree::Key;
+use std::process::Abort;
 use std::sync::atomic::{AtomicU64, Ordering};
-use std::thread::join;
+use std::thread::{Threads, join};
 use std::time::Clock;
 
 // How many numbers are put, and how often the other lane looks at most.
@@ -92,6 +94,54 @@ fn look_on(store: &Store<Letter>, lane: &mut Lane<Letter>, key: &Key, signs: &Si
     false
 }
 
+/// One lane puts all numbers while the other looks, and then finds the last of them.
+fn put_and_look<R: Abort + Clock + Threads + Sync>(
+    rt: &R,
+    store: &Store<Letter>,
+    looker: Lane<Letter>,
+    putter: Lane<Letter>,
+    key: &Key,
+)
+    requires looker { IsLaneOf store.now.id looker }
+    requires putter { IsLaneOf store.now.id putter }
+    requires contexts { 2 < length store.now.tree }
+{
+    let signs = Signs {
+        looks: AtomicU64::new(0),
+        has_put: AtomicU64::new(0),
+    };
+    let given = &signs;
+    let ((mut looker, rising), (mut putter, put)) = join(
+        rt,
+        move || -> (Lane<Letter>, bool)
+            requires lane { IsLaneOf store.now.id looker }
+            requires contexts { 2 < length store.now.tree }
+            ensures { IsLaneOf store.entry.now.id result.0 }
+        {
+            let mut looker = looker;
+            let rising = look_on(store, &mut looker, key, given);
+            (looker, rising)
+        },
+        move || -> (Lane<Letter>, bool)
+            requires lane { IsLaneOf store.now.id putter }
+            requires contexts { 2 < length store.now.tree }
+            ensures { IsLaneOf store.entry.now.id result.0 }
+        {
+            let mut putter = putter;
+            let put = put_all(rt, store, &mut putter, key, given);
+            (putter, put)
+        },
+    );
+    same(rt, (rising, put), (true, true), "what both threads say");
+    store.meet(&mut putter, &mut looker);
+    let last = Look::Found {
+        at: 0,
+        number: NUMBERS,
+    };
+    let seen = store.get(&mut looker, 2, key);
+    same(rt, seen, Ok(last), "the number that was put last");
+}
+
 #[test]
 fn numbers_never_fall(rt: HostRuntime) {
     let alloc = rt.alloc();
@@ -103,47 +153,8 @@ fn numbers_never_fall(rt: HostRuntime) {
     let (Some(directory), Some(a)) = (keys(alloc, 1), key(alloc, "a")) else {
         panic!(rt; "no memory")
     };
-    let Some(opened) = open_store(alloc, directory, limits) else {
-        panic!(rt; "no store")
-    };
-    let Opened {
-        store,
-        first: looker,
-        second: putter,
-        ..
-    } = opened;
-    let signs = Signs {
-        looks: AtomicU64::new(0),
-        has_put: AtomicU64::new(0),
-    };
-    let (runtime, shared, name, given) = (&rt, &store, &a, &signs);
-    let ((mut looker, rising), (mut putter, put)) = join(
-        &rt,
-        move || -> (Lane<Letter>, bool)
-            requires lane { IsLaneOf shared.now.id looker }
-            requires contexts { 2 < length shared.now.tree }
-            ensures { IsLaneOf shared.entry.now.id result.0 }
-        {
-            let mut looker = looker;
-            let rising = look_on(shared, &mut looker, name, given);
-            (looker, rising)
-        },
-        move || -> (Lane<Letter>, bool)
-            requires lane { IsLaneOf shared.now.id putter }
-            requires contexts { 2 < length shared.now.tree }
-            ensures { IsLaneOf shared.entry.now.id result.0 }
-        {
-            let mut putter = putter;
-            let put = put_all(runtime, shared, &mut putter, name, given);
-            (putter, put)
-        },
-    );
-    same(&rt, (rising, put), (true, true), "what both threads say");
-    store.meet(&mut putter, &mut looker);
-    let last = Look::Found {
-        at: 0,
-        number: NUMBERS,
-    };
-    let seen = store.get(&mut looker, 2, &a);
-    same(&rt, seen, Ok(last), "the number that was put last");
+    let opened: Option<Opened<Letter>> = open_store(alloc, directory, limits);
+    with_opened(&rt, opened, |store, looker, putter, _closers| {
+        put_and_look(&rt, store, looker, putter, &a);
+    });
 }

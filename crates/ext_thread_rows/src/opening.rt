@@ -1,0 +1,36 @@
+//! What the tests do with a store of the chain, which one function owns for all of them.
+ghost use Rattle.std.specs.Prelude.{◌<◌, All, IfSome, length};
+ghost use Rattle.std.specs.Borrow.{Bor};
+ghost use Rattle.ext_store.specs.Stores.{IsCloserOf, IsLaneOf, StoreLane, StoreView};
+
+use ext_store::{Closer, Lane, Store, StoreValue};
+use ext_store_rows::Opened;
+use std::process::Abort;
+
+/// Does the work with what was opened: with the store, its two lanes, and the closers of the contexts 0, 1 and 2. The test fails
+/// where nothing was.
+pub(crate) fn with_opened<
+    R: Abort,
+    V: StoreValue + Drop,
+    T,
+    W: FnOnce(&Store<V>, Lane<V>, Lane<V>, Vec<Closer>) -> T,
+>(rt: &R, opened: Option<Opened<V>>, work: W) -> T
+    requires first { IfSome opened (λ o. IsLaneOf o.store.id o.first) }
+    requires second { IfSome opened (λ o. IsLaneOf o.store.id o.second) }
+    requires closers { IfSome opened (λ o. All (IsCloserOf o.store) o.closers.items) }
+    requires contexts { IfSome opened (λ o. 2 < length o.store.tree) }
+    requires work { (store : Bor StoreView) (first second : StoreLane V) (closers : _)
+        → IsLaneOf store.now.id first → IsLaneOf store.now.id second → All (IsCloserOf store.now) closers.items
+        → 2 < length store.now.tree → W.pre work store first second closers }
+{
+    let Some(opened) = opened else {
+        panic!(rt; "no store");
+    };
+    let Opened {
+        store,
+        first,
+        second,
+        closers,
+    } = opened;
+    work(&store, first, second, closers)
+}
