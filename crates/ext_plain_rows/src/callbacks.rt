@@ -1,5 +1,6 @@
 //! Modes and callbacks of plans.
 use crate::plans::told;
+use crate::refusals::refused;
 use crate::same::same;
 use ext_lifecycle::Kind;
 use ext_plan::{PlanNode, Step, read_plan};
@@ -134,13 +135,16 @@ const ROOTS: [(&str, &str); 20] = [
     ("before_every = []\nmode = 1", "plan: P3 node 0"),
 ];
 
+/// A plan of a root with these fields.
+fn root_with(alloc: Global, fields: &str) -> Result<String, AllocError> {
+    format!(in alloc; "[[key]]\nlabel = \"a\"\n[[node]]\nid = \"[a:b]\"\n{fields}\n")
+}
+
 #[test]
 fn refused_modes_and_callbacks(rt: HostRuntime) -> Result<(), Fail> {
     for (fields, line) in ROOTS {
-        let text = format!(in rt.alloc();
-            "[[key]]\nlabel = \"a\"\n[[node]]\nid = \"[a:b]\"\n{fields}\n"
-        )?;
-        same(&rt, told(rt.alloc(), text.as_str())?.as_str(), line, fields);
+        let text = root_with(rt.alloc(), fields)?;
+        refused(&rt, rt.alloc(), text.as_str(), line)?;
     }
     Ok(())
 }
@@ -202,6 +206,14 @@ const UPS: [(&str, &str, bool); 11] = [
     ("after_all = [[\"none a up 2\"]]", "/[c:d] test", false),
 ];
 
+/// The id of a node that stands below the class, or beside it.
+fn id_of(alloc: Global, end: &str) -> Result<String, AllocError> {
+    match end {
+        "1" => format!(in alloc; "[a:b]/[c:11]"),
+        _ => format!(in alloc; "[a:b]/[c:1]{end}"),
+    }
+}
+
 /// A plan with this callback of its class, and with nodes whose ids begin as that of the class or of one beside it.
 fn plan_of(alloc: Global, callback: &str, nodes: &str) -> Result<String, AllocError> {
     let mut text = format!(in alloc;
@@ -212,27 +224,28 @@ fn plan_of(alloc: Global, callback: &str, nodes: &str) -> Result<String, AllocEr
             Some(end) => (end, "test = []\n"),
             None => (node, ""),
         };
-        let id = match end {
-            "1" => format!(in alloc; "[a:b]/[c:11]")?,
-            _ => format!(in alloc; "[a:b]/[c:1]{end}")?,
-        };
+        let id = id_of(alloc, end)?;
         text.push_str(format!(in alloc; "[[node]]\nid = \"{id}\"\n{test}")?.as_str())?;
     }
     Ok(text)
 }
 
+/// The line of the plan's fault; an empty one where it has none.
+fn fault_line(alloc: Global, callback: &str, nodes: &str) -> Result<String, AllocError> {
+    let text = plan_of(alloc, callback, nodes)?;
+    let read = told(alloc, text.as_str())?;
+    if read.starts_with("plan:") {
+        return Ok(read);
+    }
+    Ok(String::new(alloc))
+}
+
 #[test]
 fn callbacks_go_up_from_the_shallowest_test(rt: HostRuntime) -> Result<(), Fail> {
     for (callback, nodes, stays) in UPS {
-        let text = plan_of(rt.alloc(), callback, nodes)?;
-        let read = told(rt.alloc(), text.as_str())?;
-        same(&rt, !read.starts_with("plan:"), stays, callback);
-        same(
-            &rt,
-            stays || read.as_str() == "plan: P8 node 1",
-            true,
-            nodes,
-        );
+        let wanted = if stays { "" } else { "plan: P8 node 1" };
+        let line = fault_line(rt.alloc(), callback, nodes)?;
+        same(&rt, (nodes, line.as_str()), (nodes, wanted), callback);
     }
     Ok(())
 }

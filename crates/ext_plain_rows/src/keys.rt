@@ -2,6 +2,7 @@
 use crate::same::same;
 use ext_tree::{Directory, Key, Namespace, TreeFault};
 use std::alloc::Global;
+use std::process::Abort;
 use std::test::Fail;
 
 /// The namespace that is created of the first parts, the global one where there are none, with the further ones appended.
@@ -35,36 +36,68 @@ fn declared(
     Ok(directory.declare(key))
 }
 
+/// Asserts that declaring the global keys of these names, in order, answers this.
+fn declares(
+    rt: &impl Abort,
+    alloc: Global,
+    directory: &mut Directory,
+    answers: &[(&str, Result<usize, TreeFault>)],
+) -> Result<(), Fail> {
+    for (name, wanted) in answers {
+        let answer = declared(alloc, directory, name)?;
+        same(rt, answer, *wanted, name);
+    }
+    Ok(())
+}
+
+/// The number of the key of this namespace and name.
+fn number_of(
+    alloc: Global,
+    directory: &Directory,
+    namespace: Namespace,
+    name: &str,
+) -> Result<Option<usize>, Fail> {
+    let key = Key::new(alloc, namespace, name)?;
+    Ok(directory.number_of(&key))
+}
+
+/// Asserts what is told of a directory that has the global keys a and b.
+fn tells_of_two(rt: &impl Abort, alloc: Global, directory: &Directory) -> Result<(), Fail> {
+    let created = Namespace::create(alloc, &["n"])?;
+    let other = number_of(alloc, directory, created, "a")?;
+    same(rt, other, None, "a key of another namespace");
+    let known = number_of(alloc, directory, Namespace::global(), "b")?;
+    same(rt, known, Some(1), "the second key");
+    assert!(rt; directory.len() == 2);
+    same(rt, directory.cell(3, 1), 7, "the cell of context 3, key 1");
+    Ok(())
+}
+
 #[test]
 fn keys_are_declared_once(rt: HostRuntime) -> Result<(), Fail> {
     let mut directory = Directory::new(rt.alloc());
     same(&rt, directory.is_empty(), true, "a directory without keys");
-    for (name, number) in [("a", 0), ("b", 1), ("a", 0)] {
-        let answer = declared(rt.alloc(), &mut directory, name)?;
-        same(&rt, answer, Ok(number), name);
+    let answers = [("a", Ok(0)), ("b", Ok(1)), ("a", Ok(0))];
+    declares(&rt, rt.alloc(), &mut directory, &answers)?;
+    tells_of_two(&rt, rt.alloc(), &directory)
+}
+
+/// Asserts that the keys `key0` to `key63` have the numbers 0 to 63.
+fn declares_64(rt: &impl Abort, alloc: Global, directory: &mut Directory) -> Result<(), Fail> {
+    for i in 0..64 {
+        let name = format!(in alloc; "key{i}")?;
+        let answer = declared(alloc, directory, name.as_str())?;
+        same(rt, answer, Ok(i), name.as_str());
     }
-    let created = Namespace::create(rt.alloc(), &["n"])?;
-    let other = Key::new(rt.alloc(), created, "a")?;
-    let known = Key::new(rt.alloc(), Namespace::global(), "b")?;
-    let numbers = (directory.number_of(&other), directory.number_of(&known));
-    same(&rt, numbers, (None, Some(1)), "the numbers");
-    assert!(rt; directory.len() == 2);
-    same(&rt, directory.cell(3, 1), 7, "the cell of context 3, key 1");
     Ok(())
 }
 
 #[test]
 fn keys_are_64_at_most(rt: HostRuntime) -> Result<(), Fail> {
     let mut directory = Directory::new(rt.alloc());
-    for i in 0..64 {
-        let name = format!(in rt.alloc(); "key{i}")?;
-        let answer = declared(rt.alloc(), &mut directory, name.as_str())?;
-        same(&rt, answer, Ok(i), name.as_str());
-    }
-    for (name, wanted) in [("key64", Err(TreeFault::TooMany)), ("key63", Ok(63))] {
-        let answer = declared(rt.alloc(), &mut directory, name)?;
-        same(&rt, answer, wanted, name);
-    }
+    declares_64(&rt, rt.alloc(), &mut directory)?;
+    let answers = [("key64", Err(TreeFault::TooMany)), ("key63", Ok(63))];
+    declares(&rt, rt.alloc(), &mut directory, &answers)?;
     same(&rt, directory.len(), 64, "the keys");
     Ok(())
 }

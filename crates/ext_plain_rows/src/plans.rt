@@ -1,4 +1,6 @@
 //! Plans of the format's own examples: each text with what is read of it.
+ghost use Rattle.std.specs.Prelude.{◌≤◌, length};
+
 use crate::same::same;
 use ext_plan::{KeyNumbers, PlanNode, read_plan};
 use std::alloc::{AllocError, Global};
@@ -168,18 +170,28 @@ fn reads_names_namespaces_and_trees(rt: HostRuntime) -> Result<(), Fail> {
 const FOUR_LABELS: &str =
     "[[key]]\nlabel = \"a\"\n[[key]]\nlabel = \"b\"\nname = \"a\"\nnamespace = [\"x\", \"y\"]\n[[key]]\nlabel = \"c\"\nname = \"a\"\n[[key]]\nlabel = \"d\"\nname = \"a\"\nnamespace = [\"y\", \"x\"]\n[[node]]\nid = \"[a:b]\"";
 
-/// The number of each label's key, and how many keys there are, by the number of keys and by their directory.
-fn numbers_told(alloc: Global, text: &str) -> Result<String, Fail> {
-    let plan = read_plan(alloc, text)?;
-    let numbers = KeyNumbers::of(alloc, plan.keys.as_slice())?;
+/// The number of each of so many labels' key, and then how many keys there are, whether there is none, and how many the directory has.
+fn labels_told(alloc: Global, numbers: &KeyNumbers, labels: usize) -> Result<String, AllocError>
+    requires { labels ≤ length numbers.now.numbers }
+{
     let mut told = String::new(alloc);
-    for label in 0..plan.keys.len() {
+    for label in 0..labels {
         let number = numbers.get(label);
         told.push_str(format!(in alloc; "{number} ")?.as_str())?;
     }
     let (count, empty) = (numbers.len(), numbers.is_empty());
-    let (lent, own) = (numbers.directory().len(), numbers.into_directory().len());
-    told.push_str(format!(in alloc; "{count} {empty} {lent} {own}")?.as_str())?;
+    let lent = numbers.directory().len();
+    told.push_str(format!(in alloc; "{count} {empty} {lent}")?.as_str())?;
+    Ok(told)
+}
+
+/// The number of each label's key, and how many keys there are, by the number of keys and by their directory.
+fn numbers_told(alloc: Global, text: &str) -> Result<String, Fail> {
+    let plan = read_plan(alloc, text)?;
+    let numbers = KeyNumbers::of(alloc, plan.keys.as_slice())?;
+    let mut told = labels_told(alloc, &numbers, plan.keys.len())?;
+    let own = numbers.into_directory().len();
+    told.push_str(format!(in alloc; " {own}")?.as_str())?;
     Ok(told)
 }
 

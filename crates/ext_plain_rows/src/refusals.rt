@@ -52,7 +52,12 @@ remove a up 0
 ";
 
 /// Asserts that the text is refused with this line.
-fn refused(rt: &impl Abort, alloc: Global, text: &str, line: &str) -> Result<(), AllocError> {
+pub(crate) fn refused(
+    rt: &impl Abort,
+    alloc: Global,
+    text: &str,
+    line: &str,
+) -> Result<(), AllocError> {
     same(rt, told(alloc, text)?.as_str(), line, text);
     Ok(())
 }
