@@ -2,15 +2,17 @@
 ghost use Rattle.std.specs.Prelude.{◌≡◌, ◌<◌, IfErr, IfSome, length};
 ghost use Rattle.ext_store.specs.Stores.{IsKeptBy, IsLaneOf, StillKeeps};
 
-use crate::asked::{key, open_chain, same};
+use crate::asked::{Scenario, key, same, with_chain};
 use crate::chain::{Call, rows};
-use crate::opening::{Letter, Opened, contexts, keys, plain};
+use crate::opening::{Letter, contexts, keys, plain};
+use crate::wide::lanes_and_closers;
 use ext_model::{ContextNo, Look};
 use ext_store::{KeepFault, Kept, Lane, Limits, Refusal, Store, StoreFault, StoreValue};
 use ext_tree::Key;
 use std::alloc::Global;
 use std::process::Abort;
 use std::thread;
+use std::thread::Threads;
 
 #[test]
 fn remove_own_context_only_in_two_lanes(rt: HostRuntime) {
@@ -102,17 +104,16 @@ fn put(
     store.put(lane, context, key, kept)
 }
 
-/// A lane that a thread owned, after it stored x at the root; whether x was stored as number 1.
-fn stored_by_lane(store: &Store<Letter>, mut lane: Lane<Letter>, a: &Key) -> (Lane<Letter>, bool)
-    requires lane { IsLaneOf store.now.id lane }
+/// Whether x was stored at the root as number 1.
+fn stores_x(store: &Store<Letter>, lane: &mut Lane<Letter>, a: &Key) -> bool
+    requires lane { IsLaneOf store.now.id lane.old }
     requires contexts { 2 < length store.now.tree }
-    ensures { IsLaneOf store.now.id result.0 }
+    ensures { IsLaneOf store.now.id lane.new }
 {
-    let Some(kept) = keep_as(store, &mut lane, 'x', 1) else {
-        return (lane, false);
+    let Some(kept) = keep_as(store, lane, 'x', 1) else {
+        return false;
     };
-    let stored = matches!(put(store, &mut lane, 0, a, kept), Ok(None));
-    (lane, stored)
+    matches!(put(store, lane, 0, a, kept), Ok(None))
 }
 
 /// Whether the method finds number 1 at the root, and the lane is shown x for it and nothing for number 2.
@@ -127,29 +128,39 @@ fn finds_x(store: &Store<Letter>, lane: &mut Lane<Letter>, a: &Key) -> bool
     store.show(lane, 2).is_none() && store.show(lane, 1).copied() == Some(plain('x'))
 }
 
+/// One lane stores x in a thread of its own, and both find it then.
+#[derive(Drop)]
+struct SeenByAnother;
+
+impl Scenario for SeenByAnother {
+    fn play<R: Threads + Sync + Abort>(
+        self,
+        rt: &R,
+        alloc: Global,
+        store: &Store<Letter>,
+        first: &mut Lane<Letter>,
+        second: &mut Lane<Letter>,
+    ) {
+        let a = key(rt, alloc, "a");
+        let (stored, _) = thread::join_mut(
+            rt,
+            &mut || -> bool
+                requires lane { IsLaneOf store.now.id first.now }
+                requires contexts { 2 < length store.now.tree }
+                ensures { IsLaneOf store.entry.now.id first.exit.now }
+            { stores_x(store, first, &a) },
+            &mut || (),
+        );
+        assert!(rt; stored);
+        assert!(rt; finds_x(store, second, &a));
+        assert!(rt; finds_x(store, first, &a));
+        store.meet(first, second);
+    }
+}
+
 #[test]
 fn value_seen_by_another_lane(rt: HostRuntime) {
-    let Opened {
-        store,
-        first,
-        mut second,
-        ..
-    } = open_chain(&rt, rt.alloc(), 8);
-    let a = key(&rt, rt.alloc(), "a");
-    let (shared, name) = (&store, &a);
-    let ((mut first, stored), _) = thread::join(
-        &rt,
-        move || -> (Lane<Letter>, bool)
-            requires lane { IsLaneOf shared.now.id first }
-            requires contexts { 2 < length shared.now.tree }
-            ensures { IsLaneOf shared.entry.now.id result.0 }
-        { stored_by_lane(shared, first, name) },
-        || (),
-    );
-    assert!(rt; stored);
-    assert!(rt; finds_x(shared, &mut second, name));
-    assert!(rt; finds_x(shared, &mut first, name));
-    store.meet(&mut first, &mut second);
+    with_chain(&rt, rt.alloc(), 8, SeenByAnother);
 }
 
 /// Whether z is refused where x and y were kept, and x can be put then.
@@ -170,13 +181,28 @@ fn third_is_refused(store: &Store<Letter>, lane: &mut Lane<Letter>, a: &Key) -> 
     matches!(put(store, lane, 0, a, x), Ok(None))
 }
 
+/// There are numbers for two values.
+#[derive(Drop)]
+struct TwoNumbers;
+
+impl Scenario for TwoNumbers {
+    fn play<R: Threads + Sync + Abort>(
+        self,
+        rt: &R,
+        alloc: Global,
+        store: &Store<Letter>,
+        first: &mut Lane<Letter>,
+        _second: &mut Lane<Letter>,
+    ) {
+        let a = key(rt, alloc, "a");
+        assert!(rt; third_is_refused(store, first, &a));
+        assert!(rt; is_taken_out(store, first, 0, &a));
+    }
+}
+
 #[test]
 fn numbers_run_out(rt: HostRuntime) {
-    let mut opened = open_chain(&rt, rt.alloc(), 2);
-    let (store, lane) = (&opened.store, &mut opened.first);
-    let a = key(&rt, rt.alloc(), "a");
-    assert!(rt; third_is_refused(store, lane, &a));
-    assert!(rt; is_taken_out(store, lane, 0, &a));
+    with_chain(&rt, rt.alloc(), 2, TwoNumbers);
 }
 
 /// Whether a value is refused under the first key, as unknown, and then put under the second, both in the class.
@@ -194,13 +220,29 @@ fn put_elsewhere(store: &Store<Letter>, lane: &mut Lane<Letter>, unknown: &Key, 
     matches!(put(store, lane, 1, known, kept), Ok(None))
 }
 
+/// A value is refused under one key and put under another.
+#[derive(Drop)]
+struct PutElsewhere;
+
+impl Scenario for PutElsewhere {
+    fn play<R: Threads + Sync + Abort>(
+        self,
+        rt: &R,
+        alloc: Global,
+        store: &Store<Letter>,
+        first: &mut Lane<Letter>,
+        _second: &mut Lane<Letter>,
+    ) {
+        let a = key(rt, alloc, "a");
+        let d = key(rt, alloc, "d");
+        assert!(rt; put_elsewhere(store, first, &d, &a));
+        assert!(rt; is_taken_out(store, first, 1, &a));
+    }
+}
+
 #[test]
 fn refused_values_are_put_elsewhere(rt: HostRuntime) {
-    let mut opened = open_chain(&rt, rt.alloc(), 8);
-    let (store, lane) = (&opened.store, &mut opened.first);
-    let (a, d) = (key(&rt, rt.alloc(), "a"), key(&rt, rt.alloc(), "d"));
-    assert!(rt; put_elsewhere(store, lane, &d, &a));
-    assert!(rt; is_taken_out(store, lane, 1, &a));
+    with_chain(&rt, rt.alloc(), 8, PutElsewhere);
 }
 
 /// Two kept values are stored in either order, whatever was done meanwhile: a caller that goes by the store's clauses.
@@ -230,14 +272,28 @@ fn stores_two<V: StoreValue + Drop>(
     store.put(lane, 0, a, one).is_ok()
 }
 
+/// Of two kept values the second is put first.
+#[derive(Drop)]
+struct AnyOrder;
+
+impl Scenario for AnyOrder {
+    fn play<R: Threads + Sync + Abort>(
+        self,
+        rt: &R,
+        alloc: Global,
+        store: &Store<Letter>,
+        first: &mut Lane<Letter>,
+        _second: &mut Lane<Letter>,
+    ) {
+        let a = key(rt, alloc, "a");
+        assert!(rt; stores_two(store, first, &a, (plain('x'), plain('y'))));
+        assert!(rt; is_taken_out(store, first, 0, &a));
+    }
+}
+
 #[test]
 fn kept_values_are_stored_in_any_order(rt: HostRuntime) {
-    let mut opened = open_chain(&rt, rt.alloc(), 8);
-    let (store, lane) = (&opened.store, &mut opened.first);
-    let a = key(&rt, rt.alloc(), "a");
-    let two = (plain('x'), plain('y'));
-    assert!(rt; stores_two(store, lane, &a, two));
-    assert!(rt; is_taken_out(store, lane, 0, &a));
+    with_chain(&rt, rt.alloc(), 8, AnyOrder);
 }
 
 /// Why a store of the chain with so many keys, two lanes, so many tries and eight numbers is not opened.
@@ -250,8 +306,7 @@ fn open_fault<R: Abort>(rt: &R, alloc: Global, count: usize, tries: u32) -> Opti
     let (Some(tree), Some(keys)) = (contexts(alloc), keys(alloc, count)) else {
         panic!(rt; "no memory");
     };
-    let opened: Result<(Store<Letter>, _, _), StoreFault> = Store::open(alloc, tree, keys, limits);
-    opened.err()
+    lanes_and_closers(alloc, tree, keys, limits).err()
 }
 
 #[test]

@@ -1,10 +1,10 @@
 //! A store of the chain with both of its lanes in one hand, so that a test names a lane by its number.
-ghost use Rattle.std.specs.Prelude.{All};
+ghost use Rattle.std.specs.Prelude.{◌<◌, All};
 ghost use Rattle.ext_store.specs.Stores.{IsCloserOf};
 
-use crate::asked::{key, open_chain, same};
+use crate::asked::{key, same};
 use crate::closes::Recorder;
-use crate::opening::{Letter, Opened, plain};
+use crate::opening::{Letter, Opened, open_chain, plain};
 use ext_closing::{CloseFault, Closes, close};
 use ext_model::{ContextNo, Fault, Look};
 use ext_store::{Closer, Compute, KeepFault, Lane, Refusal, Store};
@@ -38,6 +38,9 @@ pub(crate) enum Call {
     Shows(u32, Option<Letter>),
     /// By all lanes up to this one: how many values are closed, or why none is, and the numbers that the action was given.
     Closes(Result<u32, CloseFault>, [u32; 4]),
+    /// By all lanes up to this one, by an action that always fails: how many values are closed, how many faults there are beside the
+    /// first and its text, and the numbers that the action was given.
+    FailsToClose(u32, u32, &'static str, [u32; 4]),
 }
 
 /// A row of a test: the lane that calls, 0 or 1, the context, 0 to 2, the key's name, and the call.
@@ -64,123 +67,100 @@ impl Model for Chain {
 }
 
 impl Chain {
-    /// The store, opened with so many numbers.
-    pub(crate) fn open<R: Abort>(rt: &R, alloc: Global, numbers: u32) -> Chain {
-        let Opened {
-            store,
-            first,
-            second,
-            closers,
-        } = open_chain(rt, alloc, numbers);
-        Chain {
-            alloc,
-            store,
-            lanes: [first, second],
-            closers,
-        }
-    }
-
     /// The numbers of the lanes.
     fn numbers_of_lanes(&self) -> (usize, usize) {
         (self.lanes[0].number(), self.lanes[1].number())
     }
 
     /// What a look-up answers.
-    fn get<R: Abort>(
-        &mut self,
-        rt: &R,
-        lane: usize,
-        context: ContextNo,
-        name: &str,
-    ) -> Result<Look, Refusal> {
-        let key = key(rt, self.alloc, name);
-        assert!(rt; lane < 2 && context < 3);
+    fn get(&mut self, lane: usize, context: ContextNo, key: &Key) -> Result<Look, Refusal>
+        requires lane { lane < 2 }
+        requires context { context < 3 }
+    {
         let lane = &mut self.lanes[lane];
-        self.store.get(lane, context, &key)
+        self.store.get(lane, context, key)
     }
 
     /// What a remove answers.
-    fn remove<R: Abort>(
-        &mut self,
-        rt: &R,
-        lane: usize,
-        context: ContextNo,
-        name: &str,
-    ) -> Result<Option<u32>, Refusal> {
-        let key = key(rt, self.alloc, name);
-        assert!(rt; lane < 2 && context < 3);
+    fn remove(&mut self, lane: usize, context: ContextNo, key: &Key) -> Result<Option<u32>, Refusal>
+        requires lane { lane < 2 }
+        requires context { context < 3 }
+    {
         let lane = &mut self.lanes[lane];
-        self.store.remove(lane, context, &key)
+        self.store.remove(lane, context, key)
     }
 
     /// The number under which a value is kept, and what its put answers.
-    pub(crate) fn put<R: Abort>(
+    fn put<R: Abort>(
         &mut self,
         rt: &R,
         lane: usize,
         context: ContextNo,
-        name: &str,
+        key: &Key,
         value: Letter,
-    ) -> (u32, Result<Option<u32>, Refusal>) {
-        let key = key(rt, self.alloc, name);
-        assert!(rt; lane < 2 && context < 3);
+    ) -> (u32, Result<Option<u32>, Refusal>)
+        requires lane { lane < 2 }
+        requires context { context < 3 }
+    {
         let lane = &mut self.lanes[lane];
         let Ok(kept) = self.store.keep(lane, value) else {
             panic!(rt; "not kept");
         };
         let number = kept.number();
-        match self.store.put(lane, context, &key, kept) {
+        match self.store.put(lane, context, key, kept) {
             Ok(stood) => (number, Ok(stood)),
             Err((_, refusal)) => (number, Err(refusal)),
         }
     }
 
     /// What a compute answers whose factory answers `made`; where the factory comes back unused, what it answers then.
-    fn compute<R: Abort>(
+    fn compute(
         &mut self,
-        rt: &R,
         lane: usize,
         context: ContextNo,
-        name: &str,
+        key: &Key,
         made: Result<Letter, Fault>,
-    ) -> Compute<Letter, Result<Letter, Fault>> {
-        let key = key(rt, self.alloc, name);
-        assert!(rt; lane < 2 && context < 3);
+    ) -> Compute<Letter, Result<Letter, Fault>>
+        requires lane { lane < 2 }
+        requires context { context < 3 }
+    {
         let factory = move |_key: &Key| -> Result<Letter, Fault> { made };
         let lane = &mut self.lanes[lane];
-        match self.store.compute(lane, context, &key, factory) {
+        match self.store.compute(lane, context, key, factory) {
             Compute::Computed { number } => Compute::Computed { number },
             Compute::Found { at, number, unused } => Compute::Found {
                 at,
                 number,
-                unused: unused(&key),
+                unused: unused(key),
             },
             Compute::Failed(fault) => Compute::Failed(fault),
             Compute::Unkept { value, cause } => Compute::Unkept { value, cause },
             Compute::Refused { refusal, unused } => Compute::Refused {
                 refusal,
-                unused: unused(&key),
+                unused: unused(key),
             },
         }
     }
 
     /// The value that the lane is shown.
-    fn show<R: Abort>(&mut self, rt: &R, lane: usize, number: u32) -> Option<Letter> {
-        assert!(rt; lane < 2);
+    fn show(&mut self, lane: usize, number: u32) -> Option<Letter>
+        requires { lane < 2 }
+    {
         let lane = &mut self.lanes[lane];
         self.store.show(lane, number).copied()
     }
 
     /// What a close of the context answers that has the lanes up to this one in hand. Where it is refused, the context can be
     /// closed again.
-    pub(crate) fn close<R: Abort>(
+    fn close<R: Abort>(
         &mut self,
         rt: &R,
         lane: usize,
         context: ContextNo,
         action: &mut Recorder,
-    ) -> Result<Closes, CloseFault> {
-        assert!(rt; lane < 2);
+    ) -> Result<Closes, CloseFault>
+        requires { lane < 2 }
+    {
         let hand = lane + 1;
         let closer = take_closer(rt, &self.store, &mut self.closers, context);
         match close(&self.store, closer, &mut self.lanes[..hand], action) {
@@ -256,18 +236,11 @@ fn tell_fault(outcome: Compute<Letter, Result<Letter, Fault>>, text: &str) -> To
 
 impl Chain {
     // Computes by a factory that makes the letter.
-    fn make<R: Abort>(
-        &mut self,
-        rt: &R,
-        lane: usize,
-        context: ContextNo,
-        name: &str,
-        letter: char,
-    ) -> Told {
-        tell(
-            self.compute(rt, lane, context, name, Ok(plain(letter))),
-            letter,
-        )
+    fn make(&mut self, lane: usize, context: ContextNo, key: &Key, letter: char) -> Told
+        requires lane { lane < 2 }
+        requires context { context < 3 }
+    {
+        tell(self.compute(lane, context, key, Ok(plain(letter))), letter)
     }
 
     // Computes by a factory that fails with the text.
@@ -276,13 +249,16 @@ impl Chain {
         rt: &R,
         lane: usize,
         context: ContextNo,
-        name: &str,
+        key: &Key,
         text: &str,
-    ) -> Told {
+    ) -> Told
+        requires lane { lane < 2 }
+        requires context { context < 3 }
+    {
         let Ok(fault) = String::from_str(self.alloc, text) else {
             panic!(rt; "no memory");
         };
-        let outcome = self.compute(rt, lane, context, name, Err(Fault::Text(fault)));
+        let outcome = self.compute(lane, context, key, Err(Fault::Text(fault)));
         tell_fault(outcome, text)
     }
 
@@ -292,7 +268,9 @@ impl Chain {
         rt: &R,
         lane: usize,
         context: ContextNo,
-    ) -> (Result<u32, CloseFault>, [u32; 4]) {
+    ) -> (Result<u32, CloseFault>, [u32; 4])
+        requires { lane < 2 }
+    {
         let mut recorder = Recorder::new(self.alloc, false);
         match self.close(rt, lane, context, &mut recorder) {
             Ok(closed) => {
@@ -303,30 +281,79 @@ impl Chain {
         }
     }
 
+    // How many values a close has closed whose action always fails, how many faults there are beside the first, which has this
+    // text, and the numbers that the action was given.
+    fn fail_to_close<R: Abort>(
+        &mut self,
+        rt: &R,
+        lane: usize,
+        context: ContextNo,
+        text: &str,
+    ) -> (u32, u32, [u32; 4])
+        requires { lane < 2 }
+    {
+        let mut recorder = Recorder::new(self.alloc, true);
+        let Ok(closed) = self.close(rt, lane, context, &mut recorder) else {
+            panic!(rt; "not closed");
+        };
+        let (count, more_faults) = (closed.closed, closed.more_faults);
+        let Some(Fault::Text(told)) = closed.first_fault else {
+            panic!(rt; "no fault");
+        };
+        same(rt, told.as_str(), text, "the first fault");
+        (count, more_faults, recorder.numbers)
+    }
+
     // Asserts that the row's call has its answer.
     fn go<R: Abort>(&mut self, rt: &R, row: Row) {
         let (lane, at, name, call) = row;
+        assert!(rt; lane < 2 && at < 3);
+        let key = key(rt, self.alloc, name);
+        self.answers(rt, lane, at, &key, call, name);
+    }
+
+    // Asserts that the call has its answer.
+    fn answers<R: Abort>(
+        &mut self,
+        rt: &R,
+        lane: usize,
+        at: ContextNo,
+        key: &Key,
+        call: Call,
+        name: &str,
+    )
+        requires lane { lane < 2 }
+        requires context { at < 3 }
+    {
         match call {
-            Call::Gets(answer) => same(rt, self.get(rt, lane, at, name), answer, name),
-            Call::Removes(answer) => same(rt, self.remove(rt, lane, at, name), answer, name),
+            Call::Gets(answer) => same(rt, self.get(lane, at, key), answer, name),
+            Call::Removes(answer) => same(rt, self.remove(lane, at, key), answer, name),
             Call::Puts(value, number, answer) => {
                 same(
                     rt,
-                    self.put(rt, lane, at, name, value),
+                    self.put(rt, lane, at, key, value),
                     (number, answer),
                     name,
                 );
             }
             Call::Computes(letter, answer) => {
-                same(rt, self.make(rt, lane, at, name, letter), answer, name);
+                same(rt, self.make(lane, at, key, letter), answer, name);
             }
-            Call::Fails(text) => same(rt, self.fail(rt, lane, at, name, text), Told::Failed, name),
-            Call::Shows(number, value) => same(rt, self.show(rt, lane, number), value, name),
+            Call::Fails(text) => same(rt, self.fail(rt, lane, at, key, text), Told::Failed, name),
+            Call::Shows(number, value) => same(rt, self.show(lane, number), value, name),
             Call::Closes(answer, numbers) => {
                 same(
                     rt,
                     self.close_plainly(rt, lane, at),
                     (answer, numbers),
+                    name,
+                );
+            }
+            Call::FailsToClose(closed, more, text, numbers) => {
+                same(
+                    rt,
+                    self.fail_to_close(rt, lane, at, text),
+                    (closed, more, numbers),
                     name,
                 );
             }
@@ -336,7 +363,21 @@ impl Chain {
 
 /// Opens a store of the chain with so many numbers, and asserts that each row's call, in order, has its answer.
 pub(crate) fn rows<R: Abort>(rt: &R, alloc: Global, numbers: u32, rows: &[Row]) {
-    let mut chain = Chain::open(rt, alloc, numbers);
+    let Some(opened) = open_chain(alloc, numbers) else {
+        panic!(rt; "no store");
+    };
+    let Opened {
+        store,
+        first,
+        second,
+        closers,
+    } = opened;
+    let mut chain = Chain {
+        alloc,
+        store,
+        lanes: [first, second],
+        closers,
+    };
     same(
         rt,
         chain.numbers_of_lanes(),

@@ -1,11 +1,9 @@
 //! Closes of a context of the chain.
-use crate::asked::same;
-use crate::chain::{Call, Chain, rows};
+use crate::chain::{Call, rows};
 use crate::opening::{Letter, closeable, plain};
-use ext_closing::{CloseAction, CloseFault, Closes};
+use ext_closing::{CloseAction, CloseFault};
 use ext_model::{Fault, Look};
 use std::alloc::Global;
-use std::process::Abort;
 
 /// Writes down the numbers that it is given, at most four. Where it is to fail, each close does, with the text `f` and the
 /// number.
@@ -93,32 +91,14 @@ fn values_that_are_not_closeable_stay(rt: HostRuntime) {
     rows(&rt, rt.alloc(), 8, &all);
 }
 
-/// Closes the method, where each of its three values fails to close.
-fn close_with_faults<R: Abort>(rt: &R, alloc: Global) -> (Closes, [u32; 4]) {
-    let mut chain = Chain::open(rt, alloc, 8);
-    for (name, number) in [("a", 1), ("b", 2), ("c", 3)] {
-        let put = chain.put(rt, 0, 2, name, closeable('x'));
-        same(rt, put, (number, Ok(None)), name);
-    }
-    let mut recorder = Recorder::new(alloc, true);
-    let Ok(closed) = chain.close(rt, 0, 2, &mut recorder) else {
-        panic!(rt; "not closed");
-    };
-    (closed, recorder.numbers)
-}
-
 #[test]
 fn faults_do_not_stop_the_others(rt: HostRuntime) {
-    let (closed, numbers) = close_with_faults(&rt, rt.alloc());
-    same(&rt, numbers, [3, 2, 1, 0], "the numbers");
-    same(
-        &rt,
-        (closed.closed, closed.more_faults),
-        (3, 2),
-        "the counts",
-    );
-    let Some(Fault::Text(text)) = closed.first_fault else {
-        panic!(rt; "no fault");
-    };
-    same(&rt, text.as_str(), "f3", "the first fault");
+    let value = closeable('x');
+    let all = [
+        (0, 2, "a", Call::Puts(value, 1, Ok(None))),
+        (0, 2, "b", Call::Puts(value, 2, Ok(None))),
+        (0, 2, "c", Call::Puts(value, 3, Ok(None))),
+        (0, 2, "", Call::FailsToClose(3, 2, "f3", [3, 2, 1, 0])),
+    ];
+    rows(&rt, rt.alloc(), 8, &all);
 }

@@ -2,12 +2,15 @@
 ghost use Rattle.std.specs.Prelude.{◌<◌, length};
 ghost use Rattle.ext_store.specs.Stores.{IsLaneOf};
 
-use crate::asked::{key, open_chain, same};
+use crate::asked::{Scenario, key, same, with_chain};
 use crate::chain::{Call, Told, rows};
 use crate::opening::{Letter, plain};
 use ext_model::{Fault, Look};
 use ext_store::{Compute, KeepFault, Lane, Refusal, Store};
 use ext_tree::Key;
+use std::alloc::Global;
+use std::process::Abort;
+use std::thread::Threads;
 
 #[test]
 fn failed_factory_leaves_cell_empty(rt: HostRuntime) {
@@ -98,29 +101,36 @@ fn computed_by(
     }
 }
 
+/// A caller's box makes the value.
+#[derive(Drop)]
+struct Boxed;
+
+impl Scenario for Boxed {
+    fn play<R: Threads + Sync + Abort>(
+        self,
+        rt: &R,
+        alloc: Global,
+        store: &Store<Letter>,
+        first: &mut Lane<Letter>,
+        _second: &mut Lane<Letter>,
+    ) {
+        let a = key(rt, alloc, "a");
+        let mut letter = 'w';
+        let Ok(maker) = Box::new(alloc, move |_key: &Key| -> Result<Letter, Fault> {
+            let last = letter;
+            letter = 'x';
+            Ok(plain(last))
+        }) else {
+            panic!(rt; "no memory");
+        };
+        let number = computed_by(store, first, &a, maker);
+        same(rt, number, Some(1), "the compute");
+        let value = store.show(first, 1).copied();
+        same(rt, value, Some(plain('w')), "the value");
+    }
+}
+
 #[test]
 fn caller_gives_a_box(rt: HostRuntime) {
-    let mut opened = open_chain(&rt, rt.alloc(), 8);
-    let (store, lane) = (&opened.store, &mut opened.first);
-    let a = key(&rt, rt.alloc(), "a");
-    let mut letter = 'w';
-    let Ok(maker) = Box::new(rt.alloc(), move |_key: &Key| -> Result<Letter, Fault> {
-        let last = letter;
-        letter = 'x';
-        Ok(plain(last))
-    }) else {
-        panic!(rt; "no memory");
-    };
-    same(
-        &rt,
-        computed_by(store, lane, &a, maker),
-        Some(1),
-        "the compute",
-    );
-    same(
-        &rt,
-        store.show(lane, 1).copied(),
-        Some(plain('w')),
-        "the value",
-    );
+    with_chain(&rt, rt.alloc(), 8, Boxed);
 }

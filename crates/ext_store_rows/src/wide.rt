@@ -1,4 +1,5 @@
 //! A store of as many cells as there can be.
+use crate::asked::same;
 use crate::opening::Letter;
 use ext_ids::UniqueId;
 use ext_store::{Limits, Store, StoreFault};
@@ -26,6 +27,20 @@ fn keys(alloc: Global, count: u32) -> Result<Directory, Fail> {
     Ok(directory)
 }
 
+/// How many lanes and closers the store has, or why it is not opened.
+pub(crate) fn lanes_and_closers(
+    alloc: Global,
+    tree: Tree,
+    keys: Directory,
+    limits: Limits,
+) -> Result<(usize, usize), StoreFault> {
+    let opened: Result<(Store<Letter>, _, _), StoreFault> = Store::open(alloc, tree, keys, limits);
+    match opened {
+        Ok((_store, lanes, closers)) => Ok((lanes.len(), closers.len())),
+        Err(fault) => Err(fault),
+    }
+}
+
 /// How many lanes and closers a store of 256 contexts and so many keys has, or why it is not opened.
 fn opened(alloc: Global, count: u32) -> Result<Result<(usize, usize), StoreFault>, Fail> {
     let limits = Limits {
@@ -33,21 +48,14 @@ fn opened(alloc: Global, count: u32) -> Result<Result<(usize, usize), StoreFault
         tries: 64,
         numbers: 65_535,
     };
-    let opened: Result<(Store<Letter>, _, _), StoreFault> = Store::open(
-        alloc,
-        contexts(alloc)?,
-        keys(alloc, count)?,
-        limits,
-    );
-    Ok(match opened {
-        Ok((_store, lanes, closers)) => Ok((lanes.len(), closers.len())),
-        Err(fault) => Err(fault),
-    })
+    let (tree, keys) = (contexts(alloc)?, keys(alloc, count)?);
+    Ok(lanes_and_closers(alloc, tree, keys, limits))
 }
 
 #[test]
 fn cells_are_4096_at_most(rt: HostRuntime) -> Result<(), Fail> {
-    assert_eq!(rt; opened(rt.alloc(), 16)?, Ok((16, 256)));
-    assert_eq!(rt; opened(rt.alloc(), 17)?, Err(StoreFault::TooManyCells));
+    same(&rt, opened(rt.alloc(), 16)?, Ok((16, 256)), "16 keys");
+    let fault = Err(StoreFault::TooManyCells);
+    same(&rt, opened(rt.alloc(), 17)?, fault, "17 keys");
     Ok(())
 }
