@@ -6,7 +6,7 @@ use crate::fields::{
 use crate::keys::KEY_FIELDS;
 use crate::nodes::NODE_FIELDS;
 use crate::read::TOP_FIELDS;
-use std::alloc::Global;
+use std::alloc::{AllocError, Global};
 use toml::Table;
 
 /// What a field has to be.
@@ -152,17 +152,35 @@ pub fn bad_label(alloc: Global, top: &Table, key: usize) -> Result<Option<String
     let Some(label) = text_at(table, "label") else {
         return Ok(None);
     };
-    if label.is_empty() {
-        return Ok(Some(format!(in alloc; "its label is empty")?));
-    }
-    if label.contains(' ') {
-        return Ok(Some(format!(in alloc; "its label {label:?} has a space")?));
+    if let Some(meaning) = no_word(alloc, label)? {
+        return Ok(Some(meaning));
     }
     if let Some(parts) = texts_at(alloc, table, "namespace", fault)?
         && parts.is_empty()
     {
         return Ok(Some(format!(in alloc; "its namespace has no part")?));
     }
+    same_label(alloc, tables.as_slice(), key, label)
+}
+
+/// Why a label is no word.
+fn no_word(alloc: Global, label: &str) -> Result<Option<String>, AllocError> {
+    if label.is_empty() {
+        return Ok(Some(format!(in alloc; "its label is empty")?));
+    }
+    if label.contains(' ') {
+        return Ok(Some(format!(in alloc; "its label {label:?} has a space")?));
+    }
+    Ok(None)
+}
+
+/// The key before this one that has its label.
+fn same_label(
+    alloc: Global,
+    tables: &[&Table],
+    key: usize,
+    label: &str,
+) -> Result<Option<String>, PlanFault> {
     match tables
         .iter()
         .position(|other| text_at(other, "label") == Some(label))

@@ -1,8 +1,12 @@
 //! What is meant by a fault of a node that is no step, or of all nodes.
+ghost use Rattle.std.specs.Prelude.{All, IfOk};
+ghost use Rattle.ext_plan_model.specs.Plans.{keys_view};
+ghost use Rattle.ext_plan_model.specs.KeyNumbers.{HasParts};
+
 use crate::explaining::fields::table_of;
 use crate::fault::{Place, PlanFault};
 use crate::fields::{tables_at, text_at};
-use crate::keys::keys_of;
+use crate::keys::{Keys, keys_of};
 use crate::locks::lock_at;
 use crate::modes::mode_at;
 use crate::nodes::{NodeSketch, ids_of, sketches_of};
@@ -11,6 +15,14 @@ use ext_plan_model::KeyNumbers;
 use ext_tree::{Tree, TreeFault};
 use std::alloc::Global;
 use toml::Table;
+
+/// The keys of a document, with their labels.
+pub fn keys_in<'a>(alloc: Global, top: &'a Table) -> Result<Keys<'a>, PlanFault>
+    ensures { IfOk result (λ r. All HasParts (keys_view r.keys.items)) }
+{
+    let tables = tables_at(alloc, top, "key", PlanFault::BadField(Place::Whole))?;
+    keys_of(alloc, tables.as_slice())
+}
 
 /// The nodes of a document after the first pass.
 pub fn sketches_in<'a>(alloc: Global, top: &'a Table) -> Result<Vec<NodeSketch<'a>>, PlanFault> {
@@ -37,17 +49,38 @@ pub fn bad_id(alloc: Global, top: &Table, node: usize) -> Result<Option<String>,
 pub fn bad_tree(alloc: Global, top: &Table) -> Result<Option<String>, PlanFault> {
     let sketches = sketches_in(alloc, top)?;
     let ids = ids_of(alloc, sketches.as_slice())?;
-    let (node, why) = match Tree::build(alloc, ids.as_slice()) {
-        Ok(_) => return Ok(None),
-        Err(TreeFault::Memory) => return Err(PlanFault::Memory),
-        Err(TreeFault::TooMany) => {
-            return Ok(Some(format!(in alloc; "it has more than 256 nodes")?));
+    match Tree::build(alloc, ids.as_slice()) {
+        Ok(_) => Ok(None),
+        Err(fault) => in_the_way(alloc, ids.as_slice(), fault),
+    }
+}
+
+/// The node that a fault of these ids names, and why it is in the way of a tree.
+fn in_the_way(
+    alloc: Global,
+    ids: &[UniqueId],
+    fault: TreeFault,
+) -> Result<Option<String>, PlanFault> {
+    match fault {
+        TreeFault::Memory => Err(PlanFault::Memory),
+        TreeFault::TooMany => Ok(Some(format!(in alloc; "it has more than 256 nodes")?)),
+        TreeFault::NoRoot => {
+            let why = "has more than one segment, so that it is no root";
+            named(alloc, ids, 0, why)
         }
-        Err(TreeFault::NoRoot) => (0, "has more than one segment, so that it is no root"),
-        Err(TreeFault::TwoRoots(node)) => (node, "is a second root"),
-        Err(TreeFault::NoParent(node)) => (node, "has no parent before it"),
-        Err(TreeFault::Twice(node)) => (node, "stands before already"),
-    };
+        TreeFault::TwoRoots(node) => named(alloc, ids, node, "is a second root"),
+        TreeFault::NoParent(node) => named(alloc, ids, node, "has no parent before it"),
+        TreeFault::Twice(node) => named(alloc, ids, node, "stands before already"),
+    }
+}
+
+/// What is said of a node, behind its id.
+fn named(
+    alloc: Global,
+    ids: &[UniqueId],
+    node: usize,
+    why: &str,
+) -> Result<Option<String>, PlanFault> {
     let Some(id) = ids.get(node) else {
         return Ok(Some(format!(in alloc; "it has no node")?));
     };
@@ -81,10 +114,15 @@ pub fn bad_lock(alloc: Global, top: &Table, node: usize) -> Result<Option<String
             "its mode {mode:?} is neither same_thread nor concurrent"
         )?));
     }
-    let Some(locks) = &sketch.locks else {
-        return Ok(None);
-    };
-    for (i, text) in locks.iter().enumerate() {
+    match &sketch.locks {
+        None => Ok(None),
+        Some(texts) => first_bad_lock(alloc, node, texts.as_slice()),
+    }
+}
+
+/// The first of a node's texts that is no lock.
+fn first_bad_lock(alloc: Global, node: usize, texts: &[&str]) -> Result<Option<String>, PlanFault> {
+    for (i, text) in texts.iter().enumerate() {
         match lock_at(alloc, node, text) {
             Ok(_) => {}
             Err(PlanFault::Memory) => return Err(PlanFault::Memory),
@@ -100,20 +138,24 @@ pub fn bad_lock(alloc: Global, top: &Table, node: usize) -> Result<Option<String
 
 /// What there are too many of.
 pub fn too_many(alloc: Global, top: &Table) -> Result<Option<String>, PlanFault> {
-    let tables = tables_at(alloc, top, "key", PlanFault::BadField(Place::Whole))?;
-    let keys = keys_of(alloc, tables.as_slice())?;
-    let nodes = sketches_in(alloc, top)?.len();
-    let different = match KeyNumbers::of(alloc, keys.keys.as_slice()) {
-        Ok(numbers) => numbers.len(),
-        Err(TreeFault::Memory) => return Err(PlanFault::Memory),
-        Err(_) => {
-            return Ok(Some(format!(in alloc; "it has more than 64 different keys")?));
-        }
+    let Some(keys) = different_keys(alloc, top)? else {
+        return Ok(Some(format!(in alloc; "it has more than 64 different keys")?));
     };
-    if nodes.saturating_mul(different) > 4096 {
+    let nodes = sketches_in(alloc, top)?.len();
+    if nodes.saturating_mul(keys) > 4096 {
         return Ok(Some(format!(in alloc;
-            "{nodes} nodes times {different} different keys are more than 4096 cells"
+            "{nodes} nodes times {keys} different keys are more than 4096 cells"
         )?));
     }
     Ok(Some(format!(in alloc; "its locks have more than 63 different names")?))
+}
+
+/// How many different keys the document has, if they are at most 64.
+fn different_keys(alloc: Global, top: &Table) -> Result<Option<usize>, PlanFault> {
+    let keys = keys_in(alloc, top)?;
+    match KeyNumbers::of(alloc, keys.keys.as_slice()) {
+        Ok(numbers) => Ok(Some(numbers.len())),
+        Err(TreeFault::Memory) => Err(PlanFault::Memory),
+        Err(_) => Ok(None),
+    }
 }

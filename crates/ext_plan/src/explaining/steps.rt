@@ -3,10 +3,8 @@ ghost use Rattle.std.specs.Prelude.{◌<◌, HoldsAt, IfOk, IfSome, IsErr, lengt
 ghost use Rattle.ext_plan.specs.Steps.{step_at};
 
 use crate::depths::least_test_depth;
-use crate::explaining::nodes::sketches_in;
-use crate::fault::{Place, PlanFault};
-use crate::fields::tables_at;
-use crate::keys::keys_of;
+use crate::explaining::nodes::{keys_in, sketches_in};
+use crate::fault::PlanFault;
 use crate::labels::Labels;
 use crate::steps::{has_empty, step_at, step_of, words_of};
 use std::alloc::Global;
@@ -14,23 +12,37 @@ use toml::Table;
 
 /// The first text of a node's callbacks and test that is no step there. They are gone over in the order in which they are read.
 pub fn bad_step(alloc: Global, top: &Table, node: usize) -> Result<Option<String>, PlanFault> {
-    let tables = tables_at(alloc, top, "key", PlanFault::BadField(Place::Whole))?;
-    let labels = keys_of(alloc, tables.as_slice())?.labels;
+    let labels = keys_in(alloc, top)?.labels;
     let sketches = sketches_in(alloc, top)?;
     let Some(sketch) = sketches.get(node) else {
         return Ok(None);
     };
     let own = sketch.id.len();
     let least = least_test_depth(sketches.as_slice(), &sketch.id);
-    for (name, depth, lists) in sketch.callbacks.in_order(own, least) {
-        if let Some(meaning) = bad_in_callbacks(alloc, &labels, depth, node, name, lists)? {
-            return Ok(Some(meaning));
-        }
+    let lists = sketch.callbacks.in_order(own, least);
+    if let Some(meaning) = bad_in_kinds(alloc, &labels, node, &lists)? {
+        return Ok(Some(meaning));
     }
     match &sketch.test {
         None => Ok(None),
         Some(texts) => bad_in(alloc, &labels, own, node, "test", texts.as_slice()),
     }
+}
+
+/// The first text of a node's callbacks that is no step there. The kinds are as `CallbackSketch::in_order` has them.
+fn bad_in_kinds(
+    alloc: Global,
+    labels: &Labels<'_>,
+    node: usize,
+    kinds: &[(&str, usize, &[Vec<&str>])],
+) -> Result<Option<String>, PlanFault> {
+    for (name, depth, lists) in kinds {
+        let found = bad_in_callbacks(alloc, labels, *depth, node, name, lists)?;
+        if found.is_some() {
+            return Ok(found);
+        }
+    }
+    Ok(None)
 }
 
 /// The first text of a kind's callbacks that is no step there. `name` is the kind's field.
