@@ -61,12 +61,28 @@ pub(crate) fn wide(alloc: Global) -> Option<Tree> {
 }
 
 /// The global key of this number.
-pub(crate) fn key(alloc: Global, number: u32) -> Option<Key> {
+fn key(alloc: Global, number: u32) -> Option<Key> {
     let name = format!(in alloc; "key{number}").ok()?;
     Key::new(alloc, Namespace::global(), name.as_str()).ok()
 }
 
+/// The global key of this number.
+pub(crate) fn key_of(alloc: Global, number: u32) -> Result<Key, BenchFault> {
+    key(alloc, number).ok_or(BenchFault::Opening)
+}
+
 /// So many keys.
+pub(crate) fn names(alloc: Global, count: u32) -> Result<Vec<Key>, BenchFault> {
+    let mut names = Vec::new(alloc);
+    for number in 0..count {
+        names
+            .push(key_of(alloc, number)?)
+            .map_err(|_| BenchFault::Opening)?;
+    }
+    Ok(names)
+}
+
+/// So many keys, declared in their order.
 pub(crate) fn keys(alloc: Global, count: u32) -> Option<Directory> {
     let mut directory = Directory::new(alloc);
     for number in 0..count {

@@ -4,7 +4,7 @@ ghost use Rattle.ext_store.specs.Stores.{IsCloserOf, IsLaneOf};
 
 use crate::case::Case;
 use crate::fault::BenchFault;
-use crate::opening::{NUMBERS, Payload, chain, key, keys, open, wide};
+use crate::opening::{NUMBERS, Payload, chain, key_of, keys, names, open, wide};
 use crate::spent::{Span, Spent, Started};
 use crate::work::{
     compute_all, compute_often, look_up, look_up_numbered, put_and_remove, put_one, put_over,
@@ -76,13 +76,22 @@ impl CloseAction<Payload> for Counting {
 fn computing<R: Clock + CpuClock + AllocGlobal>(rt: &R) -> Result<Span, BenchFault> {
     let alloc = rt.alloc();
     let (store, mut lanes, mut closers) = open(alloc, wide(alloc), keys(alloc, KEYS), 1)?;
-    let mut names = Vec::new(alloc);
-    for number in 0..KEYS {
-        let name = key(alloc, number).ok_or(BenchFault::Opening)?;
-        names.push(name).map_err(|_| BenchFault::Opening)?;
-    }
+    computed_and_closed(rt, &store, lanes.as_mut_slice(), &mut closers)
+}
+
+/// All keys computed in the contexts of the closers but the first, which are closed.
+fn computed_and_closed<R: Clock + CpuClock + AllocGlobal>(
+    rt: &R,
+    store: &Store<Payload>,
+    lanes: &mut [Lane<Payload>],
+    closers: &mut Vec<Closer>,
+) -> Result<Span, BenchFault>
+    requires lanes { All (IsLaneOf store.now.id) lanes.old }
+    requires closers { All (IsCloserOf store.now) closers.old.items }
+{
+    let names = names(rt.alloc(), KEYS)?;
     let started = Started::now(rt)?;
-    let closed = compute_and_close(&store, lanes.as_mut_slice(), &mut closers, names.as_slice());
+    let closed = compute_and_close(store, lanes, closers, names.as_slice());
     let span = started.end(rt, closed);
     if closed != 255 * u64::from(KEYS) {
         return Err(BenchFault::Answer);
@@ -152,11 +161,23 @@ fn batch<R: Threads + Sync + Clock + CpuClock + AllocGlobal>(
     let alloc = rt.alloc();
     // One more for what stands before the batch.
     let count = threads.min(14) + usize::from(case.has_writer()) + 1;
-    let one = key(alloc, 0).ok_or(BenchFault::Opening)?;
-    let other = key(alloc, 1).ok_or(BenchFault::Opening)?;
     let (store, lanes, _closers) = open(alloc, contexts(alloc, case), keys(alloc, 2), count)?;
-    let done = run(rt, &store, lanes, Job { case, threads }, &one, &other)?;
-    counted_of(alloc, done)
+    spans_of(rt, &store, lanes, Job { case, threads })
+}
+
+/// What each thread of the job spent that is counted.
+fn spans_of<R: Threads + Sync + Clock + CpuClock + AllocGlobal>(
+    rt: &R,
+    store: &Store<Payload>,
+    lanes: Vec<Lane<Payload>>,
+    job: Job,
+) -> Result<Vec<Span>, BenchFault>
+    requires { All (IsLaneOf store.now.id) lanes.items }
+{
+    let alloc = rt.alloc();
+    let key = key_of(alloc, 0)?;
+    let other = key_of(alloc, 1)?;
+    counted_of(alloc, run(rt, store, lanes, job, &key, &other)?)
 }
 
 /// What came of each lane's job, over what stands before the batch.

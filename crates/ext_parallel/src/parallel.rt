@@ -46,8 +46,8 @@ pub fn parallel_results<R: Threads + Wait + Sync, L: RunListener + Sync>(
     ensures fault { IfErr result (IsRefusedRun (plan_view plan.now) lanes) }
 {
     let suite = PlanSuite::new(alloc, plan, listener)?;
-    let (store, mut store_lanes, closers) = open_store(alloc, plan, lanes)?;
     let (locks, mut lock_lanes) = open_locks(alloc, plan, lanes)?;
+    let (store, mut store_lanes, closers) = open_store(alloc, plan, lanes)?;
     let all_lanes = store_lanes.as_mut_slice();
     match run_tree(
         rt,

@@ -9,20 +9,23 @@ use ext_store_rows::{Letter, key, open_chain, plain};
 use ext_tree::Key;
 use std::alloc::Global;
 
-/// Opens the store of a chain, keeps x and puts it in the root, and computes y in the method.
+/// Opens the store of a chain, and makes the calls.
 pub(crate) fn keeps_and_computes(alloc: Global) -> Outcome {
-    let Some(a) = key(alloc, "a") else {
-        return Outcome::NoMemory;
-    };
-    let Some(b) = key(alloc, "b") else {
-        return Outcome::NoMemory;
-    };
     let Some(mut opened) = open_chain(alloc, 8) else {
         return Outcome::NoMemory;
     };
-    let (store, lane) = (&opened.store, &mut opened.first);
-    let kept = keeps(store, lane, &a);
-    kept.and(computes(store, lane, &b))
+    makes_calls(alloc, &opened.store, &mut opened.first)
+}
+
+/// Keeps x and puts it in the root, and computes y in the method.
+fn makes_calls(alloc: Global, store: &Store<Letter>, lane: &mut Lane<Letter>) -> Outcome
+    requires lane { IsLaneOf store.now.id lane.old }
+    requires contexts { 2 < length store.now.tree }
+{
+    let (Some(a), Some(b)) = (key(alloc, "a"), key(alloc, "b")) else {
+        return Outcome::NoMemory;
+    };
+    keeps(store, lane, &a).and(computes(store, lane, &b))
 }
 
 /// Keeps x and puts it; where it is not kept it comes back, and is kept then.

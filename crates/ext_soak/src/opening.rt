@@ -112,29 +112,46 @@ fn directory(alloc: Global) -> Option<Directory> {
     Some(directory)
 }
 
-/// A round's store with so many lanes and tries.
-pub(crate) fn open(alloc: Global, lanes: usize, tries: u32) -> Result<Opened, SoakFault>
-    ensures lanes { IfOk result (λ o. All (IsLaneOf o.shared.store.id) o.lanes.items) }
-    ensures closers { IfOk result (λ o. All (IsCloserOf o.shared.store) o.closers.items) }
+/// The tree, where it was made with so many contexts.
+fn tree_of(tree: Option<Tree>, contexts: usize) -> Result<Tree, SoakFault>
+    ensures { IfOk result (λ tree. length tree ≡ contexts) }
+{
+    let tree = tree.ok_or(SoakFault::Memory)?;
+    if tree.len() != contexts {
+        return Err(SoakFault::Answer);
+    }
+    Ok(tree)
+}
+
+/// A store, its lanes and its closers.
+type Parts = (Store<Payload>, Vec<Lane<Payload>>, Vec<Closer>);
+
+/// A store of these contexts and the four keys.
+fn open_store(alloc: Global, tree: Tree, lanes: usize, tries: u32) -> Result<Parts, SoakFault>
+    ensures tree { IfOk result (λ r. r.0.tree ≡ tree) }
+    ensures lanes { IfOk result (λ r. All (IsLaneOf r.0.id) r.1.items) }
+    ensures closers { IfOk result (λ r. All (IsCloserOf r.0) r.2.items) }
 {
     let limits = Limits {
         lanes,
         tries,
         numbers: NUMBERS,
     };
-    let (Some(tree), Some(directory), Some(names)) = (
-        contexts(alloc),
-        directory(alloc),
-        names(alloc),
-    ) else {
-        return Err(SoakFault::Memory);
-    };
-    if tree.len() != CONTEXTS {
-        return Err(SoakFault::Answer);
+    let directory = directory(alloc).ok_or(SoakFault::Memory)?;
+    match Store::open(alloc, tree, directory, limits) {
+        Ok(parts) => Ok(parts),
+        Err(_) => Err(SoakFault::Memory),
     }
-    let Ok((store, lanes, closers)) = Store::open(alloc, tree, directory, limits) else {
-        return Err(SoakFault::Memory);
-    };
+}
+
+/// A round's store with so many lanes and tries.
+pub(crate) fn open(alloc: Global, lanes: usize, tries: u32) -> Result<Opened, SoakFault>
+    ensures lanes { IfOk result (λ o. All (IsLaneOf o.shared.store.id) o.lanes.items) }
+    ensures closers { IfOk result (λ o. All (IsCloserOf o.shared.store) o.closers.items) }
+{
+    let tree = tree_of(contexts(alloc), CONTEXTS)?;
+    let names = names(alloc).ok_or(SoakFault::Memory)?;
+    let (store, lanes, closers) = open_store(alloc, tree, lanes, tries)?;
     let running = AtomicU64::new(0);
     let shared = Shared {
         store,
@@ -176,32 +193,30 @@ fn chain(alloc: Global) -> Option<Tree> {
     Tree::build(alloc, ids.as_slice()).ok()
 }
 
+/// The two lanes of the store.
+fn pair_of(
+    store: &Store<Payload>,
+    lanes: Vec<Lane<Payload>>,
+) -> Result<(Lane<Payload>, Lane<Payload>), SoakFault>
+    requires { All (IsLaneOf store.now.id) lanes.items }
+    ensures first { IfOk result (λ pair. IsLaneOf store.now.id pair.0) }
+    ensures second { IfOk result (λ pair. IsLaneOf store.now.id pair.1) }
+{
+    let mut lanes = lanes;
+    let second = lanes.pop().ok_or(SoakFault::Answer)?;
+    let first = lanes.pop().ok_or(SoakFault::Answer)?;
+    Ok((first, second))
+}
+
 /// The deep store with two lanes.
 pub(crate) fn open_deep(alloc: Global) -> Result<OpenedDeep, SoakFault>
     ensures first { IfOk result (λ o. IsLaneOf o.deep.store.id o.first) }
     ensures second { IfOk result (λ o. IsLaneOf o.deep.store.id o.second) }
 {
-    let limits = Limits {
-        lanes: 2,
-        tries: 64,
-        numbers: NUMBERS,
-    };
-    let (Some(tree), Some(directory), Some(name)) = (
-        chain(alloc),
-        directory(alloc),
-        key(alloc, "standing"),
-    ) else {
-        return Err(SoakFault::Memory);
-    };
-    if tree.len() != 16 {
-        return Err(SoakFault::Answer);
-    }
-    let Ok((store, mut lanes, _)) = Store::open(alloc, tree, directory, limits) else {
-        return Err(SoakFault::Memory);
-    };
-    let (Some(second), Some(first)) = (lanes.pop(), lanes.pop()) else {
-        return Err(SoakFault::Answer);
-    };
+    let tree = tree_of(chain(alloc), 16)?;
+    let name = key(alloc, "standing").ok_or(SoakFault::Memory)?;
+    let (store, lanes, _closers) = open_store(alloc, tree, 2, 64)?;
+    let (first, second) = pair_of(&store, lanes)?;
     let deep = Deep { store, name };
     Ok(OpenedDeep {
         deep,

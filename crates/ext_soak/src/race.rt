@@ -171,6 +171,21 @@ pub(crate) fn make_races<R: Threads + Sync + AllocGlobal>(
         mut first,
         mut second,
     } = open_deep(rt.alloc())?;
+    race_often(rt, soak, round, &deep, &mut first, &mut second)
+}
+
+/// Makes the races of the two lanes.
+fn race_often<R: Threads + Sync>(
+    rt: &R,
+    soak: Soak,
+    round: u32,
+    deep: &Deep,
+    first: &mut Lane<Payload>,
+    second: &mut Lane<Payload>,
+) -> Result<(), SoakFault>
+    requires first { IsLaneOf deep.now.store.id first.old }
+    requires second { IsLaneOf deep.now.store.id second.old }
+{
     let race = Race {
         came: AtomicU64::new(0),
         ran: AtomicU64::new(0),
@@ -178,8 +193,8 @@ pub(crate) fn make_races<R: Threads + Sync + AllocGlobal>(
     let mut numbers = numbers_of(soak.seed, round, STREAM);
     let (came, put) = join(
         rt,
-        || compute_often(&deep, &mut first, &race),
-        || put_often(&deep, &mut second, &race, &mut numbers),
+        || compute_often(deep, first, &race),
+        || put_often(deep, second, &race, &mut numbers),
     );
     if !came {
         return Err(SoakFault::Late);

@@ -34,35 +34,54 @@ pub(crate) fn make_round<R: Threads + Sync + Wait + AllocGlobal>(
 ) -> Result<(), SoakFault> {
     let alloc = rt.alloc();
     let mut numbers = numbers_of(soak.seed, round, soak.lanes);
+    let logs = logs_of(alloc, soak.lanes).map_err(|_| SoakFault::Memory)?;
     let Opened {
         shared,
-        mut lanes,
+        lanes,
         closers,
     } = open(alloc, soak.lanes, tries_of(&mut numbers))?;
+    call_and_check(
+        rt,
+        &shared,
+        lanes,
+        closers,
+        numbers,
+        logs.as_slice(),
+        soak,
+        round,
+    )
+}
+
+/// Has all lanes of the round make their calls, closes what is left, and checks their replies.
+fn call_and_check<R: Threads + Sync + Wait + AllocGlobal>(
+    rt: &R,
+    shared: &Shared,
+    lanes: Vec<Lane<Payload>>,
+    closers: Vec<Closer>,
+    numbers: Pcg32,
+    logs: &[Mutex<Log>],
+    soak: Soak,
+    round: u32,
+) -> Result<(), SoakFault>
+    requires lanes { All (IsLaneOf shared.now.store.id) lanes.items }
+    requires closers { All (IsCloserOf shared.now.store) closers.items }
+{
+    let alloc = rt.alloc();
+    let mut lanes = lanes;
     let Some(mut lane) = lanes.pop() else {
         return Err(SoakFault::Answer);
     };
-    let logs = logs_of(alloc, soak.lanes).map_err(|_| SoakFault::Memory)?;
     let mut closing = Closing::new(alloc);
-    put_first(rt, &shared, &mut lane, &mut closing.log);
+    put_first(rt, shared, &mut lane, &mut closing.log);
     let ender = Ender {
         lane,
         closers,
         numbers,
         closing,
     };
-    let (ender, lanes) = at_once(
-        rt,
-        alloc,
-        &shared,
-        ender,
-        lanes,
-        logs.as_slice(),
-        soak,
-        round,
-    );
-    let own = end(alloc, &shared, ender, lanes)?;
-    check(rt, alloc, &own, logs.as_slice())
+    let (ender, lanes) = at_once(rt, alloc, shared, ender, lanes, logs, soak, round);
+    let own = end(alloc, shared, ender, lanes)?;
+    check(rt, alloc, &own, logs)
 }
 
 /// Puts a value in the engine under the key where one always stands, and one under the key whose value is moved.
