@@ -1,8 +1,10 @@
 //! The run of a plan on several lanes.
-ghost use Rattle.std.specs.Prelude.{◌<◌, ◌≤◌, All, length, map, IfOk, IfErr};
+ghost use Rattle.std.specs.Prelude.{◌≡◌, ◌<◌, ◌≤◌, All, length, map, IfOk, IfErr};
 ghost use Rattle.ext_lifecycle.specs.Results.{told};
 ghost use Rattle.ext_plan_model.specs.Plans.{plan_view};
 ghost use Rattle.ext_plan_model.specs.Laws.{CallbacksAreFew, HasFewCells, HasFewLocks, NamespacesHaveParts, NodesAreTree, StepListsAreShort, StepsNameLabels, TestsHaveNoChildren};
+ghost use Rattle.ext_locks.specs.Opening as locking;
+ghost use Rattle.ext_parallel.specs.Opened.{IsLocksOf};
 ghost use Rattle.ext_parallel.specs.ParallelRun.{IsRefusedRun, ParallelRun};
 
 use crate::meeting::meet_all;
@@ -10,6 +12,7 @@ use crate::opening::{open_locks, open_store};
 use ext_crew::OpenGate;
 use ext_engine::{EngineFault, run_tree};
 use ext_lifecycle::{NodeResult, RunListener};
+use ext_locks::{LockLane, Locks};
 use ext_plan_model::Plan;
 use ext_suite::PlanSuite;
 use std::alloc::Global;
@@ -47,18 +50,43 @@ pub fn parallel_results<R: Threads + Wait + Sync, L: RunListener + Sync>(
 {
     let suite = PlanSuite::new(alloc, plan, listener)?;
     let (locks, mut lock_lanes) = open_locks(alloc, plan, lanes)?;
+    results_of(
+        rt,
+        alloc,
+        plan,
+        lanes,
+        &suite,
+        &locks,
+        lock_lanes.as_mut_slice(),
+    )
+}
+
+/// The same, of a suite and locks that are opened already: opens the store, runs the tree over it, and lets all lanes meet.
+fn results_of<R: Threads + Wait + Sync, L: RunListener + Sync>(
+    rt: &R,
+    alloc: Global,
+    plan: &Plan,
+    lanes: usize,
+    suite: &PlanSuite<'_, L>,
+    locks: &Locks,
+    lock_lanes: &mut [LockLane],
+) -> Result<Vec<NodeResult>, EngineFault>
+    requires lanes { (1 ≤ lanes) × (lanes ≤ 16) }
+    requires tree { NodesAreTree (plan_view plan.now) }
+    requires tests { TestsHaveNoChildren (plan_view plan.now) }
+    requires cells { HasFewCells (plan_view plan.now) }
+    requires namespaces { NamespacesHaveParts (plan_view plan.now) }
+    requires suite { suite.now ≡ plan_view plan.now }
+    requires locks { IsLocksOf (plan_view plan.now) lanes locks.now }
+    requires lock_lanes { lock_lanes.old ≡ locking.fresh_lanes locks.now.table lanes lanes }
+    ensures run { IfOk result (λ results. ParallelRun (plan_view plan.now) lanes (map told results.items)) }
+    ensures in_tree { IfOk result (λ results. All (λ r. r.node < length plan.now.nodes.items) results.items) }
+    ensures fault { IfErr result (IsRefusedRun (plan_view plan.now) lanes) }
+{
     let (store, mut store_lanes, closers) = open_store(alloc, plan, lanes)?;
     let all_lanes = store_lanes.as_mut_slice();
     match run_tree(
-        rt,
-        alloc,
-        &suite,
-        &store,
-        &locks,
-        all_lanes,
-        lock_lanes.as_mut_slice(),
-        closers,
-        &OpenGate,
+        rt, alloc, suite, &store, locks, all_lanes, lock_lanes, closers, &OpenGate,
     ) {
         Ok(results) => {
             meet_all(&store, all_lanes);

@@ -5,7 +5,6 @@ use Rattle.ext_lifecycle.specs.Results.{told}
 use Rattle.ext_plan_model.specs.Plans.{PlanText, node_view, plan_view}
 use Rattle.ext_store.specs.Stores.{StoreLane}
 use Rattle.ext_store_steps.specs.declared.stored_value.StoredValue.{StoredValue}
-use Rattle.ext_locks.specs.Views.{Lane}
 use Rattle.std.proofs.lemmas.List.{length-map}
 use Rattle.ext_plan_model.specs.PlanCalls.{registered}
 use Rattle.ext_engine.specs.TreeRun.{IsFit, IsUsable, Lanes, TreeRun, all_results, setting_of}
@@ -15,35 +14,34 @@ use Rattle.ext_parallel.specs.ParallelRun.{MakesCall, IsAction, ClosesValue}
 use Rattle.ext_parallel.proofs.InTree.{results_within}
 use Rattle.ext_parallel.proofs.Refusals.{refused_run}
 use Rattle.ext_engine.proofs.Fresh.{fresh_usable}
-use Rattle.ext_parallel.proofs.parallel.parallel_results.Goals as goal
+use Rattle.ext_parallel.proofs.parallel.results_of.Goals as goal
 
 pub run_tree-requires-clause-lanes : goal.run_tree-requires-clause-lanes
 run_tree-requires-clause-lanes g c κs inside =
-    let st = c.in_ok-store.store in let lk = c.in_ok-locks.locks in
-    let usable = fresh_usable st lk c.args.lanes c.in_ok-store.store_lanes.items c.in_ok-locks.lock_lanes.items c.requires.lanes c.in_ok-store.ensures.lanes c.in_ok-store.ensures.own_lanes c.in_ok-locks.ensures.lanes in
-    let P : List (StoreLane StoredValue) → Type 0 = λ l. IsUsable st lk (record { first = l; second = c.in_ok-locks.lock_lanes.items }) in
-    let Q : List Lane → Type 0 = λ l. IsUsable st lk (record { first = c.as_mut_slice-all_lanes.result.now; second = l }) in
-    subst Q (sym c.as_mut_slice.ensures.value) (subst P (sym c.as_mut_slice-all_lanes.ensures.value) usable)
+    let st = c.in_ok-store.store in let lk = c.args.locks.now in
+    let usable = fresh_usable st lk c.args.lanes c.in_ok-store.store_lanes.items c.args.lock_lanes.now c.requires.lanes c.in_ok-store.ensures.lanes c.in_ok-store.ensures.own_lanes c.requires.lock_lanes in
+    let P : List (StoreLane StoredValue) → Type 0 = λ l. IsUsable st lk (record { first = l; second = c.args.lock_lanes.now }) in
+    subst P (sym c.as_mut_slice-all_lanes.ensures.value) usable
 
 pub run_tree-requires-clause-fit : goal.run_tree-requires-clause-fit
 run_tree-requires-clause-fit g c κs inside =
-    let st = c.in_ok-store.store in let lk = c.in_ok-locks.locks in
+    let st = c.in_ok-store.store in let lk = c.args.locks.now in
     let plan = plan_view c.args.plan.now in
-    let fits = tree_fits plan st lk c.in_ok-store.ensures.store.tree (λ name there. Contains-permutation (lock_names plan.nodes) lk.names name c.in_ok-locks.ensures.locks.names there) c.requires.tests in
+    let fits = tree_fits plan st lk c.in_ok-store.ensures.store.tree (λ name there. Contains-permutation (lock_names plan.nodes) lk.names name c.requires.locks.names there) c.requires.tests in
     let P : PlanText → Type 0 = λ p. IsFit st lk (suite_of p) in
-    subst P (sym c.in_ok-suite.ensures) fits
+    subst P (sym c.requires.suite) fits
 
 pub run_tree-requires-clause-suite_fits : goal.run_tree-requires-clause-suite_fits
 run_tree-requires-clause-suite_fits g c κs inside =
     let P : PlanText → Type 0 = λ p. HasKeys p c.in_ok-store.store in
-    subst P (sym c.in_ok-suite.ensures) (keys_fit (plan_view c.args.plan.now) c.in_ok-store.store c.in_ok-store.ensures.store.keys)
+    subst P (sym c.requires.suite) (keys_fit (plan_view c.args.plan.now) c.in_ok-store.store c.in_ok-store.ensures.store.keys)
 
 pub returns-in-Ok-clause-run : goal.returns-in-Ok-clause-run
 returns-in-Ok-clause-run g c =
-    let st = c.in_ok-store.store in let lk = c.in_ok-locks.locks in
+    let st = c.in_ok-store.store in let lk = c.args.locks.now in
     let plan = plan_view c.args.plan.now in
     let ran = c.in-Ok.ensures.run in
-    let first : Lanes StoredValue = record { first = c.as_mut_slice-all_lanes.result.now; second = c.as_mut_slice.result.now } in
+    let first : Lanes StoredValue = record { first = c.as_mut_slice-all_lanes.result.now; second = c.args.lock_lanes.now } in
     let after : Lanes StoredValue = record { first = c.run_tree.new.lanes; second = c.run_tree.new.lock_lanes } in
     let P : PlanText → Type 0 = λ p. TreeRun (setting_of st lk (suite_of p) (registered p) (λ (value : StoredValue). value.value.closeable)) (MakesCall p st) IsAction ClosesValue 16 0 first ran.0 after in
     let Q : PlanText → Type 0 = λ p. map told c.in-Ok.results.items ≡ all_results (suite_of p) (length st.tree) ran.0 in
@@ -53,14 +51,14 @@ returns-in-Ok-clause-run g c =
       store = st;
       store_is = c.in_ok-store.ensures.store;
       locks = lk;
-      locks_are = c.in_ok-locks.ensures.locks;
+      locks_are = c.requires.locks;
       first = first;
       fresh = c.as_mut_slice-all_lanes.ensures.value ∙ c.in_ok-store.ensures.lanes;
-      fresh_locks = c.as_mut_slice.ensures.value ∙ c.in_ok-locks.ensures.lanes;
+      fresh_locks = c.requires.lock_lanes;
       ran = ran.0;
       after = after;
-      run = subst P c.in_ok-suite.ensures ran.1;
-      results_are = subst R count (subst Q c.in_ok-suite.ensures ran.2);
+      run = subst P c.requires.suite ran.1;
+      results_are = subst R count (subst Q c.requires.suite ran.2);
       met = c.meet_all.new.lanes;
       only_met = c.meet_all.ensures.only_met;
       shared = c.meet_all.ensures.shared;
@@ -72,8 +70,8 @@ returns-in-Ok-clause-in_tree g c =
     let st = c.in_ok-store.store in
     let count : length st.tree ≡ length c.args.plan.now.nodes.items = ap length c.in_ok-store.ensures.store.tree ∙ length-map plan.nodes (λ n. n.id) ∙ length-map c.args.plan.now.nodes.items node_view in
     let P : ℕ → Type 0 = λ count. All (λ r. r.node < count) c.in-Ok.results.items in
-    subst P count (results_within (suite_of c.in_ok-suite.suite) (length st.tree) c.in-Ok.ensures.run.0 c.in-Ok.results.items c.in-Ok.ensures.run.2)
+    subst P count (results_within (suite_of c.args.suite.now) (length st.tree) c.in-Ok.ensures.run.0 c.in-Ok.results.items c.in-Ok.ensures.run.2)
 
 pub returns-clause-fault : goal.returns-clause-fault
 returns-clause-fault g c =
-    refused_run (plan_view c.args.plan.now) c.in_ok-suite.suite c.args.lanes c.in_ok-store.store c.in_ok-locks.locks c.in_ok-suite.ensures c.in_ok-store.ensures.store c.in_ok-locks.ensures.locks c.in-Err.fault c.in-Err.ensures.fault
+    refused_run (plan_view c.args.plan.now) c.args.suite.now c.args.lanes c.in_ok-store.store c.args.locks.now c.requires.suite c.in_ok-store.ensures.store c.requires.locks c.in-Err.fault c.in-Err.ensures.fault
