@@ -94,7 +94,7 @@ impl Cells {
     }
 
     // What the calls rest on.
-    pub(crate) fn look_back(&self)
+    pub(crate) fn recall(&self)
         ensures numbers { self.now.id.limits.numbers < 2 ^ 20 }
         ensures tries { 1 ≤ self.now.tries }
     {
@@ -127,7 +127,7 @@ impl Cells {
         ensures moment { IfOk result (λ words. words ≡ map (word_of (before_last_pass (length cells.now) lane.old.view lane.new.view)) cells.now) }
         ensures steps { length (call_fronts lane.old.view lane.new.view) ≤ length cells.now * (self.now.tries + 1) }
     {
-        lane.look_back();
+        lane.recall();
         let mut words = self.pass(lane, cells);
         for _ in 0..self.tries {
             let again = self.pass(lane, cells);
@@ -228,9 +228,9 @@ impl Cells {
         self.change(lane, cell, Act::Seal(cell))
     }
 
-    /// Claims the cell for the lane where nothing stands there; until the lane ends the claim, each other call on
-    /// the cell is refused as `Busy`. Where a number stands the answer is that number, and nothing happens.
-    /// Takes no memory.
+    /// Claims the cell for the lane where nothing stands there; until the lane ends the claim, each put, remove, seal
+    /// and claim of the cell, by whichever lane, is refused as `Busy`. Where a number stands the answer is that number,
+    /// and nothing happens. Takes no memory.
     ///
     /// Refused as `Busy` where a claim stands, the lane's own too, as `Closed` where the cell is sealed, as
     /// `Exhausted` where nothing stands at a version above 2^40 - 4, and else as `Contended`.
@@ -342,7 +342,7 @@ impl Cells {
         ensures ended { EndsClaim lane.old lane.new act }
         ensures steps { length (call_fronts lane.old.view lane.new.view) ≡ 2 }
     {
-        lane.look_back();
+        lane.recall();
         let word = self.read(lane, cell);
         let (_, number, version) = parts(word);
         let next = next_word(act, number, version);

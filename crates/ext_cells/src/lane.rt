@@ -42,7 +42,7 @@ impl CellLane {
 
     /// Tells a proof what is true of every lane in hand: what it has seen is a legal history, and each of its fronts
     /// goes on from the one before it. It does nothing when it runs (own rule).
-    pub fn look_back(&self)
+    pub fn recall(&self)
         ensures legal { IsLegal self.now.cells.limits (seen_by self.now.view) }
         ensures follow { Follow [] self.now.view.fronts }
     {

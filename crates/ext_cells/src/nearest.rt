@@ -94,7 +94,7 @@ impl Cells {
         ensures nearest { FindsNearest self.now.tries lane.old lane.new cells.now result }
         ensures steps { length (call_fronts lane.old.view lane.new.view) ≤ length cells.now * (self.now.tries + 1) }
     {
-        self.look_back();
+        self.recall();
         let (empty, stands) = self.read_empty(lane, cells);
         let below = empty.count;
         let again = self.read_on(lane, &cells[..below], Reading::new());
@@ -125,7 +125,7 @@ impl Cells {
         ensures within { result.0.count ≤ length cells.now }
         ensures read { FirstPass lane.old.cells.limits lane.old.view lane.new.view cells.now result.0 result.1 }
     {
-        lane.look_back();
+        lane.recall();
         let mut empty = Reading::new();
         for cell in cells {
             let word = self.read(lane, *cell);
@@ -148,7 +148,7 @@ impl Cells {
         ensures versions { result.versions ≤ result.count * 2 ^ 40 }
         ensures read { (words : List ℕ) → IsReading words before → (more : List ℕ) × ReadPass lane.old.cells.limits lane.old.view lane.new.view cells.now more × IsReading (words ++ more) result }
     {
-        lane.look_back();
+        lane.recall();
         let mut reading = before;
         for cell in cells {
             let word = self.read(lane, *cell);

@@ -8,7 +8,7 @@ use crate::opening::{Opened, is_leaf, open, report, server_key};
 use ext_closing::CloseAction;
 use ext_crew::OpenGate;
 use ext_engine::{Call, Callbacks, Kind, Mode, Outcome, Suite, Verdict, run_tree};
-use ext_locks::{Held, LockKey, LockLane, LockMode, LockRefusal, LockRequest, Locks};
+use ext_locks::{Held, LockLane, LockMode, LockRefusal, LockRequest, Locks, Resource};
 use ext_model::{ContextNo, Fault};
 use ext_store::{Closer, Lane, Store, StoreValue};
 use ext_tree::{Key, Tree};
@@ -123,7 +123,7 @@ impl<'a> Suite<Table> for TableSuite<'a> {
     fn lock<'l>(&'l self, _node: ContextNo, i: usize) -> Option<LockRequest<'l>> {
         match i {
             0 => Some(LockRequest {
-                key: LockKey::Named(self.lock),
+                resource: Resource::Named(self.lock),
                 mode: LockMode::ReadWrite,
             }),
             _ => None,
@@ -199,7 +199,7 @@ fn try_read(locks: &Locks, lane: LockLane, signs: &Signs) -> Option<LockRefusal>
 {
     let mut lane = lane;
     let reads = LockRequest {
-        key: LockKey::Named("db"),
+        resource: Resource::Named("db"),
         mode: LockMode::Read,
     };
     let set = locks.merge(&[reads]).ok()?;

@@ -17,8 +17,8 @@ fn take_alone(locks: &Locks, lane: &mut LockLane, set: &LockSet) -> bool
     ensures same { (lane.new.table ≡ lane.old.table) × (lane.new.lanes ≡ lane.old.lanes) }
 {
     lock_laws();
-    locks.look_back();
-    lane.look_back();
+    locks.recall();
+    lane.recall();
     match locks.try_take(lane, set) {
         Ok(held) => {
             locks.give(lane, held);

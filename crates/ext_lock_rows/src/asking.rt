@@ -1,10 +1,10 @@
 //! Requests, as tests ask for them.
-use ext_locks::{LockFault, LockKey, LockMode, LockNo, LockRequest, Locks};
+use ext_locks::{LockFault, LockMode, LockNo, LockRequest, Locks, Resource};
 
 /// A named lock, to read by.
 pub(crate) fn read(name: &str) -> LockRequest {
     LockRequest {
-        key: LockKey::Named(name),
+        resource: Resource::Named(name),
         mode: LockMode::Read,
     }
 }
@@ -12,7 +12,7 @@ pub(crate) fn read(name: &str) -> LockRequest {
 /// A named lock, to write by.
 pub(crate) fn write(name: &str) -> LockRequest {
     LockRequest {
-        key: LockKey::Named(name),
+        resource: Resource::Named(name),
         mode: LockMode::ReadWrite,
     }
 }
@@ -20,7 +20,7 @@ pub(crate) fn write(name: &str) -> LockRequest {
 /// The global lock.
 pub(crate) fn global(mode: LockMode) -> LockRequest<'static> {
     LockRequest {
-        key: LockKey::Global,
+        resource: Resource::Global,
         mode,
     }
 }

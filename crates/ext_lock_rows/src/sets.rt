@@ -38,11 +38,11 @@ fn refused_merges_and_the_empty_set(rt: HostRuntime) -> Result<(), Fail> {
     let (locks, _lanes) = Locks::open(rt.alloc(), &["a", "b"], 1, 8)?;
     assert_eq!(rt;
         merged_at(&locks, &[read("a"), read("c")], 0),
-        Err(LockFault::UnknownKey(1))
+        Err(LockFault::UnknownResource(1))
     );
     assert_eq!(rt;
         merged_at(&locks, &[read(""), read("c")], 0),
-        Err(LockFault::UnknownKey(0))
+        Err(LockFault::UnknownResource(0))
     );
     assert_eq!(rt; merged_at(&locks, &[], 0), Ok(None));
     Ok(())

@@ -8,7 +8,10 @@ fn faults_print_sentences(rt: HostRuntime) -> Result<(), Fail> {
         (LockFault::BadLimit, "bad limit"),
         (LockFault::TooMany, "too many names"),
         (LockFault::Twice(1), "name 1 stands twice"),
-        (LockFault::UnknownKey(2), "request 2 has an unknown key"),
+        (
+            LockFault::UnknownResource(2),
+            "request 2 has an unknown resource",
+        ),
         (LockFault::Memory, "no memory"),
     ];
     for (fault, line) in cases {

@@ -52,7 +52,7 @@ any_more P xs ys has = (has.0, has.1, (let l = long xs ys in let b = has.2 in om
     long (x ∷ xs) ys = let h = long xs ys in omega arith
 
 module _ (names : List (List ℕ)) (requests : List LockRequest) (modes : List (Option LockMode)) (at lock : ℕ) (r d : LockRequest) (m : LockMode)
-    (below : at < length requests) (there : get_or requests at d ≡ r) (room : lock < 64) (size : length modes ≡ 64) (number : IsNumberOf names r.key lock) (small : lock ≤ length names)
+    (below : at < length requests) (there : get_or requests at d ≡ r) (room : lock < 64) (size : length modes ≡ 64) (number : IsNumberOf names r.resource lock) (small : lock ≤ length names)
     (as_new : is_as_strong m r.mode ≡ true) (as_old : IfSome (slice_index_or modes lock None) (λ was. is_as_strong m was ≡ true)) (either : (m ≡ r.mode) ⊎ (slice_index_or modes lock None ≡ Some m)) where
   after : List (Option LockMode)
   after = set modes lock (Some m)
@@ -72,7 +72,7 @@ module _ (names : List (List ℕ)) (requests : List LockRequest) (modes : List (
       (λ (is : was.lock ≡ lock). record {
         lock = lock;
         mode = m;
-        number = subst (λ k. IsNumberOf names q.key k) is was.number;
+        number = subst (λ k. IsNumberOf names q.resource k) is was.number;
         wanted = wants_here;
         strong = strong_then m was.mode q.mode
             (subst (λ o. IfSome o (λ w. is_as_strong m w ≡ true)) (mode_of (slice_index_or modes lock None) was.mode (subst (λ k. has_mode modes k was.mode ≡ true) is (sym (wants_modes modes was.lock was.mode) ∙ was.wanted))) as_old)
@@ -136,9 +136,9 @@ same_item [] i d e few = absurd (omega arith)
 same_item (x ∷ xs) zero d e few = refl
 same_item (x ∷ xs) (suc i) d e few = same_item xs i d e (omega arith)
 
-pub not_merged : (names : List (List ℕ)) (requests : List LockRequest) (modes : List (Option LockMode)) (at : ℕ) → at < length requests → MergedBelow names requests modes at → (e : LockRequest) → (IsKnown names (get_or requests at e).key → ⊥) → IsFirstUnknown names requests at
+pub not_merged : (names : List (List ℕ)) (requests : List LockRequest) (modes : List (Option LockMode)) (at : ℕ) → at < length requests → MergedBelow names requests modes at → (e : LockRequest) → (IsKnown names (get_or requests at e).resource → ⊥) → IsFirstUnknown names requests at
 not_merged names requests modes at below was e unknown = record {
   within = below;
-  unknown = λ d known. unknown (subst (λ r. IsKnown names r.key) (same_item requests at d e below) known);
-  first = All-weaker (IsGranted names (locks_of modes)) (λ r. IsKnown names r.key) (λ r g. (g.lock, g.number)) (take at requests) was.granted;
+  unknown = λ d known. unknown (subst (λ r. IsKnown names r.resource) (same_item requests at d e below) known);
+  first = All-weaker (IsGranted names (locks_of modes)) (λ r. IsKnown names r.resource) (λ r g. (g.lock, g.number)) (take at requests) was.granted;
 }

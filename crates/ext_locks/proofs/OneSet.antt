@@ -6,8 +6,8 @@ use Rattle.std.proofs.lemmas.Bool.{cases_lt, eq-eqb, ne_eqb, and_from, and_parts
 use Rattle.std.proofs.lemmas.Option.{slice_get_within, get_or_from_slice_get}
 use Rattle.ext_locks.specs.declared.event.LockMode.{LockMode}
 use Rattle.ext_locks.specs.declared.event.LockMode.TheVariants.{Read, ReadWrite}
-use Rattle.ext_locks.specs.declared.request.LockKey.{LockKey}
-use Rattle.ext_locks.specs.declared.request.LockKey.TheVariants.{Global, Named}
+use Rattle.ext_locks.specs.declared.request.Resource.{Resource}
+use Rattle.ext_locks.specs.declared.request.Resource.TheVariants.{Global, Named}
 use Rattle.ext_locks.specs.declared.request.LockRequest.{LockRequest}
 use Rattle.ext_locks.specs.History.{same_mode}
 use Rattle.ext_locks.specs.Sets.{is_lock, wants}
@@ -122,8 +122,8 @@ same_locks n m (x ∷ set) (y ∷ other) up over to from =
 
 -- ---- merged sets
 
--- a key has one number
-one_number : (names : List (List ℕ)) (key : LockKey) (lock other : ℕ) → AreDifferent names → IsNumberOf names key lock → IsNumberOf names key other → lock ≡ other
+-- a resource has one number
+one_number : (names : List (List ℕ)) (resource : Resource) (lock other : ℕ) → AreDifferent names → IsNumberOf names resource lock → IsNumberOf names resource other → lock ≡ other
 one_number names Global lock other apart a b = a ∙ sym b
 one_number names (Named name) lock other apart a b =
     let p = slice_get_within names (lock - 1) name.now a.name_at in
@@ -154,7 +154,7 @@ module _ (names : List (List ℕ)) (requests : List LockRequest) (apart : AreDif
   granted_as : (other : List (ℕ × LockMode)) (lock : ℕ) (mode : LockMode) (r : LockRequest) → AsksFor names lock mode r → IsGranted names other r → Stronger other lock mode
   granted_as other lock mode r asks g = record {
     wanted_as = g.mode;
-    wanted = subst (λ k. wants other k g.mode ≡ true) (one_number names r.key g.lock lock apart g.number asks.number) g.wanted;
+    wanted = subst (λ k. wants other k g.mode ≡ true) (one_number names r.resource g.lock lock apart g.number asks.number) g.wanted;
     strong = subst (λ m. is_as_strong g.mode m ≡ true) asks.mode_is g.strong;
   }
 

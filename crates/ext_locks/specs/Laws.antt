@@ -47,12 +47,12 @@ BeginningsAreLegal = (lanes : ℕ) (f h : LockHistory) → IsPrefix f h → IsLe
 abbrev pub CallsCompose : Type 0
 CallsCompose = (first second third : Lane) (xs ys : List LockEvent) → LaneCalls first second xs → LaneCalls second third ys → LaneCalls first third (xs ++ ys)
 
--- A lane that was not called made a call of no events: what it has seen is legal by `look_back`
+-- A lane that was not called made a call of no events: what it has seen is legal by `recall`
 abbrev pub NoCall : Type 0
 NoCall = (lane : Lane) → IsLegal lane.lanes (seen_by lane.view) → LaneCalls lane lane []
 
 -- ---- sets
 
--- Requests have one merged set, where no name stands twice, as in all locks by `look_back`
+-- Requests have one merged set, where no name stands twice, as in all locks by `recall`
 abbrev pub OneMergedSet : Type 0
 OneMergedSet = (names : List (List ℕ)) (requests : List LockRequest) (set other : List (ℕ × LockMode)) → AreDifferent names → IsMerged names requests set → IsMerged names requests other → set ≡ other

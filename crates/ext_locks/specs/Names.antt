@@ -1,5 +1,5 @@
--- Names of locks, the lock that a key names, and the set of locks that requests ask for.
--- JUnit 5 User Guide, section "Synchronization", and the Javadoc of `ResourceLock`: for one key the stronger mode wins. The global lock's
+-- Names of locks, the lock that a resource names, and the set of locks that requests ask for.
+-- JUnit 5 User Guide, section "Synchronization", and the Javadoc of `ResourceLock`: for one resource the stronger mode wins. The global lock's
 -- number and the order of names by their bytes are own rules.
 use Rattle.std.specs.Prelude.{ℕ, ◌≡◌, ◌≢◌, ◌-◌, ◌<◌, Bool, true, false, List, map, take, length, Some, All, Any, AllPairs, slice_get}
 use Rattle.std.specs.List.Sorted.{IsStrictlyIncreasing}
@@ -8,9 +8,9 @@ use Rattle.std.specs.Borrow.{Bor}
 use Rattle.ext_locks.specs.declared.event.LockMode.{LockMode}
 use Rattle.ext_locks.specs.declared.event.LockMode.TheVariants.{Read, ReadWrite}
 use Rattle.ext_locks.specs.declared.fault.LockFault.{LockFault}
-use Rattle.ext_locks.specs.declared.fault.LockFault.TheVariants.{BadLimit, TooMany, Twice, UnknownKey, Memory}
-use Rattle.ext_locks.specs.declared.request.LockKey.{LockKey}
-use Rattle.ext_locks.specs.declared.request.LockKey.TheVariants.{Global, Named}
+use Rattle.ext_locks.specs.declared.fault.LockFault.TheVariants.{BadLimit, TooMany, Twice, UnknownResource, Memory}
+use Rattle.ext_locks.specs.declared.request.Resource.{Resource}
+use Rattle.ext_locks.specs.declared.request.Resource.TheVariants.{Global, Named}
 use Rattle.ext_locks.specs.declared.request.LockRequest.{LockRequest}
 use Rattle.ext_locks.specs.Sets.{wants}
 
@@ -37,14 +37,14 @@ pub record IsNamed (names : List (List ℕ)) (lock : ℕ) (name : List ℕ) : Ty
   pub positive : 0 < lock
   pub name_at : slice_get names (lock - 1) ≡ Some name
 
--- the key names the lock of this number: the global one is 0
-abbrev pub IsNumberOf : List (List ℕ) → LockKey → ℕ → Type 0
+-- the resource names the lock of this number: the global one is 0
+abbrev pub IsNumberOf : List (List ℕ) → Resource → ℕ → Type 0
 IsNumberOf names Global lock = lock ≡ 0
 IsNumberOf names (Named name) lock = IsNamed names lock name.now
 
--- there is a lock of this key
-abbrev pub IsKnown : List (List ℕ) → LockKey → Type 0
-IsKnown names key = (lock : ℕ) × IsNumberOf names key lock
+-- there is a lock of this resource
+abbrev pub IsKnown : List (List ℕ) → Resource → Type 0
+IsKnown names resource = (lock : ℕ) × IsNumberOf names resource lock
 
 -- ---- what requests ask for
 
@@ -57,14 +57,14 @@ is_as_strong ReadWrite ReadWrite = true
 
 -- the request asks for the lock of this number in this mode
 pub record AsksFor (names : List (List ℕ)) (lock : ℕ) (mode : LockMode) (request : LockRequest) : Type 0 where
-  pub number : IsNumberOf names request.key lock
+  pub number : IsNumberOf names request.resource lock
   pub mode_is : request.mode ≡ mode
 
 -- the set has the request's lock, in a mode that is as strong
 pub record IsGranted (names : List (List ℕ)) (set : List (ℕ × LockMode)) (request : LockRequest) : Type 0 where
   pub lock : ℕ
   pub mode : LockMode
-  pub number : IsNumberOf names request.key lock
+  pub number : IsNumberOf names request.resource lock
   pub wanted : wants set lock mode ≡ true
   pub strong : is_as_strong mode request.mode ≡ true
 
@@ -75,16 +75,16 @@ pub record IsMerged (names : List (List ℕ)) (requests : List LockRequest) (set
   pub asked : (lock : ℕ) (mode : LockMode) → wants set lock mode ≡ true → Any (AsksFor names lock mode) requests
   pub ordered : IsStrictlyIncreasing (map (λ lock. lock.0) set)
 
--- the key of the request at this place is unknown, and those before it are known
+-- the resource of the request at this place is unknown, and those before it are known
 pub record IsFirstUnknown (names : List (List ℕ)) (requests : List LockRequest) (at : ℕ) : Type 0 where
   pub within : at < length requests
-  pub unknown : HoldsAt (λ r. ¬ (IsKnown names r.key)) requests at
-  pub first : All (λ r. IsKnown names r.key) (take at requests)
+  pub unknown : HoldsAt (λ r. ¬ (IsKnown names r.resource)) requests at
+  pub first : All (λ r. IsKnown names r.resource) (take at requests)
 
--- why requests are not merged: an unknown key, and nothing else
+-- why requests are not merged: an unknown resource, and nothing else
 abbrev pub IsNotMerged : List (List ℕ) → List LockRequest → LockFault → Type 0
 IsNotMerged names requests BadLimit = ⊥
 IsNotMerged names requests TooMany = ⊥
 IsNotMerged names requests (Twice at) = ⊥
-IsNotMerged names requests (UnknownKey at) = IsFirstUnknown names requests at
+IsNotMerged names requests (UnknownResource at) = IsFirstUnknown names requests at
 IsNotMerged names requests Memory = ⊥

@@ -6,7 +6,7 @@ use Rattle.std.specs.Ordering.{nat_cmp}
 use Rattle.std.specs.Cmp.Lexicographic.{slice_cmp}
 use Rattle.atomic_table.specs.Seated.{TableId}
 use Rattle.ext_locks.specs.declared.fault.LockFault.{LockFault}
-use Rattle.ext_locks.specs.declared.fault.LockFault.TheVariants.{BadLimit, TooMany, Twice, UnknownKey, Memory}
+use Rattle.ext_locks.specs.declared.fault.LockFault.TheVariants.{BadLimit, TooMany, Twice, UnknownResource, Memory}
 use Rattle.ext_locks.specs.Views.{Lane}
 use Rattle.ext_locks.specs.Names.{AreDifferent, IsFirstTwice}
 
@@ -35,7 +35,7 @@ abbrev pub IsNotOpened : List (List ℕ) → ℕ → ℕ → LockFault → Type 
 IsNotOpened names lanes tries BadLimit = ¬ (AreLimits lanes tries)
 IsNotOpened names lanes tries TooMany = AreLimits lanes tries × (63 < length names)
 IsNotOpened names lanes tries (Twice at) = AreLimits lanes tries × (length names ≤ 63) × IsFirstTwice names at
-IsNotOpened names lanes tries (UnknownKey at) = ⊥
+IsNotOpened names lanes tries (UnknownResource at) = ⊥
 IsNotOpened names lanes tries Memory = AreLimits lanes tries × (length names ≤ 63) × AreDifferent names
 
 -- What is true of all locks: their limits, and names that are few, different, and in the order of their bytes

@@ -15,8 +15,8 @@ pub enum LockFault {
     #[error("name {0} stands twice")]
     Twice(usize),
     /// The request at this place, from 0, names a lock that there is not. It is the first such place. `merge` alone answers it.
-    #[error("request {0} has an unknown key")]
-    UnknownKey(usize),
+    #[error("request {0} has an unknown resource")]
+    UnknownResource(usize),
     /// Memory ran out.
     #[error("no memory")]
     Memory,

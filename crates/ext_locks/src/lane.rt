@@ -46,7 +46,7 @@ impl LockLane {
 
     /// Shows what is true of every lane: all that it has seen is legal, and each history goes on from the one before it.
     /// Does nothing when it runs. Own rule.
-    pub fn look_back(&self)
+    pub fn recall(&self)
         ensures lane { self.now.view.number < self.now.lanes }
         ensures lanes { self.now.lanes ≤ 16 }
         ensures one_history { Follow [] self.now.view.fronts }

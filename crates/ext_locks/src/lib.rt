@@ -33,5 +33,5 @@ pub use lane::LockLane;
 pub use laws::lock_laws;
 pub use locks::Locks;
 pub use refusal::LockRefusal;
-pub use request::{LockKey, LockRequest};
+pub use request::{LockRequest, Resource};
 pub use set::LockSet;

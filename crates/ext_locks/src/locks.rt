@@ -104,7 +104,7 @@ impl Locks {
     /// The set of locks that requests ask for: each lock once, in the strongest mode in which it is asked for, the global
     /// one first, then the named ones by the bytes of their names. A name is found by halves. Takes no memory.
     ///
-    /// Refused as `UnknownKey(at)`, at the first request of a name that these locks don't have. JUnit 5 User Guide,
+    /// Refused as `UnknownResource(at)`, at the first request of a name that these locks don't have. JUnit 5 User Guide,
     /// section "Synchronization"; the order is an own rule.
     pub fn merge(&self, requests: &[LockRequest]) -> Result<LockSet, LockFault>
         ensures merged { IfOk result (IsMerged self.now.names requests.now) }
@@ -128,7 +128,7 @@ impl Locks {
 
     /// Shows what is true of all locks: that no name stands twice, so that requests have one merged set, and that there is
     /// at least one try. Does nothing when it runs. Own rule.
-    pub fn look_back(&self)
+    pub fn recall(&self)
         ensures { AreLocks self.now }
     {
         let _tries = self.tries;

@@ -7,18 +7,18 @@ ghost use Rattle.ext_locks.specs.Names.{IsNumberOf, IsKnown, is_as_strong, IsMer
 
 use crate::names::place_of;
 use crate::set::MAX_LOCKS;
-use crate::{LockFault, LockKey, LockMode, LockNo, LockRequest, LockSet};
+use crate::{LockFault, LockMode, LockNo, LockRequest, LockSet, Resource};
 
-/// The lock that a key names, among names in the order of their bytes: the global one is 0.
-fn number_of(names: &[String], key: &LockKey) -> Option<LockNo>
+/// The lock that a resource names, among names in the order of their bytes: the global one is 0.
+fn number_of(names: &[String], resource: &Resource) -> Option<LockNo>
     requires { IsSorted string_cmp names.now }
-    ensures found { IfSome result (IsNumberOf (map string_bytes names.now) key.now) }
+    ensures found { IfSome result (IsNumberOf (map string_bytes names.now) resource.now) }
     ensures within { IfSome result (λ lock. lock ≤ length names.now) }
-    ensures absent { result ≡ None → ¬ (IsKnown (map string_bytes names.now) key.now) }
+    ensures absent { result ≡ None → ¬ (IsKnown (map string_bytes names.now) resource.now) }
 {
-    match key {
-        LockKey::Global => Some(0),
-        LockKey::Named(name) => match place_of(names, name) {
+    match resource {
+        Resource::Global => Some(0),
+        Resource::Named(name) => match place_of(names, name) {
             Some(at) => Some(at + 1),
             None => None,
         },
@@ -50,8 +50,8 @@ pub(crate) fn merge_requests(
 {
     let mut modes = [None; MAX_LOCKS];
     for (at, request) in requests.iter().enumerate() {
-        let Some(lock) = number_of(names, &request.key) else {
-            return Err(LockFault::UnknownKey(at));
+        let Some(lock) = number_of(names, &request.resource) else {
+            return Err(LockFault::UnknownResource(at));
         };
         modes[lock] = Some(stronger(modes[lock], request.mode));
     }

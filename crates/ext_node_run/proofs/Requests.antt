@@ -8,9 +8,9 @@ use Rattle.std.proofs.lemmas.List.Elements.{All-append, All-cons, All-get_or, Al
 use Rattle.std.proofs.lemmas.Option.{slice_get_within, get_or_from_slice_get, slice_get-get_or}
 use Rattle.ext_locks.specs.declared.event.LockMode.TheVariants as lock_mode
 use Rattle.ext_locks.specs.declared.fault.LockFault.{LockFault}
-use Rattle.ext_locks.specs.declared.fault.LockFault.TheVariants.{BadLimit, TooMany, Twice, UnknownKey, Memory}
-use Rattle.ext_locks.specs.declared.request.LockKey.{LockKey}
-use Rattle.ext_locks.specs.declared.request.LockKey.TheVariants.{Global, Named}
+use Rattle.ext_locks.specs.declared.fault.LockFault.TheVariants.{BadLimit, TooMany, Twice, UnknownResource, Memory}
+use Rattle.ext_locks.specs.declared.request.Resource.{Resource}
+use Rattle.ext_locks.specs.declared.request.Resource.TheVariants.{Global, Named}
 use Rattle.ext_locks.specs.declared.request.LockRequest.{LockRequest}
 use Rattle.ext_locks.specs.Names.{IsFirstUnknown, IsKnown, IsNotMerged}
 use Rattle.ext_node_run.specs.Suites.{Asked, SuiteView, asks, global_mode, locks_on, name_of}
@@ -45,7 +45,7 @@ module _ (names : List (List ℕ)) where
   all-named locks (n ∷ path) all =
       All-append IsNamed (locks n) (flat_map locks path) (All-head (λ m. All IsNamed (locks m)) n path all) (all-named locks path (All-tail (λ m. All IsNamed (locks m)) n path all))
 
-  known : (key : LockKey) → IsNamedLock names (name_of key) → IsKnown names key
+  known : (resource : Resource) → IsNamedLock names (name_of resource) → IsKnown names resource
   known Global is = (0, refl)
   known (Named name) (i, less, e) =
       let here : i ≡ i + 1 - 1 = omega arith in
@@ -53,17 +53,17 @@ module _ (names : List (List ℕ)) where
 
   none-unknown : (requests : List LockRequest) (asked : List Asked) (at : ℕ) → map asks requests ≡ asked → All IsNamed asked → IsFirstUnknown names requests at → ⊥
   none-unknown requests asked at is all unknown =
-      let d : LockRequest = record { key = Global; mode = lock_mode.Read } in
+      let d : LockRequest = record { resource = Global; mode = lock_mode.Read } in
       let less = unknown.within in let long = ap length is in let same = length-map requests asks in
       let named = All-get_or IsNamed asked at (asks d) (omega (arith, less, long, same)) all in
       let request = ap (λ l. get_or l at (asks d)) (sym is) ∙ get_or-map asks requests at d (asks d) less in
-      unknown.unknown d (known (get_or requests at d).key (subst IsNamed request named))
+      unknown.unknown d (known (get_or requests at d).resource (subst IsNamed request named))
 
   -- such requests are never refused
   pub is-merged : (suite : SuiteView) (path : List ℕ) (requests : List LockRequest) (fault : LockFault) → All (λ n. All (λ asked. IsNamedLock names asked.name) (suite.locks n)) path → map asks requests ≡ locks_on suite path → IsNotMerged names requests fault → ⊥
   is-merged suite path requests BadLimit all is why = why
   is-merged suite path requests TooMany all is why = why
   is-merged suite path requests (Twice at) all is why = why
-  is-merged suite path requests (UnknownKey at) all is why =
+  is-merged suite path requests (UnknownResource at) all is why =
       none-unknown requests (locks_on suite path) at is (All-cons IsNamed (record { name = None; mode = global_mode suite path }) (flat_map suite.locks path) tt (all-named suite.locks path all)) why
   is-merged suite path requests Memory all is why = why

@@ -4,8 +4,8 @@ use Rattle.std.specs.Prelude.{◌≡◌, ℕ, Bool, true, false, if◌then◌els
 use Rattle.std.specs.List.{flat_map, list_any}
 use Rattle.ext_locks.specs.declared.event.LockMode.{LockMode}
 use Rattle.ext_locks.specs.declared.event.LockMode.TheVariants as lock_mode
-use Rattle.ext_locks.specs.declared.request.LockKey.{LockKey}
-use Rattle.ext_locks.specs.declared.request.LockKey.TheVariants.{Global, Named}
+use Rattle.ext_locks.specs.declared.request.Resource.{Resource}
+use Rattle.ext_locks.specs.declared.request.Resource.TheVariants.{Global, Named}
 use Rattle.ext_locks.specs.declared.request.LockRequest.{LockRequest}
 use Rattle.ext_locks.specs.Names.{IsMerged}
 use Rattle.ext_locks.specs.Sets.{HeldView}
@@ -17,12 +17,12 @@ pub record Asked : Type 0 where
   pub name : Option (List ℕ)
   pub mode : LockMode
 
-abbrev pub name_of : LockKey → Option (List ℕ)
+abbrev pub name_of : Resource → Option (List ℕ)
 name_of Global = None
 name_of (Named name) = Some name.now
 
 abbrev pub asks : LockRequest → Asked
-asks r = record { name = name_of r.key; mode = r.mode }
+asks r = record { name = name_of r.resource; mode = r.mode }
 
 -- the nodes as a suite has them
 pub record SuiteView : Type 0 where

@@ -6,7 +6,7 @@ ghost use Rattle.ext_node_run.specs.Suites.{locks_on, global_mode, IsSetOf, asks
 ghost use Rattle.ext_node_run.specs.NodeRun.{TakesSet, GivesBack, IsIdle, IsNamedLock};
 
 use crate::Suite;
-use ext_locks::{Held, LockKey, LockLane, LockMode, LockRequest, LockSet, Locks};
+use ext_locks::{Held, LockLane, LockMode, LockRequest, LockSet, Locks, Resource};
 use ext_model::ContextNo;
 use ext_store::StoreValue;
 use std::alloc::{AllocError, Global};
@@ -61,7 +61,7 @@ fn requests_on<'a, V: StoreValue + Drop, S: Suite<V>>(
 {
     let mut requests = Vec::new(alloc);
     requests.push(LockRequest {
-        key: LockKey::Global,
+        resource: Resource::Global,
         mode: global_mode(suite, path),
     })?;
     for node in path {

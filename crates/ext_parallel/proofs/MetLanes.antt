@@ -13,11 +13,11 @@ use Rattle.ext_model.specs.Calls.{Calls}
 use Rattle.ext_model.proofs.Composed.{calls_compose}
 use Rattle.ext_store.specs.Stores.{StoreView, StoreLane, IsLaneOf}
 use Rattle.ext_store.proofs.Frames.{fronts_are_seen}
-use Rattle.ext_parallel.specs.Opened.{OnlyMeets, HasLooked, ShareHistory}
+use Rattle.ext_parallel.specs.Opened.{OnlyMeets, HasRecalled, ShareHistory}
 
 module _ {V : Type 0} (store : StoreView) where
   -- a lane that was not called
-  pub met_nobody : (lane : StoreLane V) → IsLaneOf store.id lane → HasLooked lane → OnlyMeets store lane lane
+  pub met_nobody : (lane : StoreLane V) → IsLaneOf store.id lane → HasRecalled lane → OnlyMeets store lane lane
   met_nobody lane mine looked = record {
     lane = mine;
     calls = calls_none lane_of lane.cells.view (subst (λ cells. IsLegal cells.limits (seen_by lane.cells.view)) mine.cells looked.legal);
@@ -52,12 +52,12 @@ record Shared {V : Type 0} (limits : Limits) (h : History) (lanes : List (StoreL
 
 module _ {V : Type 0} (store : StoreView) where
   shared_from : (h : History) (lanes : List (StoreLane V)) → IsLegal store.id.cells.limits h → Follow h (map (λ lane. seen_by lane.cells.view) lanes)
-      → All HasLooked lanes → All (IsLaneOf store.id) lanes → Shared store.id.cells.limits h lanes
+      → All HasRecalled lanes → All (IsLaneOf store.id) lanes → Shared store.id.cells.limits h lanes
   shared_from h [] legal met looked mine = record { history = h; legal = legal; begins = prefix_refl h; parts = All-nil (λ (lane : StoreLane V). All (λ front. IsPrefix front h) lane.cells.view.fronts) }
   shared_from h (lane ∷ lanes) legal met looked mine =
-      let own = All-head HasLooked lane lanes looked in
+      let own = All-head HasRecalled lane lanes looked in
       let now = subst (λ cells. IsLegal cells.limits (seen_by lane.cells.view)) (All-head (IsLaneOf store.id) lane lanes mine).cells own.legal in
-      let rest = shared_from (seen_by lane.cells.view) lanes now met.1 (All-tail HasLooked lane lanes looked) (All-tail (IsLaneOf store.id) lane lanes mine) in
+      let rest = shared_from (seen_by lane.cells.view) lanes now met.1 (All-tail HasRecalled lane lanes looked) (All-tail (IsLaneOf store.id) lane lanes mine) in
       record {
         history = rest.history;
         legal = rest.legal;
@@ -68,9 +68,9 @@ module _ {V : Type 0} (store : StoreView) where
 
   -- lanes of which each met the next one
   pub met_share : (first : StoreLane V) (others : List (StoreLane V)) → Follow (seen_by first.cells.view) (map (λ lane. seen_by lane.cells.view) others)
-      → All HasLooked (first ∷ others) → All (IsLaneOf store.id) (first ∷ others) → ShareHistory store (first ∷ others)
+      → All HasRecalled (first ∷ others) → All (IsLaneOf store.id) (first ∷ others) → ShareHistory store (first ∷ others)
   met_share first others met looked mine =
-      let own = All-head HasLooked first others looked in
+      let own = All-head HasRecalled first others looked in
       let now = subst (λ cells. IsLegal cells.limits (seen_by first.cells.view)) (All-head (IsLaneOf store.id) first others mine).cells own.legal in
       let all = shared_from (seen_by first.cells.view) (first ∷ others) now (prefix_refl (seen_by first.cells.view), met) looked mine in
       record { history = all.history; legal = all.legal; parts = all.parts }

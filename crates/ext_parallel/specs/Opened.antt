@@ -39,7 +39,7 @@ pub record OnlyMeets {V : Type 0} (store : StoreView) (before after : StoreLane 
   pub calls : Calls store.id.cells.limits before.cells.view after.cells.view []
 
 -- what is true of each lane in hand: what it has seen is legal, and each of its fronts goes on from the one before it
-pub record HasLooked {V : Type 0} (lane : StoreLane V) : Type 0 where
+pub record HasRecalled {V : Type 0} (lane : StoreLane V) : Type 0 where
   pub legal : IsLegal lane.cells.cells.limits (seen_by lane.cells.view)
   pub follow : Follow [] lane.cells.view.fronts
 

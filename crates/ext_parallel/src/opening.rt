@@ -73,6 +73,6 @@ pub(crate) fn open_locks(
         Err(LockFault::BadLimit) => unreachable!(),
         Err(LockFault::TooMany) => unreachable!(),
         Err(LockFault::Twice(_)) => unreachable!(),
-        Err(LockFault::UnknownKey(_)) => unreachable!(),
+        Err(LockFault::UnknownResource(_)) => unreachable!(),
     }
 }

@@ -37,10 +37,10 @@ impl<V> Lane<V> {
     /// Tells a proof what is true of every lane in hand: what it has seen is a legal history, and each of its fronts
     /// goes on from the one before it. So where lanes met one after the other, all their fronts are parts of one legal
     /// history, as `frame_laws` says. It does nothing when it runs. Own rule.
-    pub fn look_back(&self)
+    pub fn recall(&self)
         ensures legal { IsLegal self.now.cells.cells.limits (seen_by self.now.cells.view) }
         ensures follow { Follow [] self.now.cells.view.fronts }
     {
-        self.cells.look_back();
+        self.cells.recall();
     }
 }

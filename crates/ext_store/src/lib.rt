@@ -1,13 +1,17 @@
 //! The store of values that parallel test engines share: contexts in a tree, declared keys, and lanes.
 //!
 //! `Store` is shared by reference, and each thread owns a `Lane`: all calls of all lanes together are one
-//! history, as the definitions of `ext_model` say it, and each answer but `Contended` is that of one thread at
-//! a point of the call. A value is kept first, which gives it a number, and the number is then stored under a
-//! key in a context; or it is computed where none is found. `specs/Stores`, `specs/Calls`, `specs/Computing` and `specs/Frames`
-//! have the words of the contracts, and `specs/Waiting` those of the forms that wait.
+//! history, as the definitions of `ext_model` say it. Each answer of a get, a put and a remove, but for `Contended`
+//! and `UnknownKey`, is that of one thread at a point of the call, and a compute is several such parts. A value is
+//! kept first, which gives it a number, and the number is then stored under a key in a context; or it is computed
+//! where none is found. `specs/Stores`, `specs/Calls`, `specs/Computing` and `specs/Frames` have the words of the
+//! contracts, and `specs/Waiting` those of the forms that wait.
 //!
-//! Each cell is a word of its own, and no call waits for another lane: look-ups do not stop one another. Only the waiting
-//! forms (`get_wait` and the others) do: where a factory is in their way they sleep until it has ended.
+//! Each cell is a word of its own, and no call but the waiting forms (`get_wait` and the others) waits for another lane: where a
+//! factory is in the way of one of these, it sleeps until a claim has ended, and tries again.
+//!
+//! Javadoc `ExtensionContext.Store`; JUnit 5 User Guide, section "Keeping State in Extensions". Numbers, lanes, claims, closers,
+//! refusals and limits are own rules.
 #![tactic(auto)]
 
 mod closer;

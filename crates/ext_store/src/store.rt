@@ -78,7 +78,7 @@ impl<V> Store<V> {
     }
 
     // What the calls rest on.
-    pub(crate) fn look_back(&self)
+    pub(crate) fn recall(&self)
         ensures cells { self.now.id.cells.limits.cells ≡ length self.now.tree * length self.now.keys }
         ensures numbers { self.now.id.cells.limits.numbers ≡ length self.now.id.places }
         ensures few { self.now.id.cells.limits.numbers ≤ 65535 }
@@ -122,7 +122,7 @@ impl<V> Store<V> {
         ensures look { Looks self.now path.now key lane.old lane.new result }
         ensures steps { steps_of lane.old lane.new ≤ length path.now * (self.now.tries + 1) }
     {
-        self.look_back();
+        self.recall();
         let mut cells = [0; 16];
         self.cells_on(path, key, &mut cells);
         match self.cells.nearest(lane, &cells[..path.len()]) {
@@ -273,7 +273,7 @@ impl<V: StoreValue + Drop> Store<V> {
         ensures frame { Frame self.now.id [] lane.old lane.new }
         ensures steps { steps_of lane.old.cells lane.new.cells ≤ self.now.tries + 1 }
     {
-        self.look_back();
+        self.recall();
         let boxed = match Box::new(self.alloc, value) {
             Ok(boxed) => boxed,
             Err(failed) => return Err((failed.value, KeepFault::Memory)),

@@ -221,7 +221,7 @@ impl<V: StoreValue + Drop> Store<V> {
         ensures apart { IfOk result (λ number. (m : ℕ) → IsKeptBy lane.old m → m ≢ number) }
         ensures frame { Frame self.now.id [] lane.old lane.new }
     {
-        self.look_back();
+        self.recall();
         let boxed = match Box::new(self.alloc, value) {
             Ok(boxed) => boxed,
             Err(failed) => return Err((failed.value, KeepFault::Memory)),

@@ -9,7 +9,7 @@ ghost use Rattle.ext_suite.specs.PlanSuites.{asked};
 use crate::PlanAction;
 use ext_engine::{Call, Callbacks, Kind, Mode, Outcome, Suite};
 use ext_lifecycle::RunListener;
-use ext_locks::{Held, LockKey, LockMode, LockRequest};
+use ext_locks::{Held, LockMode, LockRequest, Resource};
 use ext_model::ContextNo;
 use ext_plan_model::{KeyNumbers, Plan, PlanKey, PlanLock};
 use ext_steps::StepKeys;
@@ -168,11 +168,11 @@ fn request(lock: &PlanLock) -> LockRequest<'_>
 {
     match lock {
         PlanLock::Read(name) => LockRequest {
-            key: LockKey::Named(name.as_str()),
+            resource: Resource::Named(name.as_str()),
             mode: LockMode::Read,
         },
         PlanLock::ReadWrite(name) => LockRequest {
-            key: LockKey::Named(name.as_str()),
+            resource: Resource::Named(name.as_str()),
             mode: LockMode::ReadWrite,
         },
     }

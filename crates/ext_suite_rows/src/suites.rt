@@ -9,7 +9,7 @@ use ext_closing::CloseAction;
 use ext_engine::{Call, Callbacks, Kind, Mode, Outcome, Suite, Verdict};
 use ext_ids::UniqueId;
 use ext_lifecycle::NoListener;
-use ext_locks::{LockKey, LockMode, LockRequest};
+use ext_locks::{LockMode, LockRequest, Resource};
 use ext_model::Fault;
 use ext_plan::read_plan;
 use ext_plan_model::{KeyNumbers, Plan};
@@ -97,7 +97,7 @@ fn says<'a, S: Suite<StoredValue<'a>>>(rt: &impl Abort, suite: &S) {
     same(rt, suite.lock_count(0), 0, "the root's locks");
     same(rt, suite.lock_count(1), 2, "the test's locks");
     let second = LockRequest {
-        key: LockKey::Named("net"),
+        resource: Resource::Named("net"),
         mode: LockMode::ReadWrite,
     };
     same(rt, suite.lock(1, 1), Some(second), "the second lock");

@@ -2,15 +2,15 @@ use Rattle.std.proofs.Common.{rules, ◌≡◌, ◌∷◌, ◌∙◌, List, leng
 use Rattle.std.specs.Prelude.{All}
 use Rattle.std.proofs.lemmas.List.Elements.{All-head, All-tail, All-cons}
 use Rattle.ext_store.specs.Stores.{StoreLane, IsLaneOf}
-use Rattle.ext_parallel.specs.Opened.{HasLooked, ShareHistory}
+use Rattle.ext_parallel.specs.Opened.{HasRecalled, ShareHistory}
 use Rattle.ext_parallel.proofs.MetLanes.{met_share, none_share, met_mine}
 use Rattle.ext_parallel.proofs.meeting.meet_all.Goals as goal
 use Rattle.ext_parallel.proofs.meeting.meet_all.Goals.{in-Some, in_default}
 
 pub meet_rest-requires-clause-looked : goal.meet_rest-requires-clause-looked
 meet_rest-requires-clause-looked g c =
-    let all = subst (λ (l : List (StoreLane g.row.V.Denot)). All HasLooked l) c.in-Some.ensures.cases.0 c.look_back_all.ensures in
-    (All-head HasLooked c.in-Some.first.now c.in-Some.rest.now all, All-tail HasLooked c.in-Some.first.now c.in-Some.rest.now all)
+    let all = subst (λ (l : List (StoreLane g.row.V.Denot)). All HasRecalled l) c.in-Some.ensures.cases.0 c.recall_all.ensures in
+    (All-head HasRecalled c.in-Some.first.now c.in-Some.rest.now all, All-tail HasRecalled c.in-Some.first.now c.in-Some.rest.now all)
 
 pub returns-clause-shared : goal.returns-clause-shared
 returns-clause-shared g c =
@@ -18,11 +18,11 @@ returns-clause-shared g c =
     elim c.match-split_first_mut.branch [
       | in-Some w ↦
           let is : c.match-split_first_mut.lanes ≡ w.meet_rest.new.lane ∷ w.meet_rest.new.others = search rules in
-          let P : List (StoreLane g.row.V.Denot) → Type 0 = λ l. All HasLooked l in
+          let P : List (StoreLane g.row.V.Denot) → Type 0 = λ l. All HasRecalled l in
           let Q : List (StoreLane g.row.V.Denot) → Type 0 = λ l. ShareHistory st l in
           let mine : All (IsLaneOf st.id) (w.meet_rest.new.lane ∷ w.meet_rest.new.others) =
           All-cons (IsLaneOf st.id) w.meet_rest.new.lane w.meet_rest.new.others w.meet_rest.ensures.only_met.0.lane (met_mine st _ w.meet_rest.new.others w.meet_rest.ensures.only_met.1) in
-          subst Q (sym is) (met_share st w.meet_rest.new.lane w.meet_rest.new.others w.meet_rest.ensures.followed (subst P is c.look_back_all-2.ensures) mine)
+          subst Q (sym is) (met_share st w.meet_rest.new.lane w.meet_rest.new.others w.meet_rest.ensures.followed (subst P is c.recall_all-2.ensures) mine)
       | in_default w ↦
           let none : length c.args.lanes.now ≡ 0 = search rules in
           none_share st c.match-split_first_mut.lanes (ap length w.lanes-is ∙ none)

@@ -9,7 +9,7 @@ use Rattle.ext_cells.proofs.cells.Cells.nearest.Goals as goal
 pub returns-in-Some-clause-nearest : goal.returns-in-Some-clause-nearest
 returns-in-Some-clause-nearest c =
     let limits = c.args.lane.now.cells.limits in
-    let few = subst (λ z. z.limits.numbers < 2 ^ 20) (sym c.requires.lane) c.look_back.ensures.numbers in
+    let few = subst (λ z. z.limits.numbers < 2 ^ 20) (sym c.requires.lane) c.recall.ensures.numbers in
     let known = subst (λ z. All (λ cell. cell < z.limits.cells) c.args.cells.now) (sym c.requires.lane) c.requires.known in
     let mid = c.read_empty-stands.new.lane in
     let empty = c.read_empty-stands.result.0 in
@@ -21,19 +21,19 @@ returns-in-Some-clause-nearest c =
 pub returns-in-Some-clause-steps : goal.returns-in-Some-clause-steps
 returns-in-Some-clause-steps c =
     let limits = c.args.lane.now.cells.limits in
-    let few = subst (λ z. z.limits.numbers < 2 ^ 20) (sym c.requires.lane) c.look_back.ensures.numbers in
+    let few = subst (λ z. z.limits.numbers < 2 ^ 20) (sym c.requires.lane) c.recall.ensures.numbers in
     let known = subst (λ z. All (λ cell. cell < z.limits.cells) c.args.cells.now) (sym c.requires.lane) c.requires.known in
     let mid = c.read_empty-stands.new.lane in
     let empty = c.read_empty-stands.result.0 in
     let three = c.read_on-again.ensures.read [] c.new.ensures.reading in
     let on = subst (λ z. ReadPass z.limits c.read_empty-stands.new.lane.view c.read_on-again.new.lane.view (take c.read_empty-stands.result.0.count c.args.cells.now) three.0) c.read_empty-stands.ensures.lane three.1 in
     let t = subst (λ s. FirstPass c.args.lane.now.cells.limits c.args.lane.now.view c.read_empty-stands.new.lane.view c.args.cells.now c.read_empty-stands.result.0 s) c.in-Some.is c.read_empty-stands.ensures.read in
-    let r = still_some c.args.lane.now c.read_on-again.new.lane mid.view c.args.cells.now empty c.read_on-again.result few known three.0 on three.2 c.in-Some.word t c.if-again-empty.true in within_two _ _ _ c.look_back.ensures.tries r.1
+    let r = still_some c.args.lane.now c.read_on-again.new.lane mid.view c.args.cells.now empty c.read_on-again.result few known three.0 on three.2 c.in-Some.word t c.if-again-empty.true in within_two _ _ _ c.recall.ensures.tries r.1
 
 pub returns-in-None-clause-nearest : goal.returns-in-None-clause-nearest
 returns-in-None-clause-nearest c =
     let limits = c.args.lane.now.cells.limits in
-    let few = subst (λ z. z.limits.numbers < 2 ^ 20) (sym c.requires.lane) c.look_back.ensures.numbers in
+    let few = subst (λ z. z.limits.numbers < 2 ^ 20) (sym c.requires.lane) c.recall.ensures.numbers in
     let known = subst (λ z. All (λ cell. cell < z.limits.cells) c.args.cells.now) (sym c.requires.lane) c.requires.known in
     let mid = c.read_empty-stands.new.lane in
     let empty = c.read_empty-stands.result.0 in
@@ -45,19 +45,19 @@ returns-in-None-clause-nearest c =
 pub returns-in-None-clause-steps : goal.returns-in-None-clause-steps
 returns-in-None-clause-steps c =
     let limits = c.args.lane.now.cells.limits in
-    let few = subst (λ z. z.limits.numbers < 2 ^ 20) (sym c.requires.lane) c.look_back.ensures.numbers in
+    let few = subst (λ z. z.limits.numbers < 2 ^ 20) (sym c.requires.lane) c.recall.ensures.numbers in
     let known = subst (λ z. All (λ cell. cell < z.limits.cells) c.args.cells.now) (sym c.requires.lane) c.requires.known in
     let mid = c.read_empty-stands.new.lane in
     let empty = c.read_empty-stands.result.0 in
     let three = c.read_on-again.ensures.read [] c.new.ensures.reading in
     let on = subst (λ z. ReadPass z.limits c.read_empty-stands.new.lane.view c.read_on-again.new.lane.view (take c.read_empty-stands.result.0.count c.args.cells.now) three.0) c.read_empty-stands.ensures.lane three.1 in
     let t = subst (λ s. FirstPass c.args.lane.now.cells.limits c.args.lane.now.view c.read_empty-stands.new.lane.view c.args.cells.now c.read_empty-stands.result.0 s) c.in-None.is c.read_empty-stands.ensures.read in
-    let r = still_none c.args.lane.now c.read_on-again.new.lane mid.view c.args.cells.now empty c.read_on-again.result few known three.0 on three.2 t c.if-again-empty.true in within_two _ _ _ c.look_back.ensures.tries r.1
+    let r = still_none c.args.lane.now c.read_on-again.new.lane mid.view c.args.cells.now empty c.read_on-again.result few known three.0 on three.2 t c.if-again-empty.true in within_two _ _ _ c.recall.ensures.tries r.1
 
 pub loop-init : goal.loop-init
 loop-init c =
     let limits = c.args.lane.now.cells.limits in
-    let few = subst (λ z. z.limits.numbers < 2 ^ 20) (sym c.requires.lane) c.look_back.ensures.numbers in
+    let few = subst (λ z. z.limits.numbers < 2 ^ 20) (sym c.requires.lane) c.recall.ensures.numbers in
     let known = subst (λ z. All (λ cell. cell < z.limits.cells) c.args.cells.now) (sym c.requires.lane) c.requires.known in
     let mid = c.read_empty-stands.new.lane in
     let empty = c.read_empty-stands.result.0 in
@@ -80,7 +80,7 @@ loop-init c =
 
 pub returns-then-again-seen-clause-nearest : goal.returns-then-again-seen-clause-nearest
 returns-then-again-seen-clause-nearest c =
-    let few = subst (λ z. z.limits.numbers < 2 ^ 20) (sym c.requires.lane) c.look_back.ensures.numbers in
+    let few = subst (λ z. z.limits.numbers < 2 ^ 20) (sym c.requires.lane) c.recall.ensures.numbers in
     let i = c.loop.invariant in
     let words = i.passes.0 in
     let again = c.read_on-again-in-loop.ensures.read [] c.new-in-loop.ensures.reading in
@@ -91,7 +91,7 @@ returns-then-again-seen-clause-nearest c =
 
 pub returns-then-again-seen-clause-steps : goal.returns-then-again-seen-clause-steps
 returns-then-again-seen-clause-steps c =
-    let few = subst (λ z. z.limits.numbers < 2 ^ 20) (sym c.requires.lane) c.look_back.ensures.numbers in
+    let few = subst (λ z. z.limits.numbers < 2 ^ 20) (sym c.requires.lane) c.recall.ensures.numbers in
     let i = c.loop.invariant in
     let words = i.passes.0 in
     let again = c.read_on-again-in-loop.ensures.read [] c.new-in-loop.ensures.reading in
@@ -102,7 +102,7 @@ returns-then-again-seen-clause-steps c =
 
 pub loop-preserved : goal.loop-preserved
 loop-preserved c =
-    let few = subst (λ z. z.limits.numbers < 2 ^ 20) (sym c.requires.lane) c.look_back.ensures.numbers in
+    let few = subst (λ z. z.limits.numbers < 2 ^ 20) (sym c.requires.lane) c.recall.ensures.numbers in
     let i = c.loop.invariant in
     let words = i.passes.0 in
     let again = c.read_on-again-in-loop.ensures.read [] c.new-in-loop.ensures.reading in
@@ -125,6 +125,6 @@ returns-clause-nearest c =
 pub returns-clause-steps : goal.returns-clause-steps
 returns-clause-steps c =
     let tries = c.tries-end.ensures.tries in
-    let some = c.look_back.ensures.tries in
+    let some = c.recall.ensures.tries in
     let end = c.loop.auto.counter-end in
     steps_all c.args.lane.now.cells.limits _ _ _ c.loop.invariant.passes.0 c.loop.counter c.requires.different c.loop.invariant.passes.2 _ (omega (arith, tries, some, end))

@@ -12,7 +12,7 @@ loop-cell-init c =
       cells = refl;
       count = empty.0;
       versions = let v = empty.1 in omega (arith, v);
-      read = ([], c.new-empty.ensures.reading, All-nil IsEmptyWord, pass_none c.args.lane.now.cells.limits c.args.lane.now.view c.look_back.ensures.legal);
+      read = ([], c.new-empty.ensures.reading, All-nil IsEmptyWord, pass_none c.args.lane.now.cells.limits c.args.lane.now.view c.recall.ensures.legal);
     }
 
 pub read-word-requires-clause-place : goal.read-word-requires-clause-place

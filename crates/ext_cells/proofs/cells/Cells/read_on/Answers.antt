@@ -11,7 +11,7 @@ loop-cell-init c =
       cells = refl;
       count = omega arith;
       versions = versions;
-      read = λ words is. ([], pass_none c.args.lane.now.cells.limits c.args.lane.now.view c.look_back.ensures.legal, subst (λ ws. IsReading ws c.args.before) (sym (append-nil words)) is);
+      read = λ words is. ([], pass_none c.args.lane.now.cells.limits c.args.lane.now.view c.recall.ensures.legal, subst (λ ws. IsReading ws c.args.before) (sym (append-nil words)) is);
     }
 
 pub read-word-requires-clause-place : goal.read-word-requires-clause-place

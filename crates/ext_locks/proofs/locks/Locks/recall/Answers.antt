@@ -2,7 +2,7 @@ use Rattle.std.proofs.Common.{arith, subst, string_bytes}
 use Rattle.std.proofs.lemmas.List.{length-map}
 use Rattle.ext_locks.specs.Opening.{AreLocks}
 use Rattle.ext_locks.proofs.Texts.{sorted_texts}
-use Rattle.ext_locks.proofs.locks.Locks.look_back.Goals as goal
+use Rattle.ext_locks.proofs.locks.Locks.recall.Goals as goal
 
 pub returns : goal.returns
 returns c =
