@@ -26,7 +26,7 @@ use Rattle.ext_plan.specs.Depths.{Outline, least_test_depth}
 use Rattle.ext_plan.specs.Faults.{check, Gives}
 use Rattle.ext_plan.specs.Fields.{has_only, tables_or_none}
 use Rattle.ext_plan.specs.Keys.{keys_after}
-use Rattle.ext_plan.specs.Nodes.{Sketch, ids_of, outline_of, outlines_of, has_children, sketches_after, nodes_after}
+use Rattle.ext_plan.specs.Nodes.{Sketch, ids_of, outline_of, outlines_of, has_children, sketches_after, nodes_after, nodes_of_tables}
 use Rattle.ext_plan.specs.Reading.{top_fields, are_few, plan_of}
 use Rattle.ext_plan.proofs.Gave.{ok_value, both_gave, passed}
 use Rattle.ext_plan.proofs.KeyReading.{keys_are_own, no_keys}
@@ -119,19 +119,19 @@ ids_in-sketches : (sketches : List Sketch) → map (λ o. o.0) (outlines_of sket
 ids_in-sketches sketches = map-map (λ (o : Outline). o.0) outline_of sketches
 
 plan_laws : (top : Members) (plan : PlanText) → plan_of top ≡ Ok plan → ArePlanLaws plan
-unfolding plan_of
+unfolding plan_of nodes_of_tables
 plan_laws top plan h =
     let fields = both_gave (check (faults.UnknownField places.Whole) (has_only top_fields top)) _ _ h in
     let key_tables = both_gave (tables_or_none (faults.BadField places.Whole) (get_member (codes "key") top)) _ _ fields.2 in
     let node_tables = both_gave (tables_or_none (faults.BadField places.Whole) (get_member (codes "node") top)) _ _ key_tables.2 in
     let keys = both_gave (keys_after [] key_tables.0) _ _ node_tables.2 in
-    let sketches = both_gave (sketches_after [] node_tables.0) _ _ keys.2 in
+    let nodes = both_gave (nodes_of_tables (labels_of keys.0) node_tables.0) _ _ keys.2 in
+    let sketches = both_gave (sketches_after [] node_tables.0) _ _ nodes.1 in
     let tree = both_gave (check faults.BadTree (is_tree (ids_of sketches.0))) _ _ sketches.2 in
-    let nodes = both_gave (nodes_after (labels_of keys.0) sketches.0 [] sketches.0) _ _ tree.2 in
     let few = both_gave (check faults.TooMany (are_few (length (different_keys keys.0)) (length nodes.0))) _ _ nodes.2 in
     let few_locks = both_gave (check faults.TooMany (nat_le (length (lock_names nodes.0)) lock_limit)) _ _ few.2 in
     let own = keys_are_own [] key_tables.0 keys.0 keys.1 no_keys in
-    let read = nodes_are_read (labels_of keys.0) sketches.0 [] sketches.0 nodes.0 (All-nil (FitsIn (length (labels_of keys.0)) (outlines_of sketches.0))) (λ k less d. absurd (omega (arith, less))) nodes.1 in
+    let read = nodes_are_read (labels_of keys.0) sketches.0 [] sketches.0 nodes.0 (All-nil (FitsIn (length (labels_of keys.0)) (outlines_of sketches.0))) (λ k less d. absurd (omega (arith, less))) tree.2 in
     let count : length (labels_of keys.0) ≡ length keys.0 = length-map keys.0 (λ k. k.label) in
     let fit : All (FitsIn (length keys.0) (outlines_of_nodes nodes.0)) nodes.0 =
     subst (λ outlines. All (FitsIn (length keys.0) outlines) nodes.0) (sym read.of_sketches) (subst (λ n. All (FitsIn n (outlines_of sketches.0)) nodes.0) count read.fit) in

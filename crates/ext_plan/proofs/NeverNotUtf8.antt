@@ -23,7 +23,7 @@ use Rattle.ext_plan.specs.Modes.{mode_at, mode_of}
 use Rattle.ext_lifecycle.specs.declared.mode.Mode.TheVariants as modes
 use Rattle.ext_plan.specs.Locks.{lock_at, lock_of, locks_after, locks_at}
 use Rattle.ext_plan.specs.Keys.{key_fields, has_parts, key_at, keys_after}
-use Rattle.ext_plan.specs.Nodes.{Sketch, node_fields, id_or, sketch_at, sketches_after, ids_of, outlines_of, has_children, is_bad_test, test_at, node_at, nodes_after}
+use Rattle.ext_plan.specs.Nodes.{Sketch, node_fields, id_or, sketch_at, sketches_after, ids_of, outlines_of, has_children, is_bad_test, test_at, node_at, nodes_after, nodes_of_tables}
 use Rattle.ext_plan.specs.Steps.{step_of, step_at, steps_after, steps_at}
 use Rattle.ext_plan.specs.Reading.{top_fields, are_few, plan_of}
 
@@ -206,6 +206,12 @@ nodes_other labels all before [] = value before
 nodes_other labels all before (sketch ∷ more) =
     then_other (node_at labels (length before) (has_children (ids_of all) (length before)) (least_test_depth (outlines_of all) sketch.id) sketch) _ (node_other labels _ _ _ sketch) (λ node. nodes_other labels all (before ++ node ∷ []) more)
 
+all_nodes_other : (labels : List (List ℕ)) (tables : List Members) → IsOther (nodes_of_tables labels tables)
+unfolding nodes_of_tables
+all_nodes_other labels tables =
+    then_other (sketches_after [] tables) _ (sketches_other [] tables) (λ sketches.
+    then_other (check faults.BadTree (is_tree (ids_of sketches))) _ (checked _ _ (λ h. absurd cc)) (λ _. nodes_other _ _ [] sketches))
+
 -- ---- plans
 
 tables_other : (found : Option Data) → IsOther (tables_or_none (faults.BadField places.Whole) found)
@@ -219,11 +225,9 @@ plan_other top =
     then_other (tables_or_none (faults.BadField places.Whole) (get_member (codes "key") top)) _ (tables_other (get_member (codes "key") top)) (λ key_tables.
     then_other (tables_or_none (faults.BadField places.Whole) (get_member (codes "node") top)) _ (tables_other (get_member (codes "node") top)) (λ node_tables.
     then_other (keys_after [] key_tables) _ (keys_other [] key_tables) (λ keys.
-    then_other (sketches_after [] node_tables) _ (sketches_other [] node_tables) (λ sketches.
-    then_other (check faults.BadTree (is_tree (ids_of sketches))) _ (checked _ _ (λ h. absurd cc)) (λ _.
-    then_other (nodes_after (labels_of keys) sketches [] sketches) _ (nodes_other _ _ [] sketches) (λ nodes.
+    then_other (nodes_of_tables (labels_of keys) node_tables) _ (all_nodes_other _ node_tables) (λ nodes.
     then_other (check faults.TooMany (are_few (length (different_keys keys)) (length nodes))) _ (checked _ _ (λ h. absurd cc)) (λ _.
-    then_other (check faults.TooMany (nat_le (length (lock_names nodes)) lock_limit)) _ (checked _ _ (λ h. absurd cc)) (λ _. value _)))))))))
+    then_other (check faults.TooMany (nat_le (length (lock_names nodes)) lock_limit)) _ (checked _ _ (λ h. absurd cc)) (λ _. value _)))))))
 
 -- what gives the plan of a document doesn't answer `NotUtf8`
 pub never_not_utf8 : (read : Result Plan PlanFault) (top : Members) → Gives plan_view read (plan_of top) → read ≢ Err faults.NotUtf8

@@ -5,6 +5,7 @@ use Rattle.toml.specs.Data.{Members, get_member}
 use Rattle.ext_ids.specs.declared.fault.IdFault.{IdFault}
 use Rattle.ext_ids.specs.Grammar.{Pair}
 use Rattle.ext_ids.specs.Reading.{read_id}
+use Rattle.ext_tree.specs.Decided.{is_tree}
 use Rattle.ext_tree.specs.Paths.{children_of}
 use Rattle.ext_tree.specs.Trees.{Id}
 use Rattle.ext_plan_model.specs.Plans.{StepText, NodeText}
@@ -110,3 +111,10 @@ nodes_after labels all before [] = Ok before
 nodes_after labels all before (sketch ∷ more) = do
   node ← node_at labels (length before) (has_children (ids_of all) (length before)) (least_test_depth (outlines_of all) sketch.id) sketch
   nodes_after labels all (before ++ node ∷ []) more
+
+-- the nodes of tables: the fields and the id of each, then the tree of the ids, and then all else of each
+unfoldable pub nodes_of_tables : List (List ℕ) → List Members → Result (List NodeText) PlanFault
+nodes_of_tables labels tables = do
+  sketches ← sketches_after [] tables
+  _ ← check faults.BadTree (is_tree (ids_of sketches))
+  nodes_after labels sketches [] sketches

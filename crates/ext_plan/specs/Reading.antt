@@ -2,7 +2,6 @@
 use Rattle.std.specs.Prelude.{ℕ, ◌*◌, nat_le, Bool, ◌&&◌, codes, List, [], ◌∷◌, length, Result, Ok}
 use Rattle.toml.specs.Data.{Members, get_member}
 use Rattle.toml.specs.Parse.{parse_document}
-use Rattle.ext_tree.specs.Decided.{is_tree}
 use Rattle.ext_plan_model.specs.Plans.{PlanText}
 use Rattle.ext_plan_model.specs.Keys.{labels_of}
 use Rattle.ext_plan_model.specs.KeyNumbers.{different_keys}
@@ -13,7 +12,7 @@ use Rattle.ext_plan.specs.declared.fault.Place.TheVariants as places
 use Rattle.ext_plan.specs.Faults.{some_or, check, ◌>>=◌}
 use Rattle.ext_plan.specs.Fields.{has_only, tables_or_none}
 use Rattle.ext_plan.specs.Keys.{keys_after}
-use Rattle.ext_plan.specs.Nodes.{ids_of, sketches_after, nodes_after}
+use Rattle.ext_plan.specs.Nodes.{nodes_of_tables}
 
 abbrev pub top_fields : List (List ℕ)
 top_fields = codes "key" ∷ codes "node" ∷ []
@@ -29,9 +28,7 @@ plan_of top = do
   key_tables ← tables_or_none (faults.BadField places.Whole) (get_member (codes "key") top)
   node_tables ← tables_or_none (faults.BadField places.Whole) (get_member (codes "node") top)
   keys ← keys_after [] key_tables
-  sketches ← sketches_after [] node_tables
-  _ ← check faults.BadTree (is_tree (ids_of sketches))
-  nodes ← nodes_after (labels_of keys) sketches [] sketches
+  nodes ← nodes_of_tables (labels_of keys) node_tables
   _ ← check faults.TooMany (are_few (length (different_keys keys)) (length nodes))
   _ ← check faults.TooMany (nat_le (length (lock_names nodes)) lock_limit)
   Ok (record { keys = keys; nodes = nodes })

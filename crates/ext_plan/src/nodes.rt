@@ -1,12 +1,12 @@
 //! The nodes of a plan.
-ghost use Rattle.std.specs.Prelude.{◌≡◌, [], length, map, option_map, IfOk};
+ghost use Rattle.std.specs.Prelude.{◌≡◌, ◌≤◌, [], length, map, option_map, IfOk};
 ghost use Rattle.toml.specs.View.{table_view};
 ghost use Rattle.ext_ids.specs.Reading.{read_id};
 ghost use Rattle.ext_tree.specs.Decided.{is_tree};
 ghost use Rattle.ext_plan_model.specs.Plans.{node_view, nodes_view, steps_view};
 ghost use Rattle.ext_plan.specs.Helpers.{sketch_view};
 ghost use Rattle.ext_plan.specs.Faults.{check, Gives};
-ghost use Rattle.ext_plan.specs.Nodes.{id_or, sketch_at, sketches_after, ids_of, is_bad_test, test_at, node_at, nodes_after};
+ghost use Rattle.ext_plan.specs.Nodes.{id_or, sketch_at, sketches_after, ids_of, is_bad_test, test_at, node_at, nodes_after, nodes_of_tables};
 
 use crate::callbacks::CallbackSketch;
 use crate::depths::least_test_depth;
@@ -44,6 +44,21 @@ pub struct NodeSketch<'a> {
     pub locks: Option<Vec<&'a str>>,
     pub callbacks: CallbackSketch<'a>,
     pub test: Option<Vec<&'a str>>,
+}
+
+/// The nodes that the tables write, in order.
+#[tactic(auto, unfolding(crate::specs::Nodes::nodes_of_tables))]
+pub fn nodes_of_tables(
+    alloc: Global,
+    labels: &Labels<'_>,
+    tables: &[&Table],
+) -> Result<Vec<PlanNode>, PlanFault>
+    ensures exact { Gives (λ v. nodes_view v.items) result (nodes_of_tables labels.now (map (λ t. table_view t.now) tables.now)) }
+    ensures few { IfOk result (λ v. length v.items ≤ 256) }
+{
+    let sketches = sketches_of(alloc, tables)?;
+    let tree = tree_of(alloc, sketches.as_slice())?;
+    nodes_of(alloc, labels, &tree, sketches.as_slice())
 }
 
 /// The first pass: the nodes that the tables write, in order.
@@ -101,9 +116,10 @@ fn id_of(alloc: Global, node: usize, text: &str) -> Result<UniqueId, PlanFault>
 }
 
 /// The tree of the nodes.
-pub fn tree_of(alloc: Global, sketches: &[NodeSketch<'_>]) -> Result<Tree, PlanFault>
+fn tree_of(alloc: Global, sketches: &[NodeSketch<'_>]) -> Result<Tree, PlanFault>
     ensures exact { Gives (λ _. tt) result (check PlanFault.BadTree (is_tree (ids_of (map sketch_view sketches.now)))) }
     ensures ids { IfOk result (λ tree. tree ≡ ids_of (map sketch_view sketches.now)) }
+    ensures few { IfOk result (λ _. length sketches.now ≤ 256) }
 {
     let ids = ids_of(alloc, sketches)?;
     match Tree::build(alloc, ids.as_slice()) {
@@ -127,7 +143,7 @@ pub fn ids_of(alloc: Global, sketches: &[NodeSketch<'_>]) -> Result<Vec<UniqueId
 }
 
 /// The second pass: the nodes of the sketches, in order, where this is their tree.
-pub fn nodes_of(
+fn nodes_of(
     alloc: Global,
     labels: &Labels<'_>,
     tree: &Tree,

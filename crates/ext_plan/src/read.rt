@@ -11,7 +11,7 @@ use crate::fault::{Place, PlanFault};
 use crate::fields::{has_only, tables_at};
 use crate::keys::keys_of;
 use crate::locks::locks_are_few;
-use crate::nodes::{nodes_of, sketches_of, tree_of};
+use crate::nodes::nodes_of_tables;
 use ext_plan_model::{KeyNumbers, Plan, PlanKey};
 use ext_tree::TreeFault;
 use std::alloc::Global;
@@ -89,10 +89,8 @@ fn plan_of(alloc: Global, top: &Table) -> Result<Plan, PlanFault>
     let key_tables = tables_at(alloc, top, "key", PlanFault::BadField(Place::Whole))?;
     let node_tables = tables_at(alloc, top, "node", PlanFault::BadField(Place::Whole))?;
     let keys = keys_of(alloc, key_tables.as_slice())?;
-    let sketches = sketches_of(alloc, node_tables.as_slice())?;
-    let tree = tree_of(alloc, sketches.as_slice())?;
-    let nodes = nodes_of(alloc, &keys.labels, &tree, sketches.as_slice())?;
-    if !are_few(alloc, keys.keys.as_slice(), tree.len())? {
+    let nodes = nodes_of_tables(alloc, &keys.labels, node_tables.as_slice())?;
+    if !are_few(alloc, keys.keys.as_slice(), nodes.len())? {
         return Err(PlanFault::TooMany);
     }
     if !locks_are_few(alloc, nodes.as_slice())? {
