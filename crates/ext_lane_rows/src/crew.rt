@@ -103,17 +103,14 @@ fn jobs_0_and_1_meet_among_256(rt: HostRuntime) -> Result<(), Fail> {
 }
 
 // Five lanes for three workers, each of which has to run one job: a job gives the length of its share and leaves its index there.
-// Which worker runs which job isn't known. Passes also where an allocation is refused (`rt try --test --fail-alloc N`): then no job
-// was run, and the slices are as they were.
+// Which worker runs which job isn't known.
 #[test]
-fn longer_shares_first_or_nothing_ran(rt: HostRuntime) -> Result<(), Fail> {
-    let Ok(items) = Vec::from_array(rt.alloc(), [7u64, 8, 9]) else {
-        return Ok(());
-    };
+fn longer_shares_first(rt: HostRuntime) -> Result<(), Fail> {
+    let items = Vec::from_array(rt.alloc(), [7u64, 8, 9])?;
     let gate = MeetingGate::of(3);
     let mut first = [7u8; 5];
     let mut second = [7u8; 5];
-    let made = run_children(
+    let lengths = run_children(
         &rt,
         rt.alloc(),
         &mut first,
@@ -125,18 +122,10 @@ fn longer_shares_first_or_nothing_ran(rt: HostRuntime) -> Result<(), Fail> {
             first.len()
         },
         &gate,
-    );
+    )?;
     same(&rt, first, second, "the slices");
-    match made {
-        Ok(lengths) => {
-            same(&rt, gate.told(), (3, 0), "the gate");
-            same(&rt, are_shares(first, lengths.as_slice()), true, "shares");
-        }
-        Err(fault) => {
-            same(&rt, (fault, first), (CrewFault::Memory, [7; 5]), "nothing");
-            same(&rt, gate.told(), (0, 0), "the gate");
-        }
-    }
+    same(&rt, gate.told(), (3, 0), "the gate");
+    same(&rt, are_shares(first, lengths.as_slice()), true, "shares");
     Ok(())
 }
 

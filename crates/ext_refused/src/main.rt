@@ -5,6 +5,7 @@
 //! refuses an allocation is `rt try --fail-alloc N`, and by `scripts/refused-allocations` each of a case is refused in turn.
 #![tactic(auto)]
 
+mod crew;
 mod ids;
 mod keys;
 mod outcome;
@@ -16,6 +17,8 @@ mod words;
 use outcome::Outcome;
 use std::alloc::Global;
 use std::process::ExitCode;
+use std::sync::Wait;
+use std::thread::Threads;
 use words::{Case, Request, USAGE, request_of};
 
 fn main(rt: HostRuntime) -> ExitCode {
@@ -24,7 +27,7 @@ fn main(rt: HostRuntime) -> ExitCode {
         Request::Refused => (USAGE, 2),
         Request::Memory => Outcome::Early.told(),
         Request::Calls { case, allocations } => {
-            outcome_after(rt.alloc(), case, allocations).told()
+            outcome_after(&rt, rt.alloc(), case, allocations).told()
         }
     };
     match println!(rt; "{line}") {
@@ -35,12 +38,17 @@ fn main(rt: HostRuntime) -> ExitCode {
 
 /// What becomes of the case's calls after so many allocations. Where one was answered with want of memory, all of them are made once
 /// more.
-fn outcome_after(alloc: Global, case: Case, allocations: u32) -> Outcome {
+fn outcome_after<R: Threads + Wait + Sync>(
+    rt: &R,
+    alloc: Global,
+    case: Case,
+    allocations: u32,
+) -> Outcome {
     if !burn(alloc, allocations) {
         return Outcome::Early;
     }
-    match outcome_of(alloc, case) {
-        Outcome::NoMemory => outcome_of(alloc, case).again(),
+    match outcome_of(rt, alloc, case) {
+        Outcome::NoMemory => outcome_of(rt, alloc, case).again(),
         outcome => outcome,
     }
 }
@@ -56,12 +64,13 @@ fn burn(alloc: Global, allocations: u32) -> bool {
 }
 
 /// What becomes of the case's calls.
-fn outcome_of(alloc: Global, case: Case) -> Outcome {
+fn outcome_of<R: Threads + Wait + Sync>(rt: &R, alloc: Global, case: Case) -> Outcome {
     match case {
         Case::Ids => ids::reads_and_writes(alloc),
         Case::Plain => plain::makes_calls(alloc),
         Case::Keys => keys::declares(alloc).and(keys::builds(alloc)),
         Case::Places => places::places(alloc),
+        Case::Crew => crew::runs_jobs(rt, alloc),
         Case::Store => stores::keeps_and_computes(alloc),
     }
 }

@@ -7,9 +7,10 @@ pub(crate) const USAGE: &str = "\
 usage: ext_refused CASE ALLOCATIONS
 
 Makes and drops so many ALLOCATIONS (0 to 4294967295), and then makes the calls of the CASE: ids,
-plain, keys, places or store. It prints a line: ok; or no memory, where a call answered that and all
-was then as it has to be; or else what was not. The exit status is 0, or 1 where something was not
-as it has to be, 2 where the words are refused, or 3 where there was no memory before the case.";
+plain, keys, places, crew or store. It prints a line: ok; or no memory, where a call answered
+that and all was then as it has to be; or else what was not. The exit status is 0, or 1 where
+something was not as it has to be, 2 where the words are refused, or 3 where there was no memory
+before the case.";
 
 /// A case: what is called.
 #[derive(Clone, Copy)]
@@ -22,6 +23,8 @@ pub(crate) enum Case {
     Keys,
     /// Places for values are made, and a value is placed.
     Places,
+    /// Jobs are run on several workers.
+    Crew,
     /// A store is opened, a value is kept and put, and one is computed.
     Store,
 }
@@ -34,6 +37,7 @@ impl Case {
             "plain" => Some(Case::Plain),
             "keys" => Some(Case::Keys),
             "places" => Some(Case::Places),
+            "crew" => Some(Case::Crew),
             "store" => Some(Case::Store),
             _ => None,
         }
