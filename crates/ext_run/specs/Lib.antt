@@ -1,4 +1,5 @@
 pub mod Answers
 pub mod Checks
 pub mod IdText
+pub mod Requests
 pub mod Helpers

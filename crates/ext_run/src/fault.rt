@@ -25,8 +25,9 @@ pub enum RunFault {
     /// Z4, printed as the line of the plan's fault, such as `plan: P5 key 1`: the plan is refused.
     #[error("{0}")]
     Plan(PlanFault),
-    /// Z5, printed as `run: E1`, `run: E2` or `run: E3`: the run of the plan on several lanes was not ended, as memory (E1) or a
-    /// thread (E2) was refused, or a context could not be closed (E3). The first comes for the store and the locks of the run, too.
+    /// Z5, printed as `run: E1` or `run: E3`: the run of the plan on several lanes was not ended, as memory was refused (E1), also
+    /// for the store and the locks of the run, or a context could not be closed (E3). `run: E2` would say that a thread was
+    /// refused (`EngineFault::NoThread`), which no call answers.
     #[error("run: {}", code(*.0))]
     Engine(EngineFault),
     /// Z6, printed as `run: no memory`: memory was wanted and refused, though neither by `read_plan`, where that is `Plan` with

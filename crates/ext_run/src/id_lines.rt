@@ -1,13 +1,20 @@
 //! An id, printed.
-ghost use Rattle.std.specs.Prelude.{◌≡◌, ◌≢◌, ◌++◌, List, IfOk, IfErr, IsErrOf, OnOk, MatchResult, string_bytes};
+ghost use Rattle.std.specs.Io.KnownBytes.{Appends};
+ghost use Rattle.std.specs.Prelude.{◌≡◌, ◌≢◌, ◌++◌, false, List, IfOk, IfErr, IsErrOf, OnOk, MatchResult, string_bytes};
 ghost use Rattle.ext_ids.specs.declared.fault.IdFault.{IdFault};
 ghost use Rattle.ext_ids.specs.declared.fault.IdFault.TheVariants.{Memory};
 ghost use Rattle.ext_ids.specs.Grammar.{Pair, IsIdText};
 ghost use Rattle.ext_ids.specs.Faults.{HasFault};
 ghost use Rattle.ext_run.specs.IdText.{pair_line, id_lines};
+ghost use Rattle.ext_run.specs.Requests.{IsNoId, IsIdEnd};
 
+use crate::fault::RunFault;
+use crate::options::Summary;
+use crate::request_fault::RequestFault;
+use crate::runs::write_whole;
 use ext_ids::{IdFault, UniqueId};
 use std::alloc::{AllocError, Global};
+use std::io::Write;
 
 /// The id that a text spells, in lines: `TYPE VALUE` for each segment, decoded, and then the id as it is written.
 ///
@@ -21,6 +28,29 @@ pub fn id_text(alloc: Global, text: &str) -> Result<String, IdFault>
 {
     let id = UniqueId::parse(alloc, text)?;
     Ok(lines_of(alloc, &id)?)
+}
+
+/// Writes the segments of the id that a text spells, and the id again, as `id_text` gives them: the request to read an id.
+///
+/// Refused as `Id` where the text is none, for its first fault, or memory was refused, with nothing written, and as
+/// `Run` with `Write` where the writer failed. Takes memory, all of which it gives back, and waits where the writer does. Own rule.
+pub fn read_id<W: Write>(alloc: Global, writer: &mut W, text: &str) -> Result<Summary, RequestFault>
+    ensures done { IfOk result (λ summary. summary.failed ≡ false) }
+    ensures written { OnOk result ((pairs : List Pair)
+        × IsIdText text.now pairs × Appends (W.contents writer.old) (W.contents writer.new) (id_lines pairs)) }
+    ensures only { (pairs : List Pair) → IsIdText text.now pairs → IsIdEnd result }
+    ensures fault { IfErr result (λ fault. IsNoId text.now fault) }
+    ensures first { (e : IdFault) → HasFault text.now e → IsErrOf result (RequestFault.Id e) }
+    ensures unwritten { IfErr result (λ fault. fault ≢ RequestFault.Run RunFault.Write → writer.new ≡ writer.old) }
+{
+    let lines = match id_text(alloc, text) {
+        Ok(lines) => lines,
+        Err(fault) => return Err(RequestFault::Id(fault)),
+    };
+    if write_whole(writer, lines.as_bytes()).is_err() {
+        return Err(RequestFault::Run(RunFault::Write));
+    }
+    Ok(Summary { failed: false })
 }
 
 /// The lines of an id.

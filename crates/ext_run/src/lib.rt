@@ -3,7 +3,8 @@
 //! `run` reads a plan, runs it on several lanes over a store for several threads (`ext_parallel`), or on one thread over the one-thread store
 //! (`ext_plain`), and writes the report of this run. A plan that is refused, or a device that fails, is a `RunFault`. What a run answers to its
 //! input stands in `specs/Answers.antt`. `check` reads a plan and does not run it; `read_input` and `explain` are for those who tell more of a plan
-//! that was refused. The names of `ext_plan`, `ext_plain`, `ext_lifecycle` and `ext_report` that callers need stand here too. Own rule.
+//! that was refused. `read_id` writes the lines of an id, and `status_of` is the exit status of a program that is asked for any of this.
+//! The names of `ext_plan`, `ext_plain`, `ext_lifecycle` and `ext_report` that callers need stand here too. Own rule.
 #![tactic(auto)]
 
 mod checks;
@@ -11,6 +12,7 @@ mod fault;
 mod id_lines;
 mod input;
 mod options;
+mod request_fault;
 mod results;
 mod runs;
 
@@ -23,7 +25,8 @@ pub use ext_plan::{
 };
 pub use ext_tree::Tree;
 pub use fault::RunFault;
-pub use id_lines::id_text;
+pub use id_lines::{id_text, read_id};
 pub use input::read_input;
 pub use options::{Options, Summary};
+pub use request_fault::{RequestFault, status_of};
 pub use runs::{report_text, run, run_with_listener};

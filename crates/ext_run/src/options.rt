@@ -9,7 +9,7 @@ pub struct Options {
     pub plain: bool,
 }
 
-/// What became of a run whose report was written. Own rule.
+/// What became of a request that was done: a run whose report was written, or another one, in which no node fails. Own rule.
 #[derive(Clone, Copy, Debug, PartialEq, Eq)]
 pub struct Summary {
     /// Whether a node failed, be it a test or a container.

@@ -33,7 +33,7 @@ Exit status:
   0  it is done, and no node failed
   1  a node failed
   2  the command line, the plan or the id is refused
-  3  reading, writing or memory failed
+  3  reading, writing or memory failed, or a context could not be closed
 
 Reports go to standard output, and why there is none to standard error, in one line such as 'plan: P8 node 2'.
 With --explain a second line says what that means."#;

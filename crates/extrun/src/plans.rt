@@ -3,9 +3,10 @@ ghost use Rattle.std.specs.Prelude.{◌≡◌, ◌≤◌};
 
 use crate::command::Task;
 use crate::progress::Progress;
-use crate::status::{Fault, tell};
+use crate::telling::tell;
 use ext_run::{
-    NoListener, Options, RunFault, Summary, check, explain, read_input, run_with_listener,
+    NoListener, Options, RequestFault, RunFault, Summary, check, explain, read_input,
+    run_with_listener,
 };
 use std::io::{Input, Read, Write};
 use std::sync::Wait;
@@ -18,7 +19,7 @@ pub(crate) fn outcome_of_plan<R, W>(
     writer: &mut W,
     task: Task,
     explained: bool,
-) -> Result<Summary, Fault>
+) -> Result<Summary, RequestFault>
 where
     R: Threads + Wait + Sync + Clock + AllocGlobal + Input + Eprint,
     W: Write,
@@ -32,7 +33,7 @@ where
         Ok(input) => {
             let mut reader = input.as_slice();
             let outcome = told(rt, outcome_of_task(rt, &mut reader, writer, task));
-            if let Err(Fault::Run(RunFault::Plan(fault))) = outcome
+            if let Err(RequestFault::Run(RunFault::Plan(fault))) = outcome
                 && let Ok(line) = explain(rt.alloc(), input.as_slice(), fault)
             {
                 let _ = eprintln!(rt; "{}", line.as_str());
@@ -43,12 +44,12 @@ where
 }
 
 /// What became of a plan, told on standard error where it is a fault.
-fn told(rt: &impl Eprint, outcome: Result<Summary, RunFault>) -> Result<Summary, Fault> {
+fn told(rt: &impl Eprint, outcome: Result<Summary, RunFault>) -> Result<Summary, RequestFault> {
     match outcome {
         Ok(summary) => Ok(summary),
         Err(fault) => {
-            tell(rt, Fault::Run(fault));
-            Err(Fault::Run(fault))
+            tell(rt, RequestFault::Run(fault));
+            Err(RequestFault::Run(fault))
         }
     }
 }

@@ -1,4 +1,4 @@
--- The exit status of the program. It is 0 where the request was done and no node failed, 1 where one did; 2 where the command line, the plan or the id is
+-- What a request to a program over this crate ends with, and its exit status. It is 0 where the request was done and no node failed, 1 where one did; 2 where the command line, the plan or the id is
 -- refused, and 3 where the work itself failed. Own rule.
 use Rattle.std.specs.Prelude.{◌≡◌, ◌≢◌, ℕ, List, Result, Ok, Err, if◌then◌else◌}
 use Rattle.ext_ids.specs.declared.fault.IdFault.{IdFault}
@@ -7,8 +7,8 @@ use Rattle.ext_ids.specs.Faults.{HasFault}
 use Rattle.ext_run.specs.declared.fault.RunFault.{RunFault}
 use Rattle.ext_run.specs.declared.fault.RunFault.TheVariants as runs
 use Rattle.ext_run.specs.declared.options.Summary.{Summary}
-use Rattle.extrun.specs.declared.status.Fault.{Fault}
-use Rattle.extrun.specs.declared.status.Fault.TheVariants as faults
+use Rattle.ext_run.specs.declared.request_fault.RequestFault.{RequestFault}
+use Rattle.ext_run.specs.declared.request_fault.RequestFault.TheVariants as faults
 
 -- of a run that gave no report
 abbrev pub status_of_run_fault : RunFault → ℕ
@@ -20,26 +20,26 @@ status_of_run_fault (runs.Engine fault) = 3
 status_of_run_fault runs.Memory = 3
 
 -- of a request that was not done
-abbrev pub status_of_fault : Fault → ℕ
+abbrev pub status_of_fault : RequestFault → ℕ
 status_of_fault faults.CommandLine = 2
 status_of_fault (faults.Id fault) = 2
 status_of_fault (faults.Run fault) = status_of_run_fault fault
 
 -- of a request
-abbrev pub status_of : Result Summary Fault → ℕ
+abbrev pub status_of : Result Summary RequestFault → ℕ
 status_of (Ok summary) = if summary.failed then 1 else 0
 status_of (Err fault) = status_of_fault fault
 
 -- ---- the request to read an id
 
 -- why a text is refused: for the fault that it has; want of memory and a writer that failed tell nothing of it
-abbrev pub IsNoId : List ℕ → Fault → Type 0
+abbrev pub IsNoId : List ℕ → RequestFault → Type 0
 IsNoId text faults.CommandLine = ⊥
 IsNoId text (faults.Id fault) = fault ≢ ids.Memory → HasFault text fault
 IsNoId text (faults.Run fault) = fault ≡ runs.Write
 
 -- how it ends for a text that is an id: it is done, or memory was refused, or the writer failed
-abbrev pub IsIdEnd : Result Summary Fault → Type 0
+abbrev pub IsIdEnd : Result Summary RequestFault → Type 0
 IsIdEnd (Ok summary) = Unit {0}
 IsIdEnd (Err faults.CommandLine) = ⊥
 IsIdEnd (Err (faults.Id fault)) = fault ≡ ids.Memory

@@ -1,0 +1,12 @@
+//! What is told of a request that was not done.
+use ext_run::RequestFault;
+
+/// Prints why a request was not done, in one line on standard error. Where that fails too, nothing is left to do about
+/// it.
+pub(crate) fn tell(rt: &impl Eprint, fault: RequestFault) {
+    let _ = match fault {
+        RequestFault::CommandLine => Ok(()),
+        RequestFault::Id(fault) => eprintln!(rt; "{fault}"),
+        RequestFault::Run(fault) => eprintln!(rt; "{fault}"),
+    };
+}
