@@ -1,7 +1,7 @@
 //! Laws of trees and keys, each proved once and for all as the contract of an empty function.
 ghost use Rattle.ext_tree.specs.Laws.{FaultsTell, TestTells, PathsAreUnique, ParentsListChildren, NumbersTell, CellsTell, NamespacesTell};
 
-/// Proves the laws of trees: faults, the test for trees, paths and children. It does nothing when it runs.
+/// Proves the laws of trees: faults, the test for trees, paths and children. It does nothing when it runs. Own rule.
 pub fn tree_laws()
     ensures faults { FaultsTell }
     ensures decided { TestTells }
@@ -9,7 +9,7 @@ pub fn tree_laws()
     ensures children { ParentsListChildren }
 {}
 
-/// Proves the laws of namespaces, numbers of keys and cells. It does nothing when it runs.
+/// Proves the laws of namespaces, numbers of keys and cells. It does nothing when it runs. Own rule.
 pub fn key_laws()
     ensures namespaces { NamespacesTell }
     ensures numbers { NumbersTell }
