@@ -1,6 +1,6 @@
 -- What holds of the run of a node, from what holds of its parts.
-use Rattle.std.proofs.Common.{◌≡◌, ℕ, ◌+◌, ◌-◌, ◌<◌, ◌≤◌, Bool, false, true, min, zero, suc, List, [], ◌∷◌, ◌++◌, length, map, drop, ap, ◌∙◌, sym, refl, subst, arith, append-nil, length-drop, length-take}
-use Rattle.std.specs.Prelude.{All, Option, option_map, filter, not, Some, Ok, Err, Result, Vec, IfOk, IsOk, slice_get, slice_set, slice_index_or}
+use Rattle.std.proofs.Common.{◌≡◌, ℕ, ◌+◌, ◌-◌, ◌<◌, ◌≤◌, false, true, min, zero, suc, List, [], ◌∷◌, ◌++◌, length, map, drop, ap, ◌∙◌, sym, refl, subst, arith, append-nil, length-drop, length-take}
+use Rattle.std.specs.Prelude.{All, Option, option_map, filter, not, Some, Ok, Err, Result, Vec, IfOk, IsOk, slice_get, slice_index_or}
 use Rattle.std.specs.declared.alloc.Global.{Global}
 use Rattle.std.specs.List.{flat_map}
 use Rattle.std.proofs.lemmas.Fn.{FoldsTo-push}
@@ -17,15 +17,12 @@ use Rattle.ext_locks.specs.Sets.{HeldView}
 use Rattle.ext_crew.specs.Dealing.{Share, front, back, RunByDealing}
 use Rattle.ext_crew.proofs.Runs.{run-map}
 use Rattle.ext_crew.proofs.RunLaws.{run-outcome}
-use Rattle.ext_model.specs.declared.look.Fault.{Fault}
-use Rattle.ext_lifecycle.specs.Results.{ResultOf, told}
 use Rattle.ext_lifecycle.specs.declared.call.Call.{Call}
 use Rattle.ext_lifecycle.specs.declared.outcome.Outcome.{Outcome}
-use Rattle.ext_lifecycle.specs.Lifecycle.{MakesAll, MakesBefores, MakesCalls}
 use Rattle.ext_node_run.specs.declared.closers.Item.{Item}
 use Rattle.ext_node_run.specs.declared.results.RanNode.{RanNode}
 use Rattle.ext_node_run.specs.Helpers.{ran_view, ran_in}
-use Rattle.ext_engine.specs.TreeRun.{Ran, TreeSetting, Lanes, OnFirst, IsUsable, IsIdle, TreeRun, TestRun, ContainerRun, BodyRun, RanInTurn}
+use Rattle.ext_engine.specs.TreeRun.{Ran, TreeSetting, Lanes, IsUsable, IsIdle, TreeRun, TestRun, ContainerRun, BodyRun, RanInTurn}
 
 -- ---- shares that can be used
 

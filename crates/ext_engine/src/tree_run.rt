@@ -3,13 +3,15 @@ ghost use Rattle.std.specs.Prelude.{◌≡◌, ℕ, ◌+◌, ◌-◌, ◌<◌, �
 ghost use denote.Param.Send.{IsSync, IsSend};
 ghost use Rattle.ext_tree.specs.Paths.{IsPathOf, children_of};
 ghost use Rattle.ext_lifecycle.specs.Results.{told};
-ghost use Rattle.ext_store.specs.Stores.{closers_below};
+ghost use Rattle.ext_lifecycle.specs.Callbacks.{befores_of as calls_before, afters_of as calls_after};
+ghost use Rattle.ext_store.specs.Stores.{IsCloserOf, closers_below};
 ghost use Rattle.ext_crew.specs.Dealing.{RunByDealing};
+ghost use Rattle.ext_node_run.specs.declared.fault.EngineFault.TheVariants as engine_fault;
 ghost use Rattle.ext_node_run.specs.Closers.{IsNode};
 ghost use Rattle.ext_engine.specs.TreeRun.{Ran, setting_of, IsUsable, IsFit, IsFault, TreeRun, ContainerRun, BodyMade, RanInTurn, all_results};
 ghost use Rattle.ext_node_run.specs.Helpers.{ran_view};
 
-use crate::runner::TreeRunner;
+use crate::runner::{Container, TreeRunner};
 use crate::{EngineFault, Suite};
 use ext_crew::{Gate, run_children};
 use ext_lifecycle::{NodeResult, afters_of, befores_of};
@@ -123,6 +125,41 @@ impl<
         }
     }
 
+    /// What the container is run with: its closer, its callbacks and its children. Takes memory for them.
+    fn container(&self, alloc: Global, depth: usize, item: Item) -> Result<Container, EngineFault>
+        requires item { IsNode self.now.nodes.store.now depth item }
+        ensures closer { IfOk result (λ r. IsCloserOf self.now.nodes.store.now r.closer × (r.closer.context ≡ item.node)) }
+        ensures calls { IfOk result (λ r. (path : List ℕ) × IsPathOf self.now.nodes.store.now.tree item.node path
+            × (r.befores.items ≡ calls_before (S.registered self.now.nodes.suite.now) false item.node path) × (r.afters.items ≡ calls_after (S.registered self.now.nodes.suite.now) false item.node path)) }
+        ensures few_calls { IfOk result (λ r. (vec_len r.befores ≤ 16777216) × (vec_len r.afters ≤ 16777216)) }
+        ensures beside { IfOk result (λ r. map (λ i. i.node) r.beside.items ≡ filter (S.nodes self.now.nodes.suite.now).is_concurrent (children_of self.now.nodes.store.now.tree item.node)) }
+        ensures in_turn { IfOk result (λ r. map (λ i. i.node) r.in_turn.items ≡ filter (λ c. not ((S.nodes self.now.nodes.suite.now).is_concurrent c)) (children_of self.now.nodes.store.now.tree item.node)) }
+        ensures below { IfOk result (λ r. All (IsNode self.now.nodes.store.now (depth - 1)) r.beside.items × All (IsNode self.now.nodes.store.now (depth - 1)) r.in_turn.items) }
+        ensures few { IfOk result (λ r. vec_len r.beside ≤ 256) }
+        ensures deep { IfOk result (λ _. 1 ≤ depth) }
+        ensures fault { IfErr result (λ why. why ≡ engine_fault.Memory) }
+    {
+        let Item { node, mut closers } = item;
+        let closer = take_own(self.nodes.store, node, &mut closers);
+        let path = self.nodes.store.tree().path(node);
+        let befores = befores_of(alloc, self.nodes.suite, false, node, path.as_slice())?;
+        let afters = afters_of(alloc, self.nodes.suite, false, node, path.as_slice())?;
+        let (beside, in_turn) = items_of_children(
+            alloc,
+            self.nodes.suite,
+            self.nodes.store,
+            node,
+            closers,
+        )?;
+        Ok(Container {
+            closer,
+            befores,
+            afters,
+            beside,
+            in_turn,
+        })
+    }
+
     /// A container: its before-callbacks, its children where these were all successful, its after-callbacks, and its close.
     #[cycle(tree)]
     fn run_container(
@@ -144,19 +181,15 @@ impl<
             (record { first = lanes.old; second = lock_lanes.old }) (map ran_view ran.items) (record { first = lanes.new; second = lock_lanes.new })) }
         ensures fault { IfErr result (IsFault (setting_of self.now.nodes.store.now self.now.nodes.locks.now (S.nodes self.now.nodes.suite.now) (S.registered self.now.nodes.suite.now) V.is_closeable) (S.action_gives self.now.nodes.suite.now) S.Action.close_gives) }
     {
-        let Item { node, mut closers } = item;
-        let closer = take_own(self.nodes.store, node, &mut closers);
-        let path = self.nodes.store.tree().path(node);
-        let befores = befores_of(alloc, self.nodes.suite, false, node, path.as_slice())?;
-        let afters = afters_of(alloc, self.nodes.suite, false, node, path.as_slice())?;
-        let (beside, in_turn) = items_of_children(
-            alloc,
-            self.nodes.suite,
-            self.nodes.store,
-            node,
-            closers,
-        )?;
+        let node = item.node;
         let mut ran = Vec::with_capacity(alloc, 1)?;
+        let Container {
+            closer,
+            befores,
+            afters,
+            beside,
+            in_turn,
+        } = self.container(alloc, depth, item)?;
         let mut tally = call_befores(
             self.nodes.rt,
             self.nodes.suite,

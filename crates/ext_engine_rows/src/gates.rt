@@ -3,7 +3,7 @@ use ext_crew::Gate;
 use std::sync::atomic::{AtomicU64, Ordering};
 
 /// How often a thread looks for a sign, by one atomic load each.
-const TURNS: u64 = 100_000_000;
+const TURNS: u64 = 10_000_000_000;
 
 /// Whether the counter came to be as great before the turns were used up.
 pub(crate) fn reaches(counter: &AtomicU64, least: u64) -> bool {

@@ -3,7 +3,7 @@ use ext_crew::Gate;
 use std::sync::atomic::{AtomicU64, Ordering};
 
 /// How often a held job looks for the other ones, by one atomic load each.
-const TURNS: u64 = 100_000_000;
+const TURNS: u64 = 10_000_000_000;
 
 /// Waits until the counter is as great, or until the turns are used up, which is counted.
 fn wait_for(counter: &AtomicU64, least: u64, given_up: &AtomicU64) {

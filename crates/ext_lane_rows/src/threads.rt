@@ -2,7 +2,7 @@
 //! contended, but where a test waits for that.
 ghost use Rattle.std.specs.Prelude.{◌≡◌, ◌<◌};
 
-use crate::hand::{end_claim, peek, put};
+use crate::hand::{ask, end_claim, peek, put};
 use crate::same::same;
 use ext_cells::{CellLane, CellRefusal, CellState, Cells, Claimed, parts};
 use std::alloc::Global;
@@ -187,8 +187,9 @@ fn two_threads_fill_and_put(rt: HostRuntime) {
     same(&rt, (state, version), (CellState::Present, 15), "the other");
 }
 
-/// Waits until another lane has sealed cell 2, and then puts numbers in cell 0 without pause until one has sealed cell 3.
-fn put_without_pause(cells: &Cells, mut lane: CellLane) -> u32
+/// Waits until another lane has sealed cell 2, and then claims cell 0 and gives it up without pause until one has sealed cell 3.
+/// Says how often it did.
+fn claim_without_pause(cells: &Cells, mut lane: CellLane) -> u64
     requires lane { lane.cells ≡ cells.now.id }
     requires cells { 3 < cells.now.id.limits.cells }
 {
@@ -198,8 +199,8 @@ fn put_without_pause(cells: &Cells, mut lane: CellLane) -> u32
         }
     }
     let mut done = 0;
-    for _ in 0..65_535u32 {
-        if let Ok((_, Ok(_))) = put(cells, &mut lane, 0) {
+    for _ in 0..100_000_000u64 {
+        if ask(cells, &mut lane, 0) == Ok(None) {
             done += 1;
         }
         if peek(cells, &mut lane, 3) != 0 {
@@ -240,21 +241,21 @@ fn collect_until_contended(cells: &Cells, mut lane: CellLane) -> bool
     contended
 }
 
-fn collect_while_another_puts<R: Threads + Wait + Sync>(
+fn collect_while_another_claims<R: Threads + Wait + Sync>(
     rt: &R,
     cells: &Cells,
     first: CellLane,
     second: CellLane,
-) -> (u32, bool)
+) -> (u64, bool)
     requires first { first.cells ≡ cells.now.id }
     requires second { second.cells ≡ cells.now.id }
     requires cells { 3 < cells.now.id.limits.cells }
 {
     join(
         rt,
-        move || -> u32
+        move || -> u64
             requires { (first.cells ≡ cells.now.id) × (3 < cells.now.id.limits.cells) }
-        { put_without_pause(cells, first) },
+        { claim_without_pause(cells, first) },
         move || -> bool
             requires { (second.cells ≡ cells.now.id) × (3 < cells.now.id.limits.cells) }
         { collect_until_contended(cells, second) },
@@ -264,10 +265,10 @@ fn collect_while_another_puts<R: Threads + Wait + Sync>(
 // Lane 1 is mid-way in a collect nearly always, so an event of lane 0 between its two passes comes soon.
 #[test]
 fn collects_are_contended(rt: HostRuntime) {
-    let (cells, first, second, mut third) = open(&rt, rt.alloc(), 1, 65_535);
-    let (puts, contended) = collect_while_another_puts(&rt, &cells, first, second);
+    let (cells, first, second, mut third) = open(&rt, rt.alloc(), 1, 1);
+    let (claims, contended) = collect_while_another_claims(&rt, &cells, first, second);
     same(&rt, contended, true, "a collect is contended");
     let (state, _, version) = parts(peek(&cells, &mut third, 0));
-    let wanted = (CellState::Present, u64::from(puts));
+    let wanted = (CellState::Empty, claims.wrapping_mul(2));
     same(&rt, (state, version), wanted, "the cell");
 }

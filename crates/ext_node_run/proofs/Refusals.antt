@@ -1,8 +1,6 @@
 -- Closes that are refused and asked again.
-use Rattle.std.proofs.Common.{◌≡◌, ◌-◌, ℕ, suc, Bool, List, [], ◌∷◌, length, map, ap, ◌∙◌, sym, refl, subst, arith, cond}
-use Rattle.std.specs.Prelude.{Some, Result, Ok, Err, is_some, slice_get}
-use Rattle.std.proofs.lemmas.List.{length-map}
-use Rattle.std.proofs.lemmas.List.Sums.{sum_by-cons}
+use Rattle.std.proofs.Common.{◌≡◌, ℕ, Bool, List, [], ◌∷◌, length, ap, ◌∙◌, refl, subst}
+use Rattle.std.specs.Prelude.{Result, Err}
 use Rattle.ext_store.specs.Stores.{StoreView, StoreLane, CloserView}
 use Rattle.ext_lifecycle.specs.declared.closes.Closes as report
 use Rattle.ext_closing.specs.declared.fault.CloseFault.{CloseFault}

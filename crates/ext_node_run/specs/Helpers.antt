@@ -1,5 +1,5 @@
 -- What the contracts of private functions cite, and nothing else: no public clause needs it.
-use Rattle.std.specs.Prelude.{◌≡◌, ◌⊎◌, ℕ, List, [], map, Contains, Result, Ok, Err, Vec}
+use Rattle.std.specs.Prelude.{◌≡◌, ◌⊎◌, List, [], map, Contains, Result, Ok, Err, Vec}
 use Rattle.std.specs.declared.alloc.Global.{Global}
 use Rattle.ext_lifecycle.specs.Results.{told}
 use Rattle.ext_node_run.specs.declared.fault.EngineFault.{EngineFault}

@@ -1,11 +1,15 @@
 //! How one node is run.
-ghost use Rattle.std.specs.Prelude.{◌≡◌, ◌≤◌, ℕ, List, Option, length, map, All, IfOk, IfErr, true};
+ghost use Rattle.std.specs.Prelude.{◌≡◌, ◌+◌, ◌≤◌, ℕ, List, Option, length, map, All, IfOk, IfErr, true, vec_len};
 ghost use Rattle.ext_model.specs.declared.look.Fault.{Fault};
 ghost use Rattle.ext_tree.specs.Paths.{IsPathOf};
+ghost use Rattle.ext_lifecycle.specs.Callbacks.{befores_of as calls_before, afters_of as calls_after};
 ghost use Rattle.ext_lifecycle.specs.Results.{closes_of};
+ghost use Rattle.ext_locks.specs.Sets.{AllBelow};
 ghost use Rattle.ext_store.specs.Stores.{IsCloserOf, IsLaneOf};
 ghost use Rattle.ext_node_run.specs.Closers.{IsNode};
+ghost use Rattle.ext_node_run.specs.declared.fault.EngineFault.TheVariants as engine_fault;
 ghost use Rattle.ext_node_run.specs.Helpers.{ran_view};
+ghost use Rattle.ext_node_run.specs.Suites.{IsSetOf, locks_on};
 ghost use Rattle.ext_node_run.specs.NodeRun.{setting_of, ClosesNode, IsUnjoined, IsUsable, IsFit, IsFault, TestRun};
 
 use crate::closing::close_again;
@@ -13,7 +17,7 @@ use crate::locking::{give_locks, take_locks, test_set};
 use crate::node_calls::call_test;
 use crate::{EngineFault, Item, RanNode, Suite, take_own};
 use ext_lifecycle::{Call, Closes, Kind, afters_of, befores_of};
-use ext_locks::{LockLane, Locks};
+use ext_locks::{LockLane, LockSet, Locks};
 use ext_model::ContextNo;
 use ext_store::{Closer, Lane, Store, StoreValue};
 use std::alloc::Global;
@@ -30,6 +34,15 @@ pub struct NodeRunner<'a, R, V: StoreValue + Drop, S: Suite<V>> {
     pub store: &'a Store<V>,
     /// The locks that tests take.
     pub locks: &'a Locks,
+}
+
+/// What a test is run with: the closer of its context, its callbacks in the order in which they are called, and its locks.
+#[derive(Drop)]
+struct TestParts {
+    closer: Closer,
+    befores: Vec<Call>,
+    afters: Vec<Call>,
+    set: LockSet,
 }
 
 impl<'a, R: Wait, V: StoreValue + Drop, S: Suite<V>> NodeRunner<'a, R, V, S> {
@@ -66,13 +79,14 @@ impl<'a, R: Wait, V: StoreValue + Drop, S: Suite<V>> NodeRunner<'a, R, V, S> {
             (record { first = lanes.old; second = lock_lanes.old }) (map ran_view ran.items) (record { first = lanes.new; second = lock_lanes.new })) }
         ensures fault { IfErr result (IsFault (setting_of self.now.store.now self.now.locks.now (S.nodes self.now.suite.now) (S.registered self.now.suite.now) V.is_closeable) (S.action_gives self.now.suite.now) S.Action.close_gives) }
     {
-        let Item { node, mut closers } = item;
-        let closer = take_own(self.store, node, &mut closers);
-        let path = self.store.tree().path(node);
-        let befores = befores_of(alloc, self.suite, true, node, path.as_slice())?;
-        let afters = afters_of(alloc, self.suite, true, node, path.as_slice())?;
-        let set = test_set(alloc, self.suite, self.locks, path.as_slice())?;
+        let node = item.node;
         let mut ran = Vec::with_capacity(alloc, 1)?;
+        let TestParts {
+            closer,
+            befores,
+            afters,
+            set,
+        } = self.test_parts(alloc, depth, item)?;
         let body = Call {
             kind: Kind::Test,
             from: node,
@@ -102,6 +116,32 @@ impl<'a, R: Wait, V: StoreValue + Drop, S: Suite<V>> NodeRunner<'a, R, V, S> {
             }
             Err(number) => Err(EngineFault::Unjoined(node, number)),
         }
+    }
+
+    /// What the test is run with: its closer, its callbacks and its locks. Takes memory for them.
+    fn test_parts(&self, alloc: Global, depth: usize, item: Item) -> Result<TestParts, EngineFault>
+        requires item { IsNode self.now.store.now depth item }
+        requires fit { IsFit self.now.store.now self.now.locks.now (S.nodes self.now.suite.now) }
+        ensures closer { IfOk result (λ r. IsCloserOf self.now.store.now r.closer × (r.closer.context ≡ item.node)) }
+        ensures calls { IfOk result (λ r. (path : List ℕ) × IsPathOf self.now.store.now.tree item.node path
+            × (r.befores.items ≡ calls_before (S.registered self.now.suite.now) true item.node path) × (r.afters.items ≡ calls_after (S.registered self.now.suite.now) true item.node path)
+            × IsSetOf self.now.locks.now.names (locks_on (S.nodes self.now.suite.now) path) r.set) }
+        ensures few { IfOk result (λ r. (vec_len r.befores ≤ 16777216) × (vec_len r.afters ≤ 16777216)) }
+        ensures within { IfOk result (λ r. AllBelow (length self.now.locks.now.names + 1) r.set) }
+        ensures fault { IfErr result (λ why. why ≡ engine_fault.Memory) }
+    {
+        let Item { node, mut closers } = item;
+        let closer = take_own(self.store, node, &mut closers);
+        let path = self.store.tree().path(node);
+        let befores = befores_of(alloc, self.suite, true, node, path.as_slice())?;
+        let afters = afters_of(alloc, self.suite, true, node, path.as_slice())?;
+        let set = test_set(alloc, self.suite, self.locks, path.as_slice())?;
+        Ok(TestParts {
+            closer,
+            befores,
+            afters,
+            set,
+        })
     }
 
     /// Closes the context of a node with the lanes in hand, by an action of the suite, and asks again where a lane computes a value for it or others are in

@@ -17,7 +17,7 @@ use std::thread::{Threads, join, yield_now};
 const RACES: u64 = 40;
 
 /// How often a lane looks for the other one, by one atomic load each.
-const TURNS: u64 = 100_000_000;
+const TURNS: u64 = 10_000_000_000;
 
 /// The stream of the races' numbers, apart from those of all lanes.
 const STREAM: usize = 17;

@@ -14,7 +14,7 @@ ghost use Rattle.ext_store.specs.Calls.{Gets, KeepsAs, KeepsNothing, Puts, Remov
 ghost use Rattle.ext_store.specs.Looking.{IsTrail, Looks};
 
 use crate::found::found_at;
-use crate::opening::{closers_of, lanes_of};
+use crate::opening::parts_of;
 use crate::{Closer, KeepFault, Kept, Lane, Limits, Refusal, StoreFault, StoreValue};
 use ext_cells::{CellLane, CellRefusal, Cells, are_limits};
 use ext_model::{CellNo, ContextNo, KeyNo, Look};
@@ -227,22 +227,7 @@ impl<V: StoreValue + Drop> Store<V> {
         if !are_limits(count, limits.lanes, limits.tries, limits.numbers) {
             return Err(StoreFault::TooManyCells);
         }
-        let Ok((cells, cell_lanes)) = Cells::open(
-            alloc,
-            count,
-            limits.lanes,
-            limits.tries,
-            limits.numbers,
-        ) else {
-            return Err(StoreFault::Memory);
-        };
-        let Ok(values) = Values::new(alloc, limits.numbers) else {
-            return Err(StoreFault::Memory);
-        };
-        let Ok(lanes) = lanes_of(alloc, &values, cell_lanes) else {
-            return Err(StoreFault::Memory);
-        };
-        let Ok(closers) = closers_of(alloc, &cells, tree.len()) else {
+        let Ok((cells, values, lanes, closers)) = parts_of(alloc, count, tree.len(), limits) else {
             return Err(StoreFault::Memory);
         };
         let store = Store {

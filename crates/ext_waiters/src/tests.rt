@@ -7,7 +7,7 @@ use std::thread::join;
 // How often one lane waits for another one, and how often a thread looks for another one at most.
 const ROUNDS: u64 = 20_000;
 
-const TURNS: u32 = 100_000_000;
+const TURNS: u64 = 10_000_000_000;
 
 // Whether the word came to be this number in time.
 fn reaches(word: &AtomicU64, number: u64) -> bool {

@@ -135,8 +135,8 @@ TreeRunner::run_node-returns-else-is_test-clause-run g t c =
     let Below : Vec RanNode Global → Type 0 = λ v. TreeRun ts makes actions gives c.args.depth c.args.item.node s (map ran_view v.items) z in
     IfOk-weaker c.run_container.result Node Below (λ v run. tree-of-container ts makes actions gives c.args.depth c.args.item.node s (map ran_view v.items) z deep (search rules) run) c.run_container.ensures.run
 
-pub TreeRunner::run_container-returns-in-Ok-clause-run : goal.TreeRunner::run_container-returns-in-Ok-clause-run
-TreeRunner::run_container-returns-in-Ok-clause-run g t c =
+pub TreeRunner::run_container-returns-in_ok-append-in-Ok-clause-run : goal.TreeRunner::run_container-returns-in_ok-append-in-Ok-clause-run
+TreeRunner::run_container-returns-in_ok-append-in-Ok-clause-run g t c =
     let r = c.args.self.now.nodes in
     let st = r.store.now in
     let registered = g.S.Callbacks.registered r.suite.now in
@@ -145,10 +145,10 @@ TreeRunner::run_container-returns-in-Ok-clause-run g t c =
     let actions = g.S.Suite.action_gives r.suite.now in
     let closing = g.S.Action.CloseAction.close_gives in
     let node = c.args.item.node in
-    let path = c.path-path.result.now in
-    let path_is = subst (λ u. IsPathOf u node path) c.tree.ensures c.path-path.ensures.path in
-    let bs = c.as_slice-3.ensures.value ∙ (c.in_ok-befores.ensures.calls ∙ ap (befores_of registered false node) c.as_slice.ensures.contexts) in
-    let as_ = c.as_slice-4.ensures.value ∙ (c.in_ok-afters.ensures.calls ∙ ap (afters_of registered false node) c.as_slice-2.ensures.contexts) in
+    let calls = c.in_ok-closer.ensures.calls in
+    let path = calls.0 in
+    let bs = c.as_slice.ensures.value ∙ calls.2 in
+    let as_ = c.as_slice-2.ensures.value ∙ calls.3 in
     let makes : StoreLane g.row.V.Denot → Call → Outcome → StoreLane g.row.V.Denot → Type 0 = λ a call o b. gives node call None a o b in
     let b = c.call_befores-tally.ensures.calls in
     let a = c.call_afters.ensures.calls b.0 b.2 in
@@ -158,7 +158,7 @@ TreeRunner::run_container-returns-in-Ok-clause-run g t c =
     let body : Lanes g.row.V.Denot = record { first = c.run_body.new.lanes; second = c.run_body.new.lock_lanes } in
     let below = map ran_view c.in_ok-below.below.items in (
       path,
-      path_is,
+      calls.1,
       record {
         befores = b.0;
         opened = opened;

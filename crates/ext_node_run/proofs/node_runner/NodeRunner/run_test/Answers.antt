@@ -1,11 +1,9 @@
-use Rattle.std.proofs.Common.{rules, ◌<◌, [], ◌∙◌, length, refl, arith, ap, subst, true}
+use Rattle.std.proofs.Common.{rules, ◌<◌, [], ◌∙◌, length, refl, arith, true}
 use Rattle.std.specs.Prelude.{Some, slice_set}
-use Rattle.ext_tree.specs.Paths.{IsPathOf}
 use Rattle.ext_store.specs.Stores.{StoreLane}
 use Rattle.ext_lifecycle.specs.declared.call.Call.{Call}
 use Rattle.ext_lifecycle.specs.declared.outcome.Outcome.{Outcome}
 use Rattle.ext_lifecycle.specs.Callbacks.{befores_of, afters_of, test_call}
-use Rattle.ext_node_run.specs.Suites.{IsSetOf, locks_on}
 use Rattle.ext_node_run.specs.NodeRun.{TakesSet, GivesBack}
 use Rattle.ext_node_run.proofs.Firsts.{on-first, calls-on, ran-first}
 use Rattle.ext_node_run.proofs.node_runner.NodeRunner.run_test.Goals as goal
@@ -16,21 +14,21 @@ returns-in-Ok-clause-run g c =
     let st = r.store.now in let lk = r.locks.now in let su = g.S.Suite.nodes r.suite.now in
     let registered = g.S.Callbacks.registered r.suite.now in
     let node = c.args.item.node in
-    let path = c.path-path.result.now in
-    let path_is = subst (λ t. IsPathOf t node path) c.tree.ensures c.path-path.ensures.path in
-    let bs = c.as_slice-4.ensures.value ∙ (c.in_ok-befores.ensures.calls ∙ ap (befores_of registered true node) c.as_slice.ensures.contexts) in
-    let as_ = c.as_slice-5.ensures.value ∙ (c.in_ok-afters.ensures.calls ∙ ap (afters_of registered true node) c.as_slice-2.ensures.contexts) in
+    let parts = c.in_ok-closer.ensures.calls in
+    let path = parts.0 in
+    let bs = c.as_slice.ensures.value ∙ parts.2 in
+    let as_ = c.as_slice-2.ensures.value ∙ parts.3 in
     let m = c.call_test-tally.ensures.calls in
     let closed = c.in-Ok.ensures.closes in
     let held = c.take_locks-held.result in
-    let set = c.in_ok-set.set in
+    let set = c.in_ok-closer.field-0.set in
     let some_locks : 0 < length c.args.lock_lanes.now = omega (arith, c.requires.lanes.some, c.requires.lanes.same) in
     let makes : StoreLane g.row.V.Denot → Call → Outcome → StoreLane g.row.V.Denot → Type 0 = λ a call o b. g.S.Suite.call_gives r.suite.now st node call (Some held) a o b in (
       path,
-      path_is,
+      parts.1,
       record {
         set = set;
-        set_is = subst (λ p. IsSetOf lk.names (locks_on su p) set) c.as_slice-3.ensures.contexts c.in_ok-set.ensures.set;
+        set_is = parts.4;
         held = held;
         locked = slice_set c.args.lock_lanes.now 0 c.take_locks-held.new.lane;
         takes = on-first (λ a b. TakesSet lk set a held b) c.args.lock_lanes.now _ _ some_locks c.take_locks-held.ensures.takes;

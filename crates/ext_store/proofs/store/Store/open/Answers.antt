@@ -1,9 +1,10 @@
+use Rattle.std.proofs.Common.{refl}
 use Rattle.ext_store.proofs.Fresh.{lanes_own, closers_own}
 use Rattle.ext_store.proofs.store.Store.open.Goals as goal
 
 pub returns-clause-own_lanes : goal.returns-clause-own_lanes
-returns-clause-own_lanes g c = lanes_own (record { cells = c.in-Ok.cells.id; places = c.in-Ok-new.values }) c.in-Ok-lanes_of.lanes.items c.in-Ok.cell_lanes.items c.args.limits.lanes c.in-Ok-lanes_of.ensures c.in-Ok.ensures.lanes
+returns-clause-own_lanes g c = lanes_own (record { cells = c.in-Ok.cells.id; places = c.in-Ok.values }) c.in-Ok.lanes.items _ c.args.limits.lanes c.in-Ok.ensures.lanes refl
 
 pub returns-clause-own_closers : goal.returns-clause-own_closers
 returns-clause-own_closers g c =
-    closers_own (record { id = record { cells = c.in-Ok.cells.id; places = c.in-Ok-new.values }; tree = c.args.tree; keys = c.args.directory; tries = c.in-Ok.cells.tries }) c.in-Ok-closers_of.closers.items _ c.len-3.ensures.count c.in-Ok-closers_of.ensures
+    closers_own (record { id = record { cells = c.in-Ok.cells.id; places = c.in-Ok.values }; tree = c.args.tree; keys = c.args.directory; tries = c.in-Ok.cells.tries }) c.in-Ok.closers.items _ c.len-3.ensures.count c.in-Ok.ensures.closers

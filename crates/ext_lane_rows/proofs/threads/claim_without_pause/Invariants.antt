@@ -1,5 +1,5 @@
 use Rattle.std.proofs.Common.{◌≡◌, ◌≤◌}
-use Rattle.ext_lane_rows.proofs.threads.put_without_pause.Given as goal
+use Rattle.ext_lane_rows.proofs.threads.claim_without_pause.Given as goal
 
 abbrev pub invariant-loop : goal.invariant-loop
 invariant-loop l = l.lane.cells ≡ l.cells.id
