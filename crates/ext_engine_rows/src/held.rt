@@ -260,11 +260,9 @@ fn run_and_try<R: Threads + Wait + Sync + Abort>(
 fn test_locks_are_held_until_its_context_is_closed(rt: HostRuntime) {
     let alloc = rt.alloc();
     let contexts = &["[engine:x]", "[engine:x]/[method:m()]"];
-    let opened = open(alloc, contexts, &["db"], 2);
-    let (Some(opened), Some(key)) = (opened, server_key(alloc)) else {
-        panic!(rt; "no memory")
-    };
     let signs = Signs::new();
+    let key = server_key(alloc).expect(&rt, "a key");
+    let opened = open(alloc, contexts, &["db"], 2).expect(&rt, "a store");
     let (text, refused) = run_and_try(&rt, alloc, &key, opened, &signs);
     assert_eq!(rt; refused, Some(LockRefusal::Taken(1)), "the other lane");
     let wanted =

@@ -204,9 +204,8 @@ fn run_both<R: Threads + Wait + Sync + Abort, G: Gate + Sync>(
     servers: &Servers,
     gate: &G,
 ) -> String {
-    let (Some(opened), Some(key)) = (open(alloc, &CONTEXTS, &[], 2), server_key(alloc)) else {
-        panic!(rt; "no memory")
-    };
+    let key = server_key(alloc).expect(rt, "a key");
+    let opened = open(alloc, &CONTEXTS, &[], 2).expect(rt, "a store");
     let Opened {
         store,
         mut lanes,

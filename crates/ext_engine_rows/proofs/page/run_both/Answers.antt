@@ -7,6 +7,6 @@ use Rattle.ext_engine_rows.proofs.page.run_both.Goals as goal
 
 pub run_tree-requires-clause-fit : goal.run_tree-requires-clause-fit
 run_tree-requires-clause-fit g c κs inside =
-    let locks = c.in-Some-Some.opened.locks in
+    let locks = c.expect-opened.result.locks in
     let P : Asked → Type 0 = λ a. IsNamedLock locks.names a.name in
-    leaves_fit c.in-Some-Some.opened.store locks c.tree-2.result.now [] c.tree-2.ensures (All-nil P)
+    leaves_fit c.expect-opened.result.store locks c.tree-2.result.now [] c.tree-2.ensures (All-nil P)
