@@ -21,26 +21,6 @@ fn told(alloc: Global, text: &str) -> Result<String, AllocError> {
     Ok(told)
 }
 
-/// 16 segments, and what is told of them.
-const DEEPEST: (&str, &str) = (
-    "[a:b]/[a:b]/[a:b]/[a:b]/[a:b]/[a:b]/[a:b]/[a:b]/[a:b]/[a:b]/[a:b]/[a:b]/[a:b]/[a:b]/[a:b]/[a:b]",
-    "16 a = b, a = b, a = b, a = b, a = b, a = b, a = b, a = b, a = b, a = b, a = b, a = b, a = b, a = b, a = b, a = b, [a:b]/[a:b]/[a:b]/[a:b]/[a:b]/[a:b]/[a:b]/[a:b]/[a:b]/[a:b]/[a:b]/[a:b]/[a:b]/[a:b]/[a:b]/[a:b]",
-);
-
-/// 17 segments, and what is told of them.
-const TOO_DEEP: (&str, &str) = (
-    "[a:b]/[a:b]/[a:b]/[a:b]/[a:b]/[a:b]/[a:b]/[a:b]/[a:b]/[a:b]/[a:b]/[a:b]/[a:b]/[a:b]/[a:b]/[a:b]/[a:b]",
-    "id: I8",
-);
-
-#[test]
-fn ids_have_16_segments_at_most(rt: HostRuntime) -> Result<(), Fail> {
-    for (text, wanted) in [DEEPEST, TOO_DEEP] {
-        same(&rt, told(rt.alloc(), text)?.as_str(), wanted, text);
-    }
-    Ok(())
-}
-
 /// Texts, with what is told of each.
 const TEXTS: [(&str, &str); 10] = [
     (

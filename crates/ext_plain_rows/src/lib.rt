@@ -5,6 +5,8 @@
 #[cfg(test)]
 mod callbacks;
 #[cfg(test)]
+mod faults;
+#[cfg(test)]
 mod guide;
 #[cfg(test)]
 mod ids;
@@ -14,8 +16,6 @@ mod keys;
 mod plain_store;
 #[cfg(test)]
 mod plans;
-#[cfg(test)]
-mod refusals;
 #[cfg(test)]
 mod reports;
 #[cfg(test)]

@@ -7,11 +7,11 @@ use std::alloc::{AllocError, Global};
 use std::test::Fail;
 
 /// A chain of three contexts, whose method puts a value and wants it.
-pub(crate) const CHAIN: &str =
+const CHAIN: &str =
     "[[key]]\nlabel = \"a\"\n\n[[node]]\nid = \"[engine:x]\"\n\n[[node]]\nid = \"[engine:x]/[class:A]\"\n\n[[node]]\nid = \"[engine:x]/[class:A]/[method:m()]\"\ntest = [\"put a x\", \"want a x\"]\n";
 
 /// A plan with the labels `a` and `up`, whose third node, three contexts deep, is a test with these steps.
-pub(crate) fn plan_with(alloc: Global, steps: &str) -> Result<String, AllocError> {
+fn plan_with(alloc: Global, steps: &str) -> Result<String, AllocError> {
     format!(in alloc;
         "[[key]]\nlabel = \"a\"\n[[key]]\nlabel = \"up\"\n[[node]]\nid = \"[a:b]\"\n[[node]]\nid = \"[a:b]/[c:d]\"\n[[node]]\nid = \"[a:b]/[c:d]/[e:f]\"\ntest = [{steps}]"
     )
@@ -31,7 +31,7 @@ fn write_node(alloc: Global, node: &PlanNode, lines: &mut String) -> Result<(), 
 }
 
 /// A plan in lines: each key, and then each node; or the line of its fault.
-pub(crate) fn told(alloc: Global, text: &str) -> Result<String, AllocError> {
+fn told(alloc: Global, text: &str) -> Result<String, AllocError> {
     let plan = match read_plan(alloc, text) {
         Ok(plan) => plan,
         Err(fault) => return fault.to_string(alloc),
@@ -109,30 +109,6 @@ fn reads_each_step(rt: HostRuntime) -> Result<(), Fail> {
         let steps = steps_read(rt.alloc(), texts)?;
         same(&rt, steps.as_str(), wanted, texts);
     }
-    Ok(())
-}
-
-/// A test 16 contexts deep, which is the last node, with this step.
-fn deep_test(alloc: Global, step: &str) -> Result<String, AllocError> {
-    let mut text = String::from_str(alloc, "[[key]]\nlabel = \"a\"\n")?;
-    let mut id = String::from_str(alloc, "[a:b]")?;
-    for _ in 0..16 {
-        text.push_str(format!(in alloc; "[[node]]\nid = \"{id}\"\n")?.as_str())?;
-        id.push_str("/[a:b]")?;
-    }
-    text.push_str(format!(in alloc; "test = [\"{step}\"]")?.as_str())?;
-    Ok(text)
-}
-
-#[test]
-fn goes_up_to_the_root_and_no_further(rt: HostRuntime) -> Result<(), Fail> {
-    let deep = deep_test(rt.alloc(), "none a up 15")?;
-    let read = told(rt.alloc(), deep.as_str())?;
-    let last = read.lines().last();
-    same(&rt, last, Some("None { key: 0, up: 15 }"), "the last step");
-    let root = "[[key]]\nlabel = \"a\"\n[[node]]\nid = \"[a:b]\"\ntest = [\"none a up 1\"]";
-    let refused = told(rt.alloc(), root)?;
-    same(&rt, refused.as_str(), "plan: P8 node 0", root);
     Ok(())
 }
 

@@ -1,10 +1,6 @@
-//! Tests that cross crates: worked rows from the bytes of a plan to those of its report, and hostile devices.
+//! Tests that cross crates: runs from the bytes of a plan to those of its report, hostile devices, the calls of a node, and the listener.
 #![tactic(auto)]
 
-#[cfg(test)]
-mod callbacks;
-#[cfg(test)]
-mod deep;
 #[cfg(test)]
 mod devices;
 #[cfg(test)]
@@ -16,6 +12,6 @@ mod listener;
 #[cfg(test)]
 mod locks;
 #[cfg(test)]
-mod rows;
+mod reading;
 #[cfg(test)]
-mod trees;
+mod rows;

@@ -1,4 +1,5 @@
 //! The calls of a node, written down by a caller that does nothing else.
+use crate::rows::same;
 use ext_lifecycle::{
     Call, Callbacks, Caller, Closes, Kind, NodeResult, Outcome, Status, Verdict, afters_of,
     befores_of, run_befores, run_calls,
@@ -93,15 +94,19 @@ fn before_fault_skips_the_test(rt: HostRuntime) -> Result<(), Fail> {
     let mut script = Script::new(false);
     let tally = run_calls(befores.as_slice(), TEST, afters.as_slice(), &mut script);
     // The root's callbacks come first: its second one fails, and all six after-callbacks follow, the last one first.
-    assert_eq!(rt; script.count, 8);
-    assert!(rt; script.made(0, Kind::BeforeEach, 0, 0) && script.made(1, Kind::BeforeEach, 0, 1));
-    assert!(rt; script.made(2, Kind::AfterEach, 1, 2) && script.made(4, Kind::AfterEach, 1, 0));
-    assert!(rt; script.made(5, Kind::AfterEach, 0, 2) && script.made(7, Kind::AfterEach, 0, 0));
-    assert_eq!(rt; tally.status, Status::Failed);
-    assert_eq!(rt; tally.fault, Some(Fault::Memory));
-    assert_eq!(rt; tally.more, 2);
-    assert_eq!(rt; tally.computed, 16);
-    assert_eq!(rt; tally.found, 8);
+    same(&rt, script.count, 8, "the calls");
+    let before = script.made(0, Kind::BeforeEach, 0, 0) && script.made(1, Kind::BeforeEach, 0, 1);
+    let of_class = script.made(2, Kind::AfterEach, 1, 2) && script.made(4, Kind::AfterEach, 1, 0);
+    let of_root = script.made(5, Kind::AfterEach, 0, 2) && script.made(7, Kind::AfterEach, 0, 0);
+    same(&rt, [before, of_class, of_root], [true; 3], "their order");
+    same(&rt, tally.status, Status::Failed, "the status");
+    same(
+        &rt,
+        [tally.more, tally.computed, tally.found],
+        [2, 16, 8],
+        "the counts",
+    );
+    same(&rt, tally.fault, Some(Fault::Memory), "the fault");
     Ok(())
 }
 
@@ -117,14 +122,15 @@ fn test_runs_between_its_callbacks(rt: HostRuntime) -> Result<(), Fail> {
     }];
     let mut script = Script::new(false);
     let tally = run_calls(&befores, TEST, &afters, &mut script);
-    assert_eq!(rt; script.count, 3);
-    assert!(rt;
-        script.made(0, Kind::BeforeEach, 2, 0)
-            && script.made(1, Kind::Test, 2, 0)
-            && script.made(2, Kind::AfterEach, 2, 0)
-    );
-    assert!(rt; tally.is_successful());
-    assert_eq!(rt; tally.more, 0);
+    same(&rt, script.count, 3, "the calls");
+    let order = [
+        script.made(0, Kind::BeforeEach, 2, 0),
+        script.made(1, Kind::Test, 2, 0),
+        script.made(2, Kind::AfterEach, 2, 0),
+    ];
+    same(&rt, order, [true; 3], "their order");
+    same(&rt, tally.is_successful(), true, "the tally");
+    same(&rt, tally.more, 0, "further faults");
     Ok(())
 }
 
@@ -133,25 +139,28 @@ fn close_fault_is_told_before_an_abort(rt: HostRuntime) -> Result<(), Fail> {
     let befores = befores_of(rt.alloc(), &Thrice {}, false, 1, &PATH[1..])?;
     let mut script = Script::new(true);
     let tally = run_befores(befores.as_slice(), &mut script);
-    assert_eq!(rt; script.count, 2);
-    assert!(rt; script.made(1, Kind::BeforeAll, 1, 1));
-    assert_eq!(rt; tally.status, Status::Aborted);
+    same(&rt, script.count, 2, "the calls");
+    same(
+        &rt,
+        script.made(1, Kind::BeforeAll, 1, 1),
+        true,
+        "the second",
+    );
+    same(&rt, tally.status, Status::Aborted, "the status");
     let mut closes = Closes::new();
     closes.add(None);
     closes.add(Some(Fault::Memory));
-    assert_eq!(rt;
-        tally.result(1, false, closes),
-        NodeResult {
-            node: 1,
-            is_test: false,
-            status: Status::Failed,
-            fault: Some(Fault::Memory),
-            more: 1,
-            computed: 4,
-            found: 2,
-            closed: 2,
-            close_faults: 1,
-        }
-    );
+    let wanted = NodeResult {
+        node: 1,
+        is_test: false,
+        status: Status::Failed,
+        fault: Some(Fault::Memory),
+        more: 1,
+        computed: 4,
+        found: 2,
+        closed: 2,
+        close_faults: 1,
+    };
+    same(&rt, tally.result(1, false, closes), wanted, "the result");
     Ok(())
 }

@@ -1,7 +1,8 @@
-//! Worked rows: a plan's bytes, and those of the report that follow from them.
+//! A plan that is run, plans that are refused, and what other tests of whole runs need. Further worked rows are files: examples/rows has the plans with
+//! their reports, which the program is run on (scripts/worked-rows).
 ghost use Rattle.std.specs.Prelude.{◌≡◌, ◌≤◌, false};
 
-use ext_run::{Options, RunFault, Summary, id_text, run};
+use ext_run::{Options, RunFault, Summary, run};
 use std::alloc::Global;
 use std::fmt::Debug;
 use std::process::Abort;
@@ -28,7 +29,7 @@ pub(crate) const FOUR_LANES: Options = Options {
 };
 
 /// The contexts of the chain before its method, with one key.
-pub(crate) const CHAIN_HEAD: &str =
+const CHAIN_HEAD: &str =
     "[[key]]\nlabel = \"a\"\n\n[[node]]\nid = \"[engine:x]\"\n\n[[node]]\nid = \"[engine:x]/[class:A]\"\n\n[[node]]\nid = \"[engine:x]/[class:A]/[method:m()]\"\n";
 
 /// The report of the chain whose method passes.
@@ -55,7 +56,7 @@ pub(crate) fn outcome<R: Threads + Wait + Sync>(
 }
 
 /// Whether a node failed in a run of this plan, and the report.
-pub(crate) fn report<R: Threads + Wait + Sync>(
+fn report<R: Threads + Wait + Sync>(
     rt: &R,
     alloc: Global,
     plan: &str,
@@ -87,7 +88,7 @@ fn reports_run<R: Threads + Wait + Sync + Abort>(
 }
 
 /// Asserts that the plan has this report, in which a node failed or none did: as a plain run, and on one lane and four.
-pub(crate) fn reports<R: Threads + Wait + Sync + Abort>(
+fn reports<R: Threads + Wait + Sync + Abort>(
     rt: &R,
     alloc: Global,
     plan: &str,
@@ -111,69 +112,8 @@ fn chain_put_and_want(rt: HostRuntime) -> Result<(), Fail> {
     reports(&rt, rt.alloc(), plan.as_str(), false, CHAIN_PASSED)
 }
 
-#[test]
-fn chain_want_without_put(rt: HostRuntime) -> Result<(), Fail> {
-    let plan = chain(rt.alloc(), "\"want a x\"")?;
-    let wanted =
-        "[engine:x] successful closed 0\n[engine:x]/[class:A] successful closed 0\n[engine:x]/[class:A]/[method:m()] failed closed 0: want a x: none\ntests 1 successful 0 aborted 0 failed 1 skipped 0\ncomputed 0 found 0 closed 0 close faults 0\n";
-    reports(&rt, rt.alloc(), plan.as_str(), true, wanted)
-}
-
-/// Asserts that the line of a chain's method with these steps ends so, behind its id: as a plain run, and on four lanes.
-fn method_ends<R: Threads + Wait + Sync + Abort>(
-    rt: &R,
-    alloc: Global,
-    steps: &str,
-    wanted: &str,
-) -> Result<(), Fail> {
-    method_of_run_ends(rt, alloc, steps, PLAIN, wanted)?;
-    method_of_run_ends(rt, alloc, steps, FOUR_LANES, wanted)
-}
-
-/// The same, run so.
-fn method_of_run_ends<R: Threads + Wait + Sync + Abort>(
-    rt: &R,
-    alloc: Global,
-    steps: &str,
-    options: Options,
-    wanted: &str,
-) -> Result<(), Fail>
-    requires { options.plain ≡ false → (1 ≤ options.lanes) × (options.lanes ≤ 16) }
-{
-    let plan = chain(alloc, steps)?;
-    let (_, text) = report(rt, alloc, plan.as_str(), options)?;
-    let line = text.lines().nth(2).ok_or("the method has a line")?;
-    let end = line.strip_prefix("[engine:x]/[class:A]/[method:m()] ");
-    same(rt, end, Some(wanted), "the method's line");
-    Ok(())
-}
-
-#[test]
-fn first_failing_step_is_told(rt: HostRuntime) -> Result<(), Fail> {
-    let steps = "\"put a x\", \"want a y\", \"want a z\"";
-    method_ends(&rt, rt.alloc(), steps, "failed closed 0: want a y: got x")
-}
-
-#[test]
-fn later_put_replaces(rt: HostRuntime) -> Result<(), Fail> {
-    let steps = "\"put a x\", \"put a y\", \"want a y\"";
-    method_ends(&rt, rt.alloc(), steps, "successful closed 0")
-}
-
-#[test]
-fn numbers_run_out(rt: HostRuntime) -> Result<(), Fail> {
-    let mut steps = String::from_str(rt.alloc(), "\"put a x\"")?;
-    for _ in 1..65_535 {
-        steps.push_str(",\"put a x\"")?;
-    }
-    method_ends(&rt, rt.alloc(), steps.as_str(), "successful closed 0")?;
-    steps.push_str(",\"put a x\"")?;
-    let full = "failed closed 0: put a: numbers full";
-    method_ends(&rt, rt.alloc(), steps.as_str(), full)
-}
-
 /// Asserts that the plan has no report, but this line on standard error, and that nothing is written.
-pub(crate) fn refuses<R: Threads + Wait + Sync + Abort>(
+fn refuses<R: Threads + Wait + Sync + Abort>(
     rt: &R,
     alloc: Global,
     plan: &[u8],
@@ -194,30 +134,4 @@ fn refused_plans(rt: HostRuntime) -> Result<(), Fail> {
     refuses(&rt, rt.alloc(), b"\xff", "plan: P1")?;
     let one = b"[[node]]\nid = \"[engine:x]\"\ntest = [\"put a\"]\n";
     refuses(&rt, rt.alloc(), one, "plan: P8 node 0")
-}
-
-#[test]
-fn long_plans(rt: HostRuntime) -> Result<(), Fail> {
-    let mut plan = vec![in rt.alloc(); b' '; 1_048_576]?;
-    refuses(&rt, rt.alloc(), plan.as_slice(), "plan: P7")?;
-    plan.push(b' ')?;
-    refuses(&rt, rt.alloc(), plan.as_slice(), "plan too long")
-}
-
-/// Asserts that the text is an id with these lines, or that it is refused with this line.
-fn id_reads(rt: &impl Abort, alloc: Global, text: &str, wanted: &str) -> Result<(), Fail> {
-    let told = match id_text(alloc, text) {
-        Ok(lines) => lines,
-        Err(fault) => fault.to_string(alloc)?,
-    };
-    same(rt, told.as_str(), wanted, text);
-    Ok(())
-}
-
-#[test]
-fn ids_in_lines(rt: HostRuntime) -> Result<(), Fail> {
-    let lines = "engine x\nclass a/b\n[engine:x]/[class:a%2Fb]\n";
-    id_reads(&rt, rt.alloc(), "[engine:x]/[class:a%2Fb]", lines)?;
-    id_reads(&rt, rt.alloc(), "[engine:a+b]", "id: I6 at 9")?;
-    id_reads(&rt, rt.alloc(), "", "id: I1")
 }
