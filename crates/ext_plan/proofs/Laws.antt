@@ -27,7 +27,7 @@ use Rattle.ext_plan.specs.Faults.{check, Gives}
 use Rattle.ext_plan.specs.Fields.{has_only, tables_or_none}
 use Rattle.ext_plan.specs.Keys.{keys_after}
 use Rattle.ext_plan.specs.Nodes.{Sketch, ids_of, outline_of, outlines_of, has_children, sketches_after, nodes_after, nodes_of_tables}
-use Rattle.ext_plan.specs.Reading.{top_fields, are_few, plan_of}
+use Rattle.ext_plan.specs.Reading.{top_fields, are_few, plan_of, plan_of_tables}
 use Rattle.ext_plan.proofs.Gave.{ok_value, both_gave, passed}
 use Rattle.ext_plan.proofs.KeyReading.{keys_are_own, no_keys}
 use Rattle.ext_plan.proofs.NodeReading.{NodeFits, IsAlone, KindFits, FitsIn, outline_of_node, outlines_of_nodes, if_is_test, nodes_are_read, childless}
@@ -119,7 +119,7 @@ ids_in-sketches : (sketches : List Sketch) → map (λ o. o.0) (outlines_of sket
 ids_in-sketches sketches = map-map (λ (o : Outline). o.0) outline_of sketches
 
 plan_laws : (top : Members) (plan : PlanText) → plan_of top ≡ Ok plan → ArePlanLaws plan
-unfolding plan_of nodes_of_tables
+unfolding plan_of plan_of_tables nodes_of_tables
 plan_laws top plan h =
     let fields = both_gave (check (faults.UnknownField places.Whole) (has_only top_fields top)) _ _ h in
     let key_tables = both_gave (tables_or_none (faults.BadField places.Whole) (get_member (codes "key") top)) _ _ fields.2 in

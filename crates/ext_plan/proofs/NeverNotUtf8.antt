@@ -25,7 +25,7 @@ use Rattle.ext_plan.specs.Locks.{lock_at, lock_of, locks_after, locks_at}
 use Rattle.ext_plan.specs.Keys.{key_fields, has_parts, key_at, keys_after}
 use Rattle.ext_plan.specs.Nodes.{Sketch, node_fields, id_or, sketch_at, sketches_after, ids_of, outlines_of, has_children, is_bad_test, test_at, node_at, nodes_after, nodes_of_tables}
 use Rattle.ext_plan.specs.Steps.{step_of, step_at, steps_after, steps_at}
-use Rattle.ext_plan.specs.Reading.{top_fields, are_few, plan_of}
+use Rattle.ext_plan.specs.Reading.{top_fields, are_few, plan_of, plan_of_tables}
 
 -- the reading has another end than the fault `NotUtf8`
 abbrev IsOther : {A : Type 0} → Result A PlanFault → Type 0
@@ -219,7 +219,7 @@ tables_other None = value []
 tables_other (Some found) = or_fault _ (tables_in found) (λ h. absurd cc)
 
 plan_other : (top : Members) → IsOther (plan_of top)
-unfolding plan_of
+unfolding plan_of plan_of_tables
 plan_other top =
     then_other (check (faults.UnknownField places.Whole) (has_only top_fields top)) _ (checked _ _ (λ h. absurd cc)) (λ _.
     then_other (tables_or_none (faults.BadField places.Whole) (get_member (codes "key") top)) _ (tables_other (get_member (codes "key") top)) (λ key_tables.

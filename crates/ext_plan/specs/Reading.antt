@@ -21,17 +21,22 @@ top_fields = codes "key" ∷ codes "node" ∷ []
 abbrev pub are_few : ℕ → ℕ → Bool
 are_few keys nodes = nat_le keys 64 && nat_le (nodes * keys) 4096
 
+-- the plan of the tables of its keys and its nodes
+unfoldable pub plan_of_tables : List Members → List Members → Result PlanText PlanFault
+plan_of_tables key_tables node_tables = do
+  keys ← keys_after [] key_tables
+  nodes ← nodes_of_tables (labels_of keys) node_tables
+  _ ← check faults.TooMany (are_few (length (different_keys keys)) (length nodes))
+  _ ← check faults.TooMany (nat_le (length (lock_names nodes)) lock_limit)
+  Ok (record { keys = keys; nodes = nodes })
+
 -- the plan of a document
 unfoldable pub plan_of : Members → Result PlanText PlanFault
 plan_of top = do
   _ ← check (faults.UnknownField places.Whole) (has_only top_fields top)
   key_tables ← tables_or_none (faults.BadField places.Whole) (get_member (codes "key") top)
   node_tables ← tables_or_none (faults.BadField places.Whole) (get_member (codes "node") top)
-  keys ← keys_after [] key_tables
-  nodes ← nodes_of_tables (labels_of keys) node_tables
-  _ ← check faults.TooMany (are_few (length (different_keys keys)) (length nodes))
-  _ ← check faults.TooMany (nat_le (length (lock_names nodes)) lock_limit)
-  Ok (record { keys = keys; nodes = nodes })
+  plan_of_tables key_tables node_tables
 
 -- the plan of a text
 unfoldable pub plan_of_text : List ℕ → Result PlanText PlanFault

@@ -71,10 +71,22 @@ fn key_of<'a>(
     if !is_new {
         return Err(PlanFault::BadLabel(number));
     }
+    Ok(copy_of(alloc, label, name.unwrap_or(label), &namespace)?)
+}
+
+/// The key of this label, name and namespace.
+fn copy_of(
+    alloc: Global,
+    label: &str,
+    name: &str,
+    namespace: &Option<Vec<&str>>,
+) -> Result<PlanKey, AllocError>
+    ensures { IfOk result (λ key. key_view key ≡ record { label = label.now; name = name.now; namespace = option_map (λ v. map (λ t. t.now) v.items) namespace.now }) }
+{
     Ok(PlanKey {
         label: String::from_str(alloc, label)?,
-        name: String::from_str(alloc, name.unwrap_or(label))?,
-        namespace: namespace_of(alloc, &namespace)?,
+        name: String::from_str(alloc, name)?,
+        namespace: namespace_of(alloc, namespace)?,
     })
 }
 

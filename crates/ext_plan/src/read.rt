@@ -1,11 +1,11 @@
 //! Reading a plan from its text.
-ghost use Rattle.std.specs.Prelude.{◌≡◌, ◌≢◌, ◌≤◌, Err, All, length, IfOk};
+ghost use Rattle.std.specs.Prelude.{◌≡◌, ◌≢◌, ◌≤◌, Err, All, length, map, IfOk};
 ghost use Rattle.toml.specs.View.{table_view};
 ghost use Rattle.ext_plan_model.specs.Plans.{keys_view, plan_view};
 ghost use Rattle.ext_plan_model.specs.KeyNumbers.{different_keys, HasParts};
 ghost use Rattle.ext_plan_model.specs.Laws.{NodesAreTree, TestsHaveNoChildren, HasFewCells, HasFewLocks, HasOwnLabels, NamespacesHaveParts, StepsNameLabels, StepsStayBelowRoot, StepListsAreShort, CallbacksAreFew, TestsHaveNoContainerCallbacks};
 ghost use Rattle.ext_plan.specs.Faults.{Gives, GivesAll};
-ghost use Rattle.ext_plan.specs.Reading.{are_few, plan_of, plan_of_text};
+ghost use Rattle.ext_plan.specs.Reading.{are_few, plan_of, plan_of_tables, plan_of_text};
 
 use crate::fault::{Place, PlanFault};
 use crate::fields::{has_only, tables_at};
@@ -88,8 +88,20 @@ fn plan_of(alloc: Global, top: &Table) -> Result<Plan, PlanFault>
     }
     let key_tables = tables_at(alloc, top, "key", PlanFault::BadField(Place::Whole))?;
     let node_tables = tables_at(alloc, top, "node", PlanFault::BadField(Place::Whole))?;
-    let keys = keys_of(alloc, key_tables.as_slice())?;
-    let nodes = nodes_of_tables(alloc, &keys.labels, node_tables.as_slice())?;
+    plan_of_tables(alloc, key_tables.as_slice(), node_tables.as_slice())
+}
+
+/// The plan of the tables of its keys and its nodes.
+#[tactic(auto, unfolding(crate::specs::Reading::plan_of_tables))]
+fn plan_of_tables(
+    alloc: Global,
+    key_tables: &[&Table],
+    node_tables: &[&Table],
+) -> Result<Plan, PlanFault>
+    ensures { Gives plan_view result (plan_of_tables (map (λ t. table_view t.now) key_tables.now) (map (λ t. table_view t.now) node_tables.now)) }
+{
+    let keys = keys_of(alloc, key_tables)?;
+    let nodes = nodes_of_tables(alloc, &keys.labels, node_tables)?;
     if !are_few(alloc, keys.keys.as_slice(), nodes.len())? {
         return Err(PlanFault::TooMany);
     }

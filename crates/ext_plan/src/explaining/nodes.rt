@@ -11,7 +11,7 @@ use crate::locks::lock_at;
 use crate::modes::mode_at;
 use crate::nodes::{NodeSketch, ids_of, sketches_of};
 use ext_ids::{IdFault, UniqueId};
-use ext_plan_model::KeyNumbers;
+use ext_plan_model::{KeyNumbers, PlanKey};
 use ext_tree::{Tree, TreeFault};
 use std::alloc::Global;
 use toml::Table;
@@ -92,21 +92,36 @@ fn named(
 /// What a node has that no test may have.
 pub fn bad_test(alloc: Global, top: &Table, node: usize) -> Result<Option<String>, PlanFault> {
     let sketches = sketches_in(alloc, top)?;
-    let Some(sketch) = sketches.get(node) else {
-        return Ok(None);
-    };
-    if sketch.callbacks.are_of_container() {
-        return Ok(Some(format!(in alloc; "it is a test, and has before_all or after_all")?));
+    match sketches.get(node) {
+        None => Ok(None),
+        Some(sketch) => Ok(Some(String::from_str(alloc, unfit_for_test(sketch))?)),
     }
-    Ok(Some(format!(in alloc; "it is a test, and has children")?))
+}
+
+/// What a node has that no test may have.
+fn unfit_for_test(sketch: &NodeSketch<'_>) -> &'static str {
+    if sketch.callbacks.are_of_container() {
+        "it is a test, and has before_all or after_all"
+    } else {
+        "it is a test, and has children"
+    }
 }
 
 /// The mode of a node that is none, or its first lock that is none.
 pub fn bad_lock(alloc: Global, top: &Table, node: usize) -> Result<Option<String>, PlanFault> {
     let sketches = sketches_in(alloc, top)?;
-    let Some(sketch) = sketches.get(node) else {
-        return Ok(None);
-    };
+    match sketches.get(node) {
+        None => Ok(None),
+        Some(sketch) => bad_lock_of(alloc, sketch, node),
+    }
+}
+
+/// The same, of a node after the first pass.
+fn bad_lock_of(
+    alloc: Global,
+    sketch: &NodeSketch<'_>,
+    node: usize,
+) -> Result<Option<String>, PlanFault> {
     if let Some(mode) = sketch.mode
         && mode_at(node, Some(mode)).is_err()
     {
@@ -123,17 +138,22 @@ pub fn bad_lock(alloc: Global, top: &Table, node: usize) -> Result<Option<String
 /// The first of a node's texts that is no lock.
 fn first_bad_lock(alloc: Global, node: usize, texts: &[&str]) -> Result<Option<String>, PlanFault> {
     for (i, text) in texts.iter().enumerate() {
-        match lock_at(alloc, node, text) {
-            Ok(_) => {}
-            Err(PlanFault::Memory) => return Err(PlanFault::Memory),
-            Err(_) => {
-                return Ok(Some(format!(in alloc;
-                    "its lock {i}, {text:?}, is neither READ NAME nor READ_WRITE NAME"
-                )?));
-            }
+        if !is_lock(alloc, node, text)? {
+            return Ok(Some(format!(in alloc;
+                "its lock {i}, {text:?}, is neither READ NAME nor READ_WRITE NAME"
+            )?));
         }
     }
     Ok(None)
+}
+
+/// Tests whether a text of a node is a lock.
+fn is_lock(alloc: Global, node: usize, text: &str) -> Result<bool, PlanFault> {
+    match lock_at(alloc, node, text) {
+        Ok(_) => Ok(true),
+        Err(PlanFault::Memory) => Err(PlanFault::Memory),
+        Err(_) => Ok(false),
+    }
 }
 
 /// What there are too many of.
@@ -141,7 +161,7 @@ pub fn too_many(alloc: Global, top: &Table) -> Result<Option<String>, PlanFault>
     let Some(keys) = different_keys(alloc, top)? else {
         return Ok(Some(format!(in alloc; "it has more than 64 different keys")?));
     };
-    let nodes = sketches_in(alloc, top)?.len();
+    let nodes = node_count(alloc, top)?;
     if nodes.saturating_mul(keys) > 4096 {
         return Ok(Some(format!(in alloc;
             "{nodes} nodes times {keys} different keys are more than 4096 cells"
@@ -150,10 +170,23 @@ pub fn too_many(alloc: Global, top: &Table) -> Result<Option<String>, PlanFault>
     Ok(Some(format!(in alloc; "its locks have more than 63 different names")?))
 }
 
+/// How many nodes the document has.
+fn node_count(alloc: Global, top: &Table) -> Result<usize, PlanFault> {
+    let sketches = sketches_in(alloc, top)?;
+    Ok(sketches.len())
+}
+
 /// How many different keys the document has, if they are at most 64.
 fn different_keys(alloc: Global, top: &Table) -> Result<Option<usize>, PlanFault> {
     let keys = keys_in(alloc, top)?;
-    match KeyNumbers::of(alloc, keys.keys.as_slice()) {
+    different_among(alloc, keys.keys.as_slice())
+}
+
+/// How many different keys these are, if they are at most 64.
+fn different_among(alloc: Global, keys: &[PlanKey]) -> Result<Option<usize>, PlanFault>
+    requires parts { All HasParts (keys_view keys.now) }
+{
+    match KeyNumbers::of(alloc, keys) {
         Ok(numbers) => Ok(Some(numbers.len())),
         Err(TreeFault::Memory) => Err(PlanFault::Memory),
         Err(_) => Ok(None),

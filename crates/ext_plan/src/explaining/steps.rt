@@ -6,26 +6,38 @@ use crate::depths::least_test_depth;
 use crate::explaining::nodes::{keys_in, sketches_in};
 use crate::fault::PlanFault;
 use crate::labels::Labels;
+use crate::nodes::NodeSketch;
 use crate::steps::{has_empty, step_at, step_of, words_of};
 use std::alloc::Global;
 use toml::Table;
 
 /// The first text of a node's callbacks and test that is no step there. They are gone over in the order in which they are read.
 pub fn bad_step(alloc: Global, top: &Table, node: usize) -> Result<Option<String>, PlanFault> {
-    let labels = keys_in(alloc, top)?.labels;
+    let keys = keys_in(alloc, top)?;
     let sketches = sketches_in(alloc, top)?;
+    bad_step_among(alloc, &keys.labels, sketches.as_slice(), node)
+}
+
+/// The same, among the nodes after the first pass.
+fn bad_step_among(
+    alloc: Global,
+    labels: &Labels<'_>,
+    sketches: &[NodeSketch<'_>],
+    node: usize,
+) -> Result<Option<String>, PlanFault> {
     let Some(sketch) = sketches.get(node) else {
         return Ok(None);
     };
     let own = sketch.id.len();
-    let least = least_test_depth(sketches.as_slice(), &sketch.id);
+    let least = least_test_depth(sketches, &sketch.id);
     let lists = sketch.callbacks.in_order(own, least);
-    if let Some(meaning) = bad_in_kinds(alloc, &labels, node, &lists)? {
-        return Ok(Some(meaning));
+    let found = bad_in_kinds(alloc, labels, node, &lists)?;
+    if found.is_some() {
+        return Ok(found);
     }
     match &sketch.test {
         None => Ok(None),
-        Some(texts) => bad_in(alloc, &labels, own, node, "test", texts.as_slice()),
+        Some(texts) => bad_in(alloc, labels, own, node, "test", texts.as_slice()),
     }
 }
 
@@ -105,13 +117,23 @@ fn first_bad(
 /// Why a text that the reader refuses is no step.
 fn reason(alloc: Global, labels: &Labels<'_>, text: &str) -> Result<&'static str, PlanFault> {
     let words = words_of(alloc, text)?;
-    if has_empty(words.as_slice()) {
+    reason_among(alloc, labels, text, words.as_slice())
+}
+
+/// The same, of a text of these words.
+fn reason_among(
+    alloc: Global,
+    labels: &Labels<'_>,
+    text: &str,
+    words: &[&str],
+) -> Result<&'static str, PlanFault> {
+    if has_empty(words) {
         return Ok("has a space too many");
     }
     if step_of(alloc, labels, text)?.is_some() {
         return Ok("goes up past the root");
     }
-    Ok(match words.as_slice() {
+    Ok(match words {
         [name, label, ..] => reason_of_words(labels, name, label),
         _ => "is none of the steps",
     })
