@@ -4,6 +4,7 @@ ghost use Rattle.ext_plan_model.specs.KeyNumbers.{different_keys, numbering, Has
 ghost use Rattle.ext_plan_model.specs.Laws.{CallbacksAreFew, HasFewCells, HasFewLocks, NamespacesHaveParts, NodesAreTree, StepListsAreShort, StepsNameLabels, TestsHaveNoChildren, ids_of_nodes};
 ghost use Rattle.ext_plan_model.specs.Plans.{keys_view, plan_view};
 ghost use Rattle.ext_lifecycle.specs.FaultTexts.{results_view};
+ghost use Rattle.ext_plain.specs.PlainRun.{ArePlain};
 ghost use Rattle.ext_run.specs.Answers.{IsRunAs};
 ghost use Rattle.ext_run.specs.Helpers.{IsPlanFault};
 
@@ -42,13 +43,32 @@ pub(crate) fn results_of<R: Threads + Wait + Sync, L: RunListener + Sync>(
     ensures fault { IfErr result (IsPlanFault options (plan_view plan.now)) }
 {
     if options.plain {
-        let keys = numbers_of(alloc, plan.keys.as_slice())?;
-        return Ok(run_plain(alloc, plan, &keys, tree, listener)?);
+        return Ok(plain_results(alloc, plan, tree, listener)?);
     }
     match parallel_results(rt, alloc, plan, options.lanes, listener) {
         Ok(results) => Ok(results),
         Err(fault) => Err(RunFault::Engine(fault)),
     }
+}
+
+/// One result for each node of a plan, by its plain run.
+fn plain_results<L: RunListener>(
+    alloc: Global,
+    plan: &Plan,
+    tree: &Tree,
+    listener: &L,
+) -> Result<Vec<NodeResult>, AllocError>
+    requires tree { NodesAreTree (plan_view plan.now) }
+    requires contexts { tree.now ≡ ids_of_nodes (plan_view plan.now).nodes }
+    requires cells { HasFewCells (plan_view plan.now) }
+    requires namespaces { NamespacesHaveParts (plan_view plan.now) }
+    requires short { StepListsAreShort (plan_view plan.now) }
+    requires few { CallbacksAreFew (plan_view plan.now) }
+    ensures run { IfOk result (λ results. ArePlain (plan_view plan.now) (results_view results.items)) }
+    ensures in_tree { IfOk result (λ results. All (λ r. r.node < length tree.now) results.items) }
+{
+    let keys = numbers_of(alloc, plan.keys.as_slice())?;
+    run_plain(alloc, plan, &keys, tree, listener)
 }
 
 /// The numbers of a plan's keys, which are few.

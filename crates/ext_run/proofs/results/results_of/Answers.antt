@@ -1,14 +1,10 @@
-use Rattle.std.proofs.Common.{◌≡◌, ◌∙◌, Bool, map, ap, sym, subst}
+use Rattle.std.proofs.Common.{◌≡◌, Bool, map, ap, sym, subst}
 use Rattle.ext_lifecycle.specs.FaultTexts.{fault_text, results_view}
 use Rattle.ext_lifecycle.specs.Results.{told, with_fault_told}
 use Rattle.ext_plan_model.specs.Plans.{plan_view}
-use Rattle.ext_plan_model.proofs.NodeIds.{ids-map}
 use Rattle.ext_run.specs.Answers.{IsRunBy}
 use Rattle.ext_run.proofs.RunAnswers.{with_texts}
 use Rattle.ext_run.proofs.results.results_of.Goals as goal
-
-pub run_plain-requires-clause-nodes : goal.run_plain-requires-clause-nodes
-run_plain-requires-clause-nodes g c = c.requires.contexts ∙ sym (ids-map c.args.plan.now.nodes.items)
 
 pub returns-in-Ok-clause-run : goal.returns-in-Ok-clause-run
 returns-in-Ok-clause-run g c =
