@@ -3,8 +3,9 @@ ghost use Rattle.std.specs.Prelude.{◌≡◌, ◌+◌, length, IsTrue};
 ghost use Rattle.ext_locks.specs.Sets.{HoldsNothing, AllBelow};
 
 use crate::asking::write;
+use crate::scenario::{Scenario, same, with_locks};
 use ext_locks::{LockFault, LockLane, LockRequest, LockSet, Locks, lock_laws};
-use std::test::Fail;
+use std::process::Abort;
 
 /// The one lane that there is gets every set: nobody else can hold a lock, or make the events of a contended call.
 fn take_alone(locks: &Locks, lane: &mut LockLane, set: &LockSet) -> bool
@@ -44,10 +45,30 @@ fn ask_alone(
     Ok(take_alone(locks, lane, &set))
 }
 
+/// Asserts that the one lane gets a lock, and a set of none.
+fn gets_all(rt: &impl Abort, locks: &Locks, lane: &mut LockLane)
+    requires lane { lane.old.table ≡ locks.now.table }
+    requires alone { lane.old.lanes ≡ 1 }
+    requires nothing { HoldsNothing lane.old }
+{
+    same(rt, ask_alone(locks, lane, &[write("a")]), Ok(true), "a");
+    same(rt, ask_alone(locks, lane, &[]), Ok(true), "the empty set");
+}
+
+/// The one lane that there is gets all that it asks for.
+#[derive(Drop)]
+struct Alone;
+
+impl<R: Abort> Scenario<R> for Alone {
+    fn play(self, rt: &R, locks: &Locks, lanes: &mut [LockLane]) {
+        let [lane] = lanes else {
+            panic!(rt; "not one lane");
+        };
+        gets_all(rt, locks, lane);
+    }
+}
+
 #[test]
-fn lane_alone_is_never_refused(rt: HostRuntime) -> Result<(), Fail> {
-    let (locks, mut lanes) = Locks::open(rt.alloc(), &["a"], 1, 1)?;
-    assert_eq!(rt; ask_alone(&locks, &mut lanes[0], &[write("a")]), Ok(true));
-    assert_eq!(rt; ask_alone(&locks, &mut lanes[0], &[]), Ok(true));
-    Ok(())
+fn lane_alone_is_never_refused(rt: HostRuntime) {
+    with_locks(&rt, rt.alloc(), &["a"], 1, 1, Alone);
 }

@@ -3,10 +3,12 @@ ghost use Rattle.std.specs.Prelude.{◌≡◌, ◌+◌, ◌≤◌, length};
 ghost use Rattle.ext_locks.specs.Sets.{HoldsNothing, AllBelow};
 
 use crate::asking::write;
+use crate::scenario::{Scenario, merged, same, with_locks};
 use ext_locks::{LockLane, LockSet, Locks};
+use std::process::Abort;
 use std::sync::atomic::{AtomicU64, Ordering};
-use std::test::Fail;
 use std::thread;
+use std::thread::Threads;
 
 /// Tries a thousand times to take the set, and adds one to the number, in two steps, while it is held. Returns how often
 /// it was.
@@ -28,18 +30,28 @@ fn count_up(locks: &Locks, lane: &mut LockLane, set: &LockSet, number: &AtomicU6
     successes
 }
 
+/// Two lanes count up one number, each in a thread of its own.
+#[derive(Drop)]
+struct TwoWriters;
+
+impl<R: Abort + Threads> Scenario<R> for TwoWriters {
+    fn play(self, rt: &R, locks: &Locks, lanes: &mut [LockLane]) {
+        let [first, second] = lanes else {
+            panic!(rt; "not two lanes");
+        };
+        let writes = merged(rt, locks, &[write("a")]);
+        let number = AtomicU64::new(0);
+        let (one, other) = thread::join(
+            rt,
+            || count_up(locks, first, &writes, &number),
+            || count_up(locks, second, &writes, &number),
+        );
+        same(rt, number.load(Ordering::SeqCst), one + other, "the number");
+        assert!(rt; one + other > 0);
+    }
+}
+
 #[test]
-fn two_writers_count_what_they_hold(rt: HostRuntime) -> Result<(), Fail> {
-    let (locks, mut lanes) = Locks::open(rt.alloc(), &["a"], 2, 8)?;
-    let writes = locks.merge(&[write("a")])?;
-    let number = AtomicU64::new(0);
-    let (first, second) = lanes.as_mut_slice().split_at_mut(1);
-    let (one, other) = thread::join(
-        &rt,
-        || count_up(&locks, &mut first[0], &writes, &number),
-        || count_up(&locks, &mut second[0], &writes, &number),
-    );
-    assert_eq!(rt; number.load(Ordering::SeqCst), one + other);
-    assert!(rt; one + other > 0);
-    Ok(())
+fn two_writers_count_what_they_hold(rt: HostRuntime) {
+    with_locks(&rt, rt.alloc(), &["a"], 2, 8, TwoWriters);
 }

@@ -14,6 +14,8 @@ mod guide;
 #[cfg(test)]
 mod opening;
 #[cfg(test)]
+mod scenario;
+#[cfg(test)]
 mod sets;
 #[cfg(test)]
 mod taking;

@@ -1,12 +1,22 @@
 //! Openings at the limits, and refused ones.
-use crate::asking::{merged_at, read};
+use crate::asking::read;
+use crate::scenario::{Scenario, same, with_locks};
+use crate::sets::merges;
 use ext_locks::{LockFault, LockLane, LockMode, Locks};
 use std::alloc::Global;
-use std::test::Fail;
+use std::process::Abort;
 
-/// Why locks of these names and limits are not opened.
-fn refusal(alloc: Global, names: &[&str], lanes: usize, tries: u32) -> Option<LockFault> {
-    Locks::open(alloc, names, lanes, tries).err()
+/// Asserts that locks of these names and limits are not opened, and why.
+fn refused(
+    rt: &impl Abort,
+    alloc: Global,
+    names: &[&str],
+    lanes: usize,
+    tries: u32,
+    fault: LockFault,
+) {
+    let told = Locks::open(alloc, names, lanes, tries).err();
+    same(rt, told, Some(fault), "why locks are not opened");
 }
 
 #[test]
@@ -14,46 +24,60 @@ fn refused_openings(rt: HostRuntime) {
     let alloc = rt.alloc();
     let many = ["x"; 64];
     let twice = ["a", "b", "c", "b", "a"];
-    assert_eq!(rt;
-        refusal(alloc, &["a", "a"], 2, 8),
-        Some(LockFault::Twice(1))
-    );
-    assert_eq!(rt; refusal(alloc, &twice, 2, 8), Some(LockFault::Twice(3)));
-    assert_eq!(rt; refusal(alloc, &[], 0, 8), Some(LockFault::BadLimit));
-    assert_eq!(rt; refusal(alloc, &[], 17, 8), Some(LockFault::BadLimit));
-    assert_eq!(rt; refusal(alloc, &[], 2, 0), Some(LockFault::BadLimit));
-    assert_eq!(rt; refusal(alloc, &[], 2, 65), Some(LockFault::BadLimit));
-    assert_eq!(rt; refusal(alloc, &many, 2, 8), Some(LockFault::TooMany));
-    assert_eq!(rt; refusal(alloc, &many, 0, 8), Some(LockFault::BadLimit));
-    assert_eq!(rt; refusal(alloc, &many[1..], 2, 8), Some(LockFault::Twice(1)));
+    refused(&rt, alloc, &["a", "a"], 2, 8, LockFault::Twice(1));
+    refused(&rt, alloc, &twice, 2, 8, LockFault::Twice(3));
+    refused(&rt, alloc, &[], 0, 8, LockFault::BadLimit);
+    refused(&rt, alloc, &[], 17, 8, LockFault::BadLimit);
+    refused(&rt, alloc, &[], 2, 0, LockFault::BadLimit);
+    refused(&rt, alloc, &[], 2, 65, LockFault::BadLimit);
+    refused(&rt, alloc, &many, 2, 8, LockFault::TooMany);
+    refused(&rt, alloc, &many, 0, 8, LockFault::BadLimit);
+    refused(&rt, alloc, &many[1..], 2, 8, LockFault::Twice(1));
 }
 
-/// 63 texts, all different.
-fn texts(alloc: Global) -> Result<Vec<String>, Fail> {
-    let mut texts = Vec::new(alloc);
+/// Puts `key0`, `key1`, and so on, up to 62, into the texts.
+fn add_texts(rt: &impl Abort, alloc: Global, texts: &mut Vec<String>) {
     for i in 0..63 {
-        texts.push(format!(in alloc; "key{i}")?)?;
+        let Ok(text) = format!(in alloc; "key{i}") else {
+            panic!(rt; "no memory");
+        };
+        let Ok(()) = texts.push(text) else {
+            panic!(rt; "no memory");
+        };
     }
-    Ok(texts)
 }
 
-/// Locks of these names, with as many lanes and tries as there can be.
-fn widest(alloc: Global, texts: &[String]) -> Result<(Locks, Vec<LockLane>), Fail> {
-    let mut names = Vec::new(alloc);
+/// Puts the texts into the names.
+fn add_names<'a>(rt: &impl Abort, texts: &'a [String], names: &mut Vec<&'a str>) {
     for text in texts {
-        names.push(text.as_str())?;
+        let Ok(()) = names.push(text.as_str()) else {
+            panic!(rt; "no memory");
+        };
     }
-    Ok(Locks::open(alloc, names.as_slice(), 16, 64)?)
+}
+
+/// There are as many names as there can be. They are in the order of their bytes, and the global lock has no name.
+#[derive(Drop)]
+struct MostNames;
+
+impl<R: Abort> Scenario<R> for MostNames {
+    fn play(self, rt: &R, locks: &Locks, _lanes: &mut [LockLane]) {
+        assert!(rt; locks.name(0).is_none());
+        let wanted = [Some((1, LockMode::Read)), Some((60, LockMode::Read))];
+        merges(rt, locks, &[read("key62"), read("key0")], &wanted);
+    }
+}
+
+/// Plays it with locks of these names, and with as many lanes and tries as there can be.
+fn opens_widest(rt: &impl Abort, alloc: Global, texts: &[String]) {
+    let mut names = Vec::new(alloc);
+    add_names(rt, texts, &mut names);
+    with_locks(rt, alloc, names.as_slice(), 16, 64, MostNames);
 }
 
 #[test]
-fn opens_at_the_limits(rt: HostRuntime) -> Result<(), Fail> {
-    let texts = texts(rt.alloc())?;
-    let (locks, lanes) = widest(rt.alloc(), texts.as_slice())?;
-    assert_eq!(rt; lanes.len(), 16);
-    assert_eq!(rt; locks.name(0), None);
-    let both = [read("key62"), read("key0")];
-    assert_eq!(rt; merged_at(&locks, &both, 0), Ok(Some((1, LockMode::Read))));
-    assert_eq!(rt; merged_at(&locks, &both, 1), Ok(Some((60, LockMode::Read))));
-    Ok(())
+fn opens_at_the_limits(rt: HostRuntime) {
+    let mut texts = Vec::new(rt.alloc());
+    add_texts(&rt, rt.alloc(), &mut texts);
+    opens_widest(&rt, rt.alloc(), texts.as_slice());
 }

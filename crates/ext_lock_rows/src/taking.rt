@@ -6,11 +6,12 @@ ghost use Rattle.ext_locks.specs.Refusals.{undone};
 
 use crate::apart::show_apart;
 use crate::asking::{global, read, write};
+use crate::scenario::{Scenario, same, with_locks};
 use ext_locks::{
     Held, LockFault, LockLane, LockMode, LockNo, LockRefusal, LockRequest, LockSet, Locks,
     lock_laws,
 };
-use std::test::Fail;
+use std::process::Abort;
 
 /// What a lane is answered that asks for a set: nothing, once it had it, or a refusal.
 type Answer = Result<Option<LockRefusal>, LockFault>;
@@ -82,19 +83,30 @@ fn beside_a_reader(
     Some((answers, lock))
 }
 
+/// Two lanes read by b, and the third one writes by a beside them.
+#[derive(Drop)]
+struct BesideReader;
+
+impl<R: Abort> Scenario<R> for BesideReader {
+    fn play(self, rt: &R, locks: &Locks, lanes: &mut [LockLane]) {
+        let [one, two, three] = lanes else {
+            panic!(rt; "not three lanes");
+        };
+        same(
+            rt,
+            beside_a_reader(locks, one, two, three),
+            Some((
+                [Ok(None), Ok(Some(LockRefusal::Taken(2))), Ok(None)],
+                Some((2, LockMode::Read)),
+            )),
+            "beside a reader",
+        );
+    }
+}
+
 #[test]
-fn merge_and_shared_read(rt: HostRuntime) -> Result<(), Fail> {
-    let (locks, mut lanes) = Locks::open(rt.alloc(), &["b", "a"], 3, 8)?;
-    let (one, rest) = lanes.as_mut_slice().split_at_mut(1);
-    let (two, three) = rest.split_at_mut(1);
-    assert_eq!(rt;
-        beside_a_reader(&locks, &mut one[0], &mut two[0], &mut three[0]),
-        Some((
-            [Ok(None), Ok(Some(LockRefusal::Taken(2))), Ok(None)],
-            Some((2, LockMode::Read))
-        ))
-    );
-    Ok(())
+fn merge_and_shared_read(rt: HostRuntime) {
+    with_locks(&rt, rt.alloc(), &["b", "a"], 3, 8, BesideReader);
 }
 
 /// What a second lane is answered while a first one reads by a, and then a third one has the global lock too, and whether
@@ -118,20 +130,31 @@ fn beside_the_global_lock(
     Some(([before, after], apart))
 }
 
+/// The third lane takes the global lock, and is apart from the second one.
+#[derive(Drop)]
+struct BesideGlobalLock;
+
+impl<R: Abort> Scenario<R> for BesideGlobalLock {
+    fn play(self, rt: &R, locks: &Locks, lanes: &mut [LockLane]) {
+        let [one, two, three] = lanes else {
+            panic!(rt; "not three lanes");
+        };
+        same(
+            rt,
+            beside_the_global_lock(locks, one, two, three),
+            Some((
+                [
+                    Ok(Some(LockRefusal::Taken(1))),
+                    Ok(Some(LockRefusal::Taken(0))),
+                ],
+                true,
+            )),
+            "beside the global lock",
+        );
+    }
+}
+
 #[test]
-fn third_lane_takes_the_global_lock(rt: HostRuntime) -> Result<(), Fail> {
-    let (locks, mut lanes) = Locks::open(rt.alloc(), &["a"], 3, 8)?;
-    let (one, rest) = lanes.as_mut_slice().split_at_mut(1);
-    let (two, three) = rest.split_at_mut(1);
-    assert_eq!(rt;
-        beside_the_global_lock(&locks, &mut one[0], &mut two[0], &mut three[0]),
-        Some((
-            [
-                Ok(Some(LockRefusal::Taken(1))),
-                Ok(Some(LockRefusal::Taken(0)))
-            ],
-            true
-        ))
-    );
-    Ok(())
+fn third_lane_takes_the_global_lock(rt: HostRuntime) {
+    with_locks(&rt, rt.alloc(), &["a"], 3, 8, BesideGlobalLock);
 }

@@ -1,14 +1,15 @@
 //! Lanes that wait for locks, beside others that give them back.
 ghost use Rattle.std.specs.Prelude.{◌≡◌, ◌+◌, length};
 ghost use Rattle.ext_locks.specs.Sets.{HoldsNothing, AllBelow};
+ghost use Rattle.ext_locks.specs.Opening.{fresh_lanes};
 
 use crate::asking::{read, write};
+use crate::scenario::{merged, open, same};
 use ext_locks::{LockLane, LockMode, LockNo, LockSet, Locks};
 use std::process::Abort;
 use std::sync::Wait;
 use std::sync::atomic::{AtomicU64, Ordering};
-use std::test::Fail;
-use std::thread::{join, sleep};
+use std::thread::{Threads, join, sleep};
 use std::time::{Clock, Duration};
 
 // How often a thread looks for another one, a thousandth of a second apart.
@@ -89,21 +90,37 @@ fn take_late<R: Wait + Clock>(
     lock
 }
 
-#[test]
-fn reader_waits_for_a_writer(rt: HostRuntime) -> Result<(), Fail> {
-    let (locks, mut lanes) = Locks::open(rt.alloc(), &["a"], 2, 8)?;
-    let writes = locks.merge(&[write("a")])?;
-    let reads = locks.merge(&[read("a")])?;
+/// Asserts that a lane waits until another one, which writes, has given back.
+fn read_behind_writer<R: Abort + Clock + Sync + Threads + Wait>(
+    rt: &R,
+    locks: &Locks,
+    lanes: &mut [LockLane],
+)
+    requires { lanes.old ≡ fresh_lanes locks.now.table 2 2 }
+{
+    let [first, second] = lanes else {
+        panic!(rt; "not two lanes");
+    };
+    let writes = merged(rt, locks, &[write("a")]);
+    let reads = merged(rt, locks, &[read("a")]);
     let done = AtomicU64::new(0);
-    let (first, second) = lanes.as_mut_slice().split_at_mut(1);
-    let (waited, took) = join(
-        &rt,
-        || give_late(&rt, &locks, &mut first[0], &writes, &done),
-        || take_late(&rt, &locks, &mut second[0], &reads, &done),
+    let answers = join(
+        rt,
+        || give_late(rt, locks, first, &writes, &done),
+        || take_late(rt, locks, second, &reads, &done),
     );
-    assert!(rt; waited);
-    assert_eq!(rt; took, Some((1, LockMode::Read)));
-    Ok(())
+    same(
+        rt,
+        answers,
+        (true, Some((1, LockMode::Read))),
+        "whether it waited, and its lock",
+    );
+}
+
+#[test]
+fn reader_waits_for_a_writer(rt: HostRuntime) {
+    let (locks, mut lanes) = open(&rt, rt.alloc(), &["a"], 2, 8);
+    read_behind_writer(&rt, &locks, lanes.as_mut_slice());
 }
 
 /// In each round waits for the set, and adds one to the number, in two steps, while it is held. Then tells that it has
@@ -146,20 +163,32 @@ fn count_and_watch<R: Abort + Clock + Wait>(
     watch(rt, ended, 2);
 }
 
-#[test]
-fn two_lanes_count_and_wait(rt: HostRuntime) -> Result<(), Fail> {
-    let (locks, mut lanes) = Locks::open(rt.alloc(), &["a"], 2, 8)?;
-    let writes = locks.merge(&[write("a")])?;
+/// Asserts that two lanes lose no count that wait for one lock by turns.
+fn count_by_turns<R: Abort + Clock + Sync + Threads + Wait>(
+    rt: &R,
+    locks: &Locks,
+    lanes: &mut [LockLane],
+)
+    requires { lanes.old ≡ fresh_lanes locks.now.table 2 2 }
+{
+    let [first, second] = lanes else {
+        panic!(rt; "not two lanes");
+    };
+    let writes = merged(rt, locks, &[write("a")]);
     let number = AtomicU64::new(0);
     let ended = AtomicU64::new(0);
-    let (first, second) = lanes.as_mut_slice().split_at_mut(1);
     join(
-        &rt,
-        || count_and_watch(&rt, &locks, &mut first[0], &writes, &number, &ended),
-        || count_and_watch(&rt, &locks, &mut second[0], &writes, &number, &ended),
+        rt,
+        || count_and_watch(rt, locks, first, &writes, &number, &ended),
+        || count_and_watch(rt, locks, second, &writes, &number, &ended),
     );
-    assert_eq!(rt; number.load(Ordering::SeqCst), 2 * ROUNDS);
-    Ok(())
+    same(rt, number.load(Ordering::SeqCst), 2 * ROUNDS, "the number");
+}
+
+#[test]
+fn two_lanes_count_and_wait(rt: HostRuntime) {
+    let (locks, mut lanes) = open(&rt, rt.alloc(), &["a"], 2, 8);
+    count_by_turns(&rt, &locks, lanes.as_mut_slice());
 }
 
 /// Asks for the set again and again, until another lane has ended.
@@ -185,24 +214,50 @@ fn ask_until<R: Abort + Clock>(
     watch(rt, ended, 1);
 }
 
-/// The second lane waits for a, which the first one takes and gives back, since it is refused b: nobody else gives a back.
-#[test]
-fn refused_take_wakes_who_waits(rt: HostRuntime) -> Result<(), Fail> {
-    let (locks, mut lanes) = Locks::open(rt.alloc(), &["a", "b"], 3, 8)?;
-    let both = locks.merge(&[write("a"), write("b")])?;
-    let a = locks.merge(&[write("a")])?;
-    let b = locks.merge(&[write("b")])?;
+/// The number that the second lane has counted up, which waits for a each time, while the first one takes a and gives it back,
+/// since it is refused b.
+fn count_beside_refused<R: Abort + Clock + Sync + Threads + Wait>(
+    rt: &R,
+    locks: &Locks,
+    first: &mut LockLane,
+    second: &mut LockLane,
+) -> u64
+    requires lanes { (first.old.table ≡ locks.now.table) × (second.old.table ≡ locks.now.table) }
+    requires nothing { HoldsNothing first.old × HoldsNothing second.old }
+{
+    let both = merged(rt, locks, &[write("a"), write("b")]);
+    let a = merged(rt, locks, &[write("a")]);
     let number = AtomicU64::new(0);
     let ended = AtomicU64::new(0);
-    let (first, rest) = lanes.as_mut_slice().split_at_mut(1);
-    let (second, third) = rest.split_at_mut(1);
-    let held = locks.take_wait(&rt, &mut third[0], &b);
     join(
-        &rt,
-        || ask_until(&rt, &locks, &mut first[0], &both, &ended),
-        || count_up(&rt, &locks, &mut second[0], &a, &number, &ended),
+        rt,
+        || ask_until(rt, locks, first, &both, &ended),
+        || count_up(rt, locks, second, &a, &number, &ended),
     );
-    locks.give(&mut third[0], held);
-    assert_eq!(rt; number.load(Ordering::SeqCst), ROUNDS);
-    Ok(())
+    number.load(Ordering::SeqCst)
+}
+
+/// Asserts that the second lane has the lock in each round, while the third one holds b.
+fn refuse_beside_waiting<R: Abort + Clock + Sync + Threads + Wait>(
+    rt: &R,
+    locks: &Locks,
+    lanes: &mut [LockLane],
+)
+    requires { lanes.old ≡ fresh_lanes locks.now.table 3 3 }
+{
+    let [first, second, third] = lanes else {
+        panic!(rt; "not three lanes");
+    };
+    let b = merged(rt, locks, &[write("b")]);
+    let held = locks.take_wait(rt, third, &b);
+    let number = count_beside_refused(rt, locks, first, second);
+    locks.give(third, held);
+    same(rt, number, ROUNDS, "the number");
+}
+
+/// The second lane waits for a, which the first one takes and gives back, since it is refused b: nobody else gives a back.
+#[test]
+fn refused_take_wakes_who_waits(rt: HostRuntime) {
+    let (locks, mut lanes) = open(&rt, rt.alloc(), &["a", "b"], 3, 8);
+    refuse_beside_waiting(&rt, &locks, lanes.as_mut_slice());
 }
