@@ -2,9 +2,9 @@
 ghost use Rattle.std.specs.Prelude.{◌<◌, length};
 ghost use Rattle.ext_store.specs.Stores.{IsLaneOf};
 
-use crate::held::same;
+use crate::held::{find, same};
 use crate::opening::{Letter, with_pair};
-use ext_model::{ContextNo, Fault, KeyNo, Look};
+use ext_model::{Fault, KeyNo, Look};
 use ext_store::{Compute, Lane, Store};
 use ext_tree::Key;
 use std::process::Abort;
@@ -32,36 +32,20 @@ fn store_first<R: Wait>(
     }
 }
 
-/// What a compute from the method told.
-#[derive(Clone, Copy, Debug, PartialEq, Eq)]
-enum Told {
-    Computed(u32),
-    /// The factory came back unused, and gave its letter then.
-    Found(ContextNo, u32),
-    Other,
-}
-
-/// What a compute from the method tells.
+/// The number under which a letter is computed from the method.
 fn compute<R: Wait>(
     rt: &R,
     store: &Store<Letter>,
     lane: &mut Lane<Letter>,
     key: &Key,
-    letter: char,
-) -> Told
+) -> Option<u32>
     requires lane { IsLaneOf store.now.id lane.old }
     requires context { 2 < length store.now.tree }
-    ensures { IsLaneOf store.now.id lane.new }
 {
-    let make = |_key: &Key| -> Result<Letter, Fault> { Ok(Letter { letter }) };
+    let make = |_key: &Key| -> Result<Letter, Fault> { Ok(Letter { letter: 'z' }) };
     match store.compute_wait(rt, lane, 2, key, make) {
-        Compute::Computed { number } => Told::Computed(number),
-        Compute::Found { at, number, unused } => match unused(key) {
-            Ok(made) if made.letter == letter => Told::Found(at, number),
-            Ok(_) => Told::Other,
-            Err(_fault) => Told::Other,
-        },
-        _ => Told::Other,
+        Compute::Computed { number } => Some(number),
+        _ => None,
     }
 }
 
@@ -77,24 +61,12 @@ fn find_and_remove<R: Abort + Wait>(
     ensures { IsLaneOf store.now.id lane.new }
 {
     let found = Look::Found { at: 0, number: 1 };
-    same(
-        rt,
-        store.get_wait(rt, lane, 2, key),
-        Ok(found),
-        "the look-up",
-    );
-    same(
-        rt,
-        compute(rt, store, lane, key, 'y'),
-        Told::Found(0, 1),
-        "what is found",
-    );
-    same(
-        rt,
-        store.remove_wait(rt, lane, 0, key),
-        Ok(Some(1)),
-        "the remove",
-    );
+    let looked = store.get_wait(rt, lane, 2, key);
+    same(rt, looked, Ok(found), "the look-up");
+    let computed = find(rt, store, lane, key);
+    same(rt, computed, Some(found), "what is found");
+    let removed = store.remove_wait(rt, lane, 0, key);
+    same(rt, removed, Ok(Some(1)), "the remove");
 }
 
 /// What stands where, and what was taken, of a letter that is put at the root, found from the method and taken out, by the key's number.
@@ -176,49 +148,66 @@ fn computes_by_number<R: Wait>(
     }
 }
 
+/// The number of the key.
+fn number_of(rt: &impl Abort, store: &Store<Letter>, key: &Key) -> KeyNo
+    ensures { result < length store.now.keys }
+{
+    let Some(number) = store.directory().number_of(key) else {
+        panic!(rt; "no key");
+    };
+    number
+}
+
 /// Asserts what the calls by the key's number answer.
 fn call_by_number<R: Abort + Wait>(
     rt: &R,
     store: &Store<Letter>,
     key: &Key,
     lane: &mut Lane<Letter>,
+    _other: &mut Lane<Letter>,
 )
     requires lane { IsLaneOf store.now.id lane.old }
     requires contexts { 2 < length store.now.tree }
 {
-    let Some(number) = store.directory().number_of(key) else {
-        panic!(rt; "no key");
-    };
+    let number = number_of(rt, store, key);
+    let calls = [
+        calls_by_number(store, lane, number),
+        waiting_calls_by_number(rt, store, lane, number),
+    ];
     let first = Some((Look::Found { at: 0, number: 1 }, Some(1)));
-    same(rt, calls_by_number(store, lane, number), first, "the calls");
     let second = Some((Look::Found { at: 0, number: 2 }, Some(2)));
-    let answers = waiting_calls_by_number(rt, store, lane, number);
-    same(rt, answers, second, "the waiting calls");
+    same(
+        rt,
+        calls,
+        [first, second],
+        "the calls and the waiting calls",
+    );
     let computed = computes_by_number(rt, store, lane, number, key);
     same(rt, computed, Some((3, 4)), "the computes");
 }
 
 #[test]
 fn calls_by_the_number_of_a_key(rt: HostRuntime) -> Result<(), Fail> {
-    with_pair(rt.alloc(), |store, key, lane, _other| {
-        call_by_number(&rt, store, key, lane)
-    })
+    with_pair(&rt, rt.alloc(), call_by_number)
 }
 
 /// Puts a letter, finds it, takes it out, and computes another one.
-fn call_alone<R: Abort + Wait>(rt: &R, store: &Store<Letter>, key: &Key, lane: &mut Lane<Letter>)
+fn call_alone<R: Abort + Wait>(
+    rt: &R,
+    store: &Store<Letter>,
+    key: &Key,
+    lane: &mut Lane<Letter>,
+    _other: &mut Lane<Letter>,
+)
     requires lane { IsLaneOf store.now.id lane.old }
     requires contexts { 2 < length store.now.tree }
 {
     same(rt, store_first(rt, store, lane, key), Some(1), "the put");
     find_and_remove(rt, store, lane, key);
-    let told = compute(rt, store, lane, key, 'z');
-    same(rt, told, Told::Computed(2), "the compute");
+    same(rt, compute(rt, store, lane, key), Some(2), "the compute");
 }
 
 #[test]
 fn waiting_forms_alone(rt: HostRuntime) -> Result<(), Fail> {
-    with_pair(rt.alloc(), |store, key, lane, _other| {
-        call_alone(&rt, store, key, lane)
-    })
+    with_pair(&rt, rt.alloc(), call_alone)
 }

@@ -36,6 +36,34 @@ impl CloseAction<Letter> for Close {
 /// What became of the first lane's close: how many values it closed, or its closer and why it closed none.
 type First = Result<u32, (Closer, CloseFault)>;
 
+/// Closes the class.
+fn close_class<R: Abort>(
+    rt: &R,
+    store: &Store<Letter>,
+    hand: &mut [Lane<Letter>],
+    closers: &mut Vec<Closer>,
+) -> First
+    requires one { length hand.old ≡ 1 }
+    requires lane { All (IsLaneOf store.now.id) hand.old }
+    requires closers { All (IsCloserOf store.now) closers.old.items }
+    ensures lane { All (IsLaneOf store.now.id) hand.new }
+    ensures closer { IfErr result (λ e. IsCloserOf store.now e.0) }
+{
+    assert!(rt; closers.len() == 3);
+    match close(store, closers.remove(1), hand, &mut Close) {
+        Ok(closed) => Ok(closed.closed),
+        Err(refused) => Err(refused),
+    }
+}
+
+/// Takes some time.
+fn spin(turns: u32) {
+    let word = AtomicU64::new(0);
+    for _ in 0..turns {
+        word.load(Ordering::SeqCst);
+    }
+}
+
 /// Computes the class's value by a factory that is held, and then closes the class some turns later.
 fn compute_and_close<R: Abort + Clock>(
     rt: &R,
@@ -53,27 +81,17 @@ fn compute_and_close<R: Abort + Clock>(
     ensures lane { All (IsLaneOf store.now.id) hand.new }
     ensures closer { IfErr result (λ e. IsCloserOf store.now e.0) }
 {
-    assert!(rt; compute_held(rt, store, &mut hand[0], key, gate) == Some(2));
-    let word = AtomicU64::new(0);
-    for _ in 0..turns {
-        word.load(Ordering::SeqCst);
-    }
-    assert!(rt; closers.len() == 3);
-    let closed = close(store, closers.remove(1), hand, &mut Close);
+    let computed = compute_held(rt, store, &mut hand[0], key, gate, false);
+    same(rt, computed, Some(Some(2)), "the compute");
+    spin(turns);
+    let closed = close_class(rt, store, hand, closers);
     gate.watch(rt);
-    match closed {
-        Ok(closed) => Ok(closed.closed),
-        Err(refused) => Err(refused),
-    }
+    closed
 }
 
-/// What became of the second lane's put: it stored its number over another one, or its number came back.
-#[derive(Debug, PartialEq, Eq, Drop)]
-enum Second {
-    Stored(Option<u32>),
-    Back(u32, Refusal),
-    Unkept,
-}
+/// What became of the second lane's put: it stored its number over another one, or its number came back and why; nothing where
+/// its value was not kept.
+type Second = Option<Result<Option<u32>, (u32, Refusal)>>;
 
 /// Keeps a value, whose number is 1, and puts it in the class while the factory runs.
 fn put_beside<R: Wait + Clock>(
@@ -88,15 +106,15 @@ fn put_beside<R: Wait + Clock>(
     ensures lane { IsLaneOf store.now.id lane.new }
 {
     let Ok(kept) = store.keep_wait(rt, lane, Letter { letter: 'z' }) else {
-        return Second::Unkept;
+        return None;
     };
     gate.come(rt);
     let second = match store.put_wait(rt, lane, 1, key, kept) {
-        Ok(stood) => Second::Stored(stood),
-        Err((kept, why)) => Second::Back(kept.number(), why),
+        Ok(stood) => Ok(stood),
+        Err((kept, why)) => Err((kept.number(), why)),
     };
     gate.end();
-    second
+    Some(second)
 }
 
 /// Asserts that the second lane's value is not lost: it came back, or it was stored over the factory's, and is closed with its
@@ -115,13 +133,13 @@ fn settle<R: Abort>(
     match first {
         Ok(count) => {
             same(rt, count, 1, "the values that are closed");
-            let back = Second::Back(1, Refusal::Closed(1));
+            let back = Some(Err((1, Refusal::Closed(1))));
             same(rt, second, back, "the put that came later");
         }
         Err((closer, fault)) => {
             let unjoined = CloseFault::Unjoined(1);
             same(rt, fault, unjoined, "the close by the first lane");
-            let stored = Second::Stored(Some(2));
+            let stored = Some(Ok(Some(2)));
             same(rt, second, stored, "the put that came first");
             let Ok(closed) = close(store, closer, lanes, &mut Close) else {
                 panic!(rt; "the value that was put is not closed");
@@ -129,6 +147,45 @@ fn settle<R: Abort>(
             same(rt, closed.closed, 1, "the values that are closed");
         }
     }
+}
+
+/// What became of the close by the first lane and of the put by the second one, at once.
+fn outcomes<R: Abort + Clock + Threads + Wait + Sync>(
+    rt: &R,
+    store: &Store<Letter>,
+    key: &Key,
+    lanes: &mut [Lane<Letter>],
+    closers: &mut Vec<Closer>,
+    turns: u32,
+) -> (First, Second)
+    requires two { length lanes.old ≡ 2 }
+    requires lanes { All (IsLaneOf store.now.id) lanes.old }
+    requires closers { All (IsCloserOf store.now) closers.old.items }
+    requires context { 1 < length store.now.tree }
+    ensures two { length lanes.new ≡ 2 }
+    ensures lanes { All (IsLaneOf store.now.id) lanes.new }
+    ensures closer { IfErr result.0 (λ e. IsCloserOf store.now e.0) }
+{
+    let gate = Gate::new();
+    let held = &gate;
+    let (first, second) = lanes.split_at_mut(1);
+    join_mut(
+        rt,
+        &mut || -> First
+            requires one { length first.now ≡ 1 }
+            requires lane { All (IsLaneOf store.now.id) first.now }
+            requires closers { All (IsCloserOf store.now) closers.now.items }
+            requires context { 1 < length store.now.tree }
+            ensures lane { All (IsLaneOf store.entry.now.id) first.exit.now }
+            ensures closer { IfErr result (λ e. IsCloserOf store.entry.now e.0) }
+        { compute_and_close(rt, store, first, closers, key, held, turns) },
+        &mut || -> Second
+            requires one { length second.now ≡ 1 }
+            requires lane { All (IsLaneOf store.now.id) second.now }
+            requires context { 1 < length store.now.tree }
+            ensures { All (IsLaneOf store.entry.now.id) second.exit.now }
+        { put_beside(rt, store, &mut second[0], key, held) },
+    )
 }
 
 /// One race of the put and the close, by the two lanes.
@@ -145,26 +202,7 @@ fn race<R: Abort + Clock + Threads + Wait + Sync>(
     requires contexts { 2 < length store.now.tree }
 {
     assert!(rt; lanes.len() == 2);
-    let gate = Gate::new();
-    let held = &gate;
-    let (first, second) = lanes.split_at_mut(1);
-    let (closed, put) = join_mut(
-        rt,
-        &mut || -> First
-            requires one { length first.now ≡ 1 }
-            requires lane { All (IsLaneOf store.now.id) first.now }
-            requires closers { All (IsCloserOf store.now) closers.now.items }
-            requires context { 1 < length store.now.tree }
-            ensures lane { All (IsLaneOf store.entry.now.id) first.exit.now }
-            ensures closer { IfErr result (λ e. IsCloserOf store.entry.now e.0) }
-        { compute_and_close(rt, store, first, closers, key, held, turns) },
-        &mut || -> Second
-            requires one { length second.now ≡ 1 }
-            requires lane { All (IsLaneOf store.now.id) second.now }
-            requires context { 1 < length store.now.tree }
-            ensures { All (IsLaneOf store.entry.now.id) second.exit.now }
-        { put_beside(rt, store, &mut second[0], key, held) },
-    );
+    let (closed, put) = outcomes(rt, store, key, lanes, closers, turns);
     settle(rt, store, lanes, closed, put);
 }
 

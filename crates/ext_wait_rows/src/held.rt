@@ -3,11 +3,12 @@ ghost use Rattle.std.specs.Prelude.{◌<◌, length};
 ghost use Rattle.ext_store.specs.Stores.{IsLaneOf};
 
 use crate::opening::Letter;
-use ext_model::Fault;
+use ext_model::{Fault, Look};
 use ext_store::{Compute, Lane, Store};
 use ext_tree::Key;
 use std::fmt::Debug;
 use std::process::Abort;
+use std::sync::Wait;
 use std::sync::atomic::{AtomicU64, Ordering};
 use std::thread::sleep;
 use std::time::{Clock, Duration};
@@ -74,55 +75,53 @@ impl Gate {
     }
 }
 
-/// Computes in the class, by a factory that is held, and answers `made` where that one passed its gate. Says whether it was
-/// computed, and its number.
+/// Computes in the class, by a factory that is held and then fails where it is to; where it does not pass its gate it does the
+/// other of the two. Says the number of what was computed, or none where the factory failed.
 pub(crate) fn compute_held<C: Clock>(
     clock: &C,
     store: &Store<Letter>,
     lane: &mut Lane<Letter>,
     key: &Key,
     gate: &Gate,
-) -> Option<u32>
+    fails: bool,
+) -> Option<Option<u32>>
     requires lane { IsLaneOf store.now.id lane.old }
     requires context { 1 < length store.now.tree }
     ensures { IsLaneOf store.now.id lane.new }
 {
     let factory = |_key: &Key| -> Result<Letter, Fault> {
-        if gate.pass(clock) {
-            Ok(Letter { letter: 'x' })
-        } else {
+        if gate.pass(clock) == fails {
             Err(Fault::Memory)
+        } else {
+            Ok(Letter { letter: 'x' })
         }
     };
     match store.compute(lane, 1, key, factory) {
-        Compute::Computed { number } => Some(number),
+        Compute::Computed { number } => Some(Some(number)),
+        Compute::Failed(Fault::Memory) => Some(None),
         _ => None,
     }
 }
 
-/// The same by a factory that is held and then fails. Says whether it did.
-pub(crate) fn fail_held<C: Clock>(
-    clock: &C,
+/// Where a compute from the method finds a value, and hands its factory back unused, which gives its letter then.
+pub(crate) fn find<R: Wait>(
+    rt: &R,
     store: &Store<Letter>,
     lane: &mut Lane<Letter>,
     key: &Key,
-    gate: &Gate,
-) -> bool
+) -> Option<Look>
     requires lane { IsLaneOf store.now.id lane.old }
-    requires context { 1 < length store.now.tree }
+    requires context { 2 < length store.now.tree }
     ensures { IsLaneOf store.now.id lane.new }
 {
-    let factory = |_key: &Key| -> Result<Letter, Fault> {
-        if gate.pass(clock) {
-            Err(Fault::Memory)
-        } else {
-            Ok(Letter { letter: 'x' })
-        }
-    };
-    matches!(
-        store.compute(lane, 1, key, factory),
-        Compute::Failed(Fault::Memory)
-    )
+    let make = |_key: &Key| -> Result<Letter, Fault> { Ok(Letter { letter: 'y' }) };
+    match store.compute_wait(rt, lane, 2, key, make) {
+        Compute::Found { at, number, unused } => match unused(key) {
+            Ok(Letter { letter: 'y' }) => Some(Look::Found { at, number }),
+            _ => None,
+        },
+        _ => None,
+    }
 }
 
 /// Asserts that this was answered. Tests assert by it, since a call is cheaper to prove than what `assert_eq!` writes.

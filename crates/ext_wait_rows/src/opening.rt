@@ -27,14 +27,19 @@ impl StoreValue for Letter {
 }
 
 /// The key of the tests.
-pub(crate) fn key_a(alloc: Global) -> Result<Key, Fail> {
+fn key_a(alloc: Global) -> Result<Key, Fail> {
     Ok(Key::new(alloc, Namespace::global(), "a")?)
 }
 
-/// An engine with one class with one method: the contexts 0, 1 and 2.
-fn contexts(alloc: Global) -> Result<Tree, Fail>
-    ensures { IfOk result (λ tree. 2 < length tree) }
-{
+/// The key of the tests alone.
+fn keys(alloc: Global) -> Result<Directory, Fail> {
+    let mut keys = Directory::new(alloc);
+    keys.declare(key_a(alloc)?)?;
+    Ok(keys)
+}
+
+/// The ids of an engine with one class with one method.
+fn ids(alloc: Global) -> Result<Vec<UniqueId>, Fail> {
     let mut ids = Vec::new(alloc);
     for text in [
         "[engine:x]",
@@ -43,6 +48,14 @@ fn contexts(alloc: Global) -> Result<Tree, Fail>
     ] {
         ids.push(UniqueId::parse(alloc, text)?)?;
     }
+    Ok(ids)
+}
+
+/// Their contexts 0, 1 and 2.
+fn contexts(alloc: Global) -> Result<Tree, Fail>
+    ensures { IfOk result (λ tree. 2 < length tree) }
+{
+    let ids = ids(alloc)?;
     let tree = Tree::build(alloc, ids.as_slice())?;
     if tree.len() != 3 {
         return Err(Fail::from("the chain has three contexts"));
@@ -50,44 +63,94 @@ fn contexts(alloc: Global) -> Result<Tree, Fail>
     Ok(tree)
 }
 
-/// Opens the store of the chain with so many lanes and 65,535 numbers, and does the work with it: with the store, the key a, the
-/// lanes, and the closers of the contexts 0, 1 and 2.
-pub(crate) fn with_store<
-    T,
-    W: FnOnce(&Store<Letter>, &Key, &mut [Lane<Letter>], &mut Vec<Closer>) -> T,
->(alloc: Global, lanes: usize, work: W) -> Result<T, Fail>
-    requires { (store : Bor StoreView) (key : _) (lanes : MutBor (List (StoreLane Letter))) (closers : _)
-        → All (IsLaneOf store.now.id) lanes.now → All (IsCloserOf store.now) closers.now.items → 2 < length store.now.tree
-        → W.pre work store key lanes closers }
+/// The key a, the store, its lanes, and the closers of its contexts.
+#[derive(Drop)]
+struct Opened {
+    key: Key,
+    store: Store<Letter>,
+    lanes: Vec<Lane<Letter>>,
+    closers: Vec<Closer>,
+}
+
+/// Opens the store of the chain with so many lanes and 65,535 numbers.
+fn open(alloc: Global, lanes: usize) -> Result<Opened, Fail>
+    ensures lanes { IfOk result (λ o. All (IsLaneOf o.store.id) o.lanes.items) }
+    ensures closers { IfOk result (λ o. All (IsCloserOf o.store) o.closers.items) }
+    ensures contexts { IfOk result (λ o. 2 < length o.store.tree) }
 {
-    let key = key_a(alloc)?;
-    let mut keys = Directory::new(alloc);
-    keys.declare(key_a(alloc)?)?;
     let limits = Limits {
         lanes,
         tries: 8,
         numbers: 65_535,
     };
-    let (store, mut lanes, mut closers) = Store::open(alloc, contexts(alloc)?, keys, limits)?;
-    Ok(work(&store, &key, lanes.as_mut_slice(), &mut closers))
+    let key = key_a(alloc)?;
+    let tree = contexts(alloc)?;
+    let keys = keys(alloc)?;
+    let (store, lanes, closers) = Store::open(alloc, tree, keys, limits)?;
+    Ok(Opened {
+        key,
+        store,
+        lanes,
+        closers,
+    })
 }
 
-/// The same with two lanes in hand.
+/// Opens the store of the chain with so many lanes, and does the work with it: with the store, the key a, the lanes, and the
+/// closers of the contexts 0, 1 and 2.
+pub(crate) fn with_store<W: FnOnce(&Store<Letter>, &Key, &mut [Lane<Letter>], &mut Vec<Closer>)>(
+    alloc: Global,
+    lanes: usize,
+    work: W,
+) -> Result<(), Fail>
+    requires { (store : Bor StoreView) (key : _) (lanes : MutBor (List (StoreLane Letter))) (closers : _)
+        → All (IsLaneOf store.now.id) lanes.now → All (IsCloserOf store.now) closers.now.items → 2 < length store.now.tree
+        → W.pre work store key lanes closers }
+{
+    let mut opened = open(alloc, lanes)?;
+    work(
+        &opened.store,
+        &opened.key,
+        opened.lanes.as_mut_slice(),
+        &mut opened.closers,
+    );
+    Ok(())
+}
+
+/// Does the work with two lanes in hand.
+fn with_both<R, W: FnOnce(&R, &Store<Letter>, &Key, &mut Lane<Letter>, &mut Lane<Letter>)>(
+    rt: &R,
+    store: &Store<Letter>,
+    key: &Key,
+    lanes: &mut [Lane<Letter>],
+    work: W,
+) -> Result<(), Fail>
+    requires lanes { All (IsLaneOf store.now.id) lanes.old }
+    requires contexts { 2 < length store.now.tree }
+    requires work { (first second : MutBor (StoreLane Letter))
+        → IsLaneOf store.now.id first.now → IsLaneOf store.now.id second.now → W.pre work rt store key first second }
+{
+    let [first, second] = lanes else {
+        return Err(Fail::from("there are two lanes"));
+    };
+    work(rt, store, key, first, second);
+    Ok(())
+}
+
+/// As `with_store`, with two lanes in hand.
 pub(crate) fn with_pair<
-    T,
-    W: FnOnce(&Store<Letter>, &Key, &mut Lane<Letter>, &mut Lane<Letter>) -> T,
->(alloc: Global, work: W) -> Result<T, Fail>
+    R,
+    W: FnOnce(&R, &Store<Letter>, &Key, &mut Lane<Letter>, &mut Lane<Letter>),
+>(rt: &R, alloc: Global, work: W) -> Result<(), Fail>
     requires { (store : Bor StoreView) (key : _) (first second : MutBor (StoreLane Letter))
         → IsLaneOf store.now.id first.now → IsLaneOf store.now.id second.now → 2 < length store.now.tree
-        → W.pre work store key first second }
+        → W.pre work rt store key first second }
 {
-    let work_on = |store: &Store<Letter>, key: &Key, lanes: &mut [Lane<Letter>], _closers: &mut Vec<
-        Closer,
-    >| {
-        let [first, second] = lanes else {
-            return Err(Fail::from("there are two lanes"));
-        };
-        Ok(work(store, key, first, second))
-    };
-    with_store(alloc, 2, work_on)?
+    let mut opened = open(alloc, 2)?;
+    with_both(
+        rt,
+        &opened.store,
+        &opened.key,
+        opened.lanes.as_mut_slice(),
+        work,
+    )
 }
