@@ -8,6 +8,7 @@ use ext_ids::UniqueId;
 use ext_store::{Closer, Lane, Limits, Store, StoreValue};
 use ext_tree::{Directory, Key, Namespace, Tree};
 use std::alloc::Global;
+use std::process::Abort;
 use std::test::Fail;
 
 /// A closeable value of the tests.
@@ -117,40 +118,35 @@ pub(crate) fn with_store<W: FnOnce(&Store<Letter>, &Key, &mut [Lane<Letter>], &m
 }
 
 /// Does the work with two lanes in hand.
-fn with_both<R, W: FnOnce(&R, &Store<Letter>, &Key, &mut Lane<Letter>, &mut Lane<Letter>)>(
+fn with_both<R: Abort, W: FnOnce(&R, &Store<Letter>, &Key, &mut Lane<Letter>, &mut Lane<Letter>)>(
     rt: &R,
     store: &Store<Letter>,
     key: &Key,
     lanes: &mut [Lane<Letter>],
     work: W,
-) -> Result<(), Fail>
+)
     requires lanes { All (IsLaneOf store.now.id) lanes.old }
     requires contexts { 2 < length store.now.tree }
     requires work { (first second : MutBor (StoreLane Letter))
         → IsLaneOf store.now.id first.now → IsLaneOf store.now.id second.now → W.pre work rt store key first second }
 {
     let [first, second] = lanes else {
-        return Err(Fail::from("there are two lanes"));
+        panic!(rt; "there are two lanes");
     };
     work(rt, store, key, first, second);
-    Ok(())
 }
 
 /// As `with_store`, with two lanes in hand.
 pub(crate) fn with_pair<
-    R,
+    R: Abort,
     W: FnOnce(&R, &Store<Letter>, &Key, &mut Lane<Letter>, &mut Lane<Letter>),
 >(rt: &R, alloc: Global, work: W) -> Result<(), Fail>
     requires { (store : Bor StoreView) (key : _) (first second : MutBor (StoreLane Letter))
         → IsLaneOf store.now.id first.now → IsLaneOf store.now.id second.now → 2 < length store.now.tree
         → W.pre work rt store key first second }
 {
-    let mut opened = open(alloc, 2)?;
-    with_both(
-        rt,
-        &opened.store,
-        &opened.key,
-        opened.lanes.as_mut_slice(),
-        work,
-    )
+    let work_on = |store: &Store<Letter>, key: &Key, lanes: &mut [Lane<Letter>], _closers: &mut Vec<
+        Closer,
+    >| { with_both(rt, store, key, lanes, work) };
+    with_store(alloc, 2, work_on)
 }
