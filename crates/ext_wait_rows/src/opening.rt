@@ -64,10 +64,9 @@ fn contexts(alloc: Global) -> Result<Tree, Fail>
     Ok(tree)
 }
 
-/// The key a, the store, its lanes, and the closers of its contexts.
+/// A store, its lanes, and the closers of its contexts.
 #[derive(Drop)]
 struct Opened {
-    key: Key,
     store: Store<Letter>,
     lanes: Vec<Lane<Letter>>,
     closers: Vec<Closer>,
@@ -84,16 +83,51 @@ fn open(alloc: Global, lanes: usize) -> Result<Opened, Fail>
         tries: 8,
         numbers: 65_535,
     };
-    let key = key_a(alloc)?;
     let tree = contexts(alloc)?;
     let keys = keys(alloc)?;
     let (store, lanes, closers) = Store::open(alloc, tree, keys, limits)?;
     Ok(Opened {
-        key,
         store,
         lanes,
         closers,
     })
+}
+
+/// Does the work with the parts of what is opened.
+fn lend<W: FnOnce(&Store<Letter>, &Key, &mut [Lane<Letter>], &mut Vec<Closer>)>(
+    opened: &mut Opened,
+    key: &Key,
+    work: W,
+)
+    requires lanes { All (IsLaneOf opened.old.store.id) opened.old.lanes.items }
+    requires closers { All (IsCloserOf opened.old.store) opened.old.closers.items }
+    requires contexts { 2 < length opened.old.store.tree }
+    requires work { (store : Bor StoreView) (key : _) (lanes : MutBor (List (StoreLane Letter))) (closers : _)
+        → All (IsLaneOf store.now.id) lanes.now → All (IsCloserOf store.now) closers.now.items → 2 < length store.now.tree
+        → W.pre work store key lanes closers }
+{
+    work(
+        &opened.store,
+        key,
+        opened.lanes.as_mut_slice(),
+        &mut opened.closers,
+    );
+}
+
+/// Opens the store of the chain with so many lanes, and does the work with its parts.
+fn with_opened<W: FnOnce(&Store<Letter>, &Key, &mut [Lane<Letter>], &mut Vec<Closer>)>(
+    alloc: Global,
+    lanes: usize,
+    key: &Key,
+    work: W,
+) -> Result<(), Fail>
+    requires { (store : Bor StoreView) (key : _) (lanes : MutBor (List (StoreLane Letter))) (closers : _)
+        → All (IsLaneOf store.now.id) lanes.now → All (IsCloserOf store.now) closers.now.items → 2 < length store.now.tree
+        → W.pre work store key lanes closers }
+{
+    let mut opened = open(alloc, lanes)?;
+    lend(&mut opened, key, work);
+    Ok(())
 }
 
 /// Opens the store of the chain with so many lanes, and does the work with it: with the store, the key a, the lanes, and the
@@ -107,14 +141,8 @@ pub(crate) fn with_store<W: FnOnce(&Store<Letter>, &Key, &mut [Lane<Letter>], &m
         → All (IsLaneOf store.now.id) lanes.now → All (IsCloserOf store.now) closers.now.items → 2 < length store.now.tree
         → W.pre work store key lanes closers }
 {
-    let mut opened = open(alloc, lanes)?;
-    work(
-        &opened.store,
-        &opened.key,
-        opened.lanes.as_mut_slice(),
-        &mut opened.closers,
-    );
-    Ok(())
+    let key = key_a(alloc)?;
+    with_opened(alloc, lanes, &key, work)
 }
 
 /// Does the work with two lanes in hand.
