@@ -41,6 +41,7 @@ fn compute<R: Wait>(
 ) -> Option<u32>
     requires lane { IsLaneOf store.now.id lane.old }
     requires context { 2 < length store.now.tree }
+    ensures { IsLaneOf store.now.id lane.new }
 {
     let make = |_key: &Key| -> Result<Letter, Fault> { Ok(Letter { letter: 'z' }) };
     match store.compute_wait(rt, lane, 2, key, make) {
