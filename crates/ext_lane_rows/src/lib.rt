@@ -10,6 +10,8 @@ mod gates;
 #[cfg(test)]
 mod hand;
 #[cfg(test)]
+mod opening;
+#[cfg(test)]
 mod same;
 #[cfg(test)]
 mod threads;
