@@ -55,34 +55,25 @@ fn won(rt: &impl Abort, cells: &Cells, lane: &mut CellLane) -> Claim
     }
 }
 
-/// One lane claims the one cell and fills it, and the other calls meanwhile.
-#[derive(Drop)]
-struct ClaimAlone;
-
-impl Scenario for ClaimAlone {
-    ghost needs = { 1 };
-
-    fn play<R: Threads + Abort>(self, rt: &R, cells: &Cells, lanes: &mut [CellLane]) {
-        let [first, second] = lanes else {
-            panic!(rt; "no lanes")
-        };
-        let claim = won(rt, cells, first);
-        let busy = Err(CellRefusal::Busy);
-        go(rt, cells, second, 0, Call::Asks(busy));
-        go(rt, cells, second, 0, Call::Removes(busy));
-        go(rt, cells, second, 0, Call::Seals(busy));
-        go(rt, cells, second, 0, Call::Puts(1, busy));
-        let filled = end_claim(cells, first, claim);
-        same(rt, filled, Ok(2), "the number");
-        go(rt, cells, second, 0, Call::Asks(Ok(Some(2))));
-        go(rt, cells, second, 0, Call::Removes(Ok(Some(2))));
-        cells.meet(second, first);
-    }
-}
-
 #[test]
 fn claims_keep_others_out(rt: HostRuntime) {
-    with_cells(&rt, rt.alloc(), 1, 2, 8, 8, ClaimAlone);
+    let Ok((cells, mut lanes)) = Cells::open(rt.alloc(), 1, 2, 8, 8) else {
+        panic!(rt; "no memory")
+    };
+    let (Some(mut second), Some(mut first)) = (lanes.pop(), lanes.pop()) else {
+        panic!(rt; "no lanes")
+    };
+    let claim = won(&rt, &cells, &mut first);
+    let busy = Err(CellRefusal::Busy);
+    go(&rt, &cells, &mut second, 0, Call::Asks(busy));
+    go(&rt, &cells, &mut second, 0, Call::Removes(busy));
+    go(&rt, &cells, &mut second, 0, Call::Seals(busy));
+    go(&rt, &cells, &mut second, 0, Call::Puts(1, busy));
+    let filled = end_claim(&cells, &mut first, claim);
+    same(&rt, filled, Ok(2), "the number");
+    go(&rt, &cells, &mut second, 0, Call::Asks(Ok(Some(2))));
+    go(&rt, &cells, &mut second, 0, Call::Removes(Ok(Some(2))));
+    cells.meet(&mut second, &mut first);
 }
 
 #[test]
