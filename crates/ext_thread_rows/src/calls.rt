@@ -4,7 +4,7 @@ ghost use Rattle.ext_store.specs.Stores.{IsCloserOf, IsKeptBy, IsLaneOf, StillKe
 
 use crate::gates::Gate;
 use crate::same::same;
-use ext_closing::{CloseFault, close};
+use ext_closing::{CloseFault, Closes, close};
 use ext_model::{ContextNo, Fault, Look};
 use ext_store::{Closer, Compute, Kept, Lane, Refusal, Store};
 use ext_store_rows::{Letter, Log, closeable};
@@ -148,6 +148,14 @@ pub(crate) fn close_refused<R: Abort>(
     (closer, lane)
 }
 
+/// Asserts that a close had no fault, and that the values of exactly these numbers are closed, in this order.
+fn check_closed<R: Abort>(rt: &R, closed: &Closes, numbers: &[u32], wanted: &[u32]) {
+    let counts = (closed.closed as usize, closed.more_faults);
+    same(rt, counts, (wanted.len(), 0), "how many are closed");
+    assert!(rt; closed.first_fault.is_none());
+    same(rt, numbers, wanted, "what is closed");
+}
+
 /// A close with both lanes in hand, which closes the values of exactly these numbers, in this order.
 pub(crate) fn close_both<R: Abort>(
     rt: &R,
@@ -169,8 +177,5 @@ pub(crate) fn close_both<R: Abort>(
     let Ok(closed) = close(store, closer, lanes, &mut log) else {
         panic!(rt; "not closed")
     };
-    let counts = (closed.closed as usize, closed.more_faults);
-    same(rt, counts, (wanted.len(), 0), "how many are closed");
-    assert!(rt; closed.first_fault.is_none());
-    same(rt, log.numbers.as_slice(), wanted, "what is closed");
+    check_closed(rt, &closed, log.numbers.as_slice(), wanted);
 }

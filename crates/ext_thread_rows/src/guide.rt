@@ -13,6 +13,7 @@ use std::process::Abort;
 use std::sync::Wait;
 use std::test::Fail;
 use std::thread;
+use std::thread::Threads;
 
 /// A value: what an extension makes once, and all tests below find.
 #[derive(Debug, Drop, PartialEq, Eq)]
@@ -58,6 +59,20 @@ fn open_for_servers<R: Abort>(rt: &R, alloc: Global, directory: Directory) -> Op
     opened
 }
 
+/// The same without the closers.
+fn open_for_two<R: Abort>(
+    rt: &R,
+    alloc: Global,
+    directory: Directory,
+) -> (Store<Server>, Lane<Server>, Lane<Server>)
+    ensures first { IsLaneOf result.0.id result.1 }
+    ensures second { IsLaneOf result.0.id result.2 }
+    ensures contexts { 2 < length result.0.tree }
+{
+    let opened = open_for_servers(rt, alloc, directory);
+    (opened.store, opened.first, opened.second)
+}
+
 /// A thread with a lane of its own: it makes the server and stores it in the engine's context.
 fn start_server(store: &Store<Server>, mut lane: Lane<Server>, key: &Key) -> Lane<Server>
     requires lane { IsLaneOf store.now.id lane }
@@ -70,16 +85,18 @@ fn start_server(store: &Store<Server>, mut lane: Lane<Server>, key: &Key) -> Lan
     lane
 }
 
-#[test]
-fn first_hour(rt: HostRuntime) -> Result<(), Fail> {
-    let key = &server_key(rt.alloc())?;
-    let Opened {
-        store,
-        first,
-        mut second,
-        ..
-    } = open_for_servers(&rt, rt.alloc(), server_keys(rt.alloc())?);
-
+/// The store, which is shared with the thread meanwhile, and the thread's lane when the thread has ended.
+fn start_in_a_thread<R: Threads>(
+    rt: &R,
+    store: Store<Server>,
+    first: Lane<Server>,
+    key: &Key,
+) -> (Store<Server>, Lane<Server>)
+    requires lane { IsLaneOf store.id first }
+    requires engine { 0 < length store.tree }
+    ensures store { result.0 ≡ store }
+    ensures lane { IsLaneOf store.id result.1 }
+{
     let shared = &store;
     let (mut first, _) = thread::join(
         &rt,
@@ -90,7 +107,21 @@ fn first_hour(rt: HostRuntime) -> Result<(), Fail> {
         { start_server(shared, first, key) },
         || (),
     );
+    (store, first)
+}
 
+/// Another lane finds the server.
+fn find_server<R: Abort>(
+    rt: &R,
+    store: &Store<Server>,
+    mut first: Lane<Server>,
+    mut second: Lane<Server>,
+    key: &Key,
+)
+    requires first { IsLaneOf store.now.id first }
+    requires second { IsLaneOf store.now.id second }
+    requires contexts { 2 < length store.now.tree }
+{
     let found = Look::Found { at: 0, number: 1 };
     same(
         &rt,
@@ -101,6 +132,15 @@ fn first_hour(rt: HostRuntime) -> Result<(), Fail> {
     let server = store.show(&mut second, 1);
     same(&rt, server, Some(&Server { port: 8080 }), "the server");
     store.meet(&mut first, &mut second);
+}
+
+#[test]
+fn first_hour(rt: HostRuntime) -> Result<(), Fail> {
+    let key = &server_key(rt.alloc())?;
+    let directory = server_keys(rt.alloc())?;
+    let (store, first, second) = open_for_two(&rt, rt.alloc(), directory);
+    let (store, first) = start_in_a_thread(&rt, store, first, key);
+    find_server(&rt, &store, first, second, key);
     Ok(())
 }
 
@@ -145,16 +185,18 @@ fn ask<R: Wait>(
     Some((number, server.port))
 }
 
-#[test]
-fn server_made_once(rt: HostRuntime) -> Result<(), Fail> {
-    let key = &server_key(rt.alloc())?;
-    let Opened {
-        store,
-        first,
-        second,
-        ..
-    } = open_for_servers(&rt, rt.alloc(), server_keys(rt.alloc())?);
-
+/// Both threads ask for the server.
+fn ask_both<R: Abort + Sync + Threads + Wait>(
+    rt: &R,
+    store: Store<Server>,
+    first: Lane<Server>,
+    second: Lane<Server>,
+    key: &Key,
+)
+    requires first { IsLaneOf store.id first }
+    requires second { IsLaneOf store.id second }
+    requires engine { 0 < length store.tree }
+{
     let (runtime, shared) = (&rt, &store);
     let asked = thread::join(
         &rt,
@@ -173,6 +215,14 @@ fn server_made_once(rt: HostRuntime) -> Result<(), Fail> {
         (Some((1, 8080)), Some((1, 8080))),
         "what both have",
     );
+}
+
+#[test]
+fn server_made_once(rt: HostRuntime) -> Result<(), Fail> {
+    let key = &server_key(rt.alloc())?;
+    let directory = server_keys(rt.alloc())?;
+    let (store, first, second) = open_for_two(&rt, rt.alloc(), directory);
+    ask_both(&rt, store, first, second, key);
     Ok(())
 }
 
@@ -252,23 +302,80 @@ fn end<R: Abort>(
     same(rt, (closed.closed, stop.stopped), (1, 1), "the close");
 }
 
+/// One lane makes the server and the other finds it.
+fn make_and_find<R: Abort + Wait>(
+    rt: &R,
+    store: &Store<Server>,
+    first: &mut Lane<Server>,
+    second: &mut Lane<Server>,
+    key: &Key,
+)
+    requires first { IsLaneOf store.now.id first.old }
+    requires second { IsLaneOf store.now.id second.old }
+    requires engine { 0 < length store.now.tree }
+    ensures first { IsLaneOf store.now.id first.new }
+    ensures second { IsLaneOf store.now.id second.new }
+{
+    let made = find_or_wait(rt, store, first, key);
+    let found = find_or_wait(rt, store, second, key);
+    same(rt, (made, found), (Some(1), Some(1)), "the server");
+}
+
+/// The closer of the context 0, the engine's.
+fn closer_of_engine<R: Abort>(rt: &R, store: &Store<Server>, closers: &mut Vec<Closer>) -> Closer
+    requires { All (IsCloserOf store.now) closers.old.items }
+    ensures { IsCloserOf store.now result }
+{
+    assert!(rt; closers.len() == 3);
+    closers.remove(0)
+}
+
+/// The close without the lane that made the server is refused, and that by both lanes stops it.
+fn end_twice<R: Abort>(
+    rt: &R,
+    store: &Store<Server>,
+    closer: Closer,
+    first: Lane<Server>,
+    second: Lane<Server>,
+)
+    requires first { IsLaneOf store.now.id first }
+    requires second { IsLaneOf store.now.id second }
+    requires closer { IsCloserOf store.now closer }
+{
+    let (closer, second) = end_too_early(rt, store, closer, second);
+    end(rt, store, closer, first, second);
+}
+
+/// The server is made, found and stopped.
+fn make_and_end<R: Abort + Wait>(
+    rt: &R,
+    store: &Store<Server>,
+    first: Lane<Server>,
+    second: Lane<Server>,
+    closers: &mut Vec<Closer>,
+    key: &Key,
+)
+    requires first { IsLaneOf store.now.id first }
+    requires second { IsLaneOf store.now.id second }
+    requires closers { All (IsCloserOf store.now) closers.old.items }
+    requires engine { 0 < length store.now.tree }
+{
+    let (mut first, mut second) = (first, second);
+    make_and_find(rt, store, &mut first, &mut second, key);
+    let closer = closer_of_engine(rt, store, closers);
+    end_twice(rt, store, closer, first, second);
+}
+
 #[test]
 fn server_is_stopped_once(rt: HostRuntime) -> Result<(), Fail> {
     let key = &server_key(rt.alloc())?;
+    let opened = open_for_servers(&rt, rt.alloc(), server_keys(rt.alloc())?);
     let Opened {
         store,
-        mut first,
-        mut second,
+        first,
+        second,
         mut closers,
-    } = open_for_servers(&rt, rt.alloc(), server_keys(rt.alloc())?);
-    let made = find_or_wait(&rt, &store, &mut first, key);
-    let found = find_or_wait(&rt, &store, &mut second, key);
-    same(&rt, (made, found), (Some(1), Some(1)), "the server");
-
-    // The closer of the context 0, the engine's.
-    assert!(rt; closers.len() == 3);
-    let closer = closers.remove(0);
-    let (closer, second) = end_too_early(&rt, &store, closer, second);
-    end(&rt, &store, closer, first, second);
+    } = opened;
+    make_and_end(&rt, &store, first, second, &mut closers, key);
     Ok(())
 }

@@ -13,14 +13,14 @@ pub(crate) fn with_opened<
     R: Abort,
     V: StoreValue + Drop,
     T,
-    W: FnOnce(&Store<V>, Lane<V>, Lane<V>, Vec<Closer>) -> T,
+    W: FnOnce(&Store<V>, Lane<V>, Lane<V>, &mut Vec<Closer>) -> T,
 >(rt: &R, opened: Option<Opened<V>>, work: W) -> T
     requires first { IfSome opened (λ o. IsLaneOf o.store.id o.first) }
     requires second { IfSome opened (λ o. IsLaneOf o.store.id o.second) }
     requires closers { IfSome opened (λ o. All (IsCloserOf o.store) o.closers.items) }
     requires contexts { IfSome opened (λ o. 2 < length o.store.tree) }
     requires work { (store : Bor StoreView) (first second : StoreLane V) (closers : _)
-        → IsLaneOf store.now.id first → IsLaneOf store.now.id second → All (IsCloserOf store.now) closers.items
+        → IsLaneOf store.now.id first → IsLaneOf store.now.id second → All (IsCloserOf store.now) closers.now.items
         → 2 < length store.now.tree → W.pre work store first second closers }
 {
     let Some(opened) = opened else {
@@ -30,7 +30,18 @@ pub(crate) fn with_opened<
         store,
         first,
         second,
-        closers,
+        mut closers,
     } = opened;
-    work(&store, first, second, closers)
+    work(&store, first, second, &mut closers)
+}
+
+/// Does the work with what was made, and drops it then: nothing need be known of what it is made of. The test fails where nothing
+/// was made, as where there is no memory.
+pub(crate) fn with_made<R: Abort, T: Drop, W: FnOnce(&T)>(rt: &R, made: Option<T>, work: W)
+    requires { W.IsAlwaysCallable work }
+{
+    let Some(value) = made else {
+        panic!(rt; "nothing was made");
+    };
+    work(&value);
 }
