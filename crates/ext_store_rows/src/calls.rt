@@ -2,7 +2,7 @@
 ghost use Rattle.std.specs.Prelude.{◌≡◌, ◌<◌, IfErr, IfSome, length};
 ghost use Rattle.ext_store.specs.Stores.{IsKeptBy, IsLaneOf, StillKeeps};
 
-use crate::asked::{Scenario, key, same, with_chain};
+use crate::asked::{Scenario, same, with_chain};
 use crate::chain::{Call, rows};
 use crate::opening::{Letter, contexts, keys, plain};
 use crate::wide::lanes_and_closers;
@@ -128,39 +128,53 @@ fn finds_x(store: &Store<Letter>, lane: &mut Lane<Letter>, a: &Key) -> bool
     store.show(lane, 2).is_none() && store.show(lane, 1).copied() == Some(plain('x'))
 }
 
+/// Whether x was stored at the root as number 1 by a thread of its own.
+fn stores_x_in_a_thread<R: Threads>(
+    rt: &R,
+    store: &Store<Letter>,
+    lane: &mut Lane<Letter>,
+    a: &Key,
+) -> bool
+    requires lane { IsLaneOf store.now.id lane.old }
+    requires contexts { 2 < length store.now.tree }
+    ensures { IsLaneOf store.now.id lane.new }
+{
+    let (stored, _) = thread::join_mut(
+        rt,
+        &mut || -> bool
+            requires lane { IsLaneOf store.now.id lane.now }
+            requires contexts { 2 < length store.now.tree }
+            ensures { IsLaneOf store.entry.now.id lane.exit.now }
+        { stores_x(store, lane, a) },
+        &mut || (),
+    );
+    stored
+}
+
 /// One lane stores x in a thread of its own, and both find it then.
 #[derive(Drop)]
 struct SeenByAnother;
 
 impl Scenario for SeenByAnother {
     fn play<R: Threads + Sync + Abort>(
-        self,
+        &self,
         rt: &R,
-        alloc: Global,
         store: &Store<Letter>,
         first: &mut Lane<Letter>,
         second: &mut Lane<Letter>,
+        a: &Key,
+        _d: &Key,
     ) {
-        let a = key(rt, alloc, "a");
-        let (stored, _) = thread::join_mut(
-            rt,
-            &mut || -> bool
-                requires lane { IsLaneOf store.now.id first.now }
-                requires contexts { 2 < length store.now.tree }
-                ensures { IsLaneOf store.entry.now.id first.exit.now }
-            { stores_x(store, first, &a) },
-            &mut || (),
-        );
-        assert!(rt; stored);
-        assert!(rt; finds_x(store, second, &a));
-        assert!(rt; finds_x(store, first, &a));
+        assert!(rt; stores_x_in_a_thread(rt, store, first, a));
+        assert!(rt; finds_x(store, second, a));
+        assert!(rt; finds_x(store, first, a));
         store.meet(first, second);
     }
 }
 
 #[test]
 fn value_seen_by_another_lane(rt: HostRuntime) {
-    with_chain(&rt, rt.alloc(), 8, SeenByAnother);
+    with_chain(&rt, rt.alloc(), 8, &SeenByAnother);
 }
 
 /// Whether z is refused where x and y were kept, and x can be put then.
@@ -187,22 +201,22 @@ struct TwoNumbers;
 
 impl Scenario for TwoNumbers {
     fn play<R: Threads + Sync + Abort>(
-        self,
+        &self,
         rt: &R,
-        alloc: Global,
         store: &Store<Letter>,
         first: &mut Lane<Letter>,
         _second: &mut Lane<Letter>,
+        a: &Key,
+        _d: &Key,
     ) {
-        let a = key(rt, alloc, "a");
-        assert!(rt; third_is_refused(store, first, &a));
-        assert!(rt; is_taken_out(store, first, 0, &a));
+        assert!(rt; third_is_refused(store, first, a));
+        assert!(rt; is_taken_out(store, first, 0, a));
     }
 }
 
 #[test]
 fn numbers_run_out(rt: HostRuntime) {
-    with_chain(&rt, rt.alloc(), 2, TwoNumbers);
+    with_chain(&rt, rt.alloc(), 2, &TwoNumbers);
 }
 
 /// Whether a value is refused under the first key, as unknown, and then put under the second, both in the class.
@@ -226,23 +240,22 @@ struct PutElsewhere;
 
 impl Scenario for PutElsewhere {
     fn play<R: Threads + Sync + Abort>(
-        self,
+        &self,
         rt: &R,
-        alloc: Global,
         store: &Store<Letter>,
         first: &mut Lane<Letter>,
         _second: &mut Lane<Letter>,
+        a: &Key,
+        d: &Key,
     ) {
-        let a = key(rt, alloc, "a");
-        let d = key(rt, alloc, "d");
-        assert!(rt; put_elsewhere(store, first, &d, &a));
-        assert!(rt; is_taken_out(store, first, 1, &a));
+        assert!(rt; put_elsewhere(store, first, d, a));
+        assert!(rt; is_taken_out(store, first, 1, a));
     }
 }
 
 #[test]
 fn refused_values_are_put_elsewhere(rt: HostRuntime) {
-    with_chain(&rt, rt.alloc(), 8, PutElsewhere);
+    with_chain(&rt, rt.alloc(), 8, &PutElsewhere);
 }
 
 /// Two kept values are stored in either order, whatever was done meanwhile: a caller that goes by the store's clauses.
@@ -278,35 +291,35 @@ struct AnyOrder;
 
 impl Scenario for AnyOrder {
     fn play<R: Threads + Sync + Abort>(
-        self,
+        &self,
         rt: &R,
-        alloc: Global,
         store: &Store<Letter>,
         first: &mut Lane<Letter>,
         _second: &mut Lane<Letter>,
+        a: &Key,
+        _d: &Key,
     ) {
-        let a = key(rt, alloc, "a");
-        assert!(rt; stores_two(store, first, &a, (plain('x'), plain('y'))));
-        assert!(rt; is_taken_out(store, first, 0, &a));
+        assert!(rt; stores_two(store, first, a, (plain('x'), plain('y'))));
+        assert!(rt; is_taken_out(store, first, 0, a));
     }
 }
 
 #[test]
 fn kept_values_are_stored_in_any_order(rt: HostRuntime) {
-    with_chain(&rt, rt.alloc(), 8, AnyOrder);
+    with_chain(&rt, rt.alloc(), 8, &AnyOrder);
 }
 
-/// Why a store of the chain with so many keys, two lanes, so many tries and eight numbers is not opened.
-fn open_fault<R: Abort>(rt: &R, alloc: Global, count: usize, tries: u32) -> Option<StoreFault> {
+/// How many lanes and closers a store of the chain has with so many keys, two lanes, so many tries and eight numbers, or why it is
+/// not opened; `None` where there is no memory.
+fn opened(alloc: Global, count: usize, tries: u32) -> Option<Result<(usize, usize), StoreFault>> {
     let limits = Limits {
         lanes: 2,
         tries,
         numbers: 8,
     };
-    let (Some(tree), Some(keys)) = (contexts(alloc), keys(alloc, count)) else {
-        panic!(rt; "no memory");
-    };
-    lanes_and_closers(alloc, tree, keys, limits).err()
+    let tree = contexts(alloc)?;
+    let keys = keys(alloc, count)?;
+    Some(lanes_and_closers(alloc, tree, keys, limits))
 }
 
 #[test]
@@ -316,10 +329,12 @@ fn open_within_the_limits_of_the_store(rt: HostRuntime) {
         (11, 8, None),
         (11, 0, Some(StoreFault::BadLimit)),
     ] {
-        let told = open_fault(&rt, rt.alloc(), count, tries);
+        let Some(told) = opened(rt.alloc(), count, tries) else {
+            panic!(&rt; "no memory");
+        };
         same(
             &rt,
-            (count, tries, told),
+            (count, tries, told.err()),
             (count, tries, fault),
             "keys and tries",
         );

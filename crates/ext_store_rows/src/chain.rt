@@ -1,8 +1,8 @@
 //! A store of the chain with both of its lanes in one hand, so that a test names a lane by its number.
-ghost use Rattle.std.specs.Prelude.{◌<◌, All};
-ghost use Rattle.ext_store.specs.Stores.{IsCloserOf};
+ghost use Rattle.std.specs.Prelude.{◌<◌, All, length};
+ghost use Rattle.ext_store.specs.Stores.{IsCloserOf, IsLaneOf};
 
-use crate::asked::{key, same};
+use crate::asked::{key, same, with_made};
 use crate::closes::Recorder;
 use crate::opening::{Letter, Opened, open_chain, plain};
 use ext_closing::{CloseFault, Closes, close};
@@ -70,84 +70,6 @@ impl Chain {
     /// The numbers of the lanes.
     fn numbers_of_lanes(&self) -> (usize, usize) {
         (self.lanes[0].number(), self.lanes[1].number())
-    }
-
-    /// What a look-up answers.
-    fn get(&mut self, lane: usize, context: ContextNo, key: &Key) -> Result<Look, Refusal>
-        requires lane { lane < 2 }
-        requires context { context < 3 }
-    {
-        let lane = &mut self.lanes[lane];
-        self.store.get(lane, context, key)
-    }
-
-    /// What a remove answers.
-    fn remove(&mut self, lane: usize, context: ContextNo, key: &Key) -> Result<Option<u32>, Refusal>
-        requires lane { lane < 2 }
-        requires context { context < 3 }
-    {
-        let lane = &mut self.lanes[lane];
-        self.store.remove(lane, context, key)
-    }
-
-    /// The number under which a value is kept, and what its put answers.
-    fn put<R: Abort>(
-        &mut self,
-        rt: &R,
-        lane: usize,
-        context: ContextNo,
-        key: &Key,
-        value: Letter,
-    ) -> (u32, Result<Option<u32>, Refusal>)
-        requires lane { lane < 2 }
-        requires context { context < 3 }
-    {
-        let lane = &mut self.lanes[lane];
-        let Ok(kept) = self.store.keep(lane, value) else {
-            panic!(rt; "not kept");
-        };
-        let number = kept.number();
-        match self.store.put(lane, context, key, kept) {
-            Ok(stood) => (number, Ok(stood)),
-            Err((_, refusal)) => (number, Err(refusal)),
-        }
-    }
-
-    /// What a compute answers whose factory answers `made`; where the factory comes back unused, what it answers then.
-    fn compute(
-        &mut self,
-        lane: usize,
-        context: ContextNo,
-        key: &Key,
-        made: Result<Letter, Fault>,
-    ) -> Compute<Letter, Result<Letter, Fault>>
-        requires lane { lane < 2 }
-        requires context { context < 3 }
-    {
-        let factory = move |_key: &Key| -> Result<Letter, Fault> { made };
-        let lane = &mut self.lanes[lane];
-        match self.store.compute(lane, context, key, factory) {
-            Compute::Computed { number } => Compute::Computed { number },
-            Compute::Found { at, number, unused } => Compute::Found {
-                at,
-                number,
-                unused: unused(key),
-            },
-            Compute::Failed(fault) => Compute::Failed(fault),
-            Compute::Unkept { value, cause } => Compute::Unkept { value, cause },
-            Compute::Refused { refusal, unused } => Compute::Refused {
-                refusal,
-                unused: unused(key),
-            },
-        }
-    }
-
-    /// The value that the lane is shown.
-    fn show(&mut self, lane: usize, number: u32) -> Option<Letter>
-        requires { lane < 2 }
-    {
-        let lane = &mut self.lanes[lane];
-        self.store.show(lane, number).copied()
     }
 
     /// What a close of the context answers that has the lanes up to this one in hand. Where it is refused, the context can be
@@ -222,86 +144,176 @@ fn tell(outcome: Compute<Letter, Result<Letter, Fault>>, letter: char) -> Told {
     }
 }
 
+/// The text of the fault; `None` where it has none.
+fn text_of(fault: Option<&Fault>) -> Option<&str> {
+    match fault {
+        Some(Fault::Text(text)) => Some(text.as_str()),
+        _ => None,
+    }
+}
+
+/// Asserts that there is a fault with this text, or none where there is no text.
+fn check_fault<R: Abort>(rt: &R, fault: Option<&Fault>, text: Option<&str>) {
+    assert!(rt; fault.is_some() == text.is_some());
+    same(rt, text_of(fault), text, "the fault");
+}
+
 /// What the compute tells whose factory fails with the text.
 fn tell_fault(outcome: Compute<Letter, Result<Letter, Fault>>, text: &str) -> Told {
     let Compute::Failed(fault) = outcome else {
         return Told::Other;
     };
-    match fault {
-        Fault::Text(told) if told.as_str() == text => Told::Failed,
-        Fault::Text(_told) => Told::Other,
-        Fault::Memory => Told::Other,
+    if text_of(Some(&fault)) == Some(text) {
+        Told::Failed
+    } else {
+        Told::Other
+    }
+}
+
+/// The number under which a value is kept, and what its put answers.
+fn put<R: Abort>(
+    rt: &R,
+    store: &Store<Letter>,
+    lane: &mut Lane<Letter>,
+    context: ContextNo,
+    key: &Key,
+    value: Letter,
+) -> (u32, Result<Option<u32>, Refusal>)
+    requires lane { IsLaneOf store.now.id lane.old }
+    requires context { context < length store.now.tree }
+    ensures { IsLaneOf store.now.id lane.new }
+{
+    let Ok(kept) = store.keep(lane, value) else {
+        panic!(rt; "not kept");
+    };
+    let number = kept.number();
+    match store.put(lane, context, key, kept) {
+        Ok(stood) => (number, Ok(stood)),
+        Err((_, refusal)) => (number, Err(refusal)),
+    }
+}
+
+/// What a compute answers whose factory answers `made`; where the factory comes back unused, what it answers then.
+fn compute(
+    store: &Store<Letter>,
+    lane: &mut Lane<Letter>,
+    context: ContextNo,
+    key: &Key,
+    made: Result<Letter, Fault>,
+) -> Compute<Letter, Result<Letter, Fault>>
+    requires lane { IsLaneOf store.now.id lane.old }
+    requires context { context < length store.now.tree }
+    ensures { IsLaneOf store.now.id lane.new }
+{
+    let factory = move |_key: &Key| -> Result<Letter, Fault> { made };
+    match store.compute(lane, context, key, factory) {
+        Compute::Computed { number } => Compute::Computed { number },
+        Compute::Found { at, number, unused } => Compute::Found {
+            at,
+            number,
+            unused: unused(key),
+        },
+        Compute::Failed(fault) => Compute::Failed(fault),
+        Compute::Unkept { value, cause } => Compute::Unkept { value, cause },
+        Compute::Refused { refusal, unused } => Compute::Refused {
+            refusal,
+            unused: unused(key),
+        },
+    }
+}
+
+/// Computes by a factory that makes the letter.
+fn make(
+    store: &Store<Letter>,
+    lane: &mut Lane<Letter>,
+    context: ContextNo,
+    key: &Key,
+    letter: char,
+) -> Told
+    requires lane { IsLaneOf store.now.id lane.old }
+    requires context { context < length store.now.tree }
+    ensures { IsLaneOf store.now.id lane.new }
+{
+    tell(
+        compute(store, lane, context, key, Ok(plain(letter))),
+        letter,
+    )
+}
+
+/// Computes by a factory that fails with the text.
+fn fail(
+    alloc: Global,
+    store: &Store<Letter>,
+    lane: &mut Lane<Letter>,
+    context: ContextNo,
+    key: &Key,
+    text: &str,
+) -> Told
+    requires lane { IsLaneOf store.now.id lane.old }
+    requires context { context < length store.now.tree }
+    ensures { IsLaneOf store.now.id lane.new }
+{
+    let Ok(fault) = String::from_str(alloc, text) else {
+        return Told::Other;
+    };
+    let outcome = compute(store, lane, context, key, Err(Fault::Text(fault)));
+    tell_fault(outcome, text)
+}
+
+/// Asserts that the lane's call has its answer. A close is no lane's.
+fn ask<R: Abort>(
+    rt: &R,
+    alloc: Global,
+    store: &Store<Letter>,
+    lane: &mut Lane<Letter>,
+    at: ContextNo,
+    key: &Key,
+    call: Call,
+    name: &str,
+)
+    requires lane { IsLaneOf store.now.id lane.old }
+    requires context { at < length store.now.tree }
+    ensures { IsLaneOf store.now.id lane.new }
+{
+    match call {
+        Call::Gets(answer) => same(rt, store.get(lane, at, key), answer, name),
+        Call::Removes(answer) => same(rt, store.remove(lane, at, key), answer, name),
+        Call::Puts(value, number, answer) => {
+            let told = put(rt, store, lane, at, key, value);
+            same(rt, told, (number, answer), name);
+        }
+        Call::Computes(letter, answer) => {
+            same(rt, make(store, lane, at, key, letter), answer, name);
+        }
+        Call::Fails(text) => {
+            let told = fail(alloc, store, lane, at, key, text);
+            same(rt, told, Told::Failed, name);
+        }
+        Call::Shows(number, value) => same(rt, store.show(lane, number).copied(), value, name),
+        Call::Closes(..) | Call::FailsToClose(..) => panic!(rt; "a close is no lane's"),
     }
 }
 
 impl Chain {
-    // Computes by a factory that makes the letter.
-    fn make(&mut self, lane: usize, context: ContextNo, key: &Key, letter: char) -> Told
-        requires lane { lane < 2 }
-        requires context { context < 3 }
-    {
-        tell(self.compute(lane, context, key, Ok(plain(letter))), letter)
-    }
-
-    // Computes by a factory that fails with the text.
-    fn fail<R: Abort>(
+    // How many values a close has closed, or why it is refused, how many faults there are beside the first, and the numbers that its
+    // action was given. Where there is a text, the action always fails, and the first fault has it; otherwise there is none.
+    fn close_by<R: Abort>(
         &mut self,
         rt: &R,
         lane: usize,
         context: ContextNo,
-        key: &Key,
-        text: &str,
-    ) -> Told
-        requires lane { lane < 2 }
-        requires context { context < 3 }
-    {
-        let Ok(fault) = String::from_str(self.alloc, text) else {
-            panic!(rt; "no memory");
-        };
-        let outcome = self.compute(lane, context, key, Err(Fault::Text(fault)));
-        tell_fault(outcome, text)
-    }
-
-    // How many values a close has closed, or why it is refused, and the numbers that its action was given.
-    fn close_plainly<R: Abort>(
-        &mut self,
-        rt: &R,
-        lane: usize,
-        context: ContextNo,
-    ) -> (Result<u32, CloseFault>, [u32; 4])
+        text: Option<&str>,
+    ) -> (Result<u32, CloseFault>, u32, [u32; 4])
         requires { lane < 2 }
     {
-        let mut recorder = Recorder::new(self.alloc, false);
+        let mut recorder = Recorder::new(self.alloc, text.is_some());
         match self.close(rt, lane, context, &mut recorder) {
             Ok(closed) => {
-                assert!(rt; closed.first_fault.is_none() && closed.more_faults == 0);
-                (Ok(closed.closed), recorder.numbers)
+                check_fault(rt, closed.first_fault.as_ref(), text);
+                (Ok(closed.closed), closed.more_faults, recorder.numbers)
             }
-            Err(fault) => (Err(fault), recorder.numbers),
+            Err(fault) => (Err(fault), 0, recorder.numbers),
         }
-    }
-
-    // How many values a close has closed whose action always fails, how many faults there are beside the first, which has this
-    // text, and the numbers that the action was given.
-    fn fail_to_close<R: Abort>(
-        &mut self,
-        rt: &R,
-        lane: usize,
-        context: ContextNo,
-        text: &str,
-    ) -> (u32, u32, [u32; 4])
-        requires { lane < 2 }
-    {
-        let mut recorder = Recorder::new(self.alloc, true);
-        let Ok(closed) = self.close(rt, lane, context, &mut recorder) else {
-            panic!(rt; "not closed");
-        };
-        let (count, more_faults) = (closed.closed, closed.more_faults);
-        let Some(Fault::Text(told)) = closed.first_fault else {
-            panic!(rt; "no fault");
-        };
-        same(rt, told.as_str(), text, "the first fault");
-        (count, more_faults, recorder.numbers)
     }
 
     // Asserts that the row's call has its answer.
@@ -326,65 +338,52 @@ impl Chain {
         requires context { at < 3 }
     {
         match call {
-            Call::Gets(answer) => same(rt, self.get(lane, at, key), answer, name),
-            Call::Removes(answer) => same(rt, self.remove(lane, at, key), answer, name),
-            Call::Puts(value, number, answer) => {
-                same(
-                    rt,
-                    self.put(rt, lane, at, key, value),
-                    (number, answer),
-                    name,
-                );
-            }
-            Call::Computes(letter, answer) => {
-                same(rt, self.make(lane, at, key, letter), answer, name);
-            }
-            Call::Fails(text) => same(rt, self.fail(rt, lane, at, key, text), Told::Failed, name),
-            Call::Shows(number, value) => same(rt, self.show(lane, number), value, name),
             Call::Closes(answer, numbers) => {
-                same(
-                    rt,
-                    self.close_plainly(rt, lane, at),
-                    (answer, numbers),
-                    name,
-                );
+                let told = self.close_by(rt, lane, at, None);
+                same(rt, told, (answer, 0, numbers), name);
             }
             Call::FailsToClose(closed, more, text, numbers) => {
-                same(
-                    rt,
-                    self.fail_to_close(rt, lane, at, text),
-                    (closed, more, numbers),
-                    name,
-                );
+                let told = self.close_by(rt, lane, at, Some(text));
+                same(rt, told, (Ok(closed), more, numbers), name);
+            }
+            _ => {
+                let lane = &mut self.lanes[lane];
+                ask(rt, self.alloc, &self.store, lane, at, key, call, name);
             }
         }
     }
 }
 
-/// Opens a store of the chain with so many numbers, and asserts that each row's call, in order, has its answer.
-pub(crate) fn rows<R: Abort>(rt: &R, alloc: Global, numbers: u32, rows: &[Row]) {
-    let Some(opened) = open_chain(alloc, numbers) else {
-        panic!(rt; "no store");
-    };
-    let Opened {
-        store,
-        first,
-        second,
-        closers,
-    } = opened;
-    let mut chain = Chain {
+/// The opened store with both lanes in one hand.
+fn in_one_hand(alloc: Global, opened: Opened<Letter>) -> Chain
+    requires first { IsLaneOf opened.store.id opened.first }
+    requires second { IsLaneOf opened.store.id opened.second }
+    requires closers { All (IsCloserOf opened.store) opened.closers.items }
+    requires contexts { 2 < length opened.store.tree }
+{
+    Chain {
         alloc,
-        store,
-        lanes: [first, second],
-        closers,
-    };
-    same(
-        rt,
-        chain.numbers_of_lanes(),
-        (0, 1),
-        "the numbers of the lanes",
-    );
+        store: opened.store,
+        lanes: [opened.first, opened.second],
+        closers: opened.closers,
+    }
+}
+
+/// Opens a store of the chain with so many numbers; `None` where there is no memory.
+fn open(alloc: Global, numbers: u32) -> Option<Chain> {
+    Some(in_one_hand(alloc, open_chain(alloc, numbers)?))
+}
+
+/// Asserts that the lanes have their numbers, and that each row's call, in order, has its answer.
+fn play<R: Abort>(rt: &R, chain: &mut Chain, rows: &[Row]) {
+    let numbers = chain.numbers_of_lanes();
+    same(rt, numbers, (0, 1), "the numbers of the lanes");
     for row in rows {
         chain.go(rt, *row);
     }
+}
+
+/// Opens a store of the chain with so many numbers, and asserts that each row's call, in order, has its answer.
+pub(crate) fn rows<R: Abort>(rt: &R, alloc: Global, numbers: u32, rows: &[Row]) {
+    with_made(rt, open(alloc, numbers), |chain| play(rt, chain, rows));
 }

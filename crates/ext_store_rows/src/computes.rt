@@ -2,7 +2,7 @@
 ghost use Rattle.std.specs.Prelude.{◌<◌, length};
 ghost use Rattle.ext_store.specs.Stores.{IsLaneOf};
 
-use crate::asked::{Scenario, key, same, with_chain};
+use crate::asked::{Scenario, same, with_chain};
 use crate::chain::{Call, Told, rows};
 use crate::opening::{Letter, plain};
 use ext_model::{Fault, Look};
@@ -101,29 +101,45 @@ fn computed_by(
     }
 }
 
+/// The number under which the value of a caller's box was stored, which makes w at its first call; `None` where there is no memory.
+fn computed_by_a_box(
+    store: &Store<Letter>,
+    lane: &mut Lane<Letter>,
+    key: &Key,
+    alloc: Global,
+) -> Option<u32>
+    requires lane { IsLaneOf store.now.id lane.old }
+    requires context { 0 < length store.now.tree }
+    ensures { IsLaneOf store.now.id lane.new }
+{
+    let mut letter = 'w';
+    let Ok(maker) = Box::new(alloc, move |_key: &Key| -> Result<Letter, Fault> {
+        let last = letter;
+        letter = 'x';
+        Ok(plain(last))
+    }) else {
+        return None;
+    };
+    computed_by(store, lane, key, maker)
+}
+
 /// A caller's box makes the value.
 #[derive(Drop)]
-struct Boxed;
+struct Boxed {
+    alloc: Global,
+}
 
 impl Scenario for Boxed {
     fn play<R: Threads + Sync + Abort>(
-        self,
+        &self,
         rt: &R,
-        alloc: Global,
         store: &Store<Letter>,
         first: &mut Lane<Letter>,
         _second: &mut Lane<Letter>,
+        a: &Key,
+        _d: &Key,
     ) {
-        let a = key(rt, alloc, "a");
-        let mut letter = 'w';
-        let Ok(maker) = Box::new(alloc, move |_key: &Key| -> Result<Letter, Fault> {
-            let last = letter;
-            letter = 'x';
-            Ok(plain(last))
-        }) else {
-            panic!(rt; "no memory");
-        };
-        let number = computed_by(store, first, &a, maker);
+        let number = computed_by_a_box(store, first, a, self.alloc);
         same(rt, number, Some(1), "the compute");
         let value = store.show(first, 1).copied();
         same(rt, value, Some(plain('w')), "the value");
@@ -132,5 +148,6 @@ impl Scenario for Boxed {
 
 #[test]
 fn caller_gives_a_box(rt: HostRuntime) {
-    with_chain(&rt, rt.alloc(), 8, Boxed);
+    let boxed = Boxed { alloc: rt.alloc() };
+    with_chain(&rt, rt.alloc(), 8, &boxed);
 }

@@ -79,14 +79,27 @@ pub fn contexts(alloc: Global) -> Option<Tree>
     Some(tree)
 }
 
+/// Declares the key of this name; `None` where there is no memory.
+fn declare(alloc: Global, directory: &mut Directory, name: &str) -> Option<()> {
+    let key = key(alloc, name)?;
+    directory.declare(key).ok()?;
+    Some(())
+}
+
+/// Declares so many keys, at most eleven: a, b, and so on; `None` where there is no memory.
+fn declare_all(alloc: Global, directory: &mut Directory, count: usize) -> Option<()> {
+    let names = ["a", "b", "c", "d", "e", "f", "g", "h", "i", "j", "k"];
+    let count = count.min(names.len());
+    for name in &names[..count] {
+        declare(alloc, directory, name)?;
+    }
+    Some(())
+}
+
 /// So many keys, at most eleven: a, b, and so on; `None` where there is no memory.
 pub fn keys(alloc: Global, count: usize) -> Option<Directory> {
-    let names = ["a", "b", "c", "d", "e", "f", "g", "h", "i", "j", "k"];
     let mut directory = Directory::new(alloc);
-    for name in names.iter().take(count) {
-        let key = key(alloc, name)?;
-        directory.declare(key).ok()?;
-    }
+    declare_all(alloc, &mut directory, count)?;
     Some(directory)
 }
 
@@ -101,6 +114,41 @@ pub struct Opened<V> {
     pub second: Lane<V>,
     /// The closers of the contexts 0, 1 and 2.
     pub closers: Vec<Closer>,
+}
+
+/// Takes the last two of the lanes, the last one behind; `None` where there are fewer.
+fn last_two<V: StoreValue + Drop>(
+    store: &Store<V>,
+    lanes: &mut Vec<Lane<V>>,
+) -> Option<(Lane<V>, Lane<V>)>
+    requires { All (IsLaneOf store.now.id) lanes.old.items }
+    ensures first { IfSome result (λ two. IsLaneOf store.now.id two.0) }
+    ensures second { IfSome result (λ two. IsLaneOf store.now.id two.1) }
+{
+    let (Some(second), Some(first)) = (lanes.pop(), lanes.pop()) else {
+        return None;
+    };
+    Some((first, second))
+}
+
+/// The store and its closers, with the last two of its lanes; `None` where it has fewer.
+fn gather<V: StoreValue + Drop>(
+    store: Store<V>,
+    lanes: &mut Vec<Lane<V>>,
+    closers: Vec<Closer>,
+) -> Option<Opened<V>>
+    requires lanes { All (IsLaneOf store.id) lanes.old.items }
+    ensures same { IfSome result (λ o. (o.store ≡ store) × (o.closers ≡ closers)) }
+    ensures first { IfSome result (λ o. IsLaneOf store.id o.first) }
+    ensures second { IfSome result (λ o. IsLaneOf store.id o.second) }
+{
+    let (first, second) = last_two(&store, lanes)?;
+    Some(Opened {
+        store,
+        first,
+        second,
+        closers,
+    })
 }
 
 /// The store of the chain with these keys, where the limits have two lanes; `None` where they have others, or where there is
@@ -119,15 +167,7 @@ pub fn open_store<V: StoreValue + Drop>(
     let Ok((store, mut lanes, closers)) = Store::open(alloc, tree, directory, limits) else {
         return None;
     };
-    let (Some(second), Some(first)) = (lanes.pop(), lanes.pop()) else {
-        return None;
-    };
-    Some(Opened {
-        store,
-        first,
-        second,
-        closers,
-    })
+    gather(store, &mut lanes, closers)
 }
 
 /// The store of the chain with the keys a, b and c, eight tries and so many numbers; `None` where there is no memory.

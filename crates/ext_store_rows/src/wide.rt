@@ -7,24 +7,48 @@ use ext_tree::{Directory, Key, Namespace, Tree};
 use std::alloc::Global;
 use std::test::Fail;
 
+/// The id of a class.
+fn class_id(alloc: Global, class: u32) -> Result<UniqueId, Fail> {
+    let text = format!(in alloc; "[engine:x]/[class:{class}]")?;
+    Ok(UniqueId::parse(alloc, text.as_str())?)
+}
+
 /// An engine with 255 classes.
 fn contexts(alloc: Global) -> Result<Tree, Fail> {
     let mut ids = Vec::new(alloc);
     ids.push(UniqueId::parse(alloc, "[engine:x]")?)?;
     for class in 0..255u32 {
-        let text = format!(in alloc; "[engine:x]/[class:{class}]")?;
-        ids.push(UniqueId::parse(alloc, text.as_str())?)?;
+        ids.push(class_id(alloc, class)?)?;
     }
     Ok(Tree::build(alloc, ids.as_slice())?)
 }
 
+/// The key that a number names.
+fn number_key(alloc: Global, number: u32) -> Result<Key, Fail> {
+    let name = format!(in alloc; "{number}")?;
+    Ok(Key::new(alloc, Namespace::global(), name.as_str())?)
+}
+
+/// Declares the keys of so many numbers.
+fn declare_numbers(alloc: Global, directory: &mut Directory, count: u32) -> Result<(), Fail> {
+    for number in 0..count {
+        directory.declare(number_key(alloc, number)?)?;
+    }
+    Ok(())
+}
+
 fn keys(alloc: Global, count: u32) -> Result<Directory, Fail> {
     let mut directory = Directory::new(alloc);
-    for key in 0..count {
-        let name = format!(in alloc; "{key}")?;
-        directory.declare(Key::new(alloc, Namespace::global(), name.as_str())?)?;
-    }
+    declare_numbers(alloc, &mut directory, count)?;
     Ok(directory)
+}
+
+/// How many lanes and closers there are, or why a store is not opened, whatever the parts of a store are.
+fn counts<S: Drop, L: Drop, C: Drop>(
+    opened: Result<(S, Vec<L>, Vec<C>), StoreFault>,
+) -> Result<(usize, usize), StoreFault> {
+    let (_store, lanes, closers) = opened?;
+    Ok((lanes.len(), closers.len()))
 }
 
 /// How many lanes and closers the store has, or why it is not opened.
@@ -34,11 +58,7 @@ pub(crate) fn lanes_and_closers(
     keys: Directory,
     limits: Limits,
 ) -> Result<(usize, usize), StoreFault> {
-    let opened: Result<(Store<Letter>, _, _), StoreFault> = Store::open(alloc, tree, keys, limits);
-    match opened {
-        Ok((_store, lanes, closers)) => Ok((lanes.len(), closers.len())),
-        Err(fault) => Err(fault),
-    }
+    counts(Store::<Letter>::open(alloc, tree, keys, limits))
 }
 
 /// How many lanes and closers a store of 256 contexts and so many keys has, or why it is not opened.
