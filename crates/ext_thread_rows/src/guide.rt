@@ -2,6 +2,7 @@
 ghost use Rattle.std.specs.Prelude.{◌≡◌, ◌<◌, true, length, All};
 ghost use Rattle.ext_store.specs.Stores.{IsCloserOf, IsLaneOf};
 
+use crate::opening::with_opened;
 use crate::same::same;
 use ext_closing::{CloseAction, CloseFault, close};
 use ext_model::{Fault, Look};
@@ -134,13 +135,18 @@ fn find_server<R: Abort>(
     store.meet(&mut first, &mut second);
 }
 
+/// A thread starts the server in a store that is opened for it, and another lane finds it.
+fn start_and_find<R: Abort + Threads>(rt: &R, alloc: Global, directory: Directory, key: &Key) {
+    let (store, first, second) = open_for_two(rt, alloc, directory);
+    let (store, first) = start_in_a_thread(rt, store, first, key);
+    find_server(rt, &store, first, second, key);
+}
+
 #[test]
 fn first_hour(rt: HostRuntime) -> Result<(), Fail> {
-    let key = &server_key(rt.alloc())?;
+    let key = server_key(rt.alloc())?;
     let directory = server_keys(rt.alloc())?;
-    let (store, first, second) = open_for_two(&rt, rt.alloc(), directory);
-    let (store, first) = start_in_a_thread(&rt, store, first, key);
-    find_server(&rt, &store, first, second, key);
+    start_and_find(&rt, rt.alloc(), directory, &key);
     Ok(())
 }
 
@@ -185,14 +191,14 @@ fn ask<R: Wait>(
     Some((number, server.port))
 }
 
-/// Both threads ask for the server.
-fn ask_both<R: Abort + Sync + Threads + Wait>(
+/// The store, which is shared with two threads meanwhile, and what both have that ask for the server.
+fn ask_both<R: Sync + Threads + Wait>(
     rt: &R,
     store: Store<Server>,
     first: Lane<Server>,
     second: Lane<Server>,
     key: &Key,
-)
+) -> (Store<Server>, (Option<(u32, u16)>, Option<(u32, u16)>))
     requires first { IsLaneOf store.id first }
     requires second { IsLaneOf store.id second }
     requires engine { 0 < length store.tree }
@@ -209,6 +215,24 @@ fn ask_both<R: Abort + Sync + Threads + Wait>(
             requires engine { 0 < length shared.now.tree }
         { ask(runtime, shared, second, key) },
     );
+    (store, asked)
+}
+
+/// What was answered, without what it was asked of: nothing need be known of what that is made of.
+fn answer<S: Drop, T>(asked: (S, T)) -> T {
+    let (_of, answer) = asked;
+    answer
+}
+
+/// Both threads have the same server, in a store that is opened for them.
+fn make_once<R: Abort + Sync + Threads + Wait>(
+    rt: &R,
+    alloc: Global,
+    directory: Directory,
+    key: &Key,
+) {
+    let (store, first, second) = open_for_two(rt, alloc, directory);
+    let asked = answer(ask_both(rt, store, first, second, key));
     same(
         &rt,
         asked,
@@ -219,10 +243,9 @@ fn ask_both<R: Abort + Sync + Threads + Wait>(
 
 #[test]
 fn server_made_once(rt: HostRuntime) -> Result<(), Fail> {
-    let key = &server_key(rt.alloc())?;
+    let key = server_key(rt.alloc())?;
     let directory = server_keys(rt.alloc())?;
-    let (store, first, second) = open_for_two(&rt, rt.alloc(), directory);
-    ask_both(&rt, store, first, second, key);
+    make_once(&rt, rt.alloc(), directory, &key);
     Ok(())
 }
 
@@ -368,14 +391,16 @@ fn make_and_end<R: Abort + Wait>(
 
 #[test]
 fn server_is_stopped_once(rt: HostRuntime) -> Result<(), Fail> {
-    let key = &server_key(rt.alloc())?;
-    let opened = open_for_servers(&rt, rt.alloc(), server_keys(rt.alloc())?);
-    let Opened {
-        store,
-        first,
-        second,
-        mut closers,
-    } = opened;
-    make_and_end(&rt, &store, first, second, &mut closers, key);
+    let key = server_key(rt.alloc())?;
+    let directory = server_keys(rt.alloc())?;
+    let opened = open_for_servers(&rt, rt.alloc(), directory);
+    with_opened(
+        &rt,
+        Some(key),
+        Some(opened),
+        |key, store, first, second, closers| {
+            make_and_end(&rt, store, first, second, closers, key);
+        },
+    );
     Ok(())
 }

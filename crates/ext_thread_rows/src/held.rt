@@ -4,7 +4,7 @@ ghost use Rattle.ext_store.specs.Stores.{IsCloserOf, IsKeptBy, IsLaneOf};
 
 use crate::calls::{close_both, close_refused, compute_held, keep, look, put_first, put_refused};
 use crate::gates::Gate;
-use crate::opening::{with_made, with_opened};
+use crate::opening::with_opened;
 use crate::same::same;
 use ext_closing::CloseFault;
 use ext_model::{Fault, Look};
@@ -140,11 +140,14 @@ fn run_and_call_beside<R: Abort + Clock + Threads + Sync>(
 #[test]
 fn busy_while_factory_runs(rt: HostRuntime) {
     let alloc = rt.alloc();
-    with_made(&rt, keys_abc(alloc), |keys| {
-        with_opened(&rt, open_chain(alloc, 8), |store, first, second, closers| {
+    with_opened(
+        &rt,
+        keys_abc(alloc),
+        open_chain(alloc, 8),
+        |keys, store, first, second, closers| {
             run_and_call_beside(&rt, alloc, store, first, second, closers, keys);
-        });
-    });
+        },
+    );
 }
 
 // Puts a value in the engine while the factory in the class runs, which has looked there before.
@@ -199,13 +202,12 @@ fn run_and_put_above<R: Abort + Clock + Threads + Sync>(
 #[test]
 fn a_parent_value_after_the_second_look(rt: HostRuntime) {
     let alloc = rt.alloc();
-    with_made(&rt, key(alloc, "a"), |a| {
-        with_opened(
-            &rt,
-            open_chain(alloc, 8),
-            |store, first, second, _closers| run_and_put_above(&rt, store, first, second, a),
-        );
-    });
+    with_opened(
+        &rt,
+        key(alloc, "a"),
+        open_chain(alloc, 8),
+        |a, store, first, second, _closers| run_and_put_above(&rt, store, first, second, a),
+    );
 }
 
 // A put of the number 3 and a look-up in the class, where the key is sealed.
@@ -321,9 +323,12 @@ fn run_and_close_beside<R: Abort + Clock + Threads + Sync>(
 #[test]
 fn close_waits_for_the_factory_and_its_lane(rt: HostRuntime) {
     let alloc = rt.alloc();
-    with_made(&rt, keys_abc(alloc), |keys| {
-        with_opened(&rt, open_chain(alloc, 8), |store, first, second, closers| {
+    with_opened(
+        &rt,
+        keys_abc(alloc),
+        open_chain(alloc, 8),
+        |keys, store, first, second, closers| {
             run_and_close_beside(&rt, alloc, store, first, second, closers, keys);
-        });
-    });
+        },
+    );
 }

@@ -152,11 +152,11 @@ fn never_missed<R: Abort + Threads + Wait + Sync>(
 
 #[test]
 fn value_that_moves_is_never_missed(rt: HostRuntime) {
-    let Some(a) = key(rt.alloc(), "a") else {
-        panic!(rt; "no memory");
-    };
-    let opened = open_chain(rt.alloc(), 2 * ROUNDS + 1);
-    with_opened(&rt, opened, |store, mover, looker, _closers| {
-        never_missed(&rt, store, mover, looker, &a);
-    });
+    let alloc = rt.alloc();
+    with_opened(
+        &rt,
+        key(alloc, "a"),
+        open_chain(alloc, 2 * ROUNDS + 1),
+        |a, store, mover, looker, _closers| never_missed(&rt, store, mover, looker, a),
+    );
 }

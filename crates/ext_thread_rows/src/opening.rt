@@ -7,22 +7,26 @@ use ext_store::{Closer, Lane, Store, StoreValue};
 use ext_store_rows::Opened;
 use std::process::Abort;
 
-/// Does the work with what was opened: with the store, its two lanes, and the closers of the contexts 0, 1 and 2. The test fails
-/// where nothing was.
+/// Does the work with what was opened: with the keys, the store, its two lanes, and the closers of the contexts 0, 1 and 2. The test
+/// fails where nothing was. Nothing need be known of what the keys are made of.
 pub(crate) fn with_opened<
     R: Abort,
+    K: Drop,
     V: StoreValue + Drop,
     T,
-    W: FnOnce(&Store<V>, Lane<V>, Lane<V>, &mut Vec<Closer>) -> T,
->(rt: &R, opened: Option<Opened<V>>, work: W) -> T
+    W: FnOnce(&K, &Store<V>, Lane<V>, Lane<V>, &mut Vec<Closer>) -> T,
+>(rt: &R, keys: Option<K>, opened: Option<Opened<V>>, work: W) -> T
     requires first { IfSome opened (λ o. IsLaneOf o.store.id o.first) }
     requires second { IfSome opened (λ o. IsLaneOf o.store.id o.second) }
     requires closers { IfSome opened (λ o. All (IsCloserOf o.store) o.closers.items) }
     requires contexts { IfSome opened (λ o. 2 < length o.store.tree) }
-    requires work { (store : Bor StoreView) (first second : StoreLane V) (closers : _)
+    requires work { (keys : _) (store : Bor StoreView) (first second : StoreLane V) (closers : _)
         → IsLaneOf store.now.id first → IsLaneOf store.now.id second → All (IsCloserOf store.now) closers.now.items
-        → 2 < length store.now.tree → W.pre work store first second closers }
+        → 2 < length store.now.tree → W.pre work keys store first second closers }
 {
+    let Some(keys) = keys else {
+        panic!(rt; "no keys");
+    };
     let Some(opened) = opened else {
         panic!(rt; "no store");
     };
@@ -32,16 +36,5 @@ pub(crate) fn with_opened<
         second,
         mut closers,
     } = opened;
-    work(&store, first, second, &mut closers)
-}
-
-/// Does the work with what was made, and drops it then: nothing need be known of what it is made of. The test fails where nothing
-/// was made, as where there is no memory.
-pub(crate) fn with_made<R: Abort, T: Drop, W: FnOnce(&T)>(rt: &R, made: Option<T>, work: W)
-    requires { W.IsAlwaysCallable work }
-{
-    let Some(value) = made else {
-        panic!(rt; "nothing was made");
-    };
-    work(&value);
+    work(&keys, &store, first, second, &mut closers)
 }

@@ -1,6 +1,6 @@
 //! A lane that puts number after number while another lane looks.
-ghost use Rattle.std.specs.Prelude.{◌<◌, length};
-ghost use Rattle.ext_store.specs.Stores.{IsLaneOf};
+ghost use Rattle.std.specs.Prelude.{◌<◌, All, IfSome, length};
+ghost use Rattle.ext_store.specs.Stores.{IsCloserOf, IsLaneOf};
 
 use crate::gates::is_raised;
 use crate::opening::with_opened;
@@ -9,6 +9,7 @@ use ext_model::Look;
 use ext_store::{Lane, Limits, Refusal, Store};
 use ext_store_rows::{Letter, Opened, key, keys, open_store, plain};
 use ext_tree::Key;
+use std::alloc::Global;
 use std::process::Abort;
 use std::sync::atomic::{AtomicU64, Ordering};
 use std::thread::{Threads, join};
@@ -142,19 +143,28 @@ fn put_and_look<R: Abort + Clock + Threads + Sync>(
     same(rt, seen, Ok(last), "the number that was put last");
 }
 
-#[test]
-fn numbers_never_fall(rt: HostRuntime) {
-    let alloc = rt.alloc();
+/// A store of the chain with the key a, one try and all numbers; `None` where there is no memory.
+fn open_for_numbers(alloc: Global) -> Option<Opened<Letter>>
+    ensures first { IfSome result (λ o. IsLaneOf o.store.id o.first) }
+    ensures second { IfSome result (λ o. IsLaneOf o.store.id o.second) }
+    ensures closers { IfSome result (λ o. All (IsCloserOf o.store) o.closers.items) }
+    ensures contexts { IfSome result (λ o. 2 < length o.store.tree) }
+{
     let limits = Limits {
         lanes: 2,
         tries: 1,
         numbers: NUMBERS,
     };
-    let (Some(directory), Some(a)) = (keys(alloc, 1), key(alloc, "a")) else {
-        panic!(rt; "no memory")
-    };
-    let opened: Option<Opened<Letter>> = open_store(alloc, directory, limits);
-    with_opened(&rt, opened, |store, looker, putter, _closers| {
-        put_and_look(&rt, store, looker, putter, &a);
-    });
+    open_store(alloc, keys(alloc, 1)?, limits)
+}
+
+#[test]
+fn numbers_never_fall(rt: HostRuntime) {
+    let alloc = rt.alloc();
+    with_opened(
+        &rt,
+        key(alloc, "a"),
+        open_for_numbers(alloc),
+        |a, store, looker, putter, _closers| put_and_look(&rt, store, looker, putter, a),
+    );
 }
