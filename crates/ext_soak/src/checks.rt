@@ -5,7 +5,7 @@ use crate::told::{Log, Told};
 use std::alloc::{AllocError, Global};
 
 /// What became of a number.
-#[derive(Clone, Copy, Debug)]
+#[derive(Clone, Copy)]
 struct Fate {
     drawn: u32,
     stored: Option<Place>,
@@ -51,6 +51,21 @@ fn count(counts: &mut [u32], place: Place) {
     if let Some(word) = counts.get_mut(at) {
         *word = word.wrapping_add(1);
     }
+}
+
+/// Whether each number up to the last was drawn once.
+fn were_drawn_once(fates: &[Fate]) -> bool {
+    let drawn = fates.iter().filter(|fate| fate.drawn == 1).count();
+    let once = fates.iter().skip(1).take(drawn).all(|fate| fate.drawn == 1);
+    once && !fates.iter().any(|fate| fate.drawn > 1)
+}
+
+/// Whether each place was filled as often as it was emptied, or once more.
+fn stand_at_most_once(filled: &[u32], emptied: &[u32]) -> bool {
+    filled
+        .iter()
+        .zip(emptied)
+        .all(|(filled, emptied)| filled.wrapping_sub(*emptied) <= 1)
 }
 
 impl Checks {
@@ -209,20 +224,9 @@ impl Checks {
     /// The first fault, where all replies were read: each number up to the last was drawn once, a place was filled as often
     /// as it was emptied, or once more, and no closeable value that was stored is still there.
     pub(crate) fn settled(&mut self) -> Option<SoakFault> {
-        let drawn = self.fates.iter().filter(|fate| fate.drawn == 1).count();
-        let once = self
-            .fates
-            .iter()
-            .skip(1)
-            .take(drawn)
-            .all(|fate| fate.drawn == 1);
-        let twice = self.fates.iter().any(|fate| fate.drawn > 1);
-        self.wrong_unless(once && !twice, SoakFault::Numbers);
-        let one = self
-            .filled
-            .iter()
-            .zip(self.emptied.iter())
-            .all(|(filled, emptied)| filled.wrapping_sub(*emptied) <= 1);
+        let once = were_drawn_once(self.fates.as_slice());
+        self.wrong_unless(once, SoakFault::Numbers);
+        let one = stand_at_most_once(self.filled.as_slice(), self.emptied.as_slice());
         self.wrong_unless(one, SoakFault::TwoFactories);
         let stays = self.fates.iter().any(|fate| fate.closeable && !fate.left);
         self.wrong_unless(!stays, SoakFault::NotClosed);

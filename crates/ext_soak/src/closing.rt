@@ -151,34 +151,53 @@ fn close_beside<R: Wait>(
     Some(closer)
 }
 
-/// Closes the contexts beside the other lanes, the last first, as far as that can be done. Answers the closers of the others.
-pub(crate) fn close_some<R: Wait>(
+/// Closes the context beside the other lanes, or leaves its closer.
+fn close_or_leave<R: Wait>(
     rt: &R,
-    alloc: Global,
     shared: &Shared,
     hand: &mut [Lane<Payload>],
-    closers: Vec<Closer>,
+    closer: Closer,
+    left: &mut Vec<Closer>,
     numbers: &mut Pcg32,
     closing: &mut Closing,
-) -> Vec<Closer>
+)
     requires one { 1 ≤ length hand.old }
     requires lanes { All (IsLaneOf shared.now.store.id) hand.old }
-    requires closers { All (IsCloserOf shared.now.store) closers.items }
+    requires closer { IsCloserOf shared.now.store closer }
+    requires left { All (IsCloserOf shared.now.store) left.old.items }
     ensures lanes { All (IsLaneOf shared.now.store.id) hand.new }
-    ensures closers { All (IsCloserOf shared.now.store) result.items }
+    ensures left { All (IsCloserOf shared.now.store) left.new.items }
 {
-    let mut closers = closers;
-    let mut left = Vec::new(alloc);
+    if let Some(closer) = close_beside(rt, shared, hand, closer, numbers, closing) {
+        let kept = left.push(closer).is_ok();
+        closing.log.wrong_unless(kept, SoakFault::Memory);
+    }
+}
+
+/// Closes the contexts beside the other lanes, the last first, as far as that can be done. The closers of the others are
+/// left.
+pub(crate) fn close_some<R: Wait>(
+    rt: &R,
+    shared: &Shared,
+    hand: &mut [Lane<Payload>],
+    closers: &mut Vec<Closer>,
+    left: &mut Vec<Closer>,
+    numbers: &mut Pcg32,
+    closing: &mut Closing,
+)
+    requires one { 1 ≤ length hand.old }
+    requires lanes { All (IsLaneOf shared.now.store.id) hand.old }
+    requires closers { All (IsCloserOf shared.now.store) closers.old.items }
+    requires left { All (IsCloserOf shared.now.store) left.old.items }
+    ensures lanes { All (IsLaneOf shared.now.store.id) hand.new }
+    ensures left { All (IsCloserOf shared.now.store) left.new.items }
+{
     for _ in 0..CONTEXTS {
         let Some(closer) = closers.pop() else {
             break;
         };
-        if let Some(closer) = close_beside(rt, shared, hand, closer, numbers, closing) {
-            let kept = left.push(closer).is_ok();
-            closing.log.wrong_unless(kept, SoakFault::Memory);
-        }
+        close_or_leave(rt, shared, hand, closer, left, numbers, closing);
     }
-    left
 }
 
 /// Closes the context once all other lanes have ended: it can't be refused.
@@ -196,15 +215,14 @@ fn close_last(shared: &Shared, lanes: &mut [Lane<Payload>], closer: Closer, clos
 pub(crate) fn close_all(
     shared: &Shared,
     lanes: &mut [Lane<Payload>],
-    closers: Vec<Closer>,
+    closers: &mut Vec<Closer>,
     closing: &mut Closing,
 )
     requires one { 1 ≤ length lanes.old }
     requires lanes { All (IsLaneOf shared.now.store.id) lanes.old }
-    requires closers { All (IsCloserOf shared.now.store) closers.items }
+    requires closers { All (IsCloserOf shared.now.store) closers.old.items }
     ensures { All (IsLaneOf shared.now.store.id) lanes.new }
 {
-    let mut closers = closers;
     for _ in 0..CONTEXTS {
         let Some(closer) = closers.pop() else {
             break;

@@ -29,18 +29,21 @@ pub(crate) const STANDING: KeyNo = 0;
 /// The key whose value one lane moves from the engine to class A and back; no other lane stores under it.
 pub(crate) const MOVED: KeyNo = 1;
 
+/// The names of the keys, in their order.
+const NAMES: [&str; KEYS] = ["standing", "moved", "c", "d"];
+
 /// How many numbers a round has.
 pub(crate) const NUMBERS: u32 = 16_384;
 
 /// A key in a context.
-#[derive(Clone, Copy, Debug, PartialEq, Eq)]
+#[derive(Clone, Copy, PartialEq, Eq)]
 pub(crate) struct Place {
     pub(crate) context: ContextNo,
     pub(crate) key: KeyNo,
 }
 
 /// A value: the place that it is for, and whether it is closeable.
-#[derive(Clone, Copy, Debug, PartialEq, Eq)]
+#[derive(Clone, Copy)]
 pub(crate) struct Payload {
     pub(crate) place: Place,
     pub(crate) closeable: bool,
@@ -72,6 +75,11 @@ pub(crate) struct Opened {
     pub(crate) closers: Vec<Closer>,
 }
 
+/// One more context.
+fn add(alloc: Global, ids: &mut Vec<UniqueId>, text: &str) -> Option<()> {
+    ids.push(UniqueId::parse(alloc, text).ok()?).ok()
+}
+
 /// An engine with two classes, of which A has a class of its own, and a method in each of the three.
 fn contexts(alloc: Global) -> Option<Tree> {
     let mut ids = Vec::new(alloc);
@@ -84,7 +92,7 @@ fn contexts(alloc: Global) -> Option<Tree> {
         "[engine:x]/[class:C]",
         "[engine:x]/[class:C]/[method:m()]",
     ] {
-        ids.push(UniqueId::parse(alloc, text).ok()?).ok()?;
+        add(alloc, &mut ids, text)?;
     }
     Tree::build(alloc, ids.as_slice()).ok()
 }
@@ -93,21 +101,24 @@ fn key(alloc: Global, name: &str) -> Option<Key> {
     Key::new(alloc, Namespace::global(), name).ok()
 }
 
+/// The keys of two names.
+fn pair(alloc: Global, first: &str, second: &str) -> Option<(Key, Key)> {
+    let first = key(alloc, first)?;
+    Some((first, key(alloc, second)?))
+}
+
 /// The four keys.
 fn names(alloc: Global) -> Option<[Key; KEYS]> {
-    Some([
-        key(alloc, "standing")?,
-        key(alloc, "moved")?,
-        key(alloc, "c")?,
-        key(alloc, "d")?,
-    ])
+    let (standing, moved) = pair(alloc, NAMES[0], NAMES[1])?;
+    let (third, fourth) = pair(alloc, NAMES[2], NAMES[3])?;
+    Some([standing, moved, third, fourth])
 }
 
 /// The four keys, declared in their order.
 fn directory(alloc: Global) -> Option<Directory> {
     let mut directory = Directory::new(alloc);
-    for key in names(alloc)? {
-        directory.declare(key).ok()?;
+    for name in NAMES {
+        directory.declare(key(alloc, name)?).ok()?;
     }
     Some(directory)
 }
@@ -177,50 +188,33 @@ pub(crate) struct Deep {
 #[derive(Drop)]
 pub(crate) struct OpenedDeep {
     pub(crate) deep: Deep,
-    pub(crate) first: Lane<Payload>,
-    pub(crate) second: Lane<Payload>,
+    pub(crate) lanes: Vec<Lane<Payload>>,
 }
 
 /// An engine, and fifteen classes one below the other.
 fn chain(alloc: Global) -> Option<Tree> {
     let mut ids = Vec::new(alloc);
-    let mut text = String::from_str(alloc, "[engine:x]").ok()?;
-    ids.push(UniqueId::parse(alloc, text.as_str()).ok()?).ok()?;
-    for _ in 0..15 {
-        text.push_str("/[class:x]").ok()?;
-        ids.push(UniqueId::parse(alloc, text.as_str()).ok()?).ok()?;
-    }
+    add_chain(alloc, &mut ids)?;
     Tree::build(alloc, ids.as_slice()).ok()
 }
 
-/// The two lanes of the store.
-fn pair_of(
-    store: &Store<Payload>,
-    lanes: Vec<Lane<Payload>>,
-) -> Result<(Lane<Payload>, Lane<Payload>), SoakFault>
-    requires { All (IsLaneOf store.now.id) lanes.items }
-    ensures first { IfOk result (λ pair. IsLaneOf store.now.id pair.0) }
-    ensures second { IfOk result (λ pair. IsLaneOf store.now.id pair.1) }
-{
-    let mut lanes = lanes;
-    let second = lanes.pop().ok_or(SoakFault::Answer)?;
-    let first = lanes.pop().ok_or(SoakFault::Answer)?;
-    Ok((first, second))
+fn add_chain(alloc: Global, ids: &mut Vec<UniqueId>) -> Option<()> {
+    let mut text = String::from_str(alloc, "[engine:x]").ok()?;
+    add(alloc, ids, text.as_str())?;
+    for _ in 0..15 {
+        text.push_str("/[class:x]").ok()?;
+        add(alloc, ids, text.as_str())?;
+    }
+    Some(())
 }
 
 /// The deep store with two lanes.
 pub(crate) fn open_deep(alloc: Global) -> Result<OpenedDeep, SoakFault>
-    ensures first { IfOk result (λ o. IsLaneOf o.deep.store.id o.first) }
-    ensures second { IfOk result (λ o. IsLaneOf o.deep.store.id o.second) }
+    ensures { IfOk result (λ o. All (IsLaneOf o.deep.store.id) o.lanes.items) }
 {
     let tree = tree_of(chain(alloc), 16)?;
-    let name = key(alloc, "standing").ok_or(SoakFault::Memory)?;
+    let name = key(alloc, NAMES[0]).ok_or(SoakFault::Memory)?;
     let (store, lanes, _closers) = open_store(alloc, tree, 2, 64)?;
-    let (first, second) = pair_of(&store, lanes)?;
     let deep = Deep { store, name };
-    Ok(OpenedDeep {
-        deep,
-        first,
-        second,
-    })
+    Ok(OpenedDeep { deep, lanes })
 }

@@ -1,5 +1,5 @@
 //! A compute that races with a put in its context's parent: where the put came before its claim, the factory does not run.
-ghost use Rattle.std.specs.Prelude.{◌<◌};
+ghost use Rattle.std.specs.Prelude.{◌<◌, All};
 ghost use Rattle.ext_store.specs.Stores.{IsKeptBy, IsLaneOf};
 
 use crate::chance::{below, numbers_of};
@@ -166,12 +166,41 @@ pub(crate) fn make_races<R: Threads + Sync + AllocGlobal>(
     soak: Soak,
     round: u32,
 ) -> Result<(), SoakFault> {
-    let OpenedDeep {
-        deep,
-        mut first,
-        mut second,
-    } = open_deep(rt.alloc())?;
-    race_often(rt, soak, round, &deep, &mut first, &mut second)
+    match open_deep(rt.alloc()) {
+        Ok(opened) => race_opened(rt, soak, round, opened),
+        Err(fault) => Err(fault),
+    }
+}
+
+/// Makes the races on this store.
+fn race_opened<R: Threads + Sync>(
+    rt: &R,
+    soak: Soak,
+    round: u32,
+    opened: OpenedDeep,
+) -> Result<(), SoakFault>
+    requires { All (IsLaneOf opened.deep.store.id) opened.lanes.items }
+{
+    let mut opened = opened;
+    let raced = race_all(rt, soak, round, &opened.deep, opened.lanes.as_mut_slice());
+    drop(opened);
+    raced
+}
+
+/// Makes the races of the lanes, where they are two.
+fn race_all<R: Threads + Sync>(
+    rt: &R,
+    soak: Soak,
+    round: u32,
+    deep: &Deep,
+    lanes: &mut [Lane<Payload>],
+) -> Result<(), SoakFault>
+    requires { All (IsLaneOf deep.now.store.id) lanes.old }
+{
+    match lanes {
+        [first, second] => race_often(rt, soak, round, deep, first, second),
+        _ => Err(SoakFault::Answer),
+    }
 }
 
 /// Makes the races of the two lanes.

@@ -1,5 +1,5 @@
 //! A round: all lanes make their calls at once, and their replies are checked afterwards.
-ghost use Rattle.std.specs.Prelude.{All};
+ghost use Rattle.std.specs.Prelude.{◌≤◌, All, length};
 ghost use Rattle.ext_store.specs.Stores.{IsCloserOf, IsLaneOf};
 
 use crate::calls::{make_calls, put};
@@ -32,24 +32,28 @@ pub(crate) fn make_round<R: Threads + Sync + Wait + AllocGlobal>(
     soak: Soak,
     round: u32,
 ) -> Result<(), SoakFault> {
-    let alloc = rt.alloc();
+    let Ok(logs) = logs_of(rt.alloc(), soak.lanes) else {
+        return Err(SoakFault::Memory);
+    };
+    open_and_call(rt, logs.as_slice(), soak, round)
+}
+
+/// Opens the round's store, has its lanes make their calls, and checks their replies.
+fn open_and_call<R: Threads + Sync + Wait + AllocGlobal>(
+    rt: &R,
+    logs: &[Mutex<Log>],
+    soak: Soak,
+    round: u32,
+) -> Result<(), SoakFault> {
     let mut numbers = numbers_of(soak.seed, round, soak.lanes);
-    let logs = logs_of(alloc, soak.lanes).map_err(|_| SoakFault::Memory)?;
     let Opened {
         shared,
         lanes,
         closers,
-    } = open(alloc, soak.lanes, tries_of(&mut numbers))?;
-    call_and_check(
-        rt,
-        &shared,
-        lanes,
-        closers,
-        numbers,
-        logs.as_slice(),
-        soak,
-        round,
-    )
+    } = open(rt.alloc(), soak.lanes, tries_of(&mut numbers))?;
+    let checked = call_and_check(rt, &shared, lanes, closers, numbers, logs, soak, round);
+    drop(shared);
+    checked
 }
 
 /// Has all lanes of the round make their calls, closes what is left, and checks their replies.
@@ -66,22 +70,59 @@ fn call_and_check<R: Threads + Sync + Wait + AllocGlobal>(
     requires lanes { All (IsLaneOf shared.now.store.id) lanes.items }
     requires closers { All (IsCloserOf shared.now.store) closers.items }
 {
-    let alloc = rt.alloc();
     let mut lanes = lanes;
-    let Some(mut lane) = lanes.pop() else {
+    let Some(lane) = lanes.pop() else {
         return Err(SoakFault::Answer);
     };
-    let mut closing = Closing::new(alloc);
+    let ender = ender_of(rt, shared, lane, closers, numbers);
+    let (ender, lanes) = at_once(rt, rt.alloc(), shared, ender, lanes, logs, soak, round);
+    end_and_check(rt, shared, ender, lanes, logs)
+}
+
+/// The lane that closes, which puts the first values.
+fn ender_of<R: Wait + AllocGlobal>(
+    rt: &R,
+    shared: &Shared,
+    lane: Lane<Payload>,
+    closers: Vec<Closer>,
+    numbers: Pcg32,
+) -> Ender
+    requires lane { IsLaneOf shared.now.store.id lane }
+    requires closers { All (IsCloserOf shared.now.store) closers.items }
+    ensures lane { IsLaneOf shared.now.store.id result.lane }
+    ensures closers { All (IsCloserOf shared.now.store) result.closers.items }
+{
+    let mut lane = lane;
+    let mut closing = Closing::new(rt.alloc());
     put_first(rt, shared, &mut lane, &mut closing.log);
-    let ender = Ender {
+    Ender {
         lane,
         closers,
         numbers,
         closing,
-    };
-    let (ender, lanes) = at_once(rt, alloc, shared, ender, lanes, logs, soak, round);
-    let own = end(alloc, shared, ender, lanes)?;
-    check(rt, alloc, &own, logs)
+    }
+}
+
+/// Closes what is left and checks all replies.
+fn end_and_check<R: Wait + AllocGlobal>(
+    rt: &R,
+    shared: &Shared,
+    ender: Ender,
+    lanes: Vec<Lane<Payload>>,
+    logs: &[Mutex<Log>],
+) -> Result<(), SoakFault>
+    requires lane { IsLaneOf shared.now.store.id ender.lane }
+    requires closers { All (IsCloserOf shared.now.store) ender.closers.items }
+    requires lanes { All (IsLaneOf shared.now.store.id) lanes.items }
+{
+    let Ender {
+        lane,
+        mut closers,
+        mut closing,
+        ..
+    } = ender;
+    end(shared, lane, lanes, &mut closers, &mut closing)?;
+    check(rt, rt.alloc(), &closing.log, logs)
 }
 
 /// Puts a value in the engine under the key where one always stands, and one under the key whose value is moved.
@@ -162,24 +203,25 @@ fn close_beside_others<R: Wait>(rt: &R, alloc: Global, shared: &Shared, ender: E
 {
     let Ender {
         lane,
-        closers,
+        mut closers,
         mut numbers,
         mut closing,
     } = ender;
     let mut hand = [lane];
-    let closers = close_some(
+    let mut left = Vec::new(alloc);
+    close_some(
         rt,
-        alloc,
         shared,
         &mut hand,
-        closers,
+        &mut closers,
+        &mut left,
         &mut numbers,
         &mut closing,
     );
     let [lane] = hand;
     Ender {
         lane,
-        closers,
+        closers: left,
         numbers,
         closing,
     }
@@ -255,35 +297,44 @@ fn meet_all(shared: &Shared, lane: &mut Lane<Payload>, lanes: &mut [Lane<Payload
     }
 }
 
-/// Closes all contexts that are left, once all lanes have ended. Answers the replies of the lane that closes.
+/// Closes all contexts that are left, once all lanes have ended, with the lane that closes among them.
 fn end(
-    alloc: Global,
     shared: &Shared,
-    ender: Ender,
+    lane: Lane<Payload>,
     lanes: Vec<Lane<Payload>>,
-) -> Result<Log, SoakFault>
-    requires lane { IsLaneOf shared.now.store.id ender.lane }
-    requires closers { All (IsCloserOf shared.now.store) ender.closers.items }
+    closers: &mut Vec<Closer>,
+    closing: &mut Closing,
+) -> Result<(), SoakFault>
+    requires lane { IsLaneOf shared.now.store.id lane }
     requires lanes { All (IsLaneOf shared.now.store.id) lanes.items }
+    requires closers { All (IsCloserOf shared.now.store) closers.old.items }
 {
-    let Ender {
-        mut lane,
-        closers,
-        mut closing,
-        ..
-    } = ender;
-    let mut lanes = lanes;
+    let (mut lane, mut lanes) = (lane, lanes);
     meet_all(shared, &mut lane, lanes.as_mut_slice());
-    let Ok(()) = lanes.push(lane) else {
+    if lanes.push(lane).is_err() {
         return Err(SoakFault::Memory);
+    }
+    end_all(shared, lanes.as_mut_slice(), closers, closing);
+    Ok(())
+}
+
+/// Closes all contexts that are left, with all lanes in hand.
+fn end_all(
+    shared: &Shared,
+    lanes: &mut [Lane<Payload>],
+    closers: &mut Vec<Closer>,
+    closing: &mut Closing,
+)
+    requires one { 1 ≤ length lanes.old }
+    requires lanes { All (IsLaneOf shared.now.store.id) lanes.old }
+    requires closers { All (IsCloserOf shared.now.store) closers.old.items }
+{
+    close_all(shared, lanes, closers, closing);
+    let closed = match lanes.first_mut() {
+        Some(first) => are_closed(shared, first),
+        None => false,
     };
-    close_all(shared, lanes.as_mut_slice(), closers, &mut closing);
-    let Some(first) = lanes.first_mut() else {
-        return Err(SoakFault::Answer);
-    };
-    let closed = are_closed(shared, first);
     closing.log.wrong_unless(closed, SoakFault::Open);
-    Ok(closing.log)
 }
 
 /// Checks each reply against all others.

@@ -5,7 +5,7 @@ use ext_model::{ContextNo, KeyNo};
 use std::alloc::Global;
 
 /// A reply that is checked once all lanes have ended.
-#[derive(Clone, Copy, Debug, PartialEq, Eq)]
+#[derive(Clone, Copy)]
 pub(crate) enum Told {
     /// The number was drawn for a value.
     Kept(u32),

@@ -1,6 +1,5 @@
 //! The words of the command line.
 use crate::fault::SoakFault;
-use std::alloc::AllocError;
 use std::rt::Env;
 
 /// What `--help` prints.
@@ -14,7 +13,7 @@ checked afterwards. The exit status is 0 where each reply is as it has to be, el
 ";
 
 /// How many rounds of how many lanes are made, for how many seconds, from which seed.
-#[derive(Clone, Copy, Debug, PartialEq, Eq)]
+#[derive(Clone, Copy)]
 pub(crate) struct Soak {
     pub(crate) seed: u32,
     pub(crate) lanes: usize,
@@ -23,7 +22,7 @@ pub(crate) struct Soak {
 }
 
 /// What the words ask for.
-#[derive(Clone, Copy, Debug, PartialEq, Eq)]
+#[derive(Clone, Copy)]
 pub(crate) enum Request {
     /// The usage alone.
     Usage,
@@ -36,17 +35,15 @@ pub(crate) enum Request {
 /// What the command line asks for. Takes memory for the words. Own rule.
 pub(crate) fn request_of<R: Env + AllocGlobal>(rt: &R) -> Request {
     match words_of(rt) {
-        Ok(Some(words)) => request_in(words.as_slice()),
-        _ => Request::Refused(SoakFault::Words),
+        Some(words) => request_in(words.as_slice()),
+        None => Request::Refused(SoakFault::Words),
     }
 }
 
-/// The words after the program's name, where they are texts.
-fn words_of<R: Env + AllocGlobal>(rt: &R) -> Result<Option<Vec<String>>, AllocError> {
-    let Ok(words) = std::env::args(rt) else {
-        return Ok(None);
-    };
-    Ok(Some(words.skip(1).collect(rt.alloc())?))
+/// The words after the program's name, where they are texts and there is memory for them.
+fn words_of<R: Env + AllocGlobal>(rt: &R) -> Option<Vec<String>> {
+    let words = std::env::args(rt).ok()?;
+    words.skip(1).collect(rt.alloc()).ok()
 }
 
 fn request_in(words: &[String]) -> Request {
