@@ -3,11 +3,9 @@ ghost use Rattle.std.specs.Prelude.{◌≡◌, ◌<◌, ◌≤◌};
 ghost use Rattle.ext_model.specs.Calls.{IsHeld};
 
 use crate::hand::{Call, end_claim, go, rows};
-use crate::opening::{Scenario, with_cells};
 use crate::same::same;
 use ext_cells::{CellLane, CellRefusal, Cells, Claim, Claimed, Nearest};
 use std::process::Abort;
-use std::thread::Threads;
 
 #[test]
 fn sealed_cells_keep_their_numbers(rt: HostRuntime) {
@@ -89,14 +87,8 @@ fn zero_words_at_open(rt: HostRuntime) {
     };
     let three = (words.get(0), words.get(1), words.get(2));
     same(&rt, three, (0, 0, 0), "the words");
-    assert!(rt; collects_nothing(&cells, &mut lane));
-}
-
-/// Whether a collect of no cells is answered.
-fn collects_nothing(cells: &Cells, lane: &mut CellLane) -> bool
-    requires { lane.old.cells ≡ cells.now.id }
-{
-    cells.collect(lane, &[]).is_ok()
+    let nothing = cells.collect(&mut lane, &[]).is_ok();
+    same(&rt, nothing, true, "a collect of no cells");
 }
 
 /// What stands at these 16 cells together.
@@ -113,27 +105,21 @@ fn sixteen(cells: &Cells, lane: &mut CellLane) -> Option<[u64; 16]>
     Some(found)
 }
 
-/// Two of 256 cells are filled, and sixteen are read.
-#[derive(Drop)]
-struct SixteenAtOnce;
-
-impl Scenario for SixteenAtOnce {
-    ghost needs = { 256 };
-
-    fn play<R: Threads + Abort>(self, rt: &R, cells: &Cells, lanes: &mut [CellLane]) {
-        let [lane] = lanes else { panic!(rt; "no lane") };
-        go(rt, cells, lane, 240, Call::Puts(1, Ok(None)));
-        go(rt, cells, lane, 31, Call::Puts(2, Ok(None)));
-        let mut wanted = [0; 16];
-        wanted[1] = 16_777_234;
-        wanted[3] = 16_777_250;
-        same(rt, sixteen(cells, lane), Some(wanted), "the words");
-    }
-}
-
 #[test]
 fn sixteen_cells_at_once(rt: HostRuntime) {
-    with_cells(&rt, rt.alloc(), 256, 1, 1, 8, SixteenAtOnce);
+    let Ok((cells, mut lanes)) = Cells::open(rt.alloc(), 256, 1, 1, 8) else {
+        panic!(rt; "no memory")
+    };
+    let Some(mut lane) = lanes.pop() else {
+        panic!(rt; "no lane")
+    };
+    go(&rt, &cells, &mut lane, 240, Call::Puts(1, Ok(None)));
+    go(&rt, &cells, &mut lane, 31, Call::Puts(2, Ok(None)));
+    let mut wanted = [0; 16];
+    wanted[1] = 16_777_234;
+    wanted[3] = 16_777_250;
+    let found = sixteen(&cells, &mut lane);
+    same(&rt, found, Some(wanted), "the words");
 }
 
 /// The place and the word of the nearest cell, where one was found.
@@ -147,27 +133,20 @@ fn place_and_word(
     }
 }
 
-/// Two of nine cells are filled, and the nearest of some is asked for.
-#[derive(Drop)]
-struct NearestDecides;
-
-impl Scenario for NearestDecides {
-    ghost needs = { 9 };
-
-    fn play<R: Threads + Abort>(self, rt: &R, cells: &Cells, lanes: &mut [CellLane]) {
-        let [lane] = lanes else { panic!(rt; "no lane") };
-        go(rt, cells, lane, 4, Call::Puts(1, Ok(None)));
-        go(rt, cells, lane, 2, Call::Puts(2, Ok(None)));
-        let own = place_and_word(cells.nearest(lane, &[4, 2, 0]));
-        same(rt, own, Ok(Some((0, 16_777_234))), "the first cell");
-        let above = place_and_word(cells.nearest(lane, &[8, 6, 2, 0]));
-        same(rt, above, Ok(Some((2, 16_777_250))), "a later cell");
-        let none = place_and_word(cells.nearest(lane, &[8, 6, 0]));
-        same(rt, none, Ok(None), "empty cells");
-    }
-}
-
 #[test]
 fn nearest_cell_decides(rt: HostRuntime) {
-    with_cells(&rt, rt.alloc(), 9, 1, 1, 8, NearestDecides);
+    let Ok((cells, mut lanes)) = Cells::open(rt.alloc(), 9, 1, 1, 8) else {
+        panic!(rt; "no memory")
+    };
+    let Some(mut lane) = lanes.pop() else {
+        panic!(rt; "no lane")
+    };
+    go(&rt, &cells, &mut lane, 4, Call::Puts(1, Ok(None)));
+    go(&rt, &cells, &mut lane, 2, Call::Puts(2, Ok(None)));
+    let own = place_and_word(cells.nearest(&mut lane, &[4, 2, 0]));
+    same(&rt, own, Ok(Some((0, 16_777_234))), "the first cell");
+    let above = place_and_word(cells.nearest(&mut lane, &[8, 6, 2, 0]));
+    same(&rt, above, Ok(Some((2, 16_777_250))), "a later cell");
+    let none = place_and_word(cells.nearest(&mut lane, &[8, 6, 0]));
+    same(&rt, none, Ok(None), "empty cells");
 }

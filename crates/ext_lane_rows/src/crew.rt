@@ -2,10 +2,9 @@
 ghost use Rattle.std.specs.Prelude.{◌≡◌, ◌<◌, ◌≤◌, length, All};
 
 use crate::gates::{LastGate, MeetingGate, OrderGate};
-use crate::same::{prints, same};
+use crate::same::same;
 use ext_crew::{CrewFault, Gate, OpenGate, run_children};
 use std::alloc::Global;
-use std::process::Abort;
 use std::sync::Wait;
 use std::test::Fail;
 use std::thread::Threads;
@@ -30,16 +29,6 @@ fn squares<R: Threads + Wait + Sync, G: Gate + Sync>(
     )
 }
 
-/// The items in a vector.
-fn items_of<R: Abort>(rt: &R, alloc: Global, items: &[u64]) -> Vec<u64>
-    ensures { length result.items ≡ length items.now }
-{
-    let Ok(items) = items.to_vec(alloc) else {
-        panic!(rt; "no memory");
-    };
-    items
-}
-
 #[test]
 fn squares_by_two_workers(rt: HostRuntime) -> Result<(), Fail> {
     let alloc: Global = rt.alloc();
@@ -51,36 +40,27 @@ fn squares_by_two_workers(rt: HostRuntime) -> Result<(), Fail> {
     Ok(())
 }
 
-/// Asserts that these are the squares of the items, made by two workers.
-fn squares_are<R: Threads + Wait + Sync + Abort, G: Gate + Sync>(
-    rt: &R,
-    alloc: Global,
-    items: &[u64],
-    gate: &G,
-    wanted: &[u64],
-)
-    requires { length items.now ≤ 256 }
-{
-    let items = items_of(rt, alloc, items);
-    let Ok(made) = squares(rt, alloc, items, gate) else {
-        panic!(rt; "no memory");
-    };
-    same(rt, made.as_slice(), wanted, "the squares");
-}
-
 #[test]
-fn jobs_0_and_1_meet(rt: HostRuntime) {
+fn jobs_0_and_1_meet(rt: HostRuntime) -> Result<(), Fail> {
+    let alloc: Global = rt.alloc();
+    let items = Vec::from_array(alloc, [0u64, 1, 2, 3, 4])?;
     let gate = MeetingGate::of(2);
-    squares_are(&rt, rt.alloc(), &[0, 1, 2, 3, 4], &gate, &[0, 1, 4, 9, 16]);
+    let made = squares(&rt, alloc, items, &gate)?;
     same(&rt, gate.told(), (2, 0), "the gate");
+    same(&rt, made.as_slice(), &[0, 1, 4, 9, 16], "the squares");
+    Ok(())
 }
 
 // Two workers, one of which is held in job 0: the other one draws all that are left. With a fixed cut job 2 would wait for job 0.
 #[test]
-fn job_0_waits_for_all_others(rt: HostRuntime) {
+fn job_0_waits_for_all_others(rt: HostRuntime) -> Result<(), Fail> {
+    let alloc: Global = rt.alloc();
+    let items = Vec::from_array(alloc, [0u64, 1, 2, 3])?;
     let gate = LastGate::new();
-    squares_are(&rt, rt.alloc(), &[0, 1, 2, 3], &gate, &[0, 1, 4, 9]);
+    let made = squares(&rt, alloc, items, &gate)?;
     same(&rt, gate.told(), (3, 0), "the gate");
+    same(&rt, made.as_slice(), &[0, 1, 4, 9], "the squares");
+    Ok(())
 }
 
 /// The numbers from 0 to 255.
@@ -92,18 +72,15 @@ fn numbers() -> [u64; 256] {
     numbers
 }
 
-/// The squares of the numbers from 0 to 255, by sixteen workers. A job counts itself in all elements of its share.
-fn counted_squares<R: Threads + Wait + Sync + Abort>(
-    rt: &R,
-    alloc: Global,
-    counts: &mut [u16; 16],
-    gate: &MeetingGate,
-) -> Result<Vec<u64>, CrewFault> {
-    let items = items_of(rt, alloc, &numbers());
-    run_children(
-        rt,
-        alloc,
-        counts,
+#[test]
+fn jobs_0_and_1_meet_among_256(rt: HostRuntime) -> Result<(), Fail> {
+    let items = Vec::from_array(rt.alloc(), numbers())?;
+    let gate = MeetingGate::of(2);
+    let mut first = [0u16; 16];
+    let squares = run_children(
+        &rt,
+        rt.alloc(),
+        &mut first,
         &mut [0u8; 16],
         items,
         &|_, item: u64, first: &mut [u16], _: &mut [u8]| {
@@ -112,108 +89,70 @@ fn counted_squares<R: Threads + Wait + Sync + Abort>(
             }
             item.wrapping_mul(item)
         },
-        gate,
-    )
-}
-
-/// How many jobs all workers ran.
-fn all_runs(counts: [u16; 16]) -> u64 {
+        &gate,
+    )?;
+    same(&rt, gate.told(), (2, 0), "the gate");
     let mut all = 0u64;
-    for runs in counts {
+    for runs in first {
         all = all.wrapping_add(u64::from(runs));
     }
-    all
-}
-
-#[test]
-fn jobs_0_and_1_meet_among_256(rt: HostRuntime) -> Result<(), CrewFault> {
-    let gate = MeetingGate::of(2);
-    let mut first = [0u16; 16];
-    let squares = counted_squares(&rt, rt.alloc(), &mut first, &gate)?;
-    same(&rt, gate.told(), (2, 0), "the gate");
-    same(&rt, all_runs(first), 256, "the jobs of all workers");
+    same(&rt, all, 256, "the jobs of all workers");
     let last = (squares.len(), squares.get(255).copied());
     same(&rt, last, (256, Some(65_025)), "the last square");
     Ok(())
 }
 
-/// Runs three jobs. A job gives the length of its share and leaves its index there.
-fn leave_indices<R: Threads + Wait + Sync + Abort>(
-    rt: &R,
-    alloc: Global,
-    first: &mut [u8; 5],
-    second: &mut [u8; 5],
-    gate: &MeetingGate,
-) -> Result<Vec<usize>, CrewFault> {
-    let items = items_of(rt, alloc, &[7, 8, 9]);
-    run_children(
-        rt,
-        alloc,
-        first,
-        second,
+// Five lanes for three workers, each of which has to run one job: a job gives the length of its share and leaves its index there.
+// Which worker runs which job isn't known.
+#[test]
+fn longer_shares_first(rt: HostRuntime) -> Result<(), Fail> {
+    let items = Vec::from_array(rt.alloc(), [7u64, 8, 9])?;
+    let gate = MeetingGate::of(3);
+    let mut first = [7u8; 5];
+    let mut second = [7u8; 5];
+    let lengths = run_children(
+        &rt,
+        rt.alloc(),
+        &mut first,
+        &mut second,
         items,
         &|index: usize, _item: u64, first: &mut [u8], second: &mut [u8]| {
             first.fill(index as u8);
             second.fill(index as u8);
             first.len()
         },
-        gate,
-    )
-}
-
-/// Whether the job told this length.
-fn has_told(lengths: &[usize], job: u8, length: usize) -> bool {
-    lengths.get(usize::from(job)).copied() == Some(length)
-}
-
-/// Whether the jobs 0, 1 and 2 left their indices in a share of two, one of two and one of one, and told these lengths.
-fn are_shares(left: [u8; 5], lengths: &[usize]) -> bool {
-    let [a, also_a, b, also_b, c] = left;
-    let mut jobs = [a, b, c];
-    jobs.sort_unstable();
-    jobs == [0, 1, 2]
-        && also_a == a
-        && also_b == b
-        && has_told(lengths, a, 2)
-        && has_told(lengths, b, 2)
-        && has_told(lengths, c, 1)
-}
-
-// Five lanes for three workers, each of which has to run one job. Which worker runs which job isn't known.
-#[test]
-fn longer_shares_first(rt: HostRuntime) -> Result<(), CrewFault> {
-    let gate = MeetingGate::of(3);
-    let mut first = [7u8; 5];
-    let mut second = [7u8; 5];
-    let lengths = leave_indices(&rt, rt.alloc(), &mut first, &mut second, &gate)?;
+        &gate,
+    )?;
     same(&rt, first, second, "the slices");
     same(&rt, gate.told(), (3, 0), "the gate");
     same(&rt, are_shares(first, lengths.as_slice()), true, "shares");
     Ok(())
 }
 
-/// Runs four jobs, each of which goes on at the gate.
-fn go_on<R: Threads + Wait + Sync + Abort>(
-    rt: &R,
-    alloc: Global,
-    gate: &OrderGate,
-) -> Result<Vec<()>, CrewFault> {
-    let items = items_of(rt, alloc, &[0, 1, 2, 3]);
+/// Whether the jobs 0, 1 and 2 left their indices in a share of two, one of two and one of one, and told these lengths.
+fn are_shares(left: [u8; 5], lengths: &[usize]) -> bool {
+    let [a, also_a, b, also_b, c] = left;
+    let told = |job: u8| lengths.get(usize::from(job)).copied();
+    let mut jobs = [a, b, c];
+    jobs.sort_unstable();
+    jobs == [0, 1, 2]
+        && (also_a, also_b) == (a, b)
+        && (told(a), told(b), told(c)) == (Some(2), Some(2), Some(1))
+}
+
+#[test]
+fn gate_is_told_round_each_job(rt: HostRuntime) -> Result<(), Fail> {
+    let items = Vec::from_array(rt.alloc(), [0u64, 1, 2, 3])?;
+    let gate = OrderGate::new();
     run_children(
-        rt,
-        alloc,
+        &rt,
+        rt.alloc(),
         &mut [0u8; 2],
         &mut [0u8; 2],
         items,
         &|index: usize, _item: u64, _first: &mut [u8], _second: &mut [u8]| gate.goes(index, 1, 2),
-        gate,
-    )
-}
-
-#[test]
-fn gate_is_told_round_each_job(rt: HostRuntime) -> Result<(), CrewFault> {
-    let gate = OrderGate::new();
-    go_on(&rt, rt.alloc(), &gate)?;
+        &gate,
+    )?;
     same(&rt, gate.told(), ([3; 4], 0), "the gate");
     Ok(())
 }
@@ -243,9 +182,9 @@ fn all_stay_small<R: Threads + Wait + Sync>(
 }
 
 #[test]
-fn an_invariant_of_the_shares_holds_at_the_end(rt: HostRuntime) -> Result<(), CrewFault> {
+fn an_invariant_of_the_shares_holds_at_the_end(rt: HostRuntime) -> Result<(), Fail> {
     let mut first = [1u8, 2, 3];
-    let items = items_of(&rt, rt.alloc(), &[7]);
+    let items = Vec::from_array(rt.alloc(), [7u64])?;
     let made = all_stay_small(&rt, rt.alloc(), &mut first, &mut [0; 3], items)?;
     same(&rt, made.as_slice(), &[7], "the outcome");
     same(&rt, first, [100; 3], "the shares");
@@ -253,11 +192,12 @@ fn an_invariant_of_the_shares_holds_at_the_end(rt: HostRuntime) -> Result<(), Cr
 }
 
 #[test]
-fn faults_print_as_sentences(rt: HostRuntime) {
+fn faults_print_as_sentences(rt: HostRuntime) -> Result<(), Fail> {
     for (fault, text) in [
         (CrewFault::Memory, "no memory"),
         (CrewFault::NoThread, "no thread"),
     ] {
-        prints(&rt, rt.alloc(), &fault, text);
+        same(&rt, fault.to_string(rt.alloc())?.as_str(), text, text);
     }
+    Ok(())
 }

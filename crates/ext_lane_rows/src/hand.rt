@@ -1,14 +1,13 @@
-//! The calls of the tests on cells, and rows of them, where a lane is named by its number.
-ghost use Rattle.std.specs.Prelude.{◌≡◌, ◌<◌, ◌≤◌, ◌%◌, All};
+//! Cells with both of their lanes in one hand, so that a test names a lane by its number.
+ghost use Rattle.std.specs.Prelude.{◌≡◌, ◌<◌, ◌%◌};
 ghost use Rattle.ext_model.specs.Calls.{IsHeld};
 
-use crate::opening::{Scenario, with_cells};
 use crate::same::same;
 use ext_cells::{CellLane, CellRefusal, Cells, Claim, Claimed};
 use ext_model::CellNo;
 use std::alloc::Global;
+use std::marker::Model;
 use std::process::Abort;
-use std::thread::Threads;
 
 /// A call, with what it is to answer.
 #[derive(Clone, Copy)]
@@ -25,6 +24,23 @@ pub(crate) enum Call {
 
 /// A row of a test: the lane that calls, 0 or 1, the cell, 0 to 3, and the call.
 pub(crate) type Row = (usize, CellNo, Call);
+
+/// Cells and their two lanes.
+#[derive(Drop)]
+pub(crate) struct Hand {
+    cells: Cells,
+    lanes: [CellLane; 2],
+}
+
+impl Model for Hand {
+    ghost use Rattle.std.specs.Prelude.{◌≡◌, ◌≤◌, All};
+
+    ghost Value = { Unit {0} };
+
+    ghost view = { λ _. tt };
+
+    ghost invariant = { λ h. All (λ lane. lane.cells ≡ h.cells.id) h.lanes × (4 ≤ h.cells.id.limits.cells) };
+}
 
 /// What a lane is answered that asks for the cell: `None` where it won the claim, which it gives up again.
 pub(crate) fn ask(
@@ -111,28 +127,13 @@ pub(crate) fn go(rt: &impl Abort, cells: &Cells, lane: &mut CellLane, cell: Cell
     }
 }
 
-/// Asserts that the row's call has its answer.
-fn go_row(rt: &impl Abort, cells: &Cells, lanes: &mut [CellLane], row: Row)
-    requires lanes { All (λ lane. lane.cells ≡ cells.now.id) lanes.old }
-    requires cells { 4 ≤ cells.now.id.limits.cells }
-    ensures { All (λ lane. lane.cells ≡ cells.now.id) lanes.new }
-{
-    let (lane, cell, call) = row;
-    assert!(rt; lane < lanes.len() && cell < 4);
-    go(rt, cells, &mut lanes[lane], cell, call);
-}
-
-/// The rows of a test, by four cells.
-#[derive(Drop)]
-struct InOrder<'a> {
-    rows: &'a [Row],
-}
-
-impl Scenario for InOrder<'_> {
-    ghost needs = { 4 };
-
-    fn play<R: Threads + Abort>(self, rt: &R, cells: &Cells, lanes: &mut [CellLane]) {
-        let [first, second] = &*lanes else {
+impl Hand {
+    /// Four cells, two lanes and eight numbers.
+    fn open<R: Abort>(rt: &R, alloc: Global) -> Hand {
+        let Ok((cells, mut lanes)) = Cells::open(alloc, 4, 2, 1, 8) else {
+            panic!(rt; "no memory");
+        };
+        let (Some(second), Some(first)) = (lanes.pop(), lanes.pop()) else {
             panic!(rt; "no lanes");
         };
         same(
@@ -141,13 +142,24 @@ impl Scenario for InOrder<'_> {
             (0, 1, 1),
             "the numbers of the lanes, and the tries",
         );
-        for row in self.rows {
-            go_row(rt, cells, lanes, *row);
+        Hand {
+            cells,
+            lanes: [first, second],
         }
+    }
+
+    fn go<R: Abort>(&mut self, rt: &R, row: Row) {
+        let (lane, cell, call) = row;
+        assert!(rt; lane < 2 && cell < 4);
+        let lane = &mut self.lanes[lane];
+        go(rt, &self.cells, lane, cell, call);
     }
 }
 
-/// Opens four cells with two lanes, one try and eight numbers, and asserts that each row's call, in order, has its answer.
-pub(crate) fn rows<R: Threads + Abort>(rt: &R, alloc: Global, rows: &[Row]) {
-    with_cells(rt, alloc, 4, 2, 1, 8, InOrder { rows });
+/// Opens four cells with two lanes, and asserts that each row's call, in order, has its answer.
+pub(crate) fn rows<R: Abort>(rt: &R, alloc: Global, rows: &[Row]) {
+    let mut hand = Hand::open(rt, alloc);
+    for row in rows {
+        hand.go(rt, *row);
+    }
 }

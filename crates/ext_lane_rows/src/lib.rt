@@ -10,8 +10,6 @@ mod gates;
 #[cfg(test)]
 mod hand;
 #[cfg(test)]
-mod opening;
-#[cfg(test)]
 mod same;
 #[cfg(test)]
 mod threads;

@@ -3,11 +3,33 @@
 ghost use Rattle.std.specs.Prelude.{◌≡◌, ◌<◌};
 
 use crate::hand::{ask, end_claim, peek, put};
-use crate::opening::{Scenario, with_cells};
 use crate::same::same;
 use ext_cells::{CellLane, CellRefusal, CellState, Cells, Claimed, parts};
+use std::alloc::Global;
 use std::process::Abort;
+use std::sync::Wait;
 use std::thread::{Threads, join};
+
+/// Four cells with three lanes, so many tries and numbers.
+fn open<R: Abort>(
+    rt: &R,
+    alloc: Global,
+    tries: u32,
+    numbers: u32,
+) -> (Cells, CellLane, CellLane, CellLane)
+    ensures first { result.1.cells ≡ result.0.id }
+    ensures second { result.2.cells ≡ result.0.id }
+    ensures third { result.3.cells ≡ result.0.id }
+    ensures cells { result.0.id.limits.cells ≡ 4 }
+{
+    let Ok((cells, mut lanes)) = Cells::open(alloc, 4, 3, tries, numbers) else {
+        panic!(rt; "no memory")
+    };
+    let (Some(third), Some(second), Some(first)) = (lanes.pop(), lanes.pop(), lanes.pop()) else {
+        panic!(rt; "no lanes")
+    };
+    (cells, first, second, third)
+}
 
 /// What one lane was answered: how often each number from 0 to 50 was drawn, and how often a put answered it; 0 stands for
 /// nothing.
@@ -24,8 +46,8 @@ fn count(times: &mut [u8; 51], number: u32) {
     }
 }
 
-fn draw_and_put(cells: &Cells, lane: &mut CellLane) -> Option<Replies>
-    requires lane { lane.old.cells ≡ cells.now.id }
+fn draw_and_put(cells: &Cells, mut lane: CellLane) -> Option<Replies>
+    requires lane { lane.cells ≡ cells.now.id }
     requires cell { 0 < cells.now.id.limits.cells }
 {
     let mut replies = Replies {
@@ -33,10 +55,10 @@ fn draw_and_put(cells: &Cells, lane: &mut CellLane) -> Option<Replies>
         replaced: [0; 51],
     };
     for _ in 0..25 {
-        let Ok(number) = cells.next_number(lane) else {
+        let Ok(number) = cells.next_number(&mut lane) else {
             return None;
         };
-        let Ok(stood) = cells.put(lane, 0, number) else {
+        let Ok(stood) = cells.put(&mut lane, 0, number) else {
             return None;
         };
         count(&mut replies.drawn, number);
@@ -45,23 +67,23 @@ fn draw_and_put(cells: &Cells, lane: &mut CellLane) -> Option<Replies>
     Some(replies)
 }
 
-fn in_two_threads<R: Threads>(
+fn in_two_threads<R: Threads + Wait + Sync>(
     rt: &R,
     cells: &Cells,
-    first: &mut CellLane,
-    second: &mut CellLane,
+    first: CellLane,
+    second: CellLane,
 ) -> (Option<Replies>, Option<Replies>)
-    requires first { first.old.cells ≡ cells.now.id }
-    requires second { second.old.cells ≡ cells.now.id }
+    requires first { first.cells ≡ cells.now.id }
+    requires second { second.cells ≡ cells.now.id }
     requires cell { 0 < cells.now.id.limits.cells }
 {
     join(
         rt,
         move || -> Option<Replies>
-            requires { (first.now.cells ≡ cells.now.id) × (0 < cells.now.id.limits.cells) }
+            requires { (first.cells ≡ cells.now.id) × (0 < cells.now.id.limits.cells) }
         { draw_and_put(cells, first) },
         move || -> Option<Replies>
-            requires { (second.now.cells ≡ cells.now.id) × (0 < cells.now.id.limits.cells) }
+            requires { (second.cells ≡ cells.now.id) × (0 < cells.now.id.limits.cells) }
         { draw_and_put(cells, second) },
     )
 }
@@ -78,32 +100,18 @@ fn each_came_once(one: &Replies, other: &Replies, last: usize) -> bool {
     true
 }
 
-/// Two lanes draw all fifty numbers and put them in one cell.
-#[derive(Drop)]
-struct DrawAndPut;
-
-impl Scenario for DrawAndPut {
-    ghost needs = { 4 };
-
-    fn play<R: Threads + Abort>(self, rt: &R, cells: &Cells, lanes: &mut [CellLane]) {
-        let [first, second, third] = lanes else {
-            panic!(rt; "no lanes")
-        };
-        let (Some(one), Some(other)) = in_two_threads(rt, cells, first, second) else {
-            panic!(rt; "a call was refused")
-        };
-        let (state, last, version) = parts(peek(cells, third, 0));
-        same(rt, (state, version), (CellState::Present, 50), "the cell");
-        let once = each_came_once(&one, &other, last as usize);
-        same(rt, once, true, "each number comes once");
-        let full = cells.next_number(third);
-        same(rt, full, Err(CellRefusal::NumbersFull), "a further one");
-    }
-}
-
 #[test]
 fn two_threads_draw_and_put(rt: HostRuntime) {
-    with_cells(&rt, rt.alloc(), 4, 3, 64, 50, DrawAndPut);
+    let (cells, first, second, mut third) = open(&rt, rt.alloc(), 64, 50);
+    let (Some(one), Some(other)) = in_two_threads(&rt, &cells, first, second) else {
+        panic!(rt; "a call was refused")
+    };
+    let (state, last, version) = parts(peek(&cells, &mut third, 0));
+    same(&rt, (state, version), (CellState::Present, 50), "the cell");
+    let once = each_came_once(&one, &other, last as usize);
+    same(&rt, once, true, "each number comes once");
+    let full = cells.next_number(&mut third);
+    same(&rt, full, Err(CellRefusal::NumbersFull), "a further one");
 }
 
 /// Claims cell 0 and fills it, and says with which number; where a number stands, with none.
@@ -119,14 +127,14 @@ fn fill_once(cells: &Cells, lane: &mut CellLane) -> Result<Option<u32>, CellRefu
 }
 
 /// Fills cell 0 and takes the number out again, and says how often both were done.
-fn fill_and_remove(cells: &Cells, lane: &mut CellLane) -> u32
-    requires lane { lane.old.cells ≡ cells.now.id }
+fn fill_and_remove(cells: &Cells, mut lane: CellLane) -> u32
+    requires lane { lane.cells ≡ cells.now.id }
     requires cell { 0 < cells.now.id.limits.cells }
 {
     let mut done = 0;
     for _ in 0..15u32 {
-        let filled = fill_once(cells, lane);
-        if matches!(filled, Ok(Some(_))) && cells.remove(lane, 0) == filled {
+        let filled = fill_once(cells, &mut lane);
+        if matches!(filled, Ok(Some(_))) && cells.remove(&mut lane, 0) == filled {
             done += 1;
         }
     }
@@ -134,86 +142,72 @@ fn fill_and_remove(cells: &Cells, lane: &mut CellLane) -> u32
 }
 
 /// Puts numbers in cell 1, and says how many.
-fn put_beside(cells: &Cells, lane: &mut CellLane) -> u32
-    requires lane { lane.old.cells ≡ cells.now.id }
+fn put_beside(cells: &Cells, mut lane: CellLane) -> u32
+    requires lane { lane.cells ≡ cells.now.id }
     requires cell { 1 < cells.now.id.limits.cells }
 {
     let mut done = 0;
     for _ in 0..15u32 {
-        if let Ok((_, Ok(_))) = put(cells, lane, 1) {
+        if let Ok((_, Ok(_))) = put(cells, &mut lane, 1) {
             done += 1;
         }
     }
     done
 }
 
-fn fill_while_others_put<R: Threads>(
+fn fill_while_others_put<R: Threads + Wait + Sync>(
     rt: &R,
     cells: &Cells,
-    first: &mut CellLane,
-    second: &mut CellLane,
+    first: CellLane,
+    second: CellLane,
 ) -> (u32, u32)
-    requires first { first.old.cells ≡ cells.now.id }
-    requires second { second.old.cells ≡ cells.now.id }
+    requires first { first.cells ≡ cells.now.id }
+    requires second { second.cells ≡ cells.now.id }
     requires cell { 1 < cells.now.id.limits.cells }
 {
     join(
         rt,
         move || -> u32
-            requires { (first.now.cells ≡ cells.now.id) × (1 < cells.now.id.limits.cells) }
+            requires { (first.cells ≡ cells.now.id) × (1 < cells.now.id.limits.cells) }
         { fill_and_remove(cells, first) },
         move || -> u32
-            requires { (second.now.cells ≡ cells.now.id) × (1 < cells.now.id.limits.cells) }
+            requires { (second.cells ≡ cells.now.id) × (1 < cells.now.id.limits.cells) }
         { put_beside(cells, second) },
     )
 }
 
-/// One lane fills a cell and empties it, and the other puts numbers in the cell beside it.
-#[derive(Drop)]
-struct FillAndPut;
-
-impl Scenario for FillAndPut {
-    ghost needs = { 4 };
-
-    fn play<R: Threads + Abort>(self, rt: &R, cells: &Cells, lanes: &mut [CellLane]) {
-        let [first, second, third] = lanes else {
-            panic!(rt; "no lanes")
-        };
-        let done = fill_while_others_put(rt, cells, first, second);
-        same(rt, done, (15, 15), "how often");
-        let filled = parts(peek(cells, third, 0));
-        same(rt, filled, (CellState::Empty, 0, 45), "the filled cell");
-        let (state, _, version) = parts(peek(cells, third, 1));
-        same(rt, (state, version), (CellState::Present, 15), "the other");
-    }
-}
-
 #[test]
 fn two_threads_fill_and_put(rt: HostRuntime) {
-    with_cells(&rt, rt.alloc(), 4, 3, 64, 30, FillAndPut);
+    let (cells, first, second, mut third) = open(&rt, rt.alloc(), 64, 30);
+    let done = fill_while_others_put(&rt, &cells, first, second);
+    same(&rt, done, (15, 15), "how often");
+    let filled = parts(peek(&cells, &mut third, 0));
+    same(&rt, filled, (CellState::Empty, 0, 45), "the filled cell");
+    let (state, _, version) = parts(peek(&cells, &mut third, 1));
+    same(&rt, (state, version), (CellState::Present, 15), "the other");
 }
 
 /// Waits until another lane has sealed cell 2, and then claims cell 0 and gives it up without pause until one has sealed cell 3.
 /// Says how often it did.
-fn claim_without_pause(cells: &Cells, lane: &mut CellLane) -> u64
-    requires lane { lane.old.cells ≡ cells.now.id }
+fn claim_without_pause(cells: &Cells, mut lane: CellLane) -> u64
+    requires lane { lane.cells ≡ cells.now.id }
     requires cells { 3 < cells.now.id.limits.cells }
 {
     for _ in 0..1_000_000_000u32 {
-        if peek(cells, lane, 2) != 0 {
+        if peek(cells, &mut lane, 2) != 0 {
             break;
         }
     }
     let mut done = 0;
     for _ in 0..100_000_000u64 {
-        if ask(cells, lane, 0) == Ok(None) {
+        if ask(cells, &mut lane, 0) == Ok(None) {
             done += 1;
         }
-        if peek(cells, lane, 3) != 0 {
+        if peek(cells, &mut lane, 3) != 0 {
             break;
         }
     }
-    let _ = cells.seal(lane, 1);
+    let _ = cells.seal(&mut lane, 1);
     done
 }
 
@@ -231,64 +225,50 @@ fn is_contended(cells: &Cells, lane: &mut CellLane) -> Option<bool>
 }
 
 /// Collects cells 0 and 1 until it is contended or cell 1 is sealed, and says whether it was.
-fn collect_until_contended(cells: &Cells, lane: &mut CellLane) -> bool
-    requires lane { lane.old.cells ≡ cells.now.id }
+fn collect_until_contended(cells: &Cells, mut lane: CellLane) -> bool
+    requires lane { lane.cells ≡ cells.now.id }
     requires cells { 3 < cells.now.id.limits.cells }
 {
-    let _ = cells.seal(lane, 2);
+    let _ = cells.seal(&mut lane, 2);
     let mut contended = false;
     for _ in 0..1_000_000_000u32 {
-        if let Some(told) = is_contended(cells, lane) {
+        if let Some(told) = is_contended(cells, &mut lane) {
             contended = told;
             break;
         }
     }
-    let _ = cells.seal(lane, 3);
+    let _ = cells.seal(&mut lane, 3);
     contended
 }
 
-fn collect_while_another_claims<R: Threads>(
+fn collect_while_another_claims<R: Threads + Wait + Sync>(
     rt: &R,
     cells: &Cells,
-    first: &mut CellLane,
-    second: &mut CellLane,
+    first: CellLane,
+    second: CellLane,
 ) -> (u64, bool)
-    requires first { first.old.cells ≡ cells.now.id }
-    requires second { second.old.cells ≡ cells.now.id }
+    requires first { first.cells ≡ cells.now.id }
+    requires second { second.cells ≡ cells.now.id }
     requires cells { 3 < cells.now.id.limits.cells }
 {
     join(
         rt,
         move || -> u64
-            requires { (first.now.cells ≡ cells.now.id) × (3 < cells.now.id.limits.cells) }
+            requires { (first.cells ≡ cells.now.id) × (3 < cells.now.id.limits.cells) }
         { claim_without_pause(cells, first) },
         move || -> bool
-            requires { (second.now.cells ≡ cells.now.id) × (3 < cells.now.id.limits.cells) }
+            requires { (second.cells ≡ cells.now.id) × (3 < cells.now.id.limits.cells) }
         { collect_until_contended(cells, second) },
     )
-}
-
-/// One lane claims a cell without pause, and the other collects.
-#[derive(Drop)]
-struct Contended;
-
-impl Scenario for Contended {
-    ghost needs = { 4 };
-
-    fn play<R: Threads + Abort>(self, rt: &R, cells: &Cells, lanes: &mut [CellLane]) {
-        let [first, second, third] = lanes else {
-            panic!(rt; "no lanes")
-        };
-        let (claims, contended) = collect_while_another_claims(rt, cells, first, second);
-        same(rt, contended, true, "a collect is contended");
-        let (state, _, version) = parts(peek(cells, third, 0));
-        let wanted = (CellState::Empty, claims.wrapping_mul(2));
-        same(rt, (state, version), wanted, "the cell");
-    }
 }
 
 // Lane 1 is mid-way in a collect nearly always, so an event of lane 0 between its two passes comes soon.
 #[test]
 fn collects_are_contended(rt: HostRuntime) {
-    with_cells(&rt, rt.alloc(), 4, 3, 1, 1, Contended);
+    let (cells, first, second, mut third) = open(&rt, rt.alloc(), 1, 1);
+    let (claims, contended) = collect_while_another_claims(&rt, &cells, first, second);
+    same(&rt, contended, true, "a collect is contended");
+    let (state, _, version) = parts(peek(&cells, &mut third, 0));
+    let wanted = (CellState::Empty, claims.wrapping_mul(2));
+    same(&rt, (state, version), wanted, "the cell");
 }

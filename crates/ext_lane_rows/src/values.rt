@@ -1,46 +1,13 @@
 //! The worked examples of places and notes, and callers that go by the clauses alone.
-ghost use Rattle.std.specs.Prelude.{◌≡◌, IfErr, IfOk, IfSome, length};
+ghost use Rattle.std.specs.Prelude.{◌≡◌, IfErr, IfOk, IfSome};
 ghost use Rattle.ext_values.specs.Places.{IsCapacity, IsNoteOf, IsNumber};
 ghost use Rattle.ext_values.specs.Known.{AreNotesOf};
 
-use crate::same::{prints, same};
+use crate::same::same;
 use ext_values::{Note, Notes, Values, ValuesFault};
 use std::alloc::Global;
-use std::process::Abort;
 use std::test::Fail;
 use std::thread;
-use std::thread::Threads;
-
-/// So many free places.
-fn places<R: Abort>(rt: &R, alloc: Global, capacity: u32) -> Values<u8>
-    requires { IsCapacity capacity }
-    ensures { length result ≡ capacity }
-{
-    let Ok(values) = Values::new(alloc, capacity) else {
-        panic!(rt; "no memory");
-    };
-    values
-}
-
-/// Notes of the places, which know nothing yet.
-fn new_notes<R: Abort>(rt: &R, alloc: Global, values: &Values<u8>) -> Notes<u8>
-    ensures { AreNotesOf values.now result }
-{
-    let Ok(notes) = Notes::new(alloc, values) else {
-        panic!(rt; "no memory");
-    };
-    notes
-}
-
-/// The value in a box.
-fn boxed<R: Abort>(rt: &R, alloc: Global, value: u8) -> Box<u8>
-    ensures { result.value ≡ value }
-{
-    let Ok(boxed) = Box::new(alloc, value) else {
-        panic!(rt; "no memory");
-    };
-    boxed
-}
 
 /// A value that is shown at a number is the one that was placed there, by both notes.
 fn placed_and_shown(values: &Values<u8>, number: u32, value: Box<u8>) -> Option<u8>
@@ -78,26 +45,20 @@ fn shown(values: &Values<u8>, number: u32) -> Option<u8> {
     Some(*found)
 }
 
-/// Of three places the first and the last take a value, once.
-fn set_once<R: Abort>(rt: &R, alloc: Global, values: &Values<u8>)
-    requires { length values.now ≡ 3 }
-{
-    let first = placed_and_shown(values, 1, boxed(rt, alloc, 7));
-    let third = placed_and_shown(values, 3, boxed(rt, alloc, 9));
-    let back = handed_back(values, 1, boxed(rt, alloc, 8));
-    let placed = (first, third, back);
-    same(rt, placed, (Some(7), Some(9), Some(8)), "what is placed");
-    for (number, value) in [(0, None), (1, Some(7)), (2, None), (3, Some(9)), (4, None)] {
-        same(rt, shown(values, number), value, "what is shown");
-        let is_inside = number > 0 && number < 4;
-        same(rt, values.has_number(number), is_inside, "a place");
-    }
-}
-
 #[test]
-fn places_are_set_once(rt: HostRuntime) {
-    let values = places(&rt, rt.alloc(), 3);
-    set_once(&rt, rt.alloc(), &values);
+fn places_are_set_once(rt: HostRuntime) -> Result<(), Fail> {
+    let values = Values::new(rt.alloc(), 3)?;
+    let first = placed_and_shown(&values, 1, Box::new(rt.alloc(), 7)?);
+    let third = placed_and_shown(&values, 3, Box::new(rt.alloc(), 9)?);
+    let back = handed_back(&values, 1, Box::new(rt.alloc(), 8)?);
+    let placed = (first, third, back);
+    same(&rt, placed, (Some(7), Some(9), Some(8)), "what is placed");
+    for (number, value) in [(0, None), (1, Some(7)), (2, None), (3, Some(9)), (4, None)] {
+        same(&rt, shown(&values, number), value, "what is shown");
+        let is_inside = number > 0 && number < 4;
+        same(&rt, values.has_number(number), is_inside, "a place");
+    }
+    Ok(())
 }
 
 /// Another thread's note of number 1.
@@ -120,31 +81,24 @@ fn agreed(values: &Values<u8>, mut note: Note<u8>) -> Option<u8>
     Some(*found)
 }
 
-/// Another thread places a value, which is seen once that thread has ended.
-fn seen_after_join<R: Threads + Abort>(rt: &R, alloc: Global, values: &Values<u8>)
-    requires { IsNumber values.now 1 }
-{
-    let first = boxed(rt, alloc, 7);
+#[test]
+fn value_seen_after_the_thread_ended(rt: HostRuntime) -> Result<(), Fail> {
+    let values = Values::new(rt.alloc(), 2)?;
+    let shared = &values;
+    let first = Box::new(rt.alloc(), 7u8)?;
     let (theirs, _) = thread::join(
-        rt,
+        &rt,
         move || -> Option<Note<u8>>
-            requires { IsNumber values.now 1 }
-            ensures { IfSome result (λ note. IsNoteOf values.entry.now note × (note.number ≡ 1)) }
-        { noted_by_thread(values, first) },
+            requires { IsNumber shared.now 1 }
+            ensures { IfSome result (λ note. IsNoteOf shared.entry.now note × (note.number ≡ 1)) }
+        { noted_by_thread(shared, first) },
         || (),
     );
-    let Some(note) = theirs else {
-        panic!(rt; "the place was taken");
-    };
-    same(rt, agreed(values, note), Some(7), "the value");
-    let back = handed_back(values, 1, boxed(rt, alloc, 8));
-    same(rt, back, Some(8), "a further value");
-}
-
-#[test]
-fn value_seen_after_the_thread_ended(rt: HostRuntime) {
-    let values = places(&rt, rt.alloc(), 2);
-    seen_after_join(&rt, rt.alloc(), &values);
+    let note = theirs.ok_or("the place was taken")?;
+    same(&rt, agreed(shared, note), Some(7), "the value");
+    let back = handed_back(shared, 1, Box::new(rt.alloc(), 8)?);
+    same(&rt, back, Some(8), "a further value");
+    Ok(())
 }
 
 /// Places the value for a lane, which then finds it; what is handed back where the place is taken.
@@ -203,60 +157,27 @@ fn placed_by_lane(
     (notes, placed)
 }
 
-/// What the lane of another thread tells once that thread has ended, which placed the value at number 2.
-fn placed_in_thread<R: Threads>(
-    rt: &R,
-    values: &Values<u8>,
-    notes: Notes<u8>,
-    value: Box<u8>,
-) -> (Notes<u8>, bool)
-    requires of { AreNotesOf values.now notes }
-    requires number { IsNumber values.now 2 }
-    ensures { AreNotesOf values.now result.0 }
-{
-    let (placed, _) = thread::join(
-        rt,
+#[test]
+fn lanes_of_two_threads_meet(rt: HostRuntime) -> Result<(), Fail> {
+    let values = Values::new(rt.alloc(), 2)?;
+    let theirs = Notes::new(rt.alloc(), &values)?;
+    let mut own = Notes::new(rt.alloc(), &values)?;
+    let shared = &values;
+    let value = Box::new(rt.alloc(), 7u8)?;
+    let ((mut theirs, placed), _) = thread::join(
+        &rt,
         move || -> (Notes<u8>, bool)
-            requires of { AreNotesOf values.now notes }
-            requires number { IsNumber values.now 2 }
-            ensures { AreNotesOf values.entry.now result.0 }
-        { placed_by_lane(values, notes, 2, value) },
+            requires of { AreNotesOf shared.now theirs }
+            requires number { IsNumber shared.now 2 }
+            ensures { AreNotesOf shared.entry.now result.0 }
+        { placed_by_lane(shared, theirs, 2, value) },
         || (),
     );
-    placed
-}
-
-/// The lanes of two threads find the value that one of them placed.
-fn lanes_meet<R: Threads + Abort>(rt: &R, alloc: Global, values: &Values<u8>)
-    requires { IsNumber values.now 2 }
-{
-    let mut own = new_notes(rt, alloc, values);
-    let theirs = new_notes(rt, alloc, values);
-    let (mut theirs, placed) = placed_in_thread(rt, values, theirs, boxed(rt, alloc, 7));
     let known = (placed, theirs.knows(2), own.knows(2));
-    same(rt, known, (true, true, false), "what is known");
-    let found = found_by_both(values, &mut own, &mut theirs, 2);
-    same(rt, found, Some((7, 7)), "the value");
-}
-
-#[test]
-fn lanes_of_two_threads_meet(rt: HostRuntime) {
-    let values = places(&rt, rt.alloc(), 2);
-    lanes_meet(&rt, rt.alloc(), &values);
-}
-
-/// Of two places the second has a value, 7, which the first of two lanes placed.
-fn find_it<R: Abort>(rt: &R, values: &Values<u8>, own: &mut Notes<u8>, other: &mut Notes<u8>)
-    requires own { AreNotesOf values.now own.old }
-    requires other { AreNotesOf values.now other.old }
-{
-    let found = found_by_both(values, own, other, 2);
-    same(rt, found, Some((7, 7)), "what both find");
-    let known = (other.knows(2), other.knows(0), other.knows(3));
-    same(rt, known, (true, false, false), "what is known then");
-    let empty = found_by_both(values, own, other, 1);
-    let outside = found_by_both(values, own, other, 3);
-    same(rt, (empty, outside), (None, None), "no value");
+    same(&rt, known, (true, true, false), "what is known");
+    let found = found_by_both(shared, &mut own, &mut theirs, 2);
+    same(&rt, found, Some((7, 7)), "the value");
+    Ok(())
 }
 
 #[test]
@@ -271,31 +192,42 @@ fn notes_know_what_was_placed_or_shown(rt: HostRuntime) -> Result<(), Fail> {
     same(&rt, (placed, refused), (Ok(7), Err(8)), "one place");
     let known = (own.knows(2), own.knows(1), other.knows(2));
     same(&rt, known, (true, false, false), "what is known");
-    find_it(&rt, &values, &mut own, &mut other);
+    let found = found_by_both(&values, &mut own, &mut other, 2);
+    same(&rt, found, Some((7, 7)), "what both find");
+    let known = (other.knows(2), other.knows(0), other.knows(3));
+    same(&rt, known, (true, false, false), "what is known then");
+    let empty = found_by_both(&values, &mut own, &mut other, 1);
+    let outside = found_by_both(&values, &mut own, &mut other, 3);
+    same(&rt, (empty, outside), (None, None), "no value");
     Ok(())
 }
 
 /// The capacity for so many numbers, and whether the last of them is known once it was placed, and the one behind it.
-fn last_number<R: Abort>(rt: &R, alloc: Global, capacity: u32) -> (u32, bool, bool)
+fn last_number(alloc: Global, capacity: u32) -> Result<(u32, bool, bool), Fail>
     requires { IsCapacity capacity }
 {
-    let values = places(rt, alloc, capacity);
-    let mut notes = new_notes(rt, alloc, &values);
-    let placed = placed_and_found(&values, &mut notes, capacity, boxed(rt, alloc, 7));
+    let values = Values::new(alloc, capacity)?;
+    let mut notes = Notes::new(alloc, &values)?;
+    let placed = placed_and_found(&values, &mut notes, capacity, Box::new(alloc, 7)?);
     let told = values.capacity();
-    let is_known = placed == Ok(7) && notes.knows(told);
-    (told, is_known, notes.knows(told + 1))
+    Ok((
+        told,
+        placed == Ok(7) && notes.knows(told),
+        notes.knows(told + 1),
+    ))
 }
 
 #[test]
-fn capacities_from_1_to_65535(rt: HostRuntime) {
-    let smallest = last_number(&rt, rt.alloc(), 1);
-    same(&rt, smallest, (1, true, false), "1");
-    let largest = last_number(&rt, rt.alloc(), 65_535);
+fn capacities_from_1_to_65535(rt: HostRuntime) -> Result<(), Fail> {
+    same(&rt, last_number(rt.alloc(), 1)?, (1, true, false), "1");
+    let largest = last_number(rt.alloc(), 65_535)?;
     same(&rt, largest, (65_535, true, false), "65,535");
+    Ok(())
 }
 
 #[test]
-fn fault_prints_a_sentence(rt: HostRuntime) {
-    prints(&rt, rt.alloc(), &ValuesFault::Memory, "no memory");
+fn fault_prints_a_sentence(rt: HostRuntime) -> Result<(), Fail> {
+    let text = ValuesFault::Memory.to_string(rt.alloc())?;
+    same(&rt, text.as_str(), "no memory", "want of memory");
+    Ok(())
 }

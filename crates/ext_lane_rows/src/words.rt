@@ -1,9 +1,10 @@
 //! Words at their limits, the limits of opening, and the printed texts of refusals.
-use crate::same::{prints, same};
+use crate::same::same;
 use ext_cells::{CellRefusal, CellState, Cells, after, parts, word};
 use ext_model::Act;
 use std::alloc::Global;
 use std::process::Abort;
+use std::test::Fail;
 
 // 2^40 - 4, the greatest version at which a cell takes a claim.
 const LAST_CLAIM: u64 = 1_099_511_627_772;
@@ -102,11 +103,12 @@ fn open_within_limits(rt: HostRuntime) {
 }
 
 #[test]
-fn refusals_print_their_texts(rt: HostRuntime) {
+fn refusals_print_their_texts(rt: HostRuntime) -> Result<(), Fail> {
     for (refusal, text) in [
         (CellRefusal::Busy, "busy"),
         (CellRefusal::BadLimit, "a limit is out of its range"),
     ] {
-        prints(&rt, rt.alloc(), &refusal, text);
+        same(&rt, refusal.to_string(rt.alloc())?.as_str(), text, text);
     }
+    Ok(())
 }

@@ -5,3 +5,7 @@ use Rattle.ext_lane_rows.proofs.cells.zero_words_at_open.Goals as goal
 pub collect-requires-clause-different : goal.collect-requires-clause-different
 unfolding IsDistinct
 collect-requires-clause-different g c = ((refl, (refl, tt)), ((refl, tt), (tt, tt)))
+
+pub collect-requires-2-clause-different : goal.collect-requires-2-clause-different
+unfolding IsDistinct
+collect-requires-2-clause-different g c = tt
