@@ -1,14 +1,15 @@
 //! The locks of a test while its context is closed.
-ghost use Rattle.std.specs.Prelude.{◌≡◌, IsPermutation, [], ◌∷◌, codes, length};
+ghost use Rattle.std.specs.Prelude.{◌≡◌, ◌+◌, IsPermutation, [], ◌∷◌, codes, length};
+ghost use Rattle.ext_locks.specs.Sets.{AllBelow};
 ghost use Rattle.ext_store.specs.Stores.{closers_below};
 ghost use Rattle.ext_engine.specs.TreeRun.{IsIdle, IsUsable};
 
 use crate::gates::reaches;
-use crate::opening::{Opened, is_leaf, open, report, server_key};
+use crate::opening::{Opened, is_leaf, open, report, same, server_key};
 use ext_closing::CloseAction;
 use ext_crew::OpenGate;
 use ext_engine::{Call, Callbacks, Kind, Mode, Outcome, Suite, Verdict, run_tree};
-use ext_locks::{Held, LockLane, LockMode, LockRefusal, LockRequest, Locks, Resource};
+use ext_locks::{Held, LockLane, LockMode, LockRefusal, LockRequest, LockSet, Locks, Resource};
 use ext_model::{ContextNo, Fault};
 use ext_store::{Closer, Lane, Store, StoreValue};
 use ext_tree::{Key, Tree};
@@ -161,17 +162,15 @@ fn run_test<R: Threads + Wait + Sync + Abort>(
     key: &Key,
     store: &Store<Table>,
     locks: &Locks,
-    lanes: Vec<Lane<Table>>,
-    lock_lanes: Vec<LockLane>,
+    lanes: &mut [Lane<Table>],
+    lock_lanes: &mut [LockLane],
     closers: Vec<Closer>,
     signs: &Signs,
 ) -> String
-    requires usable { IsUsable store.now locks.now (record { first = lanes.items; second = lock_lanes.items }) }
+    requires usable { IsUsable store.now locks.now (record { first = lanes.old; second = lock_lanes.old }) }
     requires closers { closers.items ≡ closers_below store.now.id.cells (length store.now.tree) }
     requires lock { IsPermutation (codes "db" ∷ []) locks.now.names }
 {
-    let mut lanes = lanes;
-    let mut lock_lanes = lock_lanes;
     let suite = TableSuite {
         tree: store.tree(),
         key,
@@ -179,25 +178,30 @@ fn run_test<R: Threads + Wait + Sync + Abort>(
         signs,
     };
     let results = run_tree(
-        rt,
-        alloc,
-        &suite,
-        store,
-        locks,
-        lanes.as_mut_slice(),
-        lock_lanes.as_mut_slice(),
-        closers,
-        &OpenGate,
+        rt, alloc, &suite, store, locks, lanes, lock_lanes, closers, &OpenGate,
     )
     .expect(rt, "a run");
     report(rt, alloc, store.tree(), results.as_slice())
 }
 
-/// Once the test's context is being closed, tries to read by the lock. Answers why it can't, or `None`.
-fn try_read(locks: &Locks, lane: LockLane, signs: &Signs) -> Option<LockRefusal>
-    requires { IsIdle locks.now lane }
+/// Tries to take the set, and gives it back where it is taken. Answers why it can't be, or `None`.
+fn refusal_of(locks: &Locks, lane: &mut LockLane, set: &LockSet) -> Option<LockRefusal>
+    requires idle { IsIdle locks.now lane.old }
+    requires set { AllBelow (length locks.now.names + 1) set.now }
 {
-    let mut lane = lane;
+    match locks.try_take(lane, set) {
+        Ok(held) => {
+            locks.give(lane, held);
+            None
+        }
+        Err(refusal) => Some(refusal),
+    }
+}
+
+/// Once the test's context is being closed, tries to read by the lock. Answers why it can't, or `None`.
+fn try_read(locks: &Locks, lane: &mut LockLane, signs: &Signs) -> Option<LockRefusal>
+    requires { IsIdle locks.now lane.old }
+{
     let reads = LockRequest {
         resource: Resource::Named("db"),
         mode: LockMode::Read,
@@ -206,13 +210,7 @@ fn try_read(locks: &Locks, lane: LockLane, signs: &Signs) -> Option<LockRefusal>
     if !reaches(&signs.closing, 1) {
         return None;
     }
-    let refused = match locks.try_take(&mut lane, &set) {
-        Ok(held) => {
-            locks.give(&mut lane, held);
-            None
-        }
-        Err(refusal) => Some(refusal),
-    };
+    let refused = refusal_of(locks, lane, &set);
     signs.tried.store(1, Ordering::SeqCst);
     refused
 }
@@ -232,11 +230,11 @@ fn run_and_try<R: Threads + Wait + Sync + Abort>(
 {
     let Opened {
         store,
-        lanes,
+        mut lanes,
         closers,
         locks,
-        lock_lanes,
-        spare,
+        mut lock_lanes,
+        mut spare,
     } = opened;
     let (shared, all_locks) = (&store, &locks);
     join(
@@ -247,25 +245,37 @@ fn run_and_try<R: Threads + Wait + Sync + Abort>(
             requires lock { IsPermutation (codes "db" ∷ []) all_locks.now.names }
         {
             run_test(
-                rt, alloc, key, shared, all_locks, lanes, lock_lanes, closers, signs,
+                rt,
+                alloc,
+                key,
+                shared,
+                all_locks,
+                lanes.as_mut_slice(),
+                lock_lanes.as_mut_slice(),
+                closers,
+                signs,
             )
         },
         move || -> Option<LockRefusal>
             requires { IsIdle all_locks.now spare }
-        { try_read(all_locks, spare, signs) },
+        { try_read(all_locks, &mut spare, signs) },
     )
+}
+
+/// Runs the test beside another lane that tries to read by its lock. Asserts what both tell.
+fn lock_is_held<R: Threads + Wait + Sync + Abort>(rt: &R, alloc: Global, key: &Key, signs: &Signs) {
+    let contexts = &["[engine:x]", "[engine:x]/[method:m()]"];
+    let opened = open(alloc, contexts, &["db"], 2).expect(rt, "a store");
+    let (text, refused) = run_and_try(rt, alloc, key, opened, signs);
+    same(rt, refused, Some(LockRefusal::Taken(1)), "the other lane");
+    let wanted =
+        "[engine:x] successful closed 0\n[engine:x]/[method:m()] successful closed 1\ntests 1 successful 1 aborted 0 failed 0 skipped 0\ncomputed 0 found 0 closed 1 close faults 0\n";
+    same(rt, text.as_str(), wanted, "the report");
 }
 
 #[test]
 fn test_locks_are_held_until_its_context_is_closed(rt: HostRuntime) {
-    let alloc = rt.alloc();
-    let contexts = &["[engine:x]", "[engine:x]/[method:m()]"];
+    let key = server_key(rt.alloc()).expect(&rt, "a key");
     let signs = Signs::new();
-    let key = server_key(alloc).expect(&rt, "a key");
-    let opened = open(alloc, contexts, &["db"], 2).expect(&rt, "a store");
-    let (text, refused) = run_and_try(&rt, alloc, &key, opened, &signs);
-    assert_eq!(rt; refused, Some(LockRefusal::Taken(1)), "the other lane");
-    let wanted =
-        "[engine:x] successful closed 0\n[engine:x]/[method:m()] successful closed 1\ntests 1 successful 1 aborted 0 failed 0 skipped 0\ncomputed 0 found 0 closed 1 close faults 0\n";
-    assert_eq!(rt; text.as_str(), wanted, "the report");
+    lock_is_held(&rt, rt.alloc(), &key, &signs);
 }

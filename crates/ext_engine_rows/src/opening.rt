@@ -1,7 +1,9 @@
 //! The store and the locks of a run, and its report.
-ghost use Rattle.std.specs.Prelude.{◌≡◌, ◌<◌, ◌≤◌, All, IfSome, IsPermutation, length};
+ghost use Rattle.std.specs.Prelude.{◌≡◌, ◌<◌, ◌≤◌, ◌+◌, [], ◌∷◌, ◌++◌, All, IfSome, IsPermutation, length, map};
+ghost use Rattle.ext_cells.specs.Lanes.{fresh_lanes};
 ghost use Rattle.ext_locks.specs.Names.{texts_of};
-ghost use Rattle.ext_store.specs.Stores.{closers_below};
+ghost use Rattle.ext_locks.specs.Opening as locking;
+ghost use Rattle.ext_store.specs.Stores.{IsLaneOf, closers_below, fresh_store_lane};
 ghost use Rattle.ext_engine.specs.TreeRun.{IsIdle, IsUsable};
 ghost use Rattle.ext_engine_rows.specs.Leaves.{is_leaf};
 
@@ -13,6 +15,7 @@ use ext_report::report_text;
 use ext_store::{Closer, Lane, Limits, Store, StoreValue};
 use ext_tree::{Directory, Key, Namespace, Tree};
 use std::alloc::Global;
+use std::fmt::Debug;
 use std::process::Abort;
 
 /// What a run of a tree goes over, and a lock lane beside it.
@@ -32,14 +35,65 @@ pub(crate) fn server_key(alloc: Global) -> Option<Key> {
     Key::new(alloc, Namespace::global(), "server").ok()
 }
 
-/// The contexts with these ids.
-fn contexts(alloc: Global, texts: &[&str]) -> Option<Tree> {
+/// The ids of these texts.
+fn ids(alloc: Global, texts: &[&str]) -> Option<Vec<UniqueId>> {
     let mut ids = Vec::new(alloc);
     for text in texts {
         let id = UniqueId::parse(alloc, text).ok()?;
         ids.push(id).ok()?;
     }
+    Some(ids)
+}
+
+/// The contexts with these ids.
+fn contexts(alloc: Global, texts: &[&str]) -> Option<Tree> {
+    let ids = ids(alloc, texts)?;
     Tree::build(alloc, ids.as_slice()).ok()
+}
+
+/// The key of the tests, and no other.
+fn keys(alloc: Global) -> Option<Directory> {
+    let mut directory = Directory::new(alloc);
+    directory.declare(server_key(alloc)?).ok()?;
+    Some(directory)
+}
+
+/// A store of these contexts and the key of the tests, with so many lanes, and its closers.
+fn open_store<V: StoreValue + Drop>(
+    alloc: Global,
+    texts: &[&str],
+    lanes: usize,
+) -> Option<(Store<V>, Vec<Lane<V>>, Vec<Closer>)>
+    ensures fresh { IfSome result (λ o. o.1.items ≡ map (fresh_store_lane o.0.id.places) (fresh_lanes o.0.id.cells 0 lanes)) }
+    ensures lanes { IfSome result (λ o. All (IsLaneOf o.0.id) o.1.items) }
+    ensures closers { IfSome result (λ o. o.2.items ≡ closers_below o.0.id.cells (length o.0.tree)) }
+{
+    let limits = Limits {
+        lanes,
+        tries: 64,
+        numbers: 100,
+    };
+    let keys = keys(alloc)?;
+    let tree = contexts(alloc, texts)?;
+    match Store::open(alloc, tree, keys, limits) {
+        Ok(opened) => Some(opened),
+        Err(_) => None,
+    }
+}
+
+/// Locks of these names, with so many lanes and one more.
+fn open_locks(
+    alloc: Global,
+    names: &[&str],
+    lanes: usize,
+) -> Option<(Locks, Vec<LockLane>, LockLane)>
+    requires { lanes ≤ 15 }
+    ensures lanes { IfSome result (λ o. o.1.items ++ o.2 ∷ [] ≡ locking.fresh_lanes o.0.table (lanes + 1) (lanes + 1)) }
+    ensures names { IfSome result (λ o. IsPermutation (texts_of names.now) o.0.names) }
+{
+    let (locks, mut lock_lanes) = Locks::open(alloc, names, lanes + 1, 64).ok()?;
+    let spare = lock_lanes.pop()?;
+    Some((locks, lock_lanes, spare))
 }
 
 /// A store of these contexts and the key of the tests, with so many lanes, and locks of these names, with one lane more.
@@ -55,24 +109,11 @@ pub(crate) fn open<V: StoreValue + Drop>(
     ensures closers { IfSome result (λ o. o.closers.items ≡ closers_below o.store.id.cells (length o.store.tree)) }
     ensures names { IfSome result (λ o. IsPermutation (texts_of names.now) o.locks.names) }
 {
-    let tree = contexts(alloc, texts)?;
-    let mut directory = Directory::new(alloc);
-    directory.declare(server_key(alloc)?).ok()?;
-    let limits = Limits {
-        lanes,
-        tries: 64,
-        numbers: 100,
-    };
-    let Ok((store, store_lanes, closers)) = Store::open(alloc, tree, directory, limits) else {
-        return None;
-    };
-    let Ok((locks, mut lock_lanes)) = Locks::open(alloc, names, lanes + 1, 64) else {
-        return None;
-    };
-    let spare = lock_lanes.pop()?;
+    let (locks, lock_lanes, spare) = open_locks(alloc, names, lanes)?;
+    let (store, lanes, closers) = open_store(alloc, texts, lanes)?;
     Some(Opened {
         store,
-        lanes: store_lanes,
+        lanes,
         closers,
         locks,
         lock_lanes,
@@ -105,4 +146,9 @@ pub(crate) fn report(
 ) -> String {
     nodes_below(rt, results, tree.len());
     report_text(alloc, tree, results).expect(rt, "a report")
+}
+
+/// Asserts that this was answered. Tests assert by it, since a call is cheaper to prove than what `assert_eq!` writes.
+pub(crate) fn same<T: Debug + Drop + PartialEq>(rt: &impl Abort, answer: T, wanted: T, what: &str) {
+    assert_eq!(rt; answer, wanted, "{what}");
 }

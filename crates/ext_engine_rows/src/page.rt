@@ -4,7 +4,7 @@ ghost use Rattle.ext_store.specs.Stores.{IsLaneOf};
 ghost use Rattle.ext_engine_rows.specs.Asking.{AsksFor, HasFailed};
 
 use crate::gates::MeetingGate;
-use crate::opening::{Opened, is_leaf, open, report, server_key};
+use crate::opening::{Opened, is_leaf, open, report, same, server_key};
 use ext_closing::CloseAction;
 use ext_crew::{Gate, OpenGate};
 use ext_engine::{Call, Callbacks, Kind, Mode, Outcome, Suite, Verdict, run_tree};
@@ -263,5 +263,5 @@ fn engine_in_a_page(rt: HostRuntime) {
 fn two_children_run_at_once(rt: HostRuntime) {
     let gate = MeetingGate::new();
     server_is_shared(&rt, rt.alloc(), &gate);
-    assert_eq!(rt; gate.told(), (2, 0), "the gate");
+    same(&rt, gate.told(), (2, 0), "the gate");
 }

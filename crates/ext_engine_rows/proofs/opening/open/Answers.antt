@@ -1,14 +1,15 @@
+use Rattle.std.proofs.Common.{[], ◌∷◌, ◌++◌, refl}
 use Rattle.ext_engine_rows.proofs.Fitting.{opened_usable}
 use Rattle.ext_engine_rows.proofs.opening.open.Goals as goal
 
 pub returns-clause-usable : goal.returns-clause-usable
 returns-clause-usable g c =
-    let both = opened_usable c.in-Ok.store c.in-Ok-open.locks c.args.lanes c.in-Ok.store_lanes.items c.in-Ok-open.lock_lanes.items c.pop.new.self.items c.in_ok-spare.spare
-    c.requires c.in-Ok.ensures.lanes c.in-Ok.ensures.own_lanes c.in-Ok-open.ensures.opened.lanes_made c.in_ok-spare.ensures.items in
+    let both = opened_usable c.in_ok-store.store c.in_ok-locks.locks c.args.lanes c.in_ok-store.lanes.items (c.in_ok-locks.lock_lanes.items ++ c.in_ok-locks.spare ∷ []) c.in_ok-locks.lock_lanes.items c.in_ok-locks.spare
+    c.requires c.in_ok-store.ensures.fresh c.in_ok-store.ensures.lanes c.in_ok-locks.ensures.lanes refl in
     both.0
 
 pub returns-clause-spare : goal.returns-clause-spare
 returns-clause-spare g c =
-    let both = opened_usable c.in-Ok.store c.in-Ok-open.locks c.args.lanes c.in-Ok.store_lanes.items c.in-Ok-open.lock_lanes.items c.pop.new.self.items c.in_ok-spare.spare
-    c.requires c.in-Ok.ensures.lanes c.in-Ok.ensures.own_lanes c.in-Ok-open.ensures.opened.lanes_made c.in_ok-spare.ensures.items in
+    let both = opened_usable c.in_ok-store.store c.in_ok-locks.locks c.args.lanes c.in_ok-store.lanes.items (c.in_ok-locks.lock_lanes.items ++ c.in_ok-locks.spare ∷ []) c.in_ok-locks.lock_lanes.items c.in_ok-locks.spare
+    c.requires c.in_ok-store.ensures.fresh c.in_ok-store.ensures.lanes c.in_ok-locks.ensures.lanes refl in
     both.1
