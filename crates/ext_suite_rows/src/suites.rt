@@ -1,6 +1,7 @@
 //! The suite of a plan with an isolated root that has callbacks, and a test that names locks.
-ghost use Rattle.std.specs.Prelude.{◌<◌, IfSome, length};
-ghost use Rattle.ext_plan_model.specs.Laws.{NamespacesHaveParts};
+ghost use Rattle.std.specs.Prelude.{◌≡◌, ◌<◌, ◌≤◌, All, IfSome, length};
+ghost use Rattle.ext_plan_model.specs.KeyNumbers.{different_keys};
+ghost use Rattle.ext_plan_model.specs.Laws.{CallbacksAreFew, NamespacesHaveParts, StepListsAreShort, StepsNameLabels};
 ghost use Rattle.ext_plan_model.specs.Plans.{plan_view};
 ghost use Rattle.ext_store.specs.Stores.{IsLaneOf};
 ghost use Rattle.ext_suite.specs.PlanSuites.{HasKeys};
@@ -16,11 +17,12 @@ use ext_plan_model::{KeyNumbers, Plan};
 use ext_steps::PlanValue;
 use ext_store::{Lane, Limits, Store};
 use ext_store_steps::StoredValue;
-use ext_suite::PlanSuite;
-use ext_tree::Tree;
+use ext_suite::{PlanAction, PlanSuite};
+use ext_tree::{Directory, Tree};
 use std::alloc::Global;
 use std::fmt::Debug;
 use std::process::Abort;
+use std::sync::Wait;
 use std::test::Fail;
 
 /// The plan.
@@ -32,22 +34,53 @@ fn same<T: Debug + Drop + PartialEq>(rt: &impl Abort, answer: T, wanted: T, what
     assert_eq!(rt; answer, wanted, "{what}");
 }
 
-/// A store of the plan's contexts and keys, and its lane.
-#[derive(Drop)]
-struct Opened<'a> {
-    store: Store<StoredValue<'a>>,
-    lane: Lane<StoredValue<'a>>,
+/// The fault of this text.
+fn fault_of(rt: &impl Abort, alloc: Global, text: &str) -> Fault {
+    Fault::Text(String::from_str(alloc, text).expect(rt, "a text"))
+}
+
+/// What a test does with the suite of the plan.
+trait Scenario<R> {
+    /// Does it, and asserts what is answered.
+    fn play(&self, rt: &R, alloc: Global, plan: &Plan, suite: &PlanSuite<'_, NoListener>)
+        requires parts { NamespacesHaveParts (plan_view plan.now) }
+        requires suite { suite.now ≡ plan_view plan.now };
+}
+
+/// Plays the scenario with the suite of the plan.
+fn lend<R, S: Scenario<R>>(rt: &R, alloc: Global, plan: &Plan, scenario: &S) -> Result<(), Fail>
+    requires keys { length (different_keys (plan_view plan.now).keys) ≤ 64 }
+    requires parts { NamespacesHaveParts (plan_view plan.now) }
+    requires labels { StepsNameLabels (plan_view plan.now) }
+    requires short { StepListsAreShort (plan_view plan.now) }
+    requires few { CallbacksAreFew (plan_view plan.now) }
+{
+    let suite = PlanSuite::new(alloc, plan, &NoListener)?;
+    scenario.play(rt, alloc, plan, &suite);
+    Ok(())
+}
+
+/// Reads the plan, and plays the scenario with its suite.
+fn with_suite<R, S: Scenario<R>>(rt: &R, alloc: Global, scenario: &S) -> Result<(), Fail> {
+    let plan = read_plan(alloc, PLAN)?;
+    lend(rt, alloc, &plan, scenario)
+}
+
+/// The ids of the plan.
+fn ids(alloc: Global) -> Option<Vec<UniqueId>> {
+    let mut ids = Vec::new(alloc);
+    for text in ["[engine:x]", "[engine:x]/[method:m()]"] {
+        let id = UniqueId::parse(alloc, text).ok()?;
+        ids.push(id).ok()?;
+    }
+    Some(ids)
 }
 
 /// The contexts of the plan.
 fn contexts(alloc: Global) -> Option<Tree>
     ensures { IfSome result (λ tree. 1 < length tree) }
 {
-    let mut ids = Vec::new(alloc);
-    for text in ["[engine:x]", "[engine:x]/[method:m()]"] {
-        let id = UniqueId::parse(alloc, text).ok()?;
-        ids.push(id).ok()?;
-    }
+    let ids = ids(alloc)?;
     let Ok(tree) = Tree::build(alloc, ids.as_slice()) else {
         return None;
     };
@@ -57,109 +90,170 @@ fn contexts(alloc: Global) -> Option<Tree>
     Some(tree)
 }
 
-/// The store, with one lane.
-fn open<'a>(alloc: Global, plan: &'a Plan) -> Option<Opened<'a>>
+/// The keys of the plan.
+fn directory(alloc: Global, plan: &Plan) -> Option<Directory>
     requires { NamespacesHaveParts (plan_view plan.now) }
-    ensures keys { IfSome result (λ o. HasKeys (plan_view plan.now) o.store) }
-    ensures lane { IfSome result (λ o. IsLaneOf o.store.id o.lane) }
-    ensures contexts { IfSome result (λ o. 1 < length o.store.tree) }
+    ensures { IfSome result (λ keys. keys ≡ different_keys (plan_view plan.now).keys) }
 {
-    let tree = contexts(alloc)?;
     let Ok(numbers) = KeyNumbers::of(alloc, plan.keys.as_slice()) else {
         return None;
     };
+    Some(numbers.into_directory())
+}
+
+/// The suite says what the plan does.
+struct SaysWhatItsPlanDoes;
+
+impl<R: Abort> Scenario<R> for SaysWhatItsPlanDoes {
+    fn play(&self, rt: &R, _alloc: Global, _plan: &Plan, suite: &PlanSuite<'_, NoListener>) {
+        says(rt, suite);
+    }
+}
+
+/// Asserts what a suite of the plan says: of the root and of the test.
+fn says<'a, S: Suite<StoredValue<'a>>>(rt: &impl Abort, suite: &S) {
+    let modes = [suite.mode(0), suite.mode(1)];
+    same(rt, modes, [Mode::SameThread, Mode::Concurrent], "modes");
+    let isolated = [suite.isolated(0), suite.isolated(1)];
+    same(rt, isolated, [true, false], "which are isolated");
+    let tests = [suite.is_test(0), suite.is_test(1)];
+    same(rt, tests, [false, true], "which are tests");
+    let callbacks = suite.count(Kind::BeforeAll, 0);
+    let counts = [callbacks, suite.lock_count(0), suite.lock_count(1)];
+    same(rt, counts, [2, 0, 2], "callbacks, and locks");
+    let second = LockRequest {
+        resource: Resource::Named("net"),
+        mode: LockMode::ReadWrite,
+    };
+    let locks = [suite.lock(1, 1), suite.lock(1, 2)];
+    same(rt, locks, [Some(second), None], "the test's locks");
+}
+
+#[test]
+fn suite_says_what_its_plan_does(rt: HostRuntime) -> Result<(), Fail> {
+    with_suite(&rt, rt.alloc(), &SaysWhatItsPlanDoes)
+}
+
+/// Asserts what a callback of the root answers, by its place among those before all.
+fn answers<'a, R: Abort + Wait>(
+    rt: &R,
+    suite: &PlanSuite<'a, NoListener>,
+    store: &Store<StoredValue<'a>>,
+    lane: &mut Lane<StoredValue<'a>>,
+    index: usize,
+    wanted: Outcome,
+)
+    requires keys { HasKeys suite.now store.now }
+    requires lane { IsLaneOf store.now.id lane.old }
+    requires contexts { 1 < length store.now.tree }
+    ensures { IsLaneOf store.now.id lane.new }
+{
+    if suite.is_test(0) {
+        panic!(rt; "the root is a test");
+    }
+    let call = Call {
+        kind: Kind::BeforeAll,
+        from: 0,
+        index,
+    };
+    let outcome = suite.call(rt, store, 0, &call, lane, None);
+    same(rt, outcome, wanted, "a callback");
+}
+
+/// Asserts what both callbacks of the root answer, one after the other, on the first lane.
+fn both_answer<'a, R: Abort + Wait>(
+    rt: &R,
+    alloc: Global,
+    suite: &PlanSuite<'a, NoListener>,
+    store: &Store<StoredValue<'a>>,
+    lanes: &mut [Lane<StoredValue<'a>>],
+)
+    requires keys { HasKeys suite.now store.now }
+    requires lanes { All (IsLaneOf store.now.id) lanes.old }
+    requires contexts { 1 < length store.now.tree }
+{
+    if lanes.is_empty() {
+        panic!(rt; "no lane");
+    }
+    let lane = &mut lanes[0];
+    let found = Outcome {
+        verdict: Verdict::Successful,
+        computed: 0,
+        found: 1,
+    };
+    answers(rt, suite, store, lane, 0, found);
+    let fault = fault_of(rt, alloc, "want a y: got x");
+    let failed = Outcome::of(Verdict::Failed(fault));
+    answers(rt, suite, store, lane, 1, failed);
+}
+
+/// Asserts what both callbacks of the root answer over a store of these contexts and keys, with one lane.
+fn both_answer_in<'a, R: Abort + Wait>(
+    rt: &R,
+    alloc: Global,
+    suite: &PlanSuite<'a, NoListener>,
+    tree: Tree,
+    keys: Directory,
+)
+    requires contexts { 1 < length tree }
+    requires keys { keys ≡ different_keys suite.now.keys }
+{
     let limits = Limits {
         lanes: 1,
         tries: 8,
         numbers: 8,
     };
-    let Ok((store, mut lanes, _closers)) = Store::open(
-        alloc,
-        tree,
-        numbers.into_directory(),
-        limits,
-    ) else {
-        return None;
+    let Ok((store, mut lanes, _closers)) = Store::open(alloc, tree, keys, limits) else {
+        panic!(rt; "no store");
     };
-    let lane = lanes.pop()?;
-    Some(Opened { store, lane })
+    both_answer(rt, alloc, suite, &store, lanes.as_mut_slice());
 }
 
-/// Asserts what a suite of the plan says.
-fn says<'a, S: Suite<StoredValue<'a>>>(rt: &impl Abort, suite: &S) {
-    same(rt, suite.mode(0), Mode::SameThread, "the root's mode");
-    same(rt, suite.mode(1), Mode::Concurrent, "the test's mode");
-    same(rt, suite.isolated(0), true, "the root is isolated");
-    same(rt, suite.isolated(1), false, "the test is isolated");
-    same(rt, suite.is_test(0), false, "the root is a test");
-    same(rt, suite.is_test(1), true, "the test is one");
-    same(rt, suite.count(Kind::BeforeAll, 0), 2, "callbacks");
-    same(rt, suite.lock_count(0), 0, "the root's locks");
-    same(rt, suite.lock_count(1), 2, "the test's locks");
-    let second = LockRequest {
-        resource: Resource::Named("net"),
-        mode: LockMode::ReadWrite,
-    };
-    same(rt, suite.lock(1, 1), Some(second), "the second lock");
-    same(rt, suite.lock(1, 2), None, "no third lock");
-}
+/// Calls of the suite make the steps of the plan.
+struct CallsMakeTheirSteps;
 
-#[test]
-fn suite_says_what_its_plan_does(rt: HostRuntime) -> Result<(), Fail> {
-    let plan = read_plan(rt.alloc(), PLAN)?;
-    let suite = PlanSuite::new(rt.alloc(), &plan, &NoListener)?;
-    says(&rt, &suite);
-    Ok(())
+impl<R: Abort + Wait> Scenario<R> for CallsMakeTheirSteps {
+    fn play(&self, rt: &R, alloc: Global, plan: &Plan, suite: &PlanSuite<'_, NoListener>) {
+        let tree = contexts(alloc).expect(rt, "contexts");
+        let Some(keys) = directory(alloc, plan) else {
+            panic!(rt; "no keys");
+        };
+        both_answer_in(rt, alloc, suite, tree, keys);
+    }
 }
 
 #[test]
 fn calls_of_a_suite_make_their_steps(rt: HostRuntime) -> Result<(), Fail> {
-    let plan = read_plan(rt.alloc(), PLAN)?;
-    let suite = PlanSuite::new(rt.alloc(), &plan, &NoListener)?;
-    let Some(Opened { store, mut lane }) = open(rt.alloc(), &plan) else {
-        panic!(&rt; "no store");
+    with_suite(&rt, rt.alloc(), &CallsMakeTheirSteps)
+}
+
+/// Asserts what the close of a value with this text answers.
+fn closes(
+    rt: &impl Abort,
+    action: &mut PlanAction,
+    number: u32,
+    text: &str,
+    wanted: Result<(), Fault>,
+) {
+    let value = StoredValue {
+        value: PlanValue::closeable(text),
     };
-    if suite.is_test(0) {
-        panic!(&rt; "the root is a test");
+    same(rt, action.close(number, &value), wanted, text);
+}
+
+/// Actions of the suite fail for bad texts, and for no others.
+struct ActionsFailForBadTexts;
+
+impl<R: Abort> Scenario<R> for ActionsFailForBadTexts {
+    fn play(&self, rt: &R, alloc: Global, _plan: &Plan, suite: &PlanSuite<'_, NoListener>) {
+        let mut action = suite.action(1);
+        let fault = fault_of(rt, alloc, "close bad2");
+        closes(rt, &mut action, 1, "bad2", Err(fault));
+        closes(rt, &mut action, 2, "good", Ok(()));
     }
-    let first = Call {
-        kind: Kind::BeforeAll,
-        from: 0,
-        index: 0,
-    };
-    let wanted = Outcome {
-        verdict: Verdict::Successful,
-        computed: 0,
-        found: 1,
-    };
-    let outcome = suite.call(&rt, &store, 0, &first, &mut lane, None);
-    same(&rt, outcome, wanted, "the first callback");
-    let second = Call { index: 1, ..first };
-    let text = String::from_str(rt.alloc(), "want a y: got x")?;
-    let wanted = Outcome::of(Verdict::Failed(Fault::Text(text)));
-    let outcome = suite.call(&rt, &store, 0, &second, &mut lane, None);
-    same(&rt, outcome, wanted, "the second callback");
-    Ok(())
 }
 
 #[test]
 fn actions_of_a_suite_fail_for_bad_texts(rt: HostRuntime) -> Result<(), Fail> {
-    let plan = read_plan(rt.alloc(), PLAN)?;
-    let suite = PlanSuite::new(rt.alloc(), &plan, &NoListener)?;
-    let mut action = suite.action(1);
-    let bad = StoredValue {
-        value: PlanValue::closeable("bad2"),
-    };
-    let good = StoredValue {
-        value: PlanValue::closeable("good"),
-    };
-    let text = String::from_str(rt.alloc(), "close bad2")?;
-    same(
-        &rt,
-        action.close(1, &bad),
-        Err(Fault::Text(text)),
-        "a bad text",
-    );
-    same(&rt, action.close(2, &good), Ok(()), "another text");
-    Ok(())
+    with_suite(&rt, rt.alloc(), &ActionsFailForBadTexts)
 }
