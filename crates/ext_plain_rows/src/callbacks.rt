@@ -57,38 +57,42 @@ const KINDS: [Kind; 5] = [
 
 /// The callbacks of a kind in lines: for each the kind, and then its steps.
 fn write_callbacks(
-    alloc: Global,
     kind: Kind,
     callbacks: &[Vec<Step>],
     lines: &mut String,
 ) -> Result<(), AllocError> {
     for steps in callbacks {
-        lines.push_str(format!(in alloc; "{kind:?}\n")?.as_str())?;
+        write!(lines, "{kind:?}\n")?;
         for step in steps {
-            lines.push_str(format!(in alloc; "{step:?}\n")?.as_str())?;
+            write!(lines, "{step:?}\n")?;
         }
     }
     Ok(())
 }
 
 /// A node in lines: its id and its mode, and then its callbacks of each kind.
-fn write_node(alloc: Global, node: &PlanNode, lines: &mut String) -> Result<(), AllocError> {
+fn write_node(node: &PlanNode, lines: &mut String) -> Result<(), AllocError> {
     node.id.write_to(lines)?;
-    let mode = node.mode;
-    lines.push_str(format!(in alloc; " {mode:?}\n")?.as_str())?;
+    write!(lines, " {:?}\n", node.mode)?;
     for kind in KINDS {
-        write_callbacks(alloc, kind, node.callbacks(kind), lines)?;
+        write_callbacks(kind, node.callbacks(kind), lines)?;
     }
     Ok(())
+}
+
+/// The nodes in lines.
+fn told(alloc: Global, nodes: &[PlanNode]) -> Result<String, AllocError> {
+    let mut lines = String::new(alloc);
+    for node in nodes {
+        write_node(node, &mut lines)?;
+    }
+    Ok(lines)
 }
 
 #[test]
 fn reads_modes_and_callbacks(rt: HostRuntime) -> Result<(), Fail> {
     let plan = read_plan(rt.alloc(), PLAN)?;
-    let mut lines = String::new(rt.alloc());
-    for node in &plan.nodes {
-        write_node(rt.alloc(), node, &mut lines)?;
-    }
+    let lines = told(rt.alloc(), plan.nodes.as_slice())?;
     same(&rt, lines.as_str(), NODES, "the nodes");
     Ok(())
 }

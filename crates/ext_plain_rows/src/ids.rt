@@ -1,24 +1,41 @@
 //! Ids from outside: the worked examples of the format, and what each fault prints.
-use crate::same::same;
+use crate::same::{prints, same};
 use ext_ids::{IdFault, UniqueId};
 use std::alloc::{AllocError, Global};
+use std::process::Abort;
 use std::test::Fail;
 
-/// How many segments the id has, each segment's type and value, and the id as it is written behind that; or the line of
-/// the text's fault.
-fn told(alloc: Global, text: &str) -> Result<String, AllocError> {
-    let id = match UniqueId::parse(alloc, text) {
-        Ok(id) => id,
-        Err(fault) => return fault.to_string(alloc),
-    };
-    let mut told = format!(in alloc; "{}", id.len())?;
+/// Writes how many segments the id has, each segment's type and value, and the id as it is written behind that.
+fn write_id(id: &UniqueId, told: &mut String) -> Result<(), AllocError> {
+    write!(told, "{}", id.len())?;
     for i in 0..id.len() {
         let (kind, value) = id.segment(i);
-        told.push_str(format!(in alloc; " {kind} = {value},")?.as_str())?;
+        write!(told, " {kind} = {value},")?;
     }
     told.push_str(" ")?;
-    id.write_to(&mut told)?;
+    id.write_to(told)
+}
+
+/// What is written of the id that a text spells; or the line of the text's fault.
+fn told(alloc: Global, text: &str) -> Result<String, AllocError> {
+    match UniqueId::parse(alloc, text) {
+        Ok(id) => id_told(alloc, &id),
+        Err(fault) => fault.to_string(alloc),
+    }
+}
+
+/// What is written of an id.
+fn id_told(alloc: Global, id: &UniqueId) -> Result<String, AllocError> {
+    let mut told = String::new(alloc);
+    write_id(id, &mut told)?;
     Ok(told)
+}
+
+/// Asserts what is told of a text.
+fn tells(rt: &impl Abort, alloc: Global, text: &str, wanted: &str) -> Result<(), AllocError> {
+    let told = told(alloc, text)?;
+    same(rt, told.as_str(), wanted, text);
+    Ok(())
 }
 
 /// Texts, with what is told of each.
@@ -43,11 +60,10 @@ const TEXTS: [(&str, &str); 10] = [
 
 #[test]
 fn ids_and_their_faults(rt: HostRuntime) -> Result<(), Fail> {
-    for (text, wanted) in TEXTS {
-        same(&rt, told(rt.alloc(), text)?.as_str(), wanted, text);
+    for (text, wanted) in TEXTS.iter() {
+        tells(&rt, rt.alloc(), text, wanted)?;
     }
-    let memory = IdFault::Memory.to_string(rt.alloc())?;
-    same(&rt, memory.as_str(), "id: I9", "want of memory");
+    prints(&rt, rt.alloc(), &IdFault::Memory, "id: I9")?;
     Ok(())
 }
 
@@ -55,8 +71,14 @@ fn ids_and_their_faults(rt: HostRuntime) -> Result<(), Fail> {
 fn compared(alloc: Global, first: &str, second: &str) -> Result<(bool, bool, bool), Fail> {
     let first = UniqueId::parse(alloc, first)?;
     let second = UniqueId::parse(alloc, second)?;
-    let copy = first.clone()?;
-    Ok((first.is_parent_of(&second), first == second, copy == first))
+    let is_same = is_copied(&first)?;
+    Ok((first.is_parent_of(&second), first == second, is_same))
+}
+
+/// Whether a copy of the id is the id.
+fn is_copied(id: &UniqueId) -> Result<bool, AllocError> {
+    let copy = id.clone()?;
+    Ok(copy == *id)
 }
 
 #[test]

@@ -13,16 +13,28 @@ fn namespace(alloc: Global, parts: &[&str], more: &[&str]) -> Result<Namespace, 
     Namespace::create(alloc, parts)?.append(alloc, more)
 }
 
+/// Whether the namespace is the one that is created of the first parts with the further ones appended.
+fn is_namespace(
+    alloc: Global,
+    namespace_of_two: &Namespace,
+    parts: &[&str],
+    more: &[&str],
+) -> Result<bool, TreeFault> {
+    let other = namespace(alloc, parts, more)?;
+    Ok(*namespace_of_two == other)
+}
+
 #[test]
 fn namespaces_differ_by_order(rt: HostRuntime) -> Result<(), Fail> {
-    let both = namespace(rt.alloc(), &["a", "b"], &[])?;
-    let appended = namespace(rt.alloc(), &["a"], &["b"])?;
-    let turned = namespace(rt.alloc(), &["b", "a"], &[])?;
-    let global = namespace(rt.alloc(), &[], &["a", "b"])?;
-    let answers = (appended == both, appended == turned, appended == global);
+    let alloc = rt.alloc();
+    let appended = namespace(alloc, &["a"], &["b"])?;
+    let both = is_namespace(alloc, &appended, &["a", "b"], &[])?;
+    let turned = is_namespace(alloc, &appended, &["b", "a"], &[])?;
+    let global = is_namespace(alloc, &appended, &[], &["a", "b"])?;
+    let answers = (both, turned, global);
     same(&rt, answers, (true, false, false), "a namespace of a and b");
-    let empty = namespace(rt.alloc(), &[], &[])?;
-    same(&rt, empty == Namespace::global(), true, "the global one");
+    let empty = is_namespace(alloc, &Namespace::global(), &[], &[])?;
+    same(&rt, empty, true, "the global one");
     Ok(())
 }
 
@@ -73,13 +85,18 @@ fn tells_of_two(rt: &impl Abort, alloc: Global, directory: &Directory) -> Result
     Ok(())
 }
 
+/// Declares two keys, one of them twice, in a directory without keys.
+fn declares_two(rt: &impl Abort, alloc: Global, directory: &mut Directory) -> Result<(), Fail> {
+    same(rt, directory.is_empty(), true, "a directory without keys");
+    let answers = [("a", Ok(0)), ("b", Ok(1)), ("a", Ok(0))];
+    declares(rt, alloc, directory, &answers)?;
+    tells_of_two(rt, alloc, directory)
+}
+
 #[test]
 fn keys_are_declared_once(rt: HostRuntime) -> Result<(), Fail> {
     let mut directory = Directory::new(rt.alloc());
-    same(&rt, directory.is_empty(), true, "a directory without keys");
-    let answers = [("a", Ok(0)), ("b", Ok(1)), ("a", Ok(0))];
-    declares(&rt, rt.alloc(), &mut directory, &answers)?;
-    tells_of_two(&rt, rt.alloc(), &directory)
+    declares_two(&rt, rt.alloc(), &mut directory)
 }
 
 /// Asserts that the keys `key0` to `key63` have the numbers 0 to 63.
@@ -92,12 +109,21 @@ fn declares_64(rt: &impl Abort, alloc: Global, directory: &mut Directory) -> Res
     Ok(())
 }
 
+/// Declares 64 keys, and then one more.
+fn declares_one_too_many(
+    rt: &impl Abort,
+    alloc: Global,
+    directory: &mut Directory,
+) -> Result<(), Fail> {
+    declares_64(rt, alloc, directory)?;
+    let answers = [("key64", Err(TreeFault::TooMany)), ("key63", Ok(63))];
+    declares(rt, alloc, directory, &answers)?;
+    same(rt, directory.len(), 64, "the keys");
+    Ok(())
+}
+
 #[test]
 fn keys_are_64_at_most(rt: HostRuntime) -> Result<(), Fail> {
     let mut directory = Directory::new(rt.alloc());
-    declares_64(&rt, rt.alloc(), &mut directory)?;
-    let answers = [("key64", Err(TreeFault::TooMany)), ("key63", Ok(63))];
-    declares(&rt, rt.alloc(), &mut directory, &answers)?;
-    same(&rt, directory.len(), 64, "the keys");
-    Ok(())
+    declares_one_too_many(&rt, rt.alloc(), &mut directory)
 }

@@ -2,7 +2,7 @@
 ghost use Rattle.std.specs.Prelude.{◌≤◌, length};
 
 use crate::same::same;
-use ext_plan::{KeyNumbers, PlanNode, read_plan};
+use ext_plan::{KeyNumbers, Plan, PlanNode, read_plan};
 use std::alloc::{AllocError, Global};
 use std::test::Fail;
 
@@ -18,30 +18,34 @@ fn plan_with(alloc: Global, steps: &str) -> Result<String, AllocError> {
 }
 
 /// A node in lines: its id, behind that the word `test` where it is one, and then its steps.
-fn write_node(alloc: Global, node: &PlanNode, lines: &mut String) -> Result<(), AllocError> {
+fn write_node(node: &PlanNode, lines: &mut String) -> Result<(), AllocError> {
     node.id.write_to(lines)?;
     let Some(steps) = &node.test else {
         return lines.push_str("\n");
     };
     lines.push_str(" test\n")?;
     for step in steps {
-        lines.push_str(format!(in alloc; "{step:?}\n")?.as_str())?;
+        write!(lines, "{step:?}\n")?;
     }
     Ok(())
 }
 
 /// A plan in lines: each key, and then each node; or the line of its fault.
 fn told(alloc: Global, text: &str) -> Result<String, AllocError> {
-    let plan = match read_plan(alloc, text) {
-        Ok(plan) => plan,
-        Err(fault) => return fault.to_string(alloc),
-    };
+    match read_plan(alloc, text) {
+        Ok(plan) => plan_told(alloc, &plan),
+        Err(fault) => fault.to_string(alloc),
+    }
+}
+
+/// A plan in lines: each key, and then each node.
+fn plan_told(alloc: Global, plan: &Plan) -> Result<String, AllocError> {
     let mut lines = String::new(alloc);
     for key in &plan.keys {
-        lines.push_str(format!(in alloc; "{key:?}\n")?.as_str())?;
+        write!(lines, "{key:?}\n")?;
     }
     for node in &plan.nodes {
-        write_node(alloc, node, &mut lines)?;
+        write_node(node, &mut lines)?;
     }
     Ok(lines)
 }

@@ -96,15 +96,21 @@ fn reports<R: Abort>(
 ) -> Result<(), Fail> {
     let tree = tree_of(alloc, ids)?;
     let results = results_of(alloc, rows)?;
-    let results = results.as_slice();
+    same(rt, any_failed(results.as_slice()), failed, wanted);
+    tells(rt, alloc, &tree, results.as_slice(), wanted)
+}
+
+/// Asserts that the results have this report.
+fn tells<R: Abort>(
+    rt: &R,
+    alloc: Global,
+    tree: &Tree,
+    results: &[NodeResult],
+    wanted: &str,
+) -> Result<(), Fail> {
     assert!(rt; results.iter().all(|r| r.node < tree.len()));
-    same(
-        rt,
-        report_text(alloc, &tree, results)?.as_str(),
-        wanted,
-        ids,
-    );
-    same(rt, any_failed(results), failed, wanted);
+    let text = report_text(alloc, tree, results)?;
+    same(rt, text.as_str(), wanted, "the report");
     Ok(())
 }
 

@@ -1,5 +1,5 @@
 //! The worked examples of trees, and what each fault prints.
-use crate::same::same;
+use crate::same::{prints, same};
 use ext_ids::UniqueId;
 use ext_tree::{Tree, TreeFault};
 use std::alloc::{AllocError, Global};
@@ -62,8 +62,7 @@ fn trees_and_their_faults(rt: HostRuntime) -> Result<(), Fail> {
     for (ids, wanted) in TREES {
         same(&rt, told(rt.alloc(), ids)?.as_str(), wanted, ids);
     }
-    let memory = TreeFault::Memory.to_string(rt.alloc())?;
-    same(&rt, memory.as_str(), "no memory", "want of memory");
+    prints(&rt, rt.alloc(), &TreeFault::Memory, "no memory")?;
     Ok(())
 }
 
