@@ -1,5 +1,5 @@
 //! The run of a tree.
-ghost use Rattle.std.specs.Prelude.{◌≡◌, ℕ, ◌+◌, ◌-◌, ◌<◌, ◌≤◌, List, length, min, map, IfOk, IfErr, All, not, filter, true, false, slice_index_or, vec_len};
+ghost use Rattle.std.specs.Prelude.{◌≡◌, ℕ, ◌+◌, ◌-◌, ◌<◌, ◌≤◌, List, length, min, map, IfOk, IfErr, All, not, filter, true, false, slice_index_or, vec_len, ◌∷◌, ◌++◌};
 ghost use denote.Param.Send.{IsSync, IsSend};
 ghost use Rattle.ext_tree.specs.Paths.{IsPathOf, children_of};
 ghost use Rattle.ext_lifecycle.specs.Results.{told};
@@ -14,7 +14,7 @@ ghost use Rattle.ext_node_run.specs.Helpers.{ran_view};
 use crate::runner::{Container, TreeRunner};
 use crate::{EngineFault, Suite};
 use ext_crew::{Gate, run_children};
-use ext_lifecycle::{NodeResult, afters_of, befores_of};
+use ext_lifecycle::{NodeResult, calls_round};
 use ext_locks::{LockLane, Locks};
 use ext_model::ContextNo;
 use ext_node_run::{
@@ -90,6 +90,25 @@ pub fn run_tree<
     Ok(results)
 }
 
+/// How a container ran and then how those below it did. Takes memory for it.
+fn own_first(alloc: Global, own: RanNode, below: Vec<RanNode>) -> Result<Vec<RanNode>, EngineFault>
+    ensures ran { IfOk result (λ v. v.items ≡ own ∷ below.items) }
+    ensures fault { IfErr result (λ why. why ≡ engine_fault.Memory) }
+{
+    let mut ran = Vec::with_capacity(alloc, 1)?;
+    ran.push_reserved(own);
+    followed_by(ran, below)
+}
+
+/// How some nodes ran and then how others did. Takes memory for it.
+fn followed_by(mut ran: Vec<RanNode>, mut others: Vec<RanNode>) -> Result<Vec<RanNode>, EngineFault>
+    ensures ran { IfOk result (λ v. v.items ≡ ran.items ++ others.items) }
+    ensures fault { IfErr result (λ why. why ≡ engine_fault.Memory) }
+{
+    ran.append(&mut others)?;
+    Ok(ran)
+}
+
 impl<
     'a,
     R: Threads + Wait + Sync,
@@ -142,8 +161,7 @@ impl<
         let Item { node, mut closers } = item;
         let closer = take_own(self.nodes.store, node, &mut closers);
         let path = self.nodes.store.tree().path(node);
-        let befores = befores_of(alloc, self.nodes.suite, false, node, path.as_slice())?;
-        let afters = afters_of(alloc, self.nodes.suite, false, node, path.as_slice())?;
+        let (befores, afters) = calls_round(alloc, self.nodes.suite, false, node, path.as_slice())?;
         let (beside, in_turn) = items_of_children(
             alloc,
             self.nodes.suite,
@@ -182,7 +200,6 @@ impl<
         ensures fault { IfErr result (IsFault (setting_of self.now.nodes.store.now self.now.nodes.locks.now (S.nodes self.now.nodes.suite.now) (S.registered self.now.nodes.suite.now) V.is_closeable) (S.action_gives self.now.nodes.suite.now) S.Action.close_gives) }
     {
         let node = item.node;
-        let mut ran = Vec::with_capacity(alloc, 1)?;
         let Container {
             closer,
             befores,
@@ -199,7 +216,7 @@ impl<
             befores.as_slice(),
         );
         let went_on = tally.is_successful();
-        let mut below = self.run_body(
+        let below = self.run_body(
             alloc,
             depth - 1,
             went_on,
@@ -220,12 +237,8 @@ impl<
         );
         match self.nodes.close_node(node, closer, lanes) {
             Ok(closes) => {
-                ran.push_reserved(RanNode {
-                    result: tally.result(node, false, closes),
-                    went_on,
-                });
-                ran.append(&mut below)?;
-                Ok(ran)
+                let result = tally.result(node, false, closes);
+                own_first(alloc, RanNode { result, went_on }, below)
             }
             Err(number) => Err(EngineFault::Unjoined(node, number)),
         }
@@ -262,10 +275,9 @@ impl<
             return Ok(Vec::new(alloc));
         }
         let outcomes = self.run_beside(alloc, depth, beside, lanes, lock_lanes)?;
-        let mut ran = gathered(alloc, outcomes)?;
-        let mut others = self.run_in_turn(alloc, depth, in_turn, lanes, lock_lanes)?;
-        ran.append(&mut others)?;
-        Ok(ran)
+        let ran = gathered(alloc, outcomes)?;
+        let others = self.run_in_turn(alloc, depth, in_turn, lanes, lock_lanes)?;
+        followed_by(ran, others)
     }
 
     /// The children that run one after another, each with the whole share of the lanes.

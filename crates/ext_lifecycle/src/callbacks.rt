@@ -73,6 +73,27 @@ pub fn afters_of<S: Callbacks>(
     Ok(calls)
 }
 
+/// The before-callbacks and the after-callbacks of a node with this path, as `befores_of` and `afters_of` have them.
+///
+/// Takes memory for the lists. `AllocError` comes only where that is refused. Source: JUnit 5 User Guide, section
+/// "Wrapping Behavior of Callbacks"; the four kinds are an own rule.
+pub fn calls_round<S: Callbacks>(
+    alloc: Global,
+    suite: &S,
+    is_test: bool,
+    node: ContextNo,
+    path: &[ContextNo],
+) -> Result<(Vec<Call>, Vec<Call>), AllocError>
+    requires { length path.now ≤ 16 }
+    ensures befores { IfOk result (λ calls. calls.0.items ≡ befores_of (S.registered suite.now) is_test node path.now) }
+    ensures afters { IfOk result (λ calls. calls.1.items ≡ afters_of (S.registered suite.now) is_test node path.now) }
+    ensures few { IfOk result (λ calls. (vec_len calls.0 ≤ 16777216) × (vec_len calls.1 ≤ 16777216)) }
+{
+    let befores = befores_of(alloc, suite, is_test, node, path)?;
+    let afters = afters_of(alloc, suite, is_test, node, path)?;
+    Ok((befores, afters))
+}
+
 /// Adds the callbacks of all contexts of the path, outer ones first.
 fn push_along<S: Callbacks>(
     suite: &S,

@@ -20,7 +20,7 @@ mod status;
 mod tally;
 
 pub use call::{Call, Kind};
-pub use callbacks::{Callbacks, afters_of, befores_of};
+pub use callbacks::{Callbacks, afters_of, befores_of, calls_round};
 pub use closes::Closes;
 pub use lifecycle::{Caller, run_afters, run_befores, run_body, run_calls};
 pub use listener::{NoListener, RunListener};

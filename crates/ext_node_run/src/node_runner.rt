@@ -16,7 +16,7 @@ use crate::closing::close_again;
 use crate::locking::{give_locks, take_locks, test_set};
 use crate::node_calls::call_test;
 use crate::{EngineFault, Item, RanNode, Suite, take_own};
-use ext_lifecycle::{Call, Closes, Kind, afters_of, befores_of};
+use ext_lifecycle::{Call, Closes, Kind, calls_round};
 use ext_locks::{LockLane, LockSet, Locks};
 use ext_model::ContextNo;
 use ext_store::{Closer, Lane, Store, StoreValue};
@@ -133,8 +133,7 @@ impl<'a, R: Wait, V: StoreValue + Drop, S: Suite<V>> NodeRunner<'a, R, V, S> {
         let Item { node, mut closers } = item;
         let closer = take_own(self.store, node, &mut closers);
         let path = self.store.tree().path(node);
-        let befores = befores_of(alloc, self.suite, true, node, path.as_slice())?;
-        let afters = afters_of(alloc, self.suite, true, node, path.as_slice())?;
+        let (befores, afters) = calls_round(alloc, self.suite, true, node, path.as_slice())?;
         let set = test_set(alloc, self.suite, self.locks, path.as_slice())?;
         Ok(TestParts {
             closer,

@@ -1,5 +1,5 @@
 //! From a list of ids to the places of their parents, their children and their paths, or to what is wrong with the list.
-ghost use Rattle.std.specs.Prelude.{ℕ, ◌≡◌, ◌≢◌, ◌+◌, ◌<◌, ◌≤◌, ◌↔◌, IsTrue, IfOk, IfErr, OnOk, MatchResult, length, take, Contains};
+ghost use Rattle.std.specs.Prelude.{ℕ, ◌≡◌, ◌≢◌, ◌+◌, ◌<◌, ◌≤◌, ◌↔◌, IsTrue, IfOk, IfErr, OnOk, MatchResult, length, take, Contains, []};
 ghost use Rattle.ext_tree.specs.Trees.{StandsBefore, HasRoot, IsTree, HasFault, IsWrong};
 ghost use Rattle.ext_tree.specs.Building.{IsParentBefore, IsJudged, AreParents, AreChildren, ArePaths, Follows};
 ghost use Rattle.ext_tree.specs.Paths.{IsPathOf};
@@ -40,11 +40,25 @@ pub fn parents_of(alloc: Global, ids: &[UniqueId]) -> Result<Vec<ContextNo>, Tre
     ensures err { IfErr result (λ e. e ≢ Memory → HasFault ids.now e) }
 {
     let mut table = IndexSet::new(alloc);
+    parents_by(alloc, &mut table, ids)
+}
+
+/// As `parents_of`, by a table that is empty before.
+fn parents_by(
+    alloc: Global,
+    table: &mut IndexSet<Trail>,
+    ids: &[UniqueId],
+) -> Result<Vec<ContextNo>, TreeFault>
+    requires root { HasRoot ids.now }
+    requires empty { table.old.keys ≡ [] }
+    ensures ok { IfOk result (λ v. AreParents ids.now (length ids.now) v.items) }
+    ensures err { IfErr result (λ e. e ≢ Memory → HasFault ids.now e) }
+{
     let mut parents = Vec::new(alloc);
     table.insert(Trail::of(alloc, &ids[0], ids[0].len())?)?;
     parents.push(0)?;
     for i in 1..ids.len() {
-        let parent = enter(alloc, &mut table, ids, i)?;
+        let parent = enter(alloc, table, ids, i)?;
         parents.push(parent)?;
     }
     Ok(parents)

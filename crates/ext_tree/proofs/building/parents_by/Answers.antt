@@ -3,12 +3,12 @@ use Rattle.std.proofs.lemmas.Result.{err_from_is_err_and}
 use Rattle.ext_tree.specs.Trees.{later}
 use Rattle.ext_tree.specs.Building.{AreParents}
 use Rattle.ext_tree.proofs.TreeFacts.{more_parents, followed}
-use Rattle.ext_tree.proofs.building.parents_of.Goals as goal
+use Rattle.ext_tree.proofs.building.parents_by.Goals as goal
 
 pub returns-in_err-parent-clause-err : goal.returns-in_err-parent-clause-err
 returns-in_err-parent-clause-err c =
     let p = err_from_is_err_and c.from_residual-in_err-parent.result c.from_residual-in_err-parent.ensures.1 in
-    rw (p.1, p.2) (λ other. later c.requires c.loop-i.i c.in_err-parent.field-0.0 (omega (arith, c.loop-i.auto.i)) c.loop-i-test.true
+    rw (p.1, p.2) (λ other. later c.requires.root c.loop-i.i c.in_err-parent.field-0.0 (omega (arith, c.loop-i.auto.i)) c.loop-i-test.true
     (followed c.args.ids.now c.loop-i.i c.loop-i.parents.items c.loop-i.invariant.parents) (c.in_err-parent.ensures.err other))
 
 pub loop-i-preserved : goal.loop-i-preserved
