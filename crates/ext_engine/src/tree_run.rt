@@ -14,7 +14,7 @@ ghost use Rattle.ext_node_run.specs.Helpers.{ran_view};
 use crate::runner::{Container, TreeRunner};
 use crate::{EngineFault, Suite};
 use ext_crew::{Gate, run_children};
-use ext_lifecycle::{NodeResult, calls_round};
+use ext_lifecycle::{NodeResult, afters_of, befores_of};
 use ext_locks::{LockLane, Locks};
 use ext_model::ContextNo;
 use ext_node_run::{
@@ -161,7 +161,8 @@ impl<
         let Item { node, mut closers } = item;
         let closer = take_own(self.nodes.store, node, &mut closers);
         let path = self.nodes.store.tree().path(node);
-        let (befores, afters) = calls_round(alloc, self.nodes.suite, false, node, path.as_slice())?;
+        let befores = befores_of(alloc, self.nodes.suite, false, node, path.as_slice())?;
+        let afters = afters_of(alloc, self.nodes.suite, false, node, path.as_slice())?;
         let (beside, in_turn) = items_of_children(
             alloc,
             self.nodes.suite,
