@@ -1,5 +1,5 @@
 //! The run of a tree.
-ghost use Rattle.std.specs.Prelude.{◌≡◌, ℕ, ◌+◌, ◌-◌, ◌<◌, ◌≤◌, List, length, min, map, IfOk, IfErr, All, not, filter, true, false, slice_index_or, vec_len, ◌∷◌, ◌++◌};
+ghost use Rattle.std.specs.Prelude.{◌≡◌, ℕ, ◌+◌, ◌-◌, ◌<◌, ◌≤◌, List, length, min, map, IfOk, IfErr, All, not, filter, true, false, slice_index_or, vec_len};
 ghost use denote.Param.Send.{IsSync, IsSend};
 ghost use Rattle.ext_tree.specs.Paths.{IsPathOf, children_of};
 ghost use Rattle.ext_lifecycle.specs.Results.{told};
@@ -88,25 +88,6 @@ pub fn run_tree<
     let ran = runner.run_node(alloc, LEVELS, item, lanes, lock_lanes)?;
     place(&mut results, ran);
     Ok(results)
-}
-
-/// How a container ran and then how those below it did. Takes memory for it.
-fn own_first(alloc: Global, own: RanNode, below: Vec<RanNode>) -> Result<Vec<RanNode>, EngineFault>
-    ensures ran { IfOk result (λ v. v.items ≡ own ∷ below.items) }
-    ensures fault { IfErr result (λ why. why ≡ engine_fault.Memory) }
-{
-    let mut ran = Vec::with_capacity(alloc, 1)?;
-    ran.push_reserved(own);
-    followed_by(ran, below)
-}
-
-/// How some nodes ran and then how others did. Takes memory for it.
-fn followed_by(mut ran: Vec<RanNode>, mut others: Vec<RanNode>) -> Result<Vec<RanNode>, EngineFault>
-    ensures ran { IfOk result (λ v. v.items ≡ ran.items ++ others.items) }
-    ensures fault { IfErr result (λ why. why ≡ engine_fault.Memory) }
-{
-    ran.append(&mut others)?;
-    Ok(ran)
 }
 
 impl<
@@ -201,6 +182,7 @@ impl<
         ensures fault { IfErr result (IsFault (setting_of self.now.nodes.store.now self.now.nodes.locks.now (S.nodes self.now.nodes.suite.now) (S.registered self.now.nodes.suite.now) V.is_closeable) (S.action_gives self.now.nodes.suite.now) S.Action.close_gives) }
     {
         let node = item.node;
+        let mut ran = Vec::with_capacity(alloc, 1)?;
         let Container {
             closer,
             befores,
@@ -217,7 +199,7 @@ impl<
             befores.as_slice(),
         );
         let went_on = tally.is_successful();
-        let below = self.run_body(
+        let mut below = self.run_body(
             alloc,
             depth - 1,
             went_on,
@@ -238,8 +220,12 @@ impl<
         );
         match self.nodes.close_node(node, closer, lanes) {
             Ok(closes) => {
-                let result = tally.result(node, false, closes);
-                own_first(alloc, RanNode { result, went_on }, below)
+                ran.push_reserved(RanNode {
+                    result: tally.result(node, false, closes),
+                    went_on,
+                });
+                ran.append(&mut below)?;
+                Ok(ran)
             }
             Err(number) => Err(EngineFault::Unjoined(node, number)),
         }
@@ -276,9 +262,10 @@ impl<
             return Ok(Vec::new(alloc));
         }
         let outcomes = self.run_beside(alloc, depth, beside, lanes, lock_lanes)?;
-        let ran = gathered(alloc, outcomes)?;
-        let others = self.run_in_turn(alloc, depth, in_turn, lanes, lock_lanes)?;
-        followed_by(ran, others)
+        let mut ran = gathered(alloc, outcomes)?;
+        let mut others = self.run_in_turn(alloc, depth, in_turn, lanes, lock_lanes)?;
+        ran.append(&mut others)?;
+        Ok(ran)
     }
 
     /// The children that run one after another, each with the whole share of the lanes.

@@ -70,16 +70,14 @@ TreeRunner::run_body-returns-clause-run g t c =
     let makes = g.S.Suite.call_gives r.suite.now r.store.now in
     let actions = g.S.Suite.action_gives r.suite.now in
     let gives = g.S.Action.CloseAction.close_gives in
-    let Listed : Vec RanNode Global → Type 0 = λ v. v.items ≡ c.in_ok-ran.ran.items ++ c.in_ok-others.others.items in
-    let Made : Vec RanNode Global → Type 0 = λ v. BodyMade ts makes actions gives (TreeRun ts makes actions gives c.args.depth) c.args.go c.args.node (record { first = c.args.lanes.now; second = c.args.lock_lanes.now }) (map ran_view v.items) (record { first = c.run_in_turn.new.lanes; second = c.run_in_turn.new.lock_lanes }) in
-    IfOk-weaker c.followed_by.result Listed Made (λ v listed.
-    let views = ap (map ran_view) listed ∙ map-append ran_view c.in_ok-ran.ran.items c.in_ok-others.others.items in
+    let is : c.append.new.self.items ≡ c.in_ok-ran.ran.items ++ c.in_ok-others.others.items = search rules in
+    let views = ap (map ran_view) is ∙ map-append ran_view c.in_ok-ran.ran.items c.in_ok-others.others.items in
     let size = length-map c.args.beside.items (λ (i : Item). i.node) in
     let body = body-of ts makes actions gives (TreeRun ts makes actions gives c.args.depth) c.args.node (map (λ i. i.node) c.args.beside.items) (map (λ i. i.node) c.args.in_turn.items)
     (record { first = c.args.lanes.now; second = c.args.lock_lanes.now }) (record { first = c.run_beside.new.lanes; second = c.run_beside.new.lock_lanes }) (record { first = c.run_in_turn.new.lanes; second = c.run_in_turn.new.lock_lanes })
-    c.in_ok-outcomes.outcomes.items (map ran_view c.in_ok-others.others.items) (map ran_view v.items) (map ran_view c.in_ok-ran.ran.items) (length c.args.beside.items) size c.requires.concurrent c.requires.same_thread
+    c.in_ok-outcomes.outcomes.items (map ran_view c.in_ok-others.others.items) (map ran_view c.append.new.self.items) (map ran_view c.in_ok-ran.ran.items) (length c.args.beside.items) size c.requires.concurrent c.requires.same_thread
     c.in_ok-outcomes.ensures.run c.in_ok-ran.ensures.all.0 c.in_ok-ran.ensures.all.1 c.in_ok-others.ensures.run views in
-    record { made = λ _. body; skipped = λ bad. absurd (let e : c.args.go ≡ true = search rules in let f : true ≡ false = sym e ∙ bad in cc) }) c.followed_by.ensures.ran
+    record { made = λ _. body; skipped = λ bad. absurd (let e : c.args.go ≡ true = search rules in let f : true ≡ false = sym e ∙ bad in cc) }
 
 pub TreeRunner::run_in_turn-loop-item-init : goal.TreeRunner::run_in_turn-loop-item-init
 TreeRunner::run_in_turn-loop-item-init g t c =
@@ -137,8 +135,8 @@ TreeRunner::run_node-returns-else-is_test-clause-run g t c =
     let Below : Vec RanNode Global → Type 0 = λ v. TreeRun ts makes actions gives c.args.depth c.args.item.node s (map ran_view v.items) z in
     IfOk-weaker c.run_container.result Node Below (λ v run. tree-of-container ts makes actions gives c.args.depth c.args.item.node s (map ran_view v.items) z deep (search rules) run) c.run_container.ensures.run
 
-pub TreeRunner::run_container-returns-in-Ok-clause-run : goal.TreeRunner::run_container-returns-in-Ok-clause-run
-TreeRunner::run_container-returns-in-Ok-clause-run g t c =
+pub TreeRunner::run_container-returns-in_ok-append-in-Ok-clause-run : goal.TreeRunner::run_container-returns-in_ok-append-in-Ok-clause-run
+TreeRunner::run_container-returns-in_ok-append-in-Ok-clause-run g t c =
     let r = c.args.self.now.nodes in
     let st = r.store.now in
     let registered = g.S.Callbacks.registered r.suite.now in
@@ -158,13 +156,7 @@ TreeRunner::run_container-returns-in-Ok-clause-run g t c =
     let opened = slice_set c.args.lanes.now 0 c.call_befores-tally.new.lane in
     let called = slice_set c.run_body.new.lanes 0 c.call_afters.new.lane in
     let body : Lanes g.row.V.Denot = record { first = c.run_body.new.lanes; second = c.run_body.new.lock_lanes } in
-    let below = map ran_view c.in_ok-below.below.items in
-    let own : RanNode = record { result = c.result-result.result; went_on = c.is_successful-went_on.result } in
-    let Listed : Vec RanNode Global → Type 0 = λ v. v.items ≡ own ∷ c.in_ok-below.below.items in
-    let s : Lanes g.row.V.Denot = record { first = c.args.lanes.now; second = c.args.lock_lanes.now } in
-    let z : Lanes g.row.V.Denot = record { first = c.close_node.new.lanes; second = c.run_body.new.lock_lanes } in
-    let Node : Vec RanNode Global → Type 0 = λ v. (path : List ℕ) × IsPathOf st.tree node path × ContainerRun ts gives actions closing (TreeRun ts gives actions closing (c.args.depth - 1)) node path s (map ran_view v.items) z in
-    IfOk-weaker c.own_first.result Listed Node (λ v listed. (
+    let below = map ran_view c.in_ok-below.below.items in (
       path,
       calls.1,
       record {
@@ -180,6 +172,6 @@ TreeRunner::run_container-returns-in-Ok-clause-run g t c =
         faults = closed.0;
         closes = closed.1;
         no_locks = refl;
-        ran_are = ran-first own _ _ v.items c.in_ok-below.below.items listed (c.result-result.ensures (b.0 ++ a.0) closed.0 a.2 closed.2) (c.is_successful-went_on.ensures b.0 b.2);
+        ran_are = ran-first (record { result = c.result.result; went_on = c.is_successful-went_on.result }) _ _ c.append.new.self.items c.in_ok-below.below.items (search rules) (c.result.ensures (b.0 ++ a.0) closed.0 a.2 closed.2) (c.is_successful-went_on.ensures b.0 b.2);
       },
-    )) c.own_first.ensures.ran
+    )
