@@ -2,7 +2,7 @@
 ghost use Rattle.std.specs.Prelude.{◌≡◌, ◌<◌, ◌≤◌};
 ghost use Rattle.ext_model.specs.Calls.{IsHeld};
 
-use crate::hand::{Call, end_claim, go, rows};
+use crate::hand::{Call, end_claim, go, open, rows};
 use crate::same::same;
 use ext_cells::{CellLane, CellRefusal, Cells, Claim, Claimed, Nearest};
 use std::process::Abort;
@@ -53,25 +53,38 @@ fn won(rt: &impl Abort, cells: &Cells, lane: &mut CellLane) -> Claim
     }
 }
 
+/// Asserts that the lane is refused cell 0, which another one has claimed.
+fn all_are_busy(rt: &impl Abort, cells: &Cells, lane: &mut CellLane)
+    requires lane { lane.old.cells ≡ cells.now.id }
+    requires cell { 0 < cells.now.id.limits.cells }
+    ensures { lane.new.cells ≡ lane.old.cells }
+{
+    let busy = Err(CellRefusal::Busy);
+    go(rt, cells, lane, 0, Call::Asks(busy));
+    go(rt, cells, lane, 0, Call::Removes(busy));
+    go(rt, cells, lane, 0, Call::Seals(busy));
+    go(rt, cells, lane, 0, Call::Puts(1, busy));
+}
+
+/// Asserts that the second lane is refused the cell that the first one has claimed, and finds then what that one filled it with.
+fn claim_beside(rt: &impl Abort, cells: &Cells, first: &mut CellLane, second: &mut CellLane)
+    requires first { first.old.cells ≡ cells.now.id }
+    requires second { second.old.cells ≡ cells.now.id }
+    requires cell { 0 < cells.now.id.limits.cells }
+{
+    let claim = won(rt, cells, first);
+    all_are_busy(rt, cells, second);
+    let filled = end_claim(cells, first, claim);
+    same(rt, filled, Ok(2), "the number");
+    go(rt, cells, second, 0, Call::Asks(Ok(Some(2))));
+    go(rt, cells, second, 0, Call::Removes(Ok(Some(2))));
+    cells.meet(second, first);
+}
+
 #[test]
 fn claims_keep_others_out(rt: HostRuntime) {
-    let Ok((cells, mut lanes)) = Cells::open(rt.alloc(), 1, 2, 8, 8) else {
-        panic!(rt; "no memory")
-    };
-    let (Some(mut second), Some(mut first)) = (lanes.pop(), lanes.pop()) else {
-        panic!(rt; "no lanes")
-    };
-    let claim = won(&rt, &cells, &mut first);
-    let busy = Err(CellRefusal::Busy);
-    go(&rt, &cells, &mut second, 0, Call::Asks(busy));
-    go(&rt, &cells, &mut second, 0, Call::Removes(busy));
-    go(&rt, &cells, &mut second, 0, Call::Seals(busy));
-    go(&rt, &cells, &mut second, 0, Call::Puts(1, busy));
-    let filled = end_claim(&cells, &mut first, claim);
-    same(&rt, filled, Ok(2), "the number");
-    go(&rt, &cells, &mut second, 0, Call::Asks(Ok(Some(2))));
-    go(&rt, &cells, &mut second, 0, Call::Removes(Ok(Some(2))));
-    cells.meet(&mut second, &mut first);
+    let (cells, mut first, mut second) = open(&rt, rt.alloc(), 1, 8);
+    claim_beside(&rt, &cells, &mut first, &mut second);
 }
 
 #[test]
@@ -133,6 +146,19 @@ fn place_and_word(
     }
 }
 
+/// Asserts what is the nearest of some cells, of which the cells 4 and 2 hold a number.
+fn ask_for_nearest(rt: &impl Abort, cells: &Cells, lane: &mut CellLane)
+    requires lane { lane.old.cells ≡ cells.now.id }
+    requires cells { 9 ≤ cells.now.id.limits.cells }
+{
+    let own = place_and_word(cells.nearest(lane, &[4, 2, 0]));
+    same(rt, own, Ok(Some((0, 16_777_234))), "the first cell");
+    let above = place_and_word(cells.nearest(lane, &[8, 6, 2, 0]));
+    same(rt, above, Ok(Some((2, 16_777_250))), "a later cell");
+    let none = place_and_word(cells.nearest(lane, &[8, 6, 0]));
+    same(rt, none, Ok(None), "empty cells");
+}
+
 #[test]
 fn nearest_cell_decides(rt: HostRuntime) {
     let Ok((cells, mut lanes)) = Cells::open(rt.alloc(), 9, 1, 1, 8) else {
@@ -143,10 +169,5 @@ fn nearest_cell_decides(rt: HostRuntime) {
     };
     go(&rt, &cells, &mut lane, 4, Call::Puts(1, Ok(None)));
     go(&rt, &cells, &mut lane, 2, Call::Puts(2, Ok(None)));
-    let own = place_and_word(cells.nearest(&mut lane, &[4, 2, 0]));
-    same(&rt, own, Ok(Some((0, 16_777_234))), "the first cell");
-    let above = place_and_word(cells.nearest(&mut lane, &[8, 6, 2, 0]));
-    same(&rt, above, Ok(Some((2, 16_777_250))), "a later cell");
-    let none = place_and_word(cells.nearest(&mut lane, &[8, 6, 0]));
-    same(&rt, none, Ok(None), "empty cells");
+    ask_for_nearest(&rt, &cells, &mut lane);
 }

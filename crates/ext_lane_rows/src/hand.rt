@@ -25,6 +25,29 @@ pub(crate) enum Call {
 /// A row of a test: the lane that calls, 0 or 1, the cell, 0 to 3, and the call.
 pub(crate) type Row = (usize, CellNo, Call);
 
+/// So many cells with two lanes, so many tries, and eight numbers.
+pub(crate) fn open<R: Abort>(
+    rt: &R,
+    alloc: Global,
+    cells: usize,
+    tries: u32,
+) -> (Cells, CellLane, CellLane)
+    ensures first { result.1.cells ≡ result.0.id }
+    ensures second { result.2.cells ≡ result.0.id }
+    ensures cells { result.0.id.limits.cells ≡ cells }
+{
+    let Ok((cells, mut lanes)) = Cells::open(alloc, cells, 2, tries, 8) else {
+        panic!(rt; "no memory");
+    };
+    let Some(second) = lanes.pop() else {
+        panic!(rt; "no lanes");
+    };
+    let Some(first) = lanes.pop() else {
+        panic!(rt; "no lanes");
+    };
+    (cells, first, second)
+}
+
 /// Cells and their two lanes.
 #[derive(Drop)]
 pub(crate) struct Hand {
@@ -130,12 +153,7 @@ pub(crate) fn go(rt: &impl Abort, cells: &Cells, lane: &mut CellLane, cell: Cell
 impl Hand {
     /// Four cells, two lanes and eight numbers.
     fn open<R: Abort>(rt: &R, alloc: Global) -> Hand {
-        let Ok((cells, mut lanes)) = Cells::open(alloc, 4, 2, 1, 8) else {
-            panic!(rt; "no memory");
-        };
-        let (Some(second), Some(first)) = (lanes.pop(), lanes.pop()) else {
-            panic!(rt; "no lanes");
-        };
+        let (cells, first, second) = open(rt, alloc, 4, 1);
         same(
             rt,
             (first.number(), second.number(), cells.tries()),

@@ -46,8 +46,8 @@ fn count(times: &mut [u8; 51], number: u32) {
     }
 }
 
-fn draw_and_put(cells: &Cells, mut lane: CellLane) -> Option<Replies>
-    requires lane { lane.cells ≡ cells.now.id }
+fn draw_and_put(cells: &Cells, lane: &mut CellLane) -> Option<Replies>
+    requires lane { lane.old.cells ≡ cells.now.id }
     requires cell { 0 < cells.now.id.limits.cells }
 {
     let mut replies = Replies {
@@ -55,10 +55,10 @@ fn draw_and_put(cells: &Cells, mut lane: CellLane) -> Option<Replies>
         replaced: [0; 51],
     };
     for _ in 0..25 {
-        let Ok(number) = cells.next_number(&mut lane) else {
+        let Ok(number) = cells.next_number(lane) else {
             return None;
         };
-        let Ok(stood) = cells.put(&mut lane, 0, number) else {
+        let Ok(stood) = cells.put(lane, 0, number) else {
             return None;
         };
         count(&mut replies.drawn, number);
@@ -70,21 +70,17 @@ fn draw_and_put(cells: &Cells, mut lane: CellLane) -> Option<Replies>
 fn in_two_threads<R: Threads + Wait + Sync>(
     rt: &R,
     cells: &Cells,
-    first: CellLane,
-    second: CellLane,
+    first: &mut CellLane,
+    second: &mut CellLane,
 ) -> (Option<Replies>, Option<Replies>)
-    requires first { first.cells ≡ cells.now.id }
-    requires second { second.cells ≡ cells.now.id }
+    requires first { first.old.cells ≡ cells.now.id }
+    requires second { second.old.cells ≡ cells.now.id }
     requires cell { 0 < cells.now.id.limits.cells }
 {
     join(
         rt,
-        move || -> Option<Replies>
-            requires { (first.cells ≡ cells.now.id) × (0 < cells.now.id.limits.cells) }
-        { draw_and_put(cells, first) },
-        move || -> Option<Replies>
-            requires { (second.cells ≡ cells.now.id) × (0 < cells.now.id.limits.cells) }
-        { draw_and_put(cells, second) },
+        || draw_and_put(cells, first),
+        || draw_and_put(cells, second),
     )
 }
 
@@ -100,18 +96,32 @@ fn each_came_once(one: &Replies, other: &Replies, last: usize) -> bool {
     true
 }
 
-#[test]
-fn two_threads_draw_and_put(rt: HostRuntime) {
-    let (cells, first, second, mut third) = open(&rt, rt.alloc(), 64, 50);
-    let (Some(one), Some(other)) = in_two_threads(&rt, &cells, first, second) else {
+/// Asserts that two lanes draw each number once and put it, and what a third one finds then.
+fn draw_beside<R: Abort + Threads + Wait + Sync>(
+    rt: &R,
+    cells: &Cells,
+    first: &mut CellLane,
+    second: &mut CellLane,
+    third: &mut CellLane,
+)
+    requires lanes { (first.old.cells ≡ cells.now.id) × (second.old.cells ≡ cells.now.id) × (third.old.cells ≡ cells.now.id) }
+    requires cell { 0 < cells.now.id.limits.cells }
+{
+    let (Some(one), Some(other)) = in_two_threads(rt, cells, first, second) else {
         panic!(rt; "a call was refused")
     };
-    let (state, last, version) = parts(peek(&cells, &mut third, 0));
-    same(&rt, (state, version), (CellState::Present, 50), "the cell");
+    let (state, last, version) = parts(peek(cells, third, 0));
+    same(rt, (state, version), (CellState::Present, 50), "the cell");
     let once = each_came_once(&one, &other, last as usize);
-    same(&rt, once, true, "each number comes once");
-    let full = cells.next_number(&mut third);
-    same(&rt, full, Err(CellRefusal::NumbersFull), "a further one");
+    same(rt, once, true, "each number comes once");
+    let full = cells.next_number(third);
+    same(rt, full, Err(CellRefusal::NumbersFull), "a further one");
+}
+
+#[test]
+fn two_threads_draw_and_put(rt: HostRuntime) {
+    let (cells, mut first, mut second, mut third) = open(&rt, rt.alloc(), 64, 50);
+    draw_beside(&rt, &cells, &mut first, &mut second, &mut third);
 }
 
 /// Claims cell 0 and fills it, and says with which number; where a number stands, with none.

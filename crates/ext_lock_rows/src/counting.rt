@@ -30,6 +30,26 @@ fn count_up(locks: &Locks, lane: &mut LockLane, set: &LockSet, number: &AtomicU6
     successes
 }
 
+/// Counts up the number by two lanes, each in a thread of its own. Returns how often they had the lock, both together.
+fn count_in_both<R: Abort + Threads>(
+    rt: &R,
+    locks: &Locks,
+    first: &mut LockLane,
+    second: &mut LockLane,
+    number: &AtomicU64,
+) -> u64
+    requires lanes { (first.old.table ≡ locks.now.table) × (second.old.table ≡ locks.now.table) }
+    requires nothing { HoldsNothing first.old × HoldsNothing second.old }
+{
+    let writes = merged(rt, locks, &[write("a")]);
+    let (one, other) = thread::join(
+        rt,
+        || count_up(locks, first, &writes, number),
+        || count_up(locks, second, &writes, number),
+    );
+    one + other
+}
+
 /// Two lanes count up one number, each in a thread of its own.
 #[derive(Drop)]
 struct TwoWriters;
@@ -39,15 +59,10 @@ impl<R: Abort + Threads> Scenario<R> for TwoWriters {
         let [first, second] = lanes else {
             panic!(rt; "not two lanes");
         };
-        let writes = merged(rt, locks, &[write("a")]);
         let number = AtomicU64::new(0);
-        let (one, other) = thread::join(
-            rt,
-            || count_up(locks, first, &writes, &number),
-            || count_up(locks, second, &writes, &number),
-        );
-        same(rt, number.load(Ordering::SeqCst), one + other, "the number");
-        assert!(rt; one + other > 0);
+        let counted = count_in_both(rt, locks, first, second, &number);
+        same(rt, number.load(Ordering::SeqCst), counted, "the number");
+        assert!(rt; counted > 0);
     }
 }
 

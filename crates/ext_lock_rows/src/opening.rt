@@ -19,10 +19,16 @@ fn refused(
     same(rt, told, Some(fault), "why locks are not opened");
 }
 
+/// Asserts that so many names are too many, and that all but the first of them are one name, which stands twice.
+fn refuses_many(rt: &impl Abort, alloc: Global, many: &[&str; 64]) {
+    refused(rt, alloc, many, 2, 8, LockFault::TooMany);
+    refused(rt, alloc, many, 0, 8, LockFault::BadLimit);
+    refused(rt, alloc, &many[1..], 2, 8, LockFault::Twice(1));
+}
+
 #[test]
 fn refused_openings(rt: HostRuntime) {
     let alloc = rt.alloc();
-    let many = ["x"; 64];
     let twice = ["a", "b", "c", "b", "a"];
     refused(&rt, alloc, &["a", "a"], 2, 8, LockFault::Twice(1));
     refused(&rt, alloc, &twice, 2, 8, LockFault::Twice(3));
@@ -30,9 +36,7 @@ fn refused_openings(rt: HostRuntime) {
     refused(&rt, alloc, &[], 17, 8, LockFault::BadLimit);
     refused(&rt, alloc, &[], 2, 0, LockFault::BadLimit);
     refused(&rt, alloc, &[], 2, 65, LockFault::BadLimit);
-    refused(&rt, alloc, &many, 2, 8, LockFault::TooMany);
-    refused(&rt, alloc, &many, 0, 8, LockFault::BadLimit);
-    refused(&rt, alloc, &many[1..], 2, 8, LockFault::Twice(1));
+    refuses_many(&rt, alloc, &["x"; 64]);
 }
 
 /// Puts `key0`, `key1`, and so on, up to 62, into the texts.

@@ -64,10 +64,10 @@ pub(crate) fn with_locks<R: Abort, S: Scenario<R>>(
 pub(crate) fn merged(rt: &impl Abort, locks: &Locks, requests: &[LockRequest]) -> LockSet
     ensures { AllBelow (length locks.now.names + 1) result }
 {
-    let Ok(set) = locks.merge(requests) else {
-        panic!(rt; "not merged");
-    };
-    set
+    match locks.merge(requests) {
+        Ok(set) => set,
+        Err(_) => panic!(rt; "not merged"),
+    }
 }
 
 /// Asserts that this was answered. Tests assert by it, since a call is cheaper to prove than what `assert_eq!` writes.

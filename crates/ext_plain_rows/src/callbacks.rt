@@ -74,8 +74,8 @@ fn write_callbacks(
 fn write_node(node: &PlanNode, lines: &mut String) -> Result<(), AllocError> {
     node.id.write_to(lines)?;
     write!(lines, " {:?}\n", node.mode)?;
-    for kind in KINDS {
-        write_callbacks(kind, node.callbacks(kind), lines)?;
+    for kind in &KINDS {
+        write_callbacks(*kind, node.callbacks(*kind), lines)?;
     }
     Ok(())
 }

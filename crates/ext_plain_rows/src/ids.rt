@@ -70,9 +70,14 @@ fn ids_and_their_faults(rt: HostRuntime) -> Result<(), Fail> {
 /// Whether the first id is the parent of the second, whether they are equal, and whether a copy of the first is the first.
 fn compared(alloc: Global, first: &str, second: &str) -> Result<(bool, bool, bool), Fail> {
     let first = UniqueId::parse(alloc, first)?;
-    let second = UniqueId::parse(alloc, second)?;
-    let is_same = is_copied(&first)?;
-    Ok((first.is_parent_of(&second), first == second, is_same))
+    compared_with(alloc, &first, second)
+}
+
+/// Whether the id is the parent of the one that the text spells, whether they are equal, and whether a copy of it is the id.
+fn compared_with(alloc: Global, id: &UniqueId, text: &str) -> Result<(bool, bool, bool), Fail> {
+    let is_same = is_copied(id)?;
+    let other = UniqueId::parse(alloc, text)?;
+    Ok((id.is_parent_of(&other), *id == other, is_same))
 }
 
 /// Whether a copy of the id is the id.
@@ -81,27 +86,30 @@ fn is_copied(id: &UniqueId) -> Result<bool, AllocError> {
     Ok(copy == *id)
 }
 
+/// Two ids, with whether the first is the parent of the second, and whether they are equal.
+const PAIRS: [(&str, &str, bool, bool); 5] = [
+    ("[engine:x]", "[engine:x]/[class:a%2Fb]", true, false),
+    ("[engine:x]/[class:a%2Fb]", "[engine:x]", false, false),
+    ("[engine:x]", "[engine:x]", false, true),
+    (
+        "[engine:x]",
+        "[engine:x]/[class:A]/[method:m()]",
+        false,
+        false,
+    ),
+    (
+        "[engine:x]/[class:a%2Fb]",
+        "[engine:x]/[class:a]",
+        false,
+        false,
+    ),
+];
+
 #[test]
 fn knows_children_and_copies(rt: HostRuntime) -> Result<(), Fail> {
-    for (first, second, is_parent, are_equal) in [
-        ("[engine:x]", "[engine:x]/[class:a%2Fb]", true, false),
-        ("[engine:x]/[class:a%2Fb]", "[engine:x]", false, false),
-        ("[engine:x]", "[engine:x]", false, true),
-        (
-            "[engine:x]",
-            "[engine:x]/[class:A]/[method:m()]",
-            false,
-            false,
-        ),
-        (
-            "[engine:x]/[class:a%2Fb]",
-            "[engine:x]/[class:a]",
-            false,
-            false,
-        ),
-    ] {
+    for (first, second, is_parent, are_equal) in &PAIRS {
         let answers = compared(rt.alloc(), first, second)?;
-        same(&rt, answers, (is_parent, are_equal, true), second);
+        same(&rt, answers, (*is_parent, *are_equal, true), second);
     }
     Ok(())
 }

@@ -52,67 +52,76 @@ fn answers<R: Abort>(rt: &R, alloc: Global, numbers: u32, calls: &[Call]) {
     }
 }
 
+/// Calls of a store of eight numbers.
+const EIGHT_NUMBERS: [Call; 15] = [
+    Call::Keeps(Ok(1)),
+    Call::Puts(0, 1, Ok(None)),
+    Call::Gets(Look::Found { at: 0, number: 1 }),
+    Call::Claims(1, Ok(())),
+    Call::Gets(Look::Busy(1)),
+    Call::Keeps(Ok(2)),
+    Call::Puts(1, 2, Err(PlainFault::Busy)),
+    Call::Seals(1, Err(PlainFault::Busy)),
+    Call::Fills(1, 2),
+    Call::Gets(Look::Found { at: 1, number: 2 }),
+    Call::Claims(1, Err(PlainFault::Taken(2))),
+    Call::Removes(1, Ok(Some(2))),
+    Call::Seals(0, Ok(Some(1))),
+    Call::Seals(0, Ok(Some(1))),
+    Call::Gets(Look::Closed(0)),
+];
+
 #[test]
 fn plain_store_of_eight_numbers(rt: HostRuntime) {
-    let calls = [
-        Call::Keeps(Ok(1)),
-        Call::Puts(0, 1, Ok(None)),
-        Call::Gets(Look::Found { at: 0, number: 1 }),
-        Call::Claims(1, Ok(())),
-        Call::Gets(Look::Busy(1)),
-        Call::Keeps(Ok(2)),
-        Call::Puts(1, 2, Err(PlainFault::Busy)),
-        Call::Seals(1, Err(PlainFault::Busy)),
-        Call::Fills(1, 2),
-        Call::Gets(Look::Found { at: 1, number: 2 }),
-        Call::Claims(1, Err(PlainFault::Taken(2))),
-        Call::Removes(1, Ok(Some(2))),
-        Call::Seals(0, Ok(Some(1))),
-        Call::Seals(0, Ok(Some(1))),
-        Call::Gets(Look::Closed(0)),
-    ];
-    answers(&rt, rt.alloc(), 8, &calls);
+    answers(&rt, rt.alloc(), 8, &EIGHT_NUMBERS);
 }
+
+/// Calls of a store of two numbers.
+const TWO_NUMBERS: [Call; 7] = [
+    Call::Keeps(Ok(1)),
+    Call::Puts(0, 1, Ok(None)),
+    Call::Gets(Look::Found { at: 0, number: 1 }),
+    Call::Seals(0, Ok(Some(1))),
+    Call::Keeps(Ok(2)),
+    Call::Puts(0, 2, Err(PlainFault::Closed)),
+    Call::Keeps(Err(PlainFault::NumbersFull)),
+];
 
 #[test]
 fn plain_store_of_two_numbers(rt: HostRuntime) {
-    let calls = [
-        Call::Keeps(Ok(1)),
-        Call::Puts(0, 1, Ok(None)),
-        Call::Gets(Look::Found { at: 0, number: 1 }),
-        Call::Seals(0, Ok(Some(1))),
-        Call::Keeps(Ok(2)),
-        Call::Puts(0, 2, Err(PlainFault::Closed)),
-        Call::Keeps(Err(PlainFault::NumbersFull)),
-    ];
-    answers(&rt, rt.alloc(), 2, &calls);
+    answers(&rt, rt.alloc(), 2, &TWO_NUMBERS);
 }
+
+/// Calls of which one gives up a claim.
+const ABANDONED: [Call; 8] = [
+    Call::Claims(0, Ok(())),
+    Call::Holds(0, true),
+    Call::Abandons(0),
+    Call::Holds(0, false),
+    Call::Gets(Look::Absent),
+    Call::Removes(0, Ok(None)),
+    Call::Seals(0, Ok(None)),
+    Call::Claims(0, Err(PlainFault::Closed)),
+];
 
 #[test]
 fn abandoned_place_is_empty(rt: HostRuntime) {
-    let calls = [
-        Call::Claims(0, Ok(())),
-        Call::Holds(0, true),
-        Call::Abandons(0),
-        Call::Holds(0, false),
-        Call::Gets(Look::Absent),
-        Call::Removes(0, Ok(None)),
-        Call::Seals(0, Ok(None)),
-        Call::Claims(0, Err(PlainFault::Closed)),
-    ];
-    answers(&rt, rt.alloc(), 8, &calls);
+    answers(&rt, rt.alloc(), 8, &ABANDONED);
 }
+
+/// Faults, with what is printed of each.
+const FAULTS: [(PlainFault, &str); 5] = [
+    (PlainFault::Busy, "busy"),
+    (PlainFault::Closed, "closed"),
+    (PlainFault::Taken(2), "number 2 stands there"),
+    (PlainFault::NumbersFull, "numbers full"),
+    (PlainFault::Memory, "no memory"),
+];
 
 #[test]
 fn faults_print_their_texts(rt: HostRuntime) -> Result<(), Fail> {
-    for (fault, text) in [
-        (PlainFault::Busy, "busy"),
-        (PlainFault::Closed, "closed"),
-        (PlainFault::Taken(2), "number 2 stands there"),
-        (PlainFault::NumbersFull, "numbers full"),
-        (PlainFault::Memory, "no memory"),
-    ] {
-        same(&rt, fault.to_string(rt.alloc())?.as_str(), text, text);
+    for (fault, text) in &FAULTS {
+        same(&rt, fault.to_string(rt.alloc())?.as_str(), *text, text);
     }
     let boom = Fault::Text(String::from_str(rt.alloc(), "boom")?);
     let texts = format!(in rt.alloc(); "{boom}, {}", Fault::Memory)?;

@@ -109,9 +109,9 @@ const STEPS: [(&str, &str); 3] = [
 
 #[test]
 fn reads_each_step(rt: HostRuntime) -> Result<(), Fail> {
-    for (texts, wanted) in STEPS {
+    for (texts, wanted) in &STEPS {
         let steps = steps_read(rt.alloc(), texts)?;
-        same(&rt, steps.as_str(), wanted, texts);
+        same(&rt, steps.as_str(), *wanted, texts);
     }
     Ok(())
 }
@@ -139,9 +139,9 @@ const PLANS: [(&str, &str); 2] = [
 
 #[test]
 fn reads_names_namespaces_and_trees(rt: HostRuntime) -> Result<(), Fail> {
-    for (text, wanted) in PLANS {
+    for (text, wanted) in &PLANS {
         let read = told(rt.alloc(), text)?;
-        same(&rt, read.as_str(), wanted, text);
+        same(&rt, read.as_str(), *wanted, text);
     }
     Ok(())
 }
@@ -150,34 +150,34 @@ fn reads_names_namespaces_and_trees(rt: HostRuntime) -> Result<(), Fail> {
 const FOUR_LABELS: &str =
     "[[key]]\nlabel = \"a\"\n[[key]]\nlabel = \"b\"\nname = \"a\"\nnamespace = [\"x\", \"y\"]\n[[key]]\nlabel = \"c\"\nname = \"a\"\n[[key]]\nlabel = \"d\"\nname = \"a\"\nnamespace = [\"y\", \"x\"]\n[[node]]\nid = \"[a:b]\"";
 
-/// The number of each of so many labels' key, and then how many keys there are, whether there is none, and how many the directory has.
-fn labels_told(alloc: Global, numbers: &KeyNumbers, labels: usize) -> Result<String, AllocError>
+/// Writes the number of each of so many labels' key, and then how many keys there are, whether there is none, and how many the
+/// directory has.
+fn write_labels(numbers: &KeyNumbers, labels: usize, told: &mut String) -> Result<(), AllocError>
     requires { labels ≤ length numbers.now.numbers }
 {
-    let mut told = String::new(alloc);
     for label in 0..labels {
         let number = numbers.get(label);
-        told.push_str(format!(in alloc; "{number} ")?.as_str())?;
+        write!(told, "{number} ")?;
     }
     let (count, empty) = (numbers.len(), numbers.is_empty());
     let lent = numbers.directory().len();
-    told.push_str(format!(in alloc; "{count} {empty} {lent}")?.as_str())?;
-    Ok(told)
+    write!(told, "{count} {empty} {lent}")
 }
 
-/// The number of each label's key, and how many keys there are, by the number of keys and by their directory.
-fn numbers_told(alloc: Global, text: &str) -> Result<String, Fail> {
+/// Writes the number of each label's key, and how many keys there are, by the number of keys and by their directory.
+fn write_numbers(alloc: Global, text: &str, told: &mut String) -> Result<(), Fail> {
     let plan = read_plan(alloc, text)?;
     let numbers = KeyNumbers::of(alloc, plan.keys.as_slice())?;
-    let mut told = labels_told(alloc, &numbers, plan.keys.len())?;
+    write_labels(&numbers, plan.keys.len(), told)?;
     let own = numbers.into_directory().len();
-    told.push_str(format!(in alloc; " {own}")?.as_str())?;
-    Ok(told)
+    write!(told, " {own}")?;
+    Ok(())
 }
 
 #[test]
 fn numbers_keys_by_name_and_namespace(rt: HostRuntime) -> Result<(), Fail> {
-    let told = numbers_told(rt.alloc(), FOUR_LABELS)?;
+    let mut told = String::new(rt.alloc());
+    write_numbers(rt.alloc(), FOUR_LABELS, &mut told)?;
     same(&rt, told.as_str(), "0 1 0 2 3 false 3 3", "the numbers");
     Ok(())
 }

@@ -1,6 +1,6 @@
 //! Reports of worked runs, each from results made by hand.
 use crate::same::same;
-use ext_ids::UniqueId;
+use crate::trees::push_ids;
 use ext_model::{ContextNo, Fault};
 use ext_report::{NodeResult, Status, any_failed, report_text};
 use ext_tree::Tree;
@@ -25,28 +25,24 @@ struct Ended {
     close_faults: u64,
 }
 
-/// A container that ended successfully and closed nothing.
-const fn container(node: ContextNo) -> Ended {
-    Ended {
-        node,
-        is_test: false,
-        status: Status::Successful,
-        fault: "",
-        more: 0,
-        computed: 0,
-        found: 0,
-        closed: 0,
-        close_faults: 0,
-    }
-}
+/// The root, a container that ended successfully and closed nothing.
+const CONTAINER: Ended = Ended {
+    node: 0,
+    is_test: false,
+    status: Status::Successful,
+    fault: "",
+    more: 0,
+    computed: 0,
+    found: 0,
+    closed: 0,
+    close_faults: 0,
+};
 
-/// A test that ended successfully and closed nothing.
-const fn test(node: ContextNo) -> Ended {
-    Ended {
-        is_test: true,
-        ..container(node)
-    }
-}
+/// The root, a test that ended successfully and closed nothing.
+const TEST: Ended = Ended {
+    is_test: true,
+    ..CONTAINER
+};
 
 /// The fault that is told by this text.
 fn fault_of(alloc: Global, text: &str) -> Result<Option<Fault>, AllocError> {
@@ -79,9 +75,7 @@ fn results_of(alloc: Global, rows: &[Ended]) -> Result<Vec<NodeResult>, AllocErr
 /// The contexts with these ids, one a line.
 fn tree_of(alloc: Global, ids: &str) -> Result<Tree, Fail> {
     let mut parsed = Vec::new(alloc);
-    for id in ids.lines() {
-        parsed.push(UniqueId::parse(alloc, id)?)?;
-    }
+    push_ids(alloc, ids, &mut parsed)?;
     Ok(Tree::build(alloc, parsed.as_slice())?)
 }
 
@@ -114,6 +108,16 @@ fn tells<R: Abort>(
     Ok(())
 }
 
+/// The chain, whose test passed.
+const PUT_AND_WANT: [Ended; 3] = [
+    CONTAINER,
+    Ended {
+        node: 1,
+        ..CONTAINER
+    },
+    Ended { node: 2, ..TEST },
+];
+
 #[test]
 fn report_of_chain_put_and_want(rt: HostRuntime) -> Result<(), Fail> {
     let wanted = "[engine:x] successful closed 0\n\
@@ -121,43 +125,60 @@ fn report_of_chain_put_and_want(rt: HostRuntime) -> Result<(), Fail> {
          [engine:x]/[class:A]/[method:m()] successful closed 0\n\
          tests 1 successful 1 aborted 0 failed 0 skipped 0\n\
          computed 0 found 0 closed 0 close faults 0\n";
-    let rows = [container(0), container(1), test(2)];
-    reports(&rt, rt.alloc(), CHAIN, &rows, false, wanted)
+    reports(&rt, rt.alloc(), CHAIN, &PUT_AND_WANT, false, wanted)
 }
 
-#[test]
-fn report_of_close_fault(rt: HostRuntime) -> Result<(), Fail> {
-    let method = Ended {
+/// The chain, whose test has a value that did not close.
+const CLOSE_FAULT: [Ended; 3] = [
+    CONTAINER,
+    Ended {
+        node: 1,
+        ..CONTAINER
+    },
+    Ended {
+        node: 2,
         status: Status::Failed,
         fault: "close bad2",
         closed: 3,
         close_faults: 1,
-        ..test(2)
-    };
+        ..TEST
+    },
+];
+
+#[test]
+fn report_of_close_fault(rt: HostRuntime) -> Result<(), Fail> {
     let wanted = "[engine:x] successful closed 0\n\
          [engine:x]/[class:A] successful closed 0\n\
          [engine:x]/[class:A]/[method:m()] failed closed 3: close bad2\n\
          tests 1 successful 0 aborted 0 failed 1 skipped 0\n\
          computed 0 found 0 closed 3 close faults 1\n";
-    let rows = [container(0), container(1), method];
-    reports(&rt, rt.alloc(), CHAIN, &rows, true, wanted)
+    reports(&rt, rt.alloc(), CHAIN, &CLOSE_FAULT, true, wanted)
 }
 
-#[test]
-fn report_of_before_fault(rt: HostRuntime) -> Result<(), Fail> {
-    let method = Ended {
+/// The chain, whose test has a fault before it, and one more.
+const BEFORE_FAULT: [Ended; 3] = [
+    CONTAINER,
+    Ended {
+        node: 1,
+        ..CONTAINER
+    },
+    Ended {
+        node: 2,
         status: Status::Failed,
         fault: "f",
         more: 1,
-        ..test(2)
-    };
+        ..TEST
+    },
+];
+
+#[test]
+fn report_of_before_fault(rt: HostRuntime) -> Result<(), Fail> {
     let wanted = "[engine:x] successful closed 0\n\
          [engine:x]/[class:A] successful closed 0\n\
          [engine:x]/[class:A]/[method:m()] failed closed 0: f (+1)\n\
          tests 1 successful 0 aborted 0 failed 1 skipped 0\n\
          computed 0 found 0 closed 0 close faults 0\n";
-    let rows = [container(0), container(1), method];
-    reports(&rt, rt.alloc(), CHAIN, &rows, true, wanted)
+    reports(&rt, rt.alloc(), CHAIN, &BEFORE_FAULT, true, wanted)
 }
 
 /// An engine with two classes of two methods each.
@@ -169,31 +190,41 @@ const TWO_CLASSES: &str = "[engine:x]
 [engine:x]/[class:B]/[method:n1()]
 [engine:x]/[class:B]/[method:n2()]";
 
-#[test]
-fn report_of_two_classes(rt: HostRuntime) -> Result<(), Fail> {
-    let engine = Ended {
+/// The two classes: values were computed and found, and a test was aborted.
+const OF_TWO_CLASSES: [Ended; 7] = [
+    Ended {
         closed: 1,
-        ..container(0)
-    };
-    let class_a = Ended {
+        ..CONTAINER
+    },
+    Ended {
+        node: 1,
         computed: 1,
         closed: 1,
-        ..container(1)
-    };
-    let m2 = Ended {
+        ..CONTAINER
+    },
+    Ended { node: 2, ..TEST },
+    Ended {
+        node: 3,
         status: Status::Aborted,
         fault: "later",
         found: 1,
-        ..test(3)
-    };
-    let class_b = Ended {
+        ..TEST
+    },
+    Ended {
+        node: 4,
         found: 1,
-        ..container(4)
-    };
-    let n1 = Ended {
+        ..CONTAINER
+    },
+    Ended {
+        node: 5,
         closed: 1,
-        ..test(5)
-    };
+        ..TEST
+    },
+    Ended { node: 6, ..TEST },
+];
+
+#[test]
+fn report_of_two_classes(rt: HostRuntime) -> Result<(), Fail> {
     let wanted = "[engine:x] successful closed 1\n\
          [engine:x]/[class:A] successful closed 1\n\
          [engine:x]/[class:A]/[method:m1()] successful closed 0\n\
@@ -203,56 +234,68 @@ fn report_of_two_classes(rt: HostRuntime) -> Result<(), Fail> {
          [engine:x]/[class:B]/[method:n2()] successful closed 0\n\
          tests 4 successful 3 aborted 1 failed 0 skipped 0\n\
          computed 1 found 2 closed 3 close faults 0\n";
-    let rows = [engine, class_a, test(2), m2, class_b, n1, test(6)];
-    reports(&rt, rt.alloc(), TWO_CLASSES, &rows, false, wanted)
+    reports(&rt, rt.alloc(), TWO_CLASSES, &OF_TWO_CLASSES, false, wanted)
 }
+
+/// The chain, whose class was aborted.
+const ABORTED_CONTAINER: [Ended; 3] = [
+    CONTAINER,
+    Ended {
+        node: 1,
+        status: Status::Aborted,
+        fault: "no",
+        ..CONTAINER
+    },
+    Ended {
+        node: 2,
+        status: Status::Skipped,
+        ..TEST
+    },
+];
 
 #[test]
 fn report_of_aborted_container(rt: HostRuntime) -> Result<(), Fail> {
-    let class = Ended {
-        status: Status::Aborted,
-        fault: "no",
-        ..container(1)
-    };
-    let method = Ended {
-        status: Status::Skipped,
-        ..test(2)
-    };
     let wanted = "[engine:x] successful closed 0\n\
          [engine:x]/[class:A] aborted closed 0: no\n\
          [engine:x]/[class:A]/[method:m()] skipped closed 0\n\
          tests 1 successful 0 aborted 0 failed 0 skipped 1\n\
          computed 0 found 0 closed 0 close faults 0\n";
-    let rows = [container(0), class, method];
-    reports(&rt, rt.alloc(), CHAIN, &rows, false, wanted)
+    reports(&rt, rt.alloc(), CHAIN, &ABORTED_CONTAINER, false, wanted)
 }
+
+/// A test that had no memory.
+const WANT_OF_MEMORY: [Ended; 1] = [Ended {
+    status: Status::Failed,
+    fault: "no memory",
+    ..TEST
+}];
 
 #[test]
 fn report_of_want_of_memory(rt: HostRuntime) -> Result<(), Fail> {
-    let engine = Ended {
-        status: Status::Failed,
-        fault: "no memory",
-        ..test(0)
-    };
     let wanted = "[engine:x] failed closed 0: no memory\n\
          tests 1 successful 0 aborted 0 failed 1 skipped 0\n\
          computed 0 found 0 closed 0 close faults 0\n";
-    reports(&rt, rt.alloc(), "[engine:x]", &[engine], true, wanted)
+    reports(&rt, rt.alloc(), "[engine:x]", &WANT_OF_MEMORY, true, wanted)
 }
+
+/// Containers that found as much as can be counted.
+const GREATEST_COUNTS: [Ended; 2] = [
+    Ended {
+        found: u64::MAX,
+        ..CONTAINER
+    },
+    Ended {
+        node: 1,
+        found: u64::MAX,
+        ..CONTAINER
+    },
+];
 
 #[test]
 fn report_of_the_greatest_counts(rt: HostRuntime) -> Result<(), Fail> {
-    let root = Ended {
-        found: u64::MAX,
-        ..container(0)
-    };
-    let class = Ended {
-        found: u64::MAX,
-        ..container(1)
-    };
     let wanted = "[engine:x] successful closed 0\n\
          [engine:x]/[class:A] successful closed 0\n\
          tests 0 successful 0 aborted 0 failed 0 skipped 0\n\
          computed 0 found 36893488147419103230 closed 0 close faults 0\n";
-    reports(&rt, rt.alloc(), CHAIN, &[root, class], false, wanted)
+    reports(&rt, rt.alloc(), CHAIN, &GREATEST_COUNTS, false, wanted)
 }

@@ -5,27 +5,44 @@ use ext_tree::{Tree, TreeFault};
 use std::alloc::{AllocError, Global};
 use std::test::Fail;
 
-/// The tree of the ids, one a line: for each context its id, its path and its children; or the text of its fault.
-fn told(alloc: Global, texts: &str) -> Result<String, Fail> {
-    let mut ids = Vec::new(alloc);
+/// Parses the ids, one a line, and puts them behind the others.
+pub(crate) fn push_ids(alloc: Global, texts: &str, ids: &mut Vec<UniqueId>) -> Result<(), Fail> {
     for text in texts.lines() {
         ids.push(UniqueId::parse(alloc, text)?)?;
     }
-    match Tree::build(alloc, ids.as_slice()) {
-        Ok(tree) => Ok(contexts_told(alloc, &tree)?),
-        Err(fault) => Ok(fault.to_string(alloc)?),
+    Ok(())
+}
+
+/// The tree of the ids, one a line: for each context its id, its path and its children; or the text of its fault.
+fn told(alloc: Global, texts: &str) -> Result<String, Fail> {
+    let mut ids = Vec::new(alloc);
+    push_ids(alloc, texts, &mut ids)?;
+    Ok(tree_told(alloc, ids.as_slice())?)
+}
+
+/// The tree of these ids: for each context its id, its path and its children; or the text of its fault.
+fn tree_told(alloc: Global, ids: &[UniqueId]) -> Result<String, AllocError> {
+    match Tree::build(alloc, ids) {
+        Ok(tree) => contexts_told(alloc, &tree),
+        Err(fault) => fault.to_string(alloc),
     }
 }
 
 fn contexts_told(alloc: Global, tree: &Tree) -> Result<String, AllocError> {
     let mut told = String::new(alloc);
+    write_contexts(tree, &mut told)?;
+    Ok(told)
+}
+
+/// Writes for each context its id, its path and its children.
+fn write_contexts(tree: &Tree, told: &mut String) -> Result<(), AllocError> {
     for context in 0..tree.len() {
-        tree.id(context).write_to(&mut told)?;
+        tree.id(context).write_to(told)?;
         let path = tree.path(context);
         let (path, children) = (path.as_slice(), tree.children(context));
-        told.push_str(format!(in alloc; " {path:?} {children:?}\n")?.as_str())?;
+        write!(told, " {path:?} {children:?}\n")?;
     }
-    Ok(told)
+    Ok(())
 }
 
 /// Ids, with the tree that they are, or the fault that they have.
@@ -59,8 +76,8 @@ const TREES: [(&str, &str); 7] = [
 
 #[test]
 fn trees_and_their_faults(rt: HostRuntime) -> Result<(), Fail> {
-    for (ids, wanted) in TREES {
-        same(&rt, told(rt.alloc(), ids)?.as_str(), wanted, ids);
+    for (ids, wanted) in &TREES {
+        same(&rt, told(rt.alloc(), ids)?.as_str(), *wanted, ids);
     }
     prints(&rt, rt.alloc(), &TreeFault::Memory, "no memory")?;
     Ok(())
@@ -68,22 +85,37 @@ fn trees_and_their_faults(rt: HostRuntime) -> Result<(), Fail> {
 
 /// A root and so many children of it, as the tree's number of contexts and of the root's children; or the text of the fault.
 fn flat(alloc: Global, children: u32) -> Result<String, Fail> {
+    let mut texts = String::new(alloc);
+    write_flat(children, &mut texts)?;
     let mut ids = Vec::new(alloc);
-    ids.push(UniqueId::parse(alloc, "[a:b]")?)?;
+    push_ids(alloc, texts.as_str(), &mut ids)?;
+    Ok(counts_told(alloc, ids.as_slice())?)
+}
+
+/// Writes the ids of a root and so many children of it, one a line.
+fn write_flat(children: u32, texts: &mut String) -> Result<(), AllocError> {
+    texts.push_str("[a:b]\n")?;
     for i in 0..children {
-        let text = format!(in alloc; "[a:b]/[c:{i}]")?;
-        ids.push(UniqueId::parse(alloc, text.as_str())?)?;
+        write!(texts, "[a:b]/[c:{i}]\n")?;
     }
-    match Tree::build(alloc, ids.as_slice()) {
-        Ok(tree) => Ok(format!(in alloc; "{} {}", tree.len(), tree.children(0).len())?),
-        Err(fault) => Ok(fault.to_string(alloc)?),
+    Ok(())
+}
+
+/// The number of contexts of the tree of these ids, and of its root's children; or the text of the fault.
+fn counts_told(alloc: Global, ids: &[UniqueId]) -> Result<String, AllocError> {
+    match Tree::build(alloc, ids) {
+        Ok(tree) => format!(in alloc; "{} {}", tree.len(), tree.children(0).len()),
+        Err(fault) => fault.to_string(alloc),
     }
 }
 
+/// Numbers of children of a root, with what is told of such a tree.
+const CHILDREN: [(u32, &str); 2] = [(255, "256 255"), (256, "too many contexts or keys")];
+
 #[test]
 fn contexts_are_256_at_most(rt: HostRuntime) -> Result<(), Fail> {
-    for (children, wanted) in [(255, "256 255"), (256, "too many contexts or keys")] {
-        same(&rt, flat(rt.alloc(), children)?.as_str(), wanted, wanted);
+    for (children, wanted) in &CHILDREN {
+        same(&rt, flat(rt.alloc(), *children)?.as_str(), *wanted, wanted);
     }
     Ok(())
 }

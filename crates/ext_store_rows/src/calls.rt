@@ -41,6 +41,21 @@ fn unknown_keys_are_refused(rt: HostRuntime) {
     rows(&rt, rt.alloc(), 8, &all);
 }
 
+/// Whether a look-up from the context answers this.
+fn answers(
+    store: &Store<Letter>,
+    lane: &mut Lane<Letter>,
+    context: ContextNo,
+    a: &Key,
+    look: Look,
+) -> bool
+    requires lane { IsLaneOf store.now.id lane.old }
+    requires context { context < length store.now.tree }
+    ensures { IsLaneOf store.now.id lane.new }
+{
+    store.get(lane, context, a) == Ok(look)
+}
+
 /// Whether number 1, which has the letter x, is found in the context itself, is taken out, and is gone then.
 fn is_taken_out(store: &Store<Letter>, lane: &mut Lane<Letter>, context: ContextNo, a: &Key) -> bool
     requires lane { IsLaneOf store.now.id lane.old }
@@ -51,9 +66,9 @@ fn is_taken_out(store: &Store<Letter>, lane: &mut Lane<Letter>, context: Context
         at: context,
         number: 1,
     };
-    store.get(lane, context, a) == Ok(found)
+    answers(store, lane, context, a, found)
         && store.remove(lane, context, a) == Ok(Some(1))
-        && store.get(lane, context, a) == Ok(Look::Absent)
+        && answers(store, lane, context, a, Look::Absent)
         && store.show(lane, 1).copied() == Some(plain('x'))
 }
 

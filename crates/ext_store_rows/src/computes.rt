@@ -30,7 +30,9 @@ fn value_at_root_leaves_factory_unused(rt: HostRuntime) {
     let all = [
         (1, 0, "a", Call::Puts(plain('x'), 1, Ok(None))),
         (0, 2, "a", Call::Computes('y', Told::Found(0, 1))),
+        (1, 2, "a", Call::Computes('z', Told::Found(0, 1))),
         (0, 2, "a", Call::Gets(Ok(found))),
+        (0, 2, "b", Call::Gets(Ok(Look::Absent))),
     ];
     rows(&rt, rt.alloc(), 8, &all);
 }

@@ -1,5 +1,5 @@
 //! The store of the tests: a chain of three contexts and the keys a, b and c, opened with two lanes.
-ghost use Rattle.std.specs.Prelude.{◌≡◌, ◌<◌, true, false, All, IfSome, length};
+ghost use Rattle.std.specs.Prelude.{◌≡◌, ◌<◌, ◌++◌, true, false, List, All, IfSome, Some, length, option_to_list};
 ghost use Rattle.ext_store.specs.Stores.{IsCloserOf, IsLaneOf};
 
 use ext_ids::UniqueId;
@@ -52,55 +52,79 @@ pub fn key(alloc: Global, name: &str) -> Option<Key> {
 }
 
 /// The ids of an engine with one class with one method.
-fn ids(alloc: Global) -> Option<Vec<UniqueId>> {
-    let mut ids = Vec::new(alloc);
-    for text in [
-        "[engine:x]",
-        "[engine:x]/[class:A]",
-        "[engine:x]/[class:A]/[method:m()]",
-    ] {
-        let id = UniqueId::parse(alloc, text).ok()?;
-        ids.push(id).ok()?;
+const IDS: [&str; 3] = [
+    "[engine:x]",
+    "[engine:x]/[class:A]",
+    "[engine:x]/[class:A]/[method:m()]",
+];
+
+/// Puts the id of this text behind the others; says whether there was memory.
+fn add_id(alloc: Global, ids: &mut Vec<UniqueId>, text: &str) -> bool {
+    match UniqueId::parse(alloc, text) {
+        Ok(id) => ids.push(id).is_ok(),
+        Err(_) => false,
     }
-    Some(ids)
+}
+
+/// Puts the ids of the engine behind the others; says whether there was memory.
+fn add_ids(alloc: Global, ids: &mut Vec<UniqueId>) -> bool {
+    for text in &IDS {
+        if !add_id(alloc, ids, text) {
+            return false;
+        }
+    }
+    true
+}
+
+/// An engine with one class with one method; `None` where there is no memory.
+fn chain(alloc: Global) -> Option<Tree> {
+    let mut ids = Vec::new(alloc);
+    if !add_ids(alloc, &mut ids) {
+        return None;
+    }
+    Tree::build(alloc, ids.as_slice()).ok()
 }
 
 /// An engine with one class with one method: the contexts 0, 1 and 2; `None` where there is no memory.
 pub fn contexts(alloc: Global) -> Option<Tree>
     ensures { IfSome result (λ tree. 2 < length tree) }
 {
-    let ids = ids(alloc)?;
-    let Ok(tree) = Tree::build(alloc, ids.as_slice()) else {
-        return None;
-    };
+    let tree = chain(alloc)?;
     if tree.len() < 3 {
         return None;
     }
     Some(tree)
 }
 
-/// Declares the key of this name; `None` where there is no memory.
-fn declare(alloc: Global, directory: &mut Directory, name: &str) -> Option<()> {
-    let key = key(alloc, name)?;
-    directory.declare(key).ok()?;
-    Some(())
+/// The names of the keys that can be declared.
+const NAMES: [&str; 11] = ["a", "b", "c", "d", "e", "f", "g", "h", "i", "j", "k"];
+
+/// Declares the key of this name; says whether there was memory.
+fn declare(alloc: Global, directory: &mut Directory, name: &str) -> bool {
+    match key(alloc, name) {
+        Some(key) => directory.declare(key).is_ok(),
+        None => false,
+    }
 }
 
-/// Declares so many keys, at most eleven: a, b, and so on; `None` where there is no memory.
-fn declare_all(alloc: Global, directory: &mut Directory, count: usize) -> Option<()> {
-    let names = ["a", "b", "c", "d", "e", "f", "g", "h", "i", "j", "k"];
-    let count = count.min(names.len());
-    for name in &names[..count] {
-        declare(alloc, directory, name)?;
+/// Declares so many keys, at most eleven: a, b, and so on; says whether there was memory.
+fn declare_all(alloc: Global, directory: &mut Directory, count: usize) -> bool {
+    for name in &NAMES[..count.min(NAMES.len())] {
+        if !declare(alloc, directory, name) {
+            return false;
+        }
     }
-    Some(())
+    true
 }
 
 /// So many keys, at most eleven: a, b, and so on; `None` where there is no memory.
 pub fn keys(alloc: Global, count: usize) -> Option<Directory> {
     let mut directory = Directory::new(alloc);
-    declare_all(alloc, &mut directory, count)?;
-    Some(directory)
+    if declare_all(alloc, &mut directory, count) {
+        Some(directory)
+    } else {
+        None
+    }
 }
 
 /// A store of the chain, its two lanes, and its closers.
@@ -116,39 +140,19 @@ pub struct Opened<V> {
     pub closers: Vec<Closer>,
 }
 
-/// Takes the last two of the lanes, the last one behind; `None` where there are fewer.
-fn last_two<V: StoreValue + Drop>(
-    store: &Store<V>,
-    lanes: &mut Vec<Lane<V>>,
-) -> Option<(Lane<V>, Lane<V>)>
-    requires { All (IsLaneOf store.now.id) lanes.old.items }
-    ensures first { IfSome result (λ two. IsLaneOf store.now.id two.0) }
-    ensures second { IfSome result (λ two. IsLaneOf store.now.id two.1) }
+/// What was opened, with the last two of its lanes; `None` where it has fewer. What the parts are made of need not be known.
+fn with_last_two<S: Drop, L: Drop, C: Drop>(
+    store: S,
+    lanes: Vec<L>,
+    closers: C,
+) -> Option<(S, L, L, C)>
+    ensures same { IfSome result (λ r. (r.0 ≡ store) × (r.3 ≡ closers)) }
+    ensures lanes { IfSome result (λ r. (front middle : List _) × (lanes.items ≡ middle ++ option_to_list (Some r.2)) × (middle ≡ front ++ option_to_list (Some r.1))) }
 {
-    let (Some(second), Some(first)) = (lanes.pop(), lanes.pop()) else {
-        return None;
-    };
-    Some((first, second))
-}
-
-/// The store and its closers, with the last two of its lanes; `None` where it has fewer.
-fn gather<V: StoreValue + Drop>(
-    store: Store<V>,
-    lanes: &mut Vec<Lane<V>>,
-    closers: Vec<Closer>,
-) -> Option<Opened<V>>
-    requires lanes { All (IsLaneOf store.id) lanes.old.items }
-    ensures same { IfSome result (λ o. (o.store ≡ store) × (o.closers ≡ closers)) }
-    ensures first { IfSome result (λ o. IsLaneOf store.id o.first) }
-    ensures second { IfSome result (λ o. IsLaneOf store.id o.second) }
-{
-    let (first, second) = last_two(&store, lanes)?;
-    Some(Opened {
-        store,
-        first,
-        second,
-        closers,
-    })
+    let mut lanes = lanes;
+    let second = lanes.pop()?;
+    let first = lanes.pop()?;
+    Some((store, first, second, closers))
 }
 
 /// The store of the chain with these keys, where the limits have two lanes; `None` where they have others, or where there is
@@ -164,10 +168,16 @@ pub fn open_store<V: StoreValue + Drop>(
     ensures contexts { IfSome result (λ o. 2 < length o.store.tree) }
 {
     let tree = contexts(alloc)?;
-    let Ok((store, mut lanes, closers)) = Store::open(alloc, tree, directory, limits) else {
+    let Ok((store, lanes, closers)) = Store::open(alloc, tree, directory, limits) else {
         return None;
     };
-    gather(store, &mut lanes, closers)
+    let (store, first, second, closers) = with_last_two(store, lanes, closers)?;
+    Some(Opened {
+        store,
+        first,
+        second,
+        closers,
+    })
 }
 
 /// The store of the chain with the keys a, b and c, eight tries and so many numbers; `None` where there is no memory.

@@ -1,6 +1,6 @@
 use Rattle.std.proofs.Common.{refl}
 use Rattle.std.specs.List.{IsDistinct}
-use Rattle.ext_lane_rows.proofs.cells.nearest_cell_decides.Goals as goal
+use Rattle.ext_lane_rows.proofs.cells.ask_for_nearest.Goals as goal
 
 pub nearest-requires-clause-different : goal.nearest-requires-clause-different
 unfolding IsDistinct
