@@ -19,20 +19,20 @@ use Rattle.ext_plan_model.specs.KeyNumbers.{different_keys}
 use Rattle.ext_plan_model.specs.Keys.{labels_of}
 use Rattle.ext_plan_model.specs.Laws.{NodesAreTree, TestsHaveNoChildren, HasFewCells, HasFewLocks, HasOwnLabels, NamespacesHaveParts, StepsNameLabels, StepsStayBelowRoot, StepListsAreShort, CallbacksAreFew, TestsHaveNoContainerCallbacks, HasNoContainerCallbacks, NamesLabelBelow, IsAtOrBelow, ids_of_nodes, OfAllSteps, StaysOnOwnPath, StaysOnPathOf, StayOnPath}
 use Rattle.ext_plan_model.specs.Locks.{lock_names, lock_limit}
-use Rattle.ext_plan.specs.declared.fault.PlanFault.{PlanFault}
-use Rattle.ext_plan.specs.declared.fault.PlanFault.TheVariants as faults
-use Rattle.ext_plan.specs.declared.fault.Place.TheVariants as places
-use Rattle.ext_plan.specs.Depths.{Outline, least_test_depth}
-use Rattle.ext_plan.specs.Faults.{check, Gives}
-use Rattle.ext_plan.specs.Fields.{has_only, tables_or_none}
-use Rattle.ext_plan.specs.Keys.{keys_after}
-use Rattle.ext_plan.specs.Nodes.{Sketch, ids_of, outline_of, outlines_of, has_children, sketches_after, nodes_after, nodes_of_tables}
+use Rattle.ext_plan_tables.specs.declared.fault.PlanFault.{PlanFault}
+use Rattle.ext_plan_tables.specs.declared.fault.PlanFault.TheVariants as faults
+use Rattle.ext_plan_tables.specs.declared.fault.Place.TheVariants as places
+use Rattle.ext_plan_tables.specs.Depths.{Outline, least_test_depth}
+use Rattle.ext_plan_tables.specs.Faults.{check, Gives}
+use Rattle.ext_plan_tables.specs.Fields.{has_only, tables_or_none}
+use Rattle.ext_plan_tables.specs.Keys.{keys_after}
+use Rattle.ext_plan_tables.specs.Nodes.{Sketch, ids_of, outline_of, outlines_of, has_children, sketches_after, nodes_after, nodes_of_tables}
 use Rattle.ext_plan.specs.Reading.{top_fields, are_few, plan_of, plan_of_tables}
-use Rattle.ext_plan.proofs.Gave.{ok_value, both_gave, passed}
-use Rattle.ext_plan.proofs.KeyReading.{keys_are_own, no_keys}
-use Rattle.ext_plan.proofs.NodeReading.{NodeFits, IsAlone, KindFits, FitsIn, outline_of_node, outlines_of_nodes, if_is_test, nodes_are_read, childless}
-use Rattle.ext_plan.proofs.StepReading.{AreFitting}
-use Rattle.ext_plan.proofs.TestDepths.{least_is_below}
+use Rattle.ext_plan_tables.proofs.Gave.{ok_value, both_gave, passed}
+use Rattle.ext_plan_tables.proofs.KeyReading.{keys_are_own, no_keys}
+use Rattle.ext_plan_tables.proofs.NodeReading.{NodeFits, IsAlone, KindFits, FitsIn, outline_of_node, outlines_of_nodes, if_is_test, nodes_are_read, childless}
+use Rattle.ext_plan_tables.proofs.StepReading.{AreFitting}
+use Rattle.ext_plan_tables.proofs.TestDepths.{least_is_below}
 
 pub record ArePlanLaws (plan : PlanText) : Type 0 where
   pub tree : NodesAreTree plan

@@ -12,19 +12,19 @@ use Rattle.ext_plan_model.specs.Locks.{lock_names, lock_limit}
 use Rattle.ext_plan_model.specs.KeyNumbers.{different_keys}
 use Rattle.ext_plan_model.specs.Keys.{labels_of, is_label, is_word}
 use Rattle.ext_plan_model.specs.Steps.{height, step_limit, callback_limit}
-use Rattle.ext_plan.specs.declared.fault.PlanFault.{PlanFault}
-use Rattle.ext_plan.specs.declared.fault.PlanFault.TheVariants as faults
-use Rattle.ext_plan.specs.declared.fault.Place.TheVariants as places
-use Rattle.ext_plan.specs.Faults.{some_or, check, Gives, ◌>>=◌}
-use Rattle.ext_plan.specs.Fields.{has_only, text_at, texts_in, tables_in, text_or_none, texts_or_none, text_lists_in, text_lists_or_none, tables_or_none, truth_or_false}
-use Rattle.ext_plan.specs.Callbacks.{CallbackTexts, callback_texts_at, callbacks_after, callbacks_at, node_callbacks_at}
-use Rattle.ext_plan.specs.Depths.{least_test_depth}
-use Rattle.ext_plan.specs.Modes.{mode_at, mode_of}
+use Rattle.ext_plan_tables.specs.declared.fault.PlanFault.{PlanFault}
+use Rattle.ext_plan_tables.specs.declared.fault.PlanFault.TheVariants as faults
+use Rattle.ext_plan_tables.specs.declared.fault.Place.TheVariants as places
+use Rattle.ext_plan_tables.specs.Faults.{some_or, check, Gives, ◌>>=◌}
+use Rattle.ext_plan_tables.specs.Fields.{has_only, text_at, texts_in, tables_in, text_or_none, texts_or_none, text_lists_in, text_lists_or_none, tables_or_none, truth_or_false}
+use Rattle.ext_plan_tables.specs.Callbacks.{CallbackTexts, callback_texts_at, callbacks_after, callbacks_at, node_callbacks_at}
+use Rattle.ext_plan_tables.specs.Depths.{least_test_depth}
+use Rattle.ext_plan_tables.specs.Modes.{mode_at, mode_of}
 use Rattle.ext_lifecycle.specs.declared.mode.Mode.TheVariants as modes
-use Rattle.ext_plan.specs.Locks.{lock_at, lock_of, locks_after, locks_at}
-use Rattle.ext_plan.specs.Keys.{key_fields, has_parts, key_at, keys_after}
-use Rattle.ext_plan.specs.Nodes.{Sketch, node_fields, id_or, sketch_at, sketches_after, ids_of, outlines_of, has_children, is_bad_test, test_at, node_at, nodes_after, nodes_of_tables}
-use Rattle.ext_plan.specs.Steps.{step_of, step_at, steps_after, steps_at}
+use Rattle.ext_plan_tables.specs.Locks.{lock_at, lock_of, locks_after, locks_at}
+use Rattle.ext_plan_tables.specs.Keys.{key_fields, has_parts, key_at, keys_after}
+use Rattle.ext_plan_tables.specs.Nodes.{Sketch, node_fields, id_or, sketch_at, sketches_after, ids_of, outlines_of, has_children, is_bad_test, test_at, node_at, nodes_after, nodes_of_tables}
+use Rattle.ext_plan_tables.specs.Steps.{step_of, step_at, steps_after, steps_at}
 use Rattle.ext_plan.specs.Reading.{top_fields, are_few, plan_of, plan_of_tables}
 
 -- the reading has another end than the fault `NotUtf8`

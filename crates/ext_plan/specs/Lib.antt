@@ -1,12 +1,1 @@
-pub mod Faults
-pub mod Fields
-pub mod Keys
-pub mod Steps
-pub mod Locks
-pub mod Modes
-pub mod Callbacks
-pub mod Depths
-pub mod Nodes
 pub mod Reading
-pub mod Helpers
-pub mod Explaining

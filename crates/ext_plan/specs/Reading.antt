@@ -6,13 +6,13 @@ use Rattle.ext_plan_model.specs.Plans.{PlanText}
 use Rattle.ext_plan_model.specs.Keys.{labels_of}
 use Rattle.ext_plan_model.specs.KeyNumbers.{different_keys}
 use Rattle.ext_plan_model.specs.Locks.{lock_names, lock_limit}
-use Rattle.ext_plan.specs.declared.fault.PlanFault.{PlanFault}
-use Rattle.ext_plan.specs.declared.fault.PlanFault.TheVariants as faults
-use Rattle.ext_plan.specs.declared.fault.Place.TheVariants as places
-use Rattle.ext_plan.specs.Faults.{some_or, check, ◌>>=◌}
-use Rattle.ext_plan.specs.Fields.{has_only, tables_or_none}
-use Rattle.ext_plan.specs.Keys.{keys_after}
-use Rattle.ext_plan.specs.Nodes.{nodes_of_tables}
+use Rattle.ext_plan_tables.specs.declared.fault.PlanFault.{PlanFault}
+use Rattle.ext_plan_tables.specs.declared.fault.PlanFault.TheVariants as faults
+use Rattle.ext_plan_tables.specs.declared.fault.Place.TheVariants as places
+use Rattle.ext_plan_tables.specs.Faults.{some_or, check, ◌>>=◌}
+use Rattle.ext_plan_tables.specs.Fields.{has_only, tables_or_none}
+use Rattle.ext_plan_tables.specs.Keys.{keys_after}
+use Rattle.ext_plan_tables.specs.Nodes.{nodes_of_tables}
 
 abbrev pub top_fields : List (List ℕ)
 top_fields = codes "key" ∷ codes "node" ∷ []

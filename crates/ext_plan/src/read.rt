@@ -4,21 +4,14 @@ ghost use Rattle.toml.specs.View.{table_view};
 ghost use Rattle.ext_plan_model.specs.Plans.{keys_view, plan_view};
 ghost use Rattle.ext_plan_model.specs.KeyNumbers.{different_keys, HasParts};
 ghost use Rattle.ext_plan_model.specs.Laws.{NodesAreTree, TestsHaveNoChildren, HasFewCells, HasFewLocks, HasOwnLabels, NamespacesHaveParts, StepsNameLabels, StepsStayBelowRoot, StepListsAreShort, CallbacksAreFew, TestsHaveNoContainerCallbacks};
-ghost use Rattle.ext_plan.specs.Faults.{Gives, GivesAll};
+ghost use Rattle.ext_plan_tables.specs.Faults.{Gives, GivesAll};
 ghost use Rattle.ext_plan.specs.Reading.{are_few, plan_of, plan_of_tables, plan_of_text};
 
-use crate::fault::{Place, PlanFault};
-use crate::fields::{has_only, tables_at};
-use crate::keys::keys_of;
-use crate::locks::locks_are_few;
-use crate::nodes::nodes_of_tables;
 use ext_plan_model::{KeyNumbers, Plan, PlanKey};
+use ext_plan_tables::{TOP_FIELDS, Place, PlanFault, has_only, keys_of, locks_are_few, nodes_of_tables, tables_at};
 use ext_tree::TreeFault;
 use std::alloc::Global;
 use toml::Table;
-
-/// The names of the top fields.
-pub const TOP_FIELDS: [&str; 2] = ["key", "node"];
 
 /// Reads the plan that the text of a TOML document writes. Own rule.
 ///

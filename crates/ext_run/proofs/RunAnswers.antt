@@ -5,10 +5,10 @@ use Rattle.std.proofs.lemmas.Str.{IsUtf8-from_is_utf8, is_utf8-from_IsUtf8}
 use Rattle.ext_lifecycle.specs.declared.node_result.NodeResult.{NodeResult}
 use Rattle.ext_lifecycle.specs.FaultTexts.{fault_text, result_view, results_view}
 use Rattle.ext_lifecycle.specs.Results.{told, with_fault_told}
-use Rattle.ext_plan.specs.declared.fault.PlanFault.{PlanFault}
-use Rattle.ext_plan.specs.declared.fault.PlanFault.TheVariants as plan
+use Rattle.ext_plan_tables.specs.declared.fault.PlanFault.{PlanFault}
+use Rattle.ext_plan_tables.specs.declared.fault.PlanFault.TheVariants as plan
 use Rattle.ext_plan_model.specs.Plans.{PlanText}
-use Rattle.ext_plan.specs.Faults.{Fails}
+use Rattle.ext_plan_tables.specs.Faults.{Fails}
 use Rattle.ext_plan.specs.Reading.{plan_of_text}
 use Rattle.ext_run.specs.declared.fault.RunFault.{RunFault}
 use Rattle.ext_run.specs.declared.fault.RunFault.TheVariants as faults

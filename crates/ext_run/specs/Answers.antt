@@ -5,8 +5,8 @@ use Rattle.std.specs.Str.{is_utf8}
 use Rattle.ext_model.specs.declared.look.Fault.{Fault}
 use Rattle.ext_lifecycle.specs.FaultTexts.{NodeOutcome, fault_text}
 use Rattle.ext_lifecycle.specs.Results.{ResultOf, with_fault_told}
-use Rattle.ext_plan.specs.declared.fault.PlanFault.{PlanFault}
-use Rattle.ext_plan.specs.declared.fault.PlanFault.TheVariants as plan
+use Rattle.ext_plan_tables.specs.declared.fault.PlanFault.{PlanFault}
+use Rattle.ext_plan_tables.specs.declared.fault.PlanFault.TheVariants as plan
 use Rattle.ext_plan_model.specs.Plans.{PlanText}
 use Rattle.ext_plan.specs.Reading.{plan_of_text}
 use Rattle.ext_plan_model.specs.Laws.{ids_of_nodes}

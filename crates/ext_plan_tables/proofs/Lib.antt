@@ -1,0 +1,13 @@
+pub mod FieldNames
+pub mod Lists
+pub mod LabelLists
+pub mod Turns
+pub mod StepWords
+pub mod Parents
+pub mod TreeTests
+pub mod Gave
+pub mod KeyReading
+pub mod StepReading
+pub mod CallbackReading
+pub mod TestDepths
+pub mod NodeReading

@@ -1,0 +1,12 @@
+pub mod Faults
+pub mod Fields
+pub mod Keys
+pub mod Steps
+pub mod Locks
+pub mod Modes
+pub mod Callbacks
+pub mod Depths
+pub mod Nodes
+pub mod Helpers
+pub mod Places
+pub mod Explaining

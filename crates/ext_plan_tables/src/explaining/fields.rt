@@ -1,0 +1,190 @@
+//! What is meant by a fault of fields.
+use crate::fault::{Place, PlanFault};
+use crate::fields::{TOP_FIELDS, first_other, tables_at, text_at, text_if_given, text_lists_at, texts_at, truth_at};
+use crate::keys::KEY_FIELDS;
+use crate::nodes::NODE_FIELDS;
+use std::alloc::{AllocError, Global};
+use toml::Table;
+
+/// What a field has to be.
+#[derive(Clone, Copy)]
+enum FieldType {
+    Text,
+    TextIfGiven,
+    TruthIfGiven,
+    TextsIfGiven,
+    TextListsIfGiven,
+    TablesIfGiven,
+}
+
+/// The top fields, in the order in which they are read.
+const TOP_TYPES: [(&str, FieldType); 2] = [
+    ("key", FieldType::TablesIfGiven),
+    ("node", FieldType::TablesIfGiven),
+];
+
+/// The fields of a key, in the order in which they are read.
+const KEY_TYPES: [(&str, FieldType); 3] = [
+    ("label", FieldType::Text),
+    ("name", FieldType::TextIfGiven),
+    ("namespace", FieldType::TextsIfGiven),
+];
+
+/// The fields of a node, in the order in which they are read.
+const NODE_TYPES: [(&str, FieldType); 9] = [
+    ("id", FieldType::Text),
+    ("mode", FieldType::TextIfGiven),
+    ("isolated", FieldType::TruthIfGiven),
+    ("locks", FieldType::TextsIfGiven),
+    ("before_all", FieldType::TextListsIfGiven),
+    ("after_all", FieldType::TextListsIfGiven),
+    ("before_each", FieldType::TextListsIfGiven),
+    ("after_each", FieldType::TextListsIfGiven),
+    ("test", FieldType::TextsIfGiven),
+];
+
+/// The table of a place, if the document has it.
+pub fn table_of<'a>(
+    alloc: Global,
+    top: &'a Table,
+    place: Place,
+) -> Result<Option<&'a Table>, PlanFault> {
+    let (name, number) = match place {
+        Place::Whole => return Ok(Some(top)),
+        Place::Key(key) => ("key", key),
+        Place::Node(node) => ("node", node),
+    };
+    let tables = tables_at(alloc, top, name, PlanFault::BadField(Place::Whole))?;
+    Ok(tables.get(number).copied())
+}
+
+/// The first field of a place that it may not have.
+pub fn unknown_field(
+    alloc: Global,
+    top: &Table,
+    place: Place,
+) -> Result<Option<String>, PlanFault> {
+    let Some(table) = table_of(alloc, top, place)? else {
+        return Ok(None);
+    };
+    let other = match place {
+        Place::Whole => first_other(&TOP_FIELDS, table),
+        Place::Key(_) => first_other(&KEY_FIELDS, table),
+        Place::Node(_) => first_other(&NODE_FIELDS, table),
+    };
+    match other {
+        None => Ok(None),
+        Some(name) => Ok(Some(format!(in alloc; "it may not have a field {name:?}")?)),
+    }
+}
+
+/// The first field of a place that is missing, or has another type.
+pub fn bad_field(alloc: Global, top: &Table, place: Place) -> Result<Option<String>, PlanFault> {
+    let Some(table) = table_of(alloc, top, place)? else {
+        return Ok(None);
+    };
+    match place {
+        Place::Whole => first_bad(alloc, table, &TOP_TYPES),
+        Place::Key(_) => first_bad(alloc, table, &KEY_TYPES),
+        Place::Node(_) => first_bad(alloc, table, &NODE_TYPES),
+    }
+}
+
+/// The first of these fields that is missing in the table, or has another type.
+fn first_bad(
+    alloc: Global,
+    table: &Table,
+    fields: &[(&str, FieldType)],
+) -> Result<Option<String>, PlanFault> {
+    for (name, kind) in fields {
+        if !is_right(alloc, table, name, *kind)? {
+            let what = what_is_wrong(*kind);
+            return Ok(Some(format!(in alloc; "its field {name:?} is {what}")?));
+        }
+    }
+    Ok(None)
+}
+
+/// Tests whether a field is what it has to be, by the reader's own functions.
+fn is_right(alloc: Global, table: &Table, name: &str, kind: FieldType) -> Result<bool, PlanFault> {
+    let fault = PlanFault::BadField(Place::Whole);
+    match kind {
+        FieldType::Text => Ok(text_at(table, name).is_some()),
+        FieldType::TextIfGiven => was_read(text_if_given(table, name, fault)),
+        FieldType::TruthIfGiven => was_read(truth_at(table, name, fault)),
+        FieldType::TextsIfGiven => was_read(texts_at(alloc, table, name, fault)),
+        FieldType::TextListsIfGiven => was_read(text_lists_at(alloc, table, name, fault)),
+        FieldType::TablesIfGiven => was_read(tables_at(alloc, table, name, fault)),
+    }
+}
+
+/// Whether a field was read; want of memory tells nothing of it.
+fn was_read<T: Drop>(read: Result<T, PlanFault>) -> Result<bool, PlanFault> {
+    match read {
+        Ok(_) => Ok(true),
+        Err(PlanFault::Memory) => Err(PlanFault::Memory),
+        Err(_) => Ok(false),
+    }
+}
+
+/// What a field of another type is.
+fn what_is_wrong(kind: FieldType) -> &'static str {
+    match kind {
+        FieldType::Text => "missing, or no text",
+        FieldType::TextIfGiven => "no text",
+        FieldType::TruthIfGiven => "neither true nor false",
+        FieldType::TextsIfGiven => "no array of texts",
+        FieldType::TextListsIfGiven => "no array of arrays of texts",
+        FieldType::TablesIfGiven => "no array of tables",
+    }
+}
+
+/// What is wrong with the label of a key, or with its namespace.
+pub fn bad_label(alloc: Global, top: &Table, key: usize) -> Result<Option<String>, PlanFault> {
+    let fault = PlanFault::BadField(Place::Whole);
+    let tables = tables_at(alloc, top, "key", fault)?;
+    let Some(table) = tables.get(key) else {
+        return Ok(None);
+    };
+    let Some(label) = text_at(table, "label") else {
+        return Ok(None);
+    };
+    if let Some(meaning) = no_word(alloc, label)? {
+        return Ok(Some(meaning));
+    }
+    if let Some(parts) = texts_at(alloc, table, "namespace", fault)?
+        && parts.is_empty()
+    {
+        return Ok(Some(format!(in alloc; "its namespace has no part")?));
+    }
+    same_label(alloc, tables.as_slice(), key, label)
+}
+
+/// Why a label is no word.
+fn no_word(alloc: Global, label: &str) -> Result<Option<String>, AllocError> {
+    if label.is_empty() {
+        return Ok(Some(format!(in alloc; "its label is empty")?));
+    }
+    if label.contains(' ') {
+        return Ok(Some(format!(in alloc; "its label {label:?} has a space")?));
+    }
+    Ok(None)
+}
+
+/// The key before this one that has its label.
+fn same_label(
+    alloc: Global,
+    tables: &[&Table],
+    key: usize,
+    label: &str,
+) -> Result<Option<String>, PlanFault> {
+    match tables
+        .iter()
+        .position(|other| text_at(other, "label") == Some(label))
+    {
+        Some(first) if first < key => Ok(Some(format!(in alloc;
+            "its label {label:?} is that of key {first}"
+        )?)),
+        _ => Ok(None),
+    }
+}

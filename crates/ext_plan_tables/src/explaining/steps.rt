@@ -1,0 +1,149 @@
+//! Which step of a node is none, and why.
+ghost use Rattle.std.specs.Prelude.{◌<◌, HoldsAt, IfOk, IfSome, IsErr, length};
+ghost use Rattle.ext_plan_tables.specs.Steps.{step_at};
+
+use crate::explaining::nodes::{keys_in, sketches_in};
+use crate::depths::least_test_depth;
+use crate::fault::PlanFault;
+use crate::labels::Labels;
+use crate::nodes::NodeSketch;
+use crate::steps::{has_empty, step_at, step_of, words_of};
+use std::alloc::Global;
+use toml::Table;
+
+/// The first text of a node's callbacks and test that is no step there. They are gone over in the order in which they are read.
+pub fn bad_step(alloc: Global, top: &Table, node: usize) -> Result<Option<String>, PlanFault> {
+    let keys = keys_in(alloc, top)?;
+    let sketches = sketches_in(alloc, top)?;
+    bad_step_among(alloc, &keys.labels, sketches.as_slice(), node)
+}
+
+/// The same, among the nodes after the first pass.
+fn bad_step_among(
+    alloc: Global,
+    labels: &Labels<'_>,
+    sketches: &[NodeSketch<'_>],
+    node: usize,
+) -> Result<Option<String>, PlanFault> {
+    let Some(sketch) = sketches.get(node) else {
+        return Ok(None);
+    };
+    let own = sketch.id.len();
+    let least = least_test_depth(sketches, &sketch.id);
+    let lists = sketch.callbacks.in_order(own, least);
+    let found = bad_in_kinds(alloc, labels, node, &lists)?;
+    if found.is_some() {
+        return Ok(found);
+    }
+    match &sketch.test {
+        None => Ok(None),
+        Some(texts) => bad_in(alloc, labels, own, node, "test", texts.as_slice()),
+    }
+}
+
+/// The first text of a node's callbacks that is no step there. The kinds are as `CallbackSketch::in_order` has them.
+fn bad_in_kinds(
+    alloc: Global,
+    labels: &Labels<'_>,
+    node: usize,
+    kinds: &[(&str, usize, &[Vec<&str>])],
+) -> Result<Option<String>, PlanFault> {
+    for (name, depth, lists) in kinds {
+        let found = bad_in_callbacks(alloc, labels, *depth, node, name, lists)?;
+        if found.is_some() {
+            return Ok(found);
+        }
+    }
+    Ok(None)
+}
+
+/// The first text of a kind's callbacks that is no step there. `name` is the kind's field.
+fn bad_in_callbacks(
+    alloc: Global,
+    labels: &Labels<'_>,
+    depth: usize,
+    node: usize,
+    name: &str,
+    lists: &[Vec<&str>],
+) -> Result<Option<String>, PlanFault> {
+    for (i, texts) in lists.iter().enumerate() {
+        let place = format!(in alloc; "{name} {i}")?;
+        let found = bad_in(alloc, labels, depth, node, place.as_str(), texts.as_slice())?;
+        if found.is_some() {
+            return Ok(found);
+        }
+    }
+    Ok(None)
+}
+
+/// The first of a test's or a callback's texts that is no step there. `list` says which test or callback it is.
+fn bad_in(
+    alloc: Global,
+    labels: &Labels<'_>,
+    depth: usize,
+    node: usize,
+    list: &str,
+    texts: &[&str],
+) -> Result<Option<String>, PlanFault> {
+    let Some(step) = first_bad(alloc, labels, depth, node, texts)? else {
+        return Ok(None);
+    };
+    let text = texts[step];
+    let why = reason(alloc, labels, text)?;
+    Ok(Some(format!(in alloc; "step {step} of its {list}, {text:?}, {why}")?))
+}
+
+/// The place of the first text that the reader refuses as a step of the node.
+fn first_bad(
+    alloc: Global,
+    labels: &Labels<'_>,
+    depth: usize,
+    node: usize,
+    texts: &[&str],
+) -> Result<Option<usize>, PlanFault>
+    ensures within { IfOk result (λ found. IfSome found (λ place. place < length texts.now)) }
+    ensures refused { IfOk result (λ found. IfSome found (λ place. HoldsAt (λ text. IsErr (step_at labels.now depth node text.now)) texts.now place)) }
+{
+    for (place, text) in texts.iter().enumerate() {
+        match step_at(alloc, labels, depth, node, text) {
+            Ok(_) => {}
+            Err(PlanFault::BadStep(_)) => return Ok(Some(place)),
+            Err(fault) => return Err(fault),
+        }
+    }
+    Ok(None)
+}
+
+/// Why a text that the reader refuses is no step.
+fn reason(alloc: Global, labels: &Labels<'_>, text: &str) -> Result<&'static str, PlanFault> {
+    let words = words_of(alloc, text)?;
+    reason_among(alloc, labels, text, words.as_slice())
+}
+
+/// The same, of a text of these words.
+fn reason_among(
+    alloc: Global,
+    labels: &Labels<'_>,
+    text: &str,
+    words: &[&str],
+) -> Result<&'static str, PlanFault> {
+    if has_empty(words) {
+        return Ok("has a space too many");
+    }
+    if step_of(alloc, labels, text)?.is_some() {
+        return Ok("goes up past the root");
+    }
+    Ok(match words {
+        [name, label, ..] => reason_of_words(labels, name, label),
+        _ => "is none of the steps",
+    })
+}
+
+/// Why words of a text that begins with these two are no step.
+fn reason_of_words(labels: &Labels<'_>, name: &str, label: &str) -> &'static str {
+    match name {
+        "fail" | "abort" => "takes one text and no up",
+        _ if labels.number_of(label).is_none() => "names no label of the plan",
+        _ => "is none of the steps",
+    }
+}
