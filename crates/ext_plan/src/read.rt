@@ -8,7 +8,9 @@ ghost use Rattle.ext_plan_tables.specs.Faults.{Gives, GivesAll};
 ghost use Rattle.ext_plan.specs.Reading.{are_few, plan_of, plan_of_tables, plan_of_text};
 
 use ext_plan_model::{KeyNumbers, Plan, PlanKey};
-use ext_plan_tables::{TOP_FIELDS, Place, PlanFault, has_only, keys_of, locks_are_few, nodes_of_tables, tables_at};
+use ext_plan_tables::{
+    Place, PlanFault, TOP_FIELDS, has_only, keys_of, locks_are_few, nodes_of_tables, tables_at,
+};
 use ext_tree::TreeFault;
 use std::alloc::Global;
 use toml::Table;

@@ -1,6 +1,8 @@
 //! What is meant by a fault of fields.
 use crate::fault::{Place, PlanFault};
-use crate::fields::{TOP_FIELDS, first_other, tables_at, text_at, text_if_given, text_lists_at, texts_at, truth_at};
+use crate::fields::{
+    TOP_FIELDS, first_other, tables_at, text_at, text_if_given, text_lists_at, texts_at, truth_at,
+};
 use crate::keys::KEY_FIELDS;
 use crate::nodes::NODE_FIELDS;
 use std::alloc::{AllocError, Global};

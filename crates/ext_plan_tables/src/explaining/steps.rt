@@ -2,8 +2,8 @@
 ghost use Rattle.std.specs.Prelude.{◌<◌, HoldsAt, IfOk, IfSome, IsErr, length};
 ghost use Rattle.ext_plan_tables.specs.Steps.{step_at};
 
-use crate::explaining::nodes::{keys_in, sketches_in};
 use crate::depths::least_test_depth;
+use crate::explaining::nodes::{keys_in, sketches_in};
 use crate::fault::PlanFault;
 use crate::labels::Labels;
 use crate::nodes::NodeSketch;
