@@ -108,14 +108,14 @@ impl<
         lock_lanes: &mut [LockLane],
     ) -> Result<Vec<RanNode>, EngineFault>
         requires item { IsNode self.now.nodes.store.now depth item }
-        requires fit { IsFit self.now.nodes.store.now self.now.nodes.locks.now (S.nodes self.now.nodes.suite.now) }
-        requires suite_fits { S.fits self.now.nodes.suite.now self.now.nodes.store.now }
-        requires lanes { IsUsable self.now.nodes.store.now self.now.nodes.locks.now (record { first = lanes.old; second = lock_lanes.old }) }
-        ensures lanes { IsUsable self.now.nodes.store.now self.now.nodes.locks.now (record { first = lanes.new; second = lock_lanes.new }) }
-        ensures count { length lanes.new ≡ length lanes.old }
-        ensures run { IfOk result (λ ran. TreeRun (setting_of self.now.nodes.store.now self.now.nodes.locks.now (S.nodes self.now.nodes.suite.now) (S.registered self.now.nodes.suite.now) V.is_closeable) (S.call_gives self.now.nodes.suite.now self.now.nodes.store.now) (S.action_gives self.now.nodes.suite.now) S.Action.close_gives depth item.node
-            (record { first = lanes.old; second = lock_lanes.old }) (map ran_view ran.items) (record { first = lanes.new; second = lock_lanes.new })) }
-        ensures fault { IfErr result (IsFault (setting_of self.now.nodes.store.now self.now.nodes.locks.now (S.nodes self.now.nodes.suite.now) (S.registered self.now.nodes.suite.now) V.is_closeable) (S.action_gives self.now.nodes.suite.now) S.Action.close_gives) }
+        requires ready { IsFit self.now.nodes.store.now self.now.nodes.locks.now (S.nodes self.now.nodes.suite.now)
+            × S.fits self.now.nodes.suite.now self.now.nodes.store.now
+            × IsUsable self.now.nodes.store.now self.now.nodes.locks.now (record { first = lanes.old; second = lock_lanes.old }) }
+        ensures left { IsUsable self.now.nodes.store.now self.now.nodes.locks.now (record { first = lanes.new; second = lock_lanes.new })
+            × (length lanes.new ≡ length lanes.old)
+            × IfOk result (λ ran. TreeRun (setting_of self.now.nodes.store.now self.now.nodes.locks.now (S.nodes self.now.nodes.suite.now) (S.registered self.now.nodes.suite.now) V.is_closeable) (S.call_gives self.now.nodes.suite.now self.now.nodes.store.now) (S.action_gives self.now.nodes.suite.now) S.Action.close_gives depth item.node
+            (record { first = lanes.old; second = lock_lanes.old }) (map ran_view ran.items) (record { first = lanes.new; second = lock_lanes.new }))
+            × IfErr result (IsFault (setting_of self.now.nodes.store.now self.now.nodes.locks.now (S.nodes self.now.nodes.suite.now) (S.registered self.now.nodes.suite.now) V.is_closeable) (S.action_gives self.now.nodes.suite.now) S.Action.close_gives) }
     {
         let _path = self.nodes.store.tree().path(item.node);
         if self.nodes.suite.is_test(item.node) {
@@ -171,15 +171,15 @@ impl<
         lock_lanes: &mut [LockLane],
     ) -> Result<Vec<RanNode>, EngineFault>
         requires item { IsNode self.now.nodes.store.now depth item }
-        requires fit { IsFit self.now.nodes.store.now self.now.nodes.locks.now (S.nodes self.now.nodes.suite.now) }
-        requires suite_fits { S.fits self.now.nodes.suite.now self.now.nodes.store.now }
         requires container { (S.nodes self.now.nodes.suite.now).is_test item.node ≡ false }
-        requires lanes { IsUsable self.now.nodes.store.now self.now.nodes.locks.now (record { first = lanes.old; second = lock_lanes.old }) }
-        ensures lanes { IsUsable self.now.nodes.store.now self.now.nodes.locks.now (record { first = lanes.new; second = lock_lanes.new }) }
-        ensures count { length lanes.new ≡ length lanes.old }
-        ensures run { IfOk result (λ ran. (path : List ℕ) × IsPathOf self.now.nodes.store.now.tree item.node path × ContainerRun (setting_of self.now.nodes.store.now self.now.nodes.locks.now (S.nodes self.now.nodes.suite.now) (S.registered self.now.nodes.suite.now) V.is_closeable) (S.call_gives self.now.nodes.suite.now self.now.nodes.store.now) (S.action_gives self.now.nodes.suite.now) S.Action.close_gives (TreeRun (setting_of self.now.nodes.store.now self.now.nodes.locks.now (S.nodes self.now.nodes.suite.now) (S.registered self.now.nodes.suite.now) V.is_closeable) (S.call_gives self.now.nodes.suite.now self.now.nodes.store.now) (S.action_gives self.now.nodes.suite.now) S.Action.close_gives (depth - 1)) item.node path
-            (record { first = lanes.old; second = lock_lanes.old }) (map ran_view ran.items) (record { first = lanes.new; second = lock_lanes.new })) }
-        ensures fault { IfErr result (IsFault (setting_of self.now.nodes.store.now self.now.nodes.locks.now (S.nodes self.now.nodes.suite.now) (S.registered self.now.nodes.suite.now) V.is_closeable) (S.action_gives self.now.nodes.suite.now) S.Action.close_gives) }
+        requires ready { IsFit self.now.nodes.store.now self.now.nodes.locks.now (S.nodes self.now.nodes.suite.now)
+            × S.fits self.now.nodes.suite.now self.now.nodes.store.now
+            × IsUsable self.now.nodes.store.now self.now.nodes.locks.now (record { first = lanes.old; second = lock_lanes.old }) }
+        ensures left { IsUsable self.now.nodes.store.now self.now.nodes.locks.now (record { first = lanes.new; second = lock_lanes.new })
+            × (length lanes.new ≡ length lanes.old)
+            × IfOk result (λ ran. (path : List ℕ) × IsPathOf self.now.nodes.store.now.tree item.node path × ContainerRun (setting_of self.now.nodes.store.now self.now.nodes.locks.now (S.nodes self.now.nodes.suite.now) (S.registered self.now.nodes.suite.now) V.is_closeable) (S.call_gives self.now.nodes.suite.now self.now.nodes.store.now) (S.action_gives self.now.nodes.suite.now) S.Action.close_gives (TreeRun (setting_of self.now.nodes.store.now self.now.nodes.locks.now (S.nodes self.now.nodes.suite.now) (S.registered self.now.nodes.suite.now) V.is_closeable) (S.call_gives self.now.nodes.suite.now self.now.nodes.store.now) (S.action_gives self.now.nodes.suite.now) S.Action.close_gives (depth - 1)) item.node path
+            (record { first = lanes.old; second = lock_lanes.old }) (map ran_view ran.items) (record { first = lanes.new; second = lock_lanes.new }))
+            × IfErr result (IsFault (setting_of self.now.nodes.store.now self.now.nodes.locks.now (S.nodes self.now.nodes.suite.now) (S.registered self.now.nodes.suite.now) V.is_closeable) (S.action_gives self.now.nodes.suite.now) S.Action.close_gives) }
     {
         let node = item.node;
         let mut ran = Vec::with_capacity(alloc, 1)?;
@@ -249,14 +249,14 @@ impl<
         requires in_turn { All (IsNode self.now.nodes.store.now depth) in_turn.items }
         requires concurrent { map (λ i. i.node) beside.items ≡ filter (S.nodes self.now.nodes.suite.now).is_concurrent (children_of self.now.nodes.store.now.tree node) }
         requires same_thread { map (λ i. i.node) in_turn.items ≡ filter (λ c. not ((S.nodes self.now.nodes.suite.now).is_concurrent c)) (children_of self.now.nodes.store.now.tree node) }
-        requires fit { IsFit self.now.nodes.store.now self.now.nodes.locks.now (S.nodes self.now.nodes.suite.now) }
-        requires suite_fits { S.fits self.now.nodes.suite.now self.now.nodes.store.now }
-        requires lanes { IsUsable self.now.nodes.store.now self.now.nodes.locks.now (record { first = lanes.old; second = lock_lanes.old }) }
-        ensures lanes { IsUsable self.now.nodes.store.now self.now.nodes.locks.now (record { first = lanes.new; second = lock_lanes.new }) }
-        ensures count { length lanes.new ≡ length lanes.old }
-        ensures run { IfOk result (λ ran. BodyMade (setting_of self.now.nodes.store.now self.now.nodes.locks.now (S.nodes self.now.nodes.suite.now) (S.registered self.now.nodes.suite.now) V.is_closeable) (S.call_gives self.now.nodes.suite.now self.now.nodes.store.now) (S.action_gives self.now.nodes.suite.now) S.Action.close_gives (TreeRun (setting_of self.now.nodes.store.now self.now.nodes.locks.now (S.nodes self.now.nodes.suite.now) (S.registered self.now.nodes.suite.now) V.is_closeable) (S.call_gives self.now.nodes.suite.now self.now.nodes.store.now) (S.action_gives self.now.nodes.suite.now) S.Action.close_gives depth) go node
-            (record { first = lanes.old; second = lock_lanes.old }) (map ran_view ran.items) (record { first = lanes.new; second = lock_lanes.new })) }
-        ensures fault { IfErr result (IsFault (setting_of self.now.nodes.store.now self.now.nodes.locks.now (S.nodes self.now.nodes.suite.now) (S.registered self.now.nodes.suite.now) V.is_closeable) (S.action_gives self.now.nodes.suite.now) S.Action.close_gives) }
+        requires ready { IsFit self.now.nodes.store.now self.now.nodes.locks.now (S.nodes self.now.nodes.suite.now)
+            × S.fits self.now.nodes.suite.now self.now.nodes.store.now
+            × IsUsable self.now.nodes.store.now self.now.nodes.locks.now (record { first = lanes.old; second = lock_lanes.old }) }
+        ensures left { IsUsable self.now.nodes.store.now self.now.nodes.locks.now (record { first = lanes.new; second = lock_lanes.new })
+            × (length lanes.new ≡ length lanes.old)
+            × IfOk result (λ ran. BodyMade (setting_of self.now.nodes.store.now self.now.nodes.locks.now (S.nodes self.now.nodes.suite.now) (S.registered self.now.nodes.suite.now) V.is_closeable) (S.call_gives self.now.nodes.suite.now self.now.nodes.store.now) (S.action_gives self.now.nodes.suite.now) S.Action.close_gives (TreeRun (setting_of self.now.nodes.store.now self.now.nodes.locks.now (S.nodes self.now.nodes.suite.now) (S.registered self.now.nodes.suite.now) V.is_closeable) (S.call_gives self.now.nodes.suite.now self.now.nodes.store.now) (S.action_gives self.now.nodes.suite.now) S.Action.close_gives depth) go node
+            (record { first = lanes.old; second = lock_lanes.old }) (map ran_view ran.items) (record { first = lanes.new; second = lock_lanes.new }))
+            × IfErr result (IsFault (setting_of self.now.nodes.store.now self.now.nodes.locks.now (S.nodes self.now.nodes.suite.now) (S.registered self.now.nodes.suite.now) V.is_closeable) (S.action_gives self.now.nodes.suite.now) S.Action.close_gives) }
     {
         if !go {
             return Ok(Vec::new(alloc));
@@ -279,14 +279,14 @@ impl<
         lock_lanes: &mut [LockLane],
     ) -> Result<Vec<RanNode>, EngineFault>
         requires items { All (IsNode self.now.nodes.store.now depth) items.items }
-        requires fit { IsFit self.now.nodes.store.now self.now.nodes.locks.now (S.nodes self.now.nodes.suite.now) }
-        requires suite_fits { S.fits self.now.nodes.suite.now self.now.nodes.store.now }
-        requires lanes { IsUsable self.now.nodes.store.now self.now.nodes.locks.now (record { first = lanes.old; second = lock_lanes.old }) }
-        ensures lanes { IsUsable self.now.nodes.store.now self.now.nodes.locks.now (record { first = lanes.new; second = lock_lanes.new }) }
-        ensures count { length lanes.new ≡ length lanes.old }
-        ensures run { IfOk result (λ ran. RanInTurn (TreeRun (setting_of self.now.nodes.store.now self.now.nodes.locks.now (S.nodes self.now.nodes.suite.now) (S.registered self.now.nodes.suite.now) V.is_closeable) (S.call_gives self.now.nodes.suite.now self.now.nodes.store.now) (S.action_gives self.now.nodes.suite.now) S.Action.close_gives depth) (map (λ i. i.node) items.items)
-            (record { first = lanes.old; second = lock_lanes.old }) (map ran_view ran.items) (record { first = lanes.new; second = lock_lanes.new })) }
-        ensures fault { IfErr result (IsFault (setting_of self.now.nodes.store.now self.now.nodes.locks.now (S.nodes self.now.nodes.suite.now) (S.registered self.now.nodes.suite.now) V.is_closeable) (S.action_gives self.now.nodes.suite.now) S.Action.close_gives) }
+        requires ready { IsFit self.now.nodes.store.now self.now.nodes.locks.now (S.nodes self.now.nodes.suite.now)
+            × S.fits self.now.nodes.suite.now self.now.nodes.store.now
+            × IsUsable self.now.nodes.store.now self.now.nodes.locks.now (record { first = lanes.old; second = lock_lanes.old }) }
+        ensures left { IsUsable self.now.nodes.store.now self.now.nodes.locks.now (record { first = lanes.new; second = lock_lanes.new })
+            × (length lanes.new ≡ length lanes.old)
+            × IfOk result (λ ran. RanInTurn (TreeRun (setting_of self.now.nodes.store.now self.now.nodes.locks.now (S.nodes self.now.nodes.suite.now) (S.registered self.now.nodes.suite.now) V.is_closeable) (S.call_gives self.now.nodes.suite.now self.now.nodes.store.now) (S.action_gives self.now.nodes.suite.now) S.Action.close_gives depth) (map (λ i. i.node) items.items)
+            (record { first = lanes.old; second = lock_lanes.old }) (map ran_view ran.items) (record { first = lanes.new; second = lock_lanes.new }))
+            × IfErr result (IsFault (setting_of self.now.nodes.store.now self.now.nodes.locks.now (S.nodes self.now.nodes.suite.now) (S.registered self.now.nodes.suite.now) V.is_closeable) (S.action_gives self.now.nodes.suite.now) S.Action.close_gives) }
     {
         let mut ran = Vec::new(alloc);
         for item in items {
@@ -308,17 +308,17 @@ impl<
     ) -> Result<Vec<Result<Vec<RanNode>, EngineFault>>, EngineFault>
         requires items { All (IsNode self.now.nodes.store.now depth) items.items }
         requires few { vec_len items ≤ 256 }
-        requires fit { IsFit self.now.nodes.store.now self.now.nodes.locks.now (S.nodes self.now.nodes.suite.now) }
-        requires suite_fits { S.fits self.now.nodes.suite.now self.now.nodes.store.now }
-        requires lanes { IsUsable self.now.nodes.store.now self.now.nodes.locks.now (record { first = lanes.old; second = lock_lanes.old }) }
-        ensures lanes { IsUsable self.now.nodes.store.now self.now.nodes.locks.now (record { first = lanes.new; second = lock_lanes.new }) }
-        ensures count { length lanes.new ≡ length lanes.old }
-        ensures run { IfOk result (λ outcomes. RunByDealing
+        requires ready { IsFit self.now.nodes.store.now self.now.nodes.locks.now (S.nodes self.now.nodes.suite.now)
+            × S.fits self.now.nodes.suite.now self.now.nodes.store.now
+            × IsUsable self.now.nodes.store.now self.now.nodes.locks.now (record { first = lanes.old; second = lock_lanes.old }) }
+        ensures left { IsUsable self.now.nodes.store.now self.now.nodes.locks.now (record { first = lanes.new; second = lock_lanes.new })
+            × (length lanes.new ≡ length lanes.old)
+            × IfOk result (λ outcomes. RunByDealing
             (λ i s ran u. IfOk ran (λ v. TreeRun (setting_of self.now.nodes.store.now self.now.nodes.locks.now (S.nodes self.now.nodes.suite.now) (S.registered self.now.nodes.suite.now) V.is_closeable) (S.call_gives self.now.nodes.suite.now self.now.nodes.store.now) (S.action_gives self.now.nodes.suite.now) S.Action.close_gives depth (slice_index_or (map (λ i. i.node) items.items) i 0) s (map ran_view v.items) u))
             (length items.items) (min (length lanes.old) (length items.items))
-            (record { first = lanes.old; second = lock_lanes.old }) outcomes.items (record { first = lanes.new; second = lock_lanes.new })) }
-        ensures faults { IfOk result (λ outcomes. All (λ ran. IfErr ran (IsFault (setting_of self.now.nodes.store.now self.now.nodes.locks.now (S.nodes self.now.nodes.suite.now) (S.registered self.now.nodes.suite.now) V.is_closeable) (S.action_gives self.now.nodes.suite.now) S.Action.close_gives)) outcomes.items) }
-        ensures fault { IfErr result (IsFault (setting_of self.now.nodes.store.now self.now.nodes.locks.now (S.nodes self.now.nodes.suite.now) (S.registered self.now.nodes.suite.now) V.is_closeable) (S.action_gives self.now.nodes.suite.now) S.Action.close_gives) }
+            (record { first = lanes.old; second = lock_lanes.old }) outcomes.items (record { first = lanes.new; second = lock_lanes.new }))
+            × IfOk result (λ outcomes. All (λ ran. IfErr ran (IsFault (setting_of self.now.nodes.store.now self.now.nodes.locks.now (S.nodes self.now.nodes.suite.now) (S.registered self.now.nodes.suite.now) V.is_closeable) (S.action_gives self.now.nodes.suite.now) S.Action.close_gives)) outcomes.items)
+            × IfErr result (IsFault (setting_of self.now.nodes.store.now self.now.nodes.locks.now (S.nodes self.now.nodes.suite.now) (S.registered self.now.nodes.suite.now) V.is_closeable) (S.action_gives self.now.nodes.suite.now) S.Action.close_gives) }
     {
         let run = |_index: usize, item: Item, lanes: &mut [Lane<
             V,

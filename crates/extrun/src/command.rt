@@ -48,28 +48,40 @@ pub(crate) fn request_of<R: Env + AllocGlobal + Print + Eprint>(rt: &R) -> Reque
 
 /// The same, with want of memory as an error.
 fn parsed<R: Env + AllocGlobal + Print + Eprint>(rt: &R) -> Result<Request, AllocError> {
-    let alloc = rt.alloc();
     let words = match std::env::args(rt) {
         Ok(words) => words,
         Err(fault) if fault.kind() == io::ErrorKind::OutOfMemory => return Err(AllocError),
         Err(_) => return Ok(no_text(rt)),
     };
-    let words: Vec<String> = words.collect(alloc)?;
-    match program(alloc)?.try_get_matches_from(words.as_slice()) {
-        Ok(matches) => match matches.subcommand() {
-            Some(("id", id)) => {
-                let text = id.get_str("TEXT").unwrap_or("");
-                Ok(Request::Id(String::from_str(alloc, text)?))
-            }
-            Some(("check", check)) => Ok(plan_request(Task::Check, check)),
-            Some((_, run)) => Ok(plan_request(run_of(run), run)),
-            None => Ok(Request::Plan {
-                task: run_on(LANES, false, false),
-                explain: false,
-            }),
-        },
+    let words: Vec<String> = words.collect(rt.alloc())?;
+    request_in(rt, words.as_slice())
+}
+
+/// What these words ask for, of which the first is the program's own name.
+fn request_in<R: AllocGlobal + Print + Eprint>(
+    rt: &R,
+    words: &[String],
+) -> Result<Request, AllocError> {
+    match program(rt.alloc())?.try_get_matches_from(words) {
+        Ok(matches) => asked_for(rt.alloc(), &matches),
         Err(fault) if fault.kind() == ErrorKind::OutOfMemory => Err(AllocError),
         Err(fault) => Ok(refused(rt, &fault)),
+    }
+}
+
+/// What the words that clap took ask for.
+fn asked_for(alloc: Global, matches: &ArgMatches<'_>) -> Result<Request, AllocError> {
+    match matches.subcommand() {
+        Some(("id", id)) => {
+            let text = id.get_str("TEXT").unwrap_or("");
+            Ok(Request::Id(String::from_str(alloc, text)?))
+        }
+        Some(("check", check)) => Ok(plan_request(Task::Check, check)),
+        Some((_, run)) => Ok(plan_request(run_of(run), run)),
+        None => Ok(Request::Plan {
+            task: run_on(LANES, false, false),
+            explain: false,
+        }),
     }
 }
 
@@ -117,38 +129,64 @@ fn refused<R: Print + Eprint>(rt: &R, fault: &Error) -> Request {
 
 /// The program's command line: `run` may be left out.
 fn program<'a>(alloc: Global) -> Result<Command<'a>, AllocError> {
-    let text = Arg::new(alloc, "TEXT")
-        .help("The id, such as '[engine:x]/[class:A]'")
-        .required(true)
-        .action(ArgAction::Set);
-    let id = Command::new(alloc, "id")
-        .about("Prints the segments of a unique id, decoded, and the id written again")
-        .arg(text)?;
-    let check = Command::new(alloc, "check")
-        .about(
-            "Reads a plan from standard input and says how many nodes, tests and keys it has, without running it",
-        )
-        .arg(explain_flag(alloc))?;
-    Command::new(alloc, "extrun")
+    let program = Command::new(alloc, "extrun")
         .about(
             "Runs plans of contexts, keys and test steps over the extension store; without a command it does `run`",
         )
-        .after_help(AFTER_HELP)
-        .subcommand(run_command(alloc)?)?
-        .subcommand(check)?
-        .subcommand(id)
+        .after_help(AFTER_HELP);
+    let program = with_command(program, run_command(alloc))?;
+    let program = with_command(program, check_command(alloc))?;
+    with_command(program, id_command(alloc))
+}
+
+/// The program with a command more.
+fn with_command<'a>(
+    program: Command<'a>,
+    command: Result<Command<'a>, AllocError>,
+) -> Result<Command<'a>, AllocError> {
+    program.subcommand(command?)
 }
 
 /// The command `run`.
 fn run_command<'a>(alloc: Global) -> Result<Command<'a>, AllocError> {
-    let lanes = Arg::new(alloc, "lanes")
+    Command::new(alloc, "run")
+        .about("Reads a plan from standard input, runs it and prints its report")
+        .arg(lanes_option(alloc))?
+        .arg(store_option(alloc))?
+        .arg(progress_flag(alloc))?
+        .arg(explain_flag(alloc))
+}
+
+/// The command `check`.
+fn check_command<'a>(alloc: Global) -> Result<Command<'a>, AllocError> {
+    Command::new(alloc, "check")
+        .about(
+            "Reads a plan from standard input and says how many nodes, tests and keys it has, without running it",
+        )
+        .arg(explain_flag(alloc))
+}
+
+/// The command `id`.
+fn id_command<'a>(alloc: Global) -> Result<Command<'a>, AllocError> {
+    Command::new(alloc, "id")
+        .about("Prints the segments of a unique id, decoded, and the id written again")
+        .arg(id_text(alloc))
+}
+
+/// The option `--lanes`.
+fn lanes_option<'a>(alloc: Global) -> Arg<'a> {
+    Arg::new(alloc, "lanes")
         .long("lanes")
         .value_name("N")
         .help("How many lanes run the plan, 1 to 16, each at most by one thread")
         .action(ArgAction::Set)
         .value_parser(value_parser!(u8).range(1..17))
-        .default_value("4");
-    let store = Arg::new(alloc, "store")
+        .default_value("4")
+}
+
+/// The option `--store`.
+fn store_option<'a>(alloc: Global) -> Arg<'a> {
+    Arg::new(alloc, "store")
         .long("store")
         .value_name("STORE")
         .help(
@@ -156,17 +194,15 @@ fn run_command<'a>(alloc: Global) -> Result<Command<'a>, AllocError> {
         )
         .action(ArgAction::Set)
         .value_parser(["plain", "cells"].as_slice())
-        .default_value("cells");
-    let progress = Arg::new(alloc, "progress")
+        .default_value("cells")
+}
+
+/// The flag `--progress`.
+fn progress_flag<'a>(alloc: Global) -> Arg<'a> {
+    Arg::new(alloc, "progress")
         .long("progress")
         .help("Says on standard error how many nodes have ended, at most once a second")
-        .action(ArgAction::SetTrue);
-    Command::new(alloc, "run")
-        .about("Reads a plan from standard input, runs it and prints its report")
-        .arg(lanes)?
-        .arg(store)?
-        .arg(progress)?
-        .arg(explain_flag(alloc))
+        .action(ArgAction::SetTrue)
 }
 
 /// The flag `--explain`.
@@ -175,4 +211,12 @@ fn explain_flag<'a>(alloc: Global) -> Arg<'a> {
         .long("explain")
         .help("Says in a second line on standard error what is meant, where the plan is refused")
         .action(ArgAction::SetTrue)
+}
+
+/// The text of the command `id`.
+fn id_text<'a>(alloc: Global) -> Arg<'a> {
+    Arg::new(alloc, "TEXT")
+        .help("The id, such as '[engine:x]/[class:A]'")
+        .required(true)
+        .action(ArgAction::Set)
 }

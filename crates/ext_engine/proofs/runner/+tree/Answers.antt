@@ -26,45 +26,49 @@ TreeRunner::run_beside-run_children-requires-clause-accepts g t c κs inside fro
     let st = c.args.self.now.nodes.store.now in let lk = c.args.self.now.nodes.locks.now in
     let Y : Lanes g.row.V.Denot → Lanes g.row.V.Denot → Type 0 = λ a b. IsUsable st lk b in
     let whole : Lanes g.row.V.Denot = record { first = c.args.lanes.now; second = c.args.lock_lanes.now } in
-    let here : IsUsable st lk s = turn-keeps _ (IsUsable st lk) (λ j a o b k r. calls-from _ _ Y r.calls (search rules)) done _ s (usable_part st lk whole from size c.requires.lanes some_here room) run in
+    let here : IsUsable st lk s = turn-keeps _ (IsUsable st lk) (λ j a o b k r. calls-from _ _ Y r.calls (search rules)) done _ s (usable_part st lk whole from size c.requires.ready.2 some_here room) run in
     let shown : IsUsable st lk (record { first = first.now; second = second.now }) = usable-shown st lk s first.now second.now e f here in
     let below : IsNode st c.args.depth item = at_item (λ i. IsNode st c.args.depth i) c.args.items.items job item c.requires.items at in
+    let fit = c.requires.ready.0 in let suite_fits = c.requires.ready.1 in
     search rules
 
-pub TreeRunner::run_beside-returns-in-Ok-clause-lanes : goal.TreeRunner::run_beside-returns-in-Ok-clause-lanes
-TreeRunner::run_beside-returns-in-Ok-clause-lanes g t c =
-    let st = c.args.self.now.nodes.store.now in let lk = c.args.self.now.nodes.locks.now in
-    let l : length c.run_children.new.first ≡ length c.args.lanes.now = search rules in
-    let m : length c.run_children.new.second ≡ length c.args.lock_lanes.now = search rules in
-    let P : StoreLane g.row.V.Denot → Type 0 = IsLaneOf st.id in
-    let Q : Lane → Type 0 = IsIdle lk in
-    let Y : Lanes g.row.V.Denot → Lanes g.row.V.Denot → Type 0 = λ a b. IsUsable st lk b in
-    let whole : Lanes g.row.V.Denot = record { first = c.args.lanes.now; second = c.args.lock_lanes.now } in
-    let left : Lanes g.row.V.Denot = record { first = c.run_children.new.first; second = c.run_children.new.second } in
-    let K : Lanes g.row.V.Denot → Type 0 = λ s. All P s.first × All Q s.second in
-    usable-then st lk whole left c.requires.lanes l m
-    (run-keeps _ K (λ job u o v k r. (let after : IsUsable st lk v = calls-from _ _ Y r.calls (search rules) in (after.lanes, after.idle))) (meet_split P Q) (meet_join P Q) _ _ whole left c.in-Ok.outcomes.items (c.requires.lanes.lanes, c.requires.lanes.idle) c.in-Ok.ensures.run)
+pub TreeRunner::run_beside-returns-in-Ok : goal.TreeRunner::run_beside-returns-in-Ok
+TreeRunner::run_beside-returns-in-Ok g t c = record { left = (
+    (
+      let st = c.args.self.now.nodes.store.now in let lk = c.args.self.now.nodes.locks.now in
+      let l : length c.run_children.new.first ≡ length c.args.lanes.now = search rules in
+      let m : length c.run_children.new.second ≡ length c.args.lock_lanes.now = search rules in
+      let P : StoreLane g.row.V.Denot → Type 0 = IsLaneOf st.id in
+      let Q : Lane → Type 0 = IsIdle lk in
+      let Y : Lanes g.row.V.Denot → Lanes g.row.V.Denot → Type 0 = λ a b. IsUsable st lk b in
+      let whole : Lanes g.row.V.Denot = record { first = c.args.lanes.now; second = c.args.lock_lanes.now } in
+      let left : Lanes g.row.V.Denot = record { first = c.run_children.new.first; second = c.run_children.new.second } in
+      let K : Lanes g.row.V.Denot → Type 0 = λ s. All P s.first × All Q s.second in
+      usable-then st lk whole left c.requires.ready.2 l m
+      (run-keeps _ K (λ job u o v k r. (let after : IsUsable st lk v = calls-from _ _ Y r.calls (search rules) in (after.lanes, after.idle))) (meet_split P Q) (meet_join P Q) _ _ whole left c.in-Ok.outcomes.items (c.requires.ready.2.lanes, c.requires.ready.2.idle) c.in-Ok.ensures.run)
+    ),
+    (search rules),
+    (
+      let r = c.args.self.now.nodes in
+      let Tree : ℕ → Lanes g.row.V.Denot → List _ → Lanes g.row.V.Denot → Type 0 = TreeRun (setting_of r.store.now r.locks.now (g.S.Suite.nodes r.suite.now) (g.S.Callbacks.registered r.suite.now) g.V.StoreValue.is_closeable) (g.S.Suite.call_gives r.suite.now r.store.now) (g.S.Suite.action_gives r.suite.now) g.S.Action.CloseAction.close_gives c.args.depth in
+      run-weaker _ _ c.in-Ok.ensures.run (λ job u o v r.
+      let X : Lanes g.row.V.Denot → Lanes g.row.V.Denot → Type 0 = λ s z. IfOk o (λ w. Tree r.item.node s (map ran_view w.items) z) in
+      let call : X u v = calls-from _ _ X r.calls (search rules) in
+      let I : ℕ → Type 0 = λ n. IfOk o (λ w. Tree n u (map ran_view w.items) v) in
+      subst I (sym (node_at c.args.items.items job r.item r.item_is)) call)
+    ),
+    (
+      let r = c.args.self.now.nodes in
+      let P : Result (Vec RanNode Global) EngineFault → Type 0 = λ o. IfErr o (IsFault (setting_of r.store.now r.locks.now (g.S.Suite.nodes r.suite.now) (g.S.Callbacks.registered r.suite.now) g.V.StoreValue.is_closeable) (g.S.Suite.action_gives r.suite.now) g.S.Action.CloseAction.close_gives) in
+      outcomes-meet _ P _ _ _ _ c.in-Ok.outcomes.items (λ job u o v less r.
+      let X : Lanes g.row.V.Denot → Lanes g.row.V.Denot → Type 0 = λ s z. P o in
+      calls-from _ _ X r.calls (search rules)) c.in-Ok.ensures.run
+    ),
+    tt,
+  ) }
 
-pub TreeRunner::run_beside-returns-in-Ok-clause-run : goal.TreeRunner::run_beside-returns-in-Ok-clause-run
-TreeRunner::run_beside-returns-in-Ok-clause-run g t c =
-    let r = c.args.self.now.nodes in
-    let Tree : ℕ → Lanes g.row.V.Denot → List _ → Lanes g.row.V.Denot → Type 0 = TreeRun (setting_of r.store.now r.locks.now (g.S.Suite.nodes r.suite.now) (g.S.Callbacks.registered r.suite.now) g.V.StoreValue.is_closeable) (g.S.Suite.call_gives r.suite.now r.store.now) (g.S.Suite.action_gives r.suite.now) g.S.Action.CloseAction.close_gives c.args.depth in
-    run-weaker _ _ c.in-Ok.ensures.run (λ job u o v r.
-    let X : Lanes g.row.V.Denot → Lanes g.row.V.Denot → Type 0 = λ s z. IfOk o (λ w. Tree r.item.node s (map ran_view w.items) z) in
-    let call : X u v = calls-from _ _ X r.calls (search rules) in
-    let I : ℕ → Type 0 = λ n. IfOk o (λ w. Tree n u (map ran_view w.items) v) in
-    subst I (sym (node_at c.args.items.items job r.item r.item_is)) call)
-
-pub TreeRunner::run_beside-returns-in-Ok-clause-faults : goal.TreeRunner::run_beside-returns-in-Ok-clause-faults
-TreeRunner::run_beside-returns-in-Ok-clause-faults g t c =
-    let r = c.args.self.now.nodes in
-    let P : Result (Vec RanNode Global) EngineFault → Type 0 = λ o. IfErr o (IsFault (setting_of r.store.now r.locks.now (g.S.Suite.nodes r.suite.now) (g.S.Callbacks.registered r.suite.now) g.V.StoreValue.is_closeable) (g.S.Suite.action_gives r.suite.now) g.S.Action.CloseAction.close_gives) in
-    outcomes-meet _ P _ _ _ _ c.in-Ok.outcomes.items (λ job u o v less r.
-    let X : Lanes g.row.V.Denot → Lanes g.row.V.Denot → Type 0 = λ s z. P o in
-    calls-from _ _ X r.calls (search rules)) c.in-Ok.ensures.run
-
-pub TreeRunner::run_body-returns-clause-run : goal.TreeRunner::run_body-returns-clause-run
-TreeRunner::run_body-returns-clause-run g t c =
+pub TreeRunner::run_body-returns : goal.TreeRunner::run_body-returns
+TreeRunner::run_body-returns g t c =
     let r = c.args.self.now.nodes in
     let ts = setting_of r.store.now r.locks.now (g.S.Suite.nodes r.suite.now) (g.S.Callbacks.registered r.suite.now) g.V.StoreValue.is_closeable in
     let makes = g.S.Suite.call_gives r.suite.now r.store.now in
@@ -76,8 +80,8 @@ TreeRunner::run_body-returns-clause-run g t c =
     let body = body-of ts makes actions gives (TreeRun ts makes actions gives c.args.depth) c.args.node (map (λ i. i.node) c.args.beside.items) (map (λ i. i.node) c.args.in_turn.items)
     (record { first = c.args.lanes.now; second = c.args.lock_lanes.now }) (record { first = c.run_beside.new.lanes; second = c.run_beside.new.lock_lanes }) (record { first = c.run_in_turn.new.lanes; second = c.run_in_turn.new.lock_lanes })
     c.in_ok-outcomes.outcomes.items (map ran_view c.in_ok-others.others.items) (map ran_view c.append.new.self.items) (map ran_view c.in_ok-ran.ran.items) (length c.args.beside.items) size c.requires.concurrent c.requires.same_thread
-    c.in_ok-outcomes.ensures.run c.in_ok-ran.ensures.all.0 c.in_ok-ran.ensures.all.1 c.in_ok-others.ensures.run views in
-    record { made = λ _. body; skipped = λ bad. absurd (let e : c.args.go ≡ true = search rules in let f : true ≡ false = sym e ∙ bad in cc) }
+    c.in_ok-outcomes.ensures.left.2 c.in_ok-ran.ensures.all.0 c.in_ok-ran.ensures.all.1 c.in_ok-others.ensures.left.2 views in
+    record { left = (c.in_ok-others.ensures.left.0, c.in_ok-others.ensures.left.1 ∙ c.in_ok-outcomes.ensures.left.1, record { made = λ _. body; skipped = λ bad. absurd (let e : c.args.go ≡ true = search rules in let f : true ≡ false = sym e ∙ bad in cc) }, tt) }
 
 pub TreeRunner::run_in_turn-loop-item-init : goal.TreeRunner::run_in_turn-loop-item-init
 TreeRunner::run_in_turn-loop-item-init g t c =
@@ -86,7 +90,7 @@ TreeRunner::run_in_turn-loop-item-init g t c =
       can = tt;
       finite = tt;
       items = search rules;
-      lanes = c.requires.lanes;
+      lanes = c.requires.ready.2;
       count = refl;
       run = ran-none (TreeRun (setting_of r.store.now r.locks.now (g.S.Suite.nodes r.suite.now) (g.S.Callbacks.registered r.suite.now) g.V.StoreValue.is_closeable) (g.S.Suite.call_gives r.suite.now r.store.now) (g.S.Suite.action_gives r.suite.now) g.S.Action.CloseAction.close_gives c.args.depth) _ _ (ap (map ran_view) c.new-ran.ensures.items);
     }
@@ -101,14 +105,14 @@ TreeRunner::run_in_turn-loop-item-preserved g t c =
       can = tt;
       finite = tt;
       items = append_assoc c.loop-item.yielded (c.in-Some.item ∷ []) c.next.new.self.rest.items ∙ list;
-      lanes = c.in_ok-below.ensures.lanes;
-      count = c.in_ok-below.ensures.count ∙ I.count;
+      lanes = c.in_ok-below.ensures.left.0;
+      count = c.in_ok-below.ensures.left.1 ∙ I.count;
       run = ran-push (TreeRun (setting_of r.store.now r.locks.now (g.S.Suite.nodes r.suite.now) (g.S.Callbacks.registered r.suite.now) g.V.StoreValue.is_closeable) (g.S.Suite.call_gives r.suite.now r.store.now) (g.S.Suite.action_gives r.suite.now) g.S.Action.CloseAction.close_gives c.args.depth) c.loop-item.yielded c.in-Some.item (record { first = c.args.lanes.now; second = c.args.lock_lanes.now }) (record { first = c.loop-item.lanes; second = c.loop-item.lock_lanes }) (record { first = c.run_node.new.lanes; second = c.run_node.new.lock_lanes })
-          (map ran_view c.loop-item.ran.items) (map ran_view c.in_ok-below.below.items) (map ran_view c.append.new.self.items) I.run c.in_ok-below.ensures.run (ap (map ran_view) is ∙ map-append ran_view c.loop-item.ran.items c.in_ok-below.below.items);
+          (map ran_view c.loop-item.ran.items) (map ran_view c.in_ok-below.below.items) (map ran_view c.append.new.self.items) I.run c.in_ok-below.ensures.left.2 (ap (map ran_view) is ∙ map-append ran_view c.loop-item.ran.items c.in_ok-below.below.items);
     }
 
-pub TreeRunner::run_node-returns-then-is_test-clause-run : goal.TreeRunner::run_node-returns-then-is_test-clause-run
-TreeRunner::run_node-returns-then-is_test-clause-run g t c =
+pub TreeRunner::run_node-returns-then-is_test : goal.TreeRunner::run_node-returns-then-is_test
+TreeRunner::run_node-returns-then-is_test g t c =
     let r = c.args.self.now.nodes in
     let ts = setting_of r.store.now r.locks.now (g.S.Suite.nodes r.suite.now) (g.S.Callbacks.registered r.suite.now) g.V.StoreValue.is_closeable in
     let makes = g.S.Suite.call_gives r.suite.now r.store.now in
@@ -119,10 +123,10 @@ TreeRunner::run_node-returns-then-is_test-clause-run g t c =
     let deep : 1 ≤ c.args.depth = (let e = ap (λ ids. length (id_at ids c.args.item.node)) c.tree.ensures in omega (arith, c.requires.item.depth_is, c.path-path.ensures.depth, c.path-path.ensures.few, e)) in
     let Node : Vec RanNode Global → Type 0 = λ v. (path : List ℕ) × IsPathOf r.store.now.tree c.args.item.node path × TestRun ts makes actions gives c.args.item.node path s (map ran_view v.items) z in
     let Below : Vec RanNode Global → Type 0 = λ v. TreeRun ts makes actions gives c.args.depth c.args.item.node s (map ran_view v.items) z in
-    IfOk-weaker c.run_test.result Node Below (λ v run. tree-of-test ts makes actions gives c.args.depth c.args.item.node s (map ran_view v.items) z deep (search rules) run) c.run_test.ensures.run
+    record { left = (c.run_test.ensures.lanes, c.run_test.ensures.count, IfOk-weaker c.run_test.result Node Below (λ v run. tree-of-test ts makes actions gives c.args.depth c.args.item.node s (map ran_view v.items) z deep (search rules) run) c.run_test.ensures.run, c.run_test.ensures.fault) }
 
-pub TreeRunner::run_node-returns-else-is_test-clause-run : goal.TreeRunner::run_node-returns-else-is_test-clause-run
-TreeRunner::run_node-returns-else-is_test-clause-run g t c =
+pub TreeRunner::run_node-returns-else-is_test : goal.TreeRunner::run_node-returns-else-is_test
+TreeRunner::run_node-returns-else-is_test g t c =
     let r = c.args.self.now.nodes in
     let ts = setting_of r.store.now r.locks.now (g.S.Suite.nodes r.suite.now) (g.S.Callbacks.registered r.suite.now) g.V.StoreValue.is_closeable in
     let makes = g.S.Suite.call_gives r.suite.now r.store.now in
@@ -133,10 +137,10 @@ TreeRunner::run_node-returns-else-is_test-clause-run g t c =
     let deep : 1 ≤ c.args.depth = (let e = ap (λ ids. length (id_at ids c.args.item.node)) c.tree.ensures in omega (arith, c.requires.item.depth_is, c.path-path.ensures.depth, c.path-path.ensures.few, e)) in
     let Node : Vec RanNode Global → Type 0 = λ v. (path : List ℕ) × IsPathOf r.store.now.tree c.args.item.node path × ContainerRun ts makes actions gives (TreeRun ts makes actions gives (c.args.depth - 1)) c.args.item.node path s (map ran_view v.items) z in
     let Below : Vec RanNode Global → Type 0 = λ v. TreeRun ts makes actions gives c.args.depth c.args.item.node s (map ran_view v.items) z in
-    IfOk-weaker c.run_container.result Node Below (λ v run. tree-of-container ts makes actions gives c.args.depth c.args.item.node s (map ran_view v.items) z deep (search rules) run) c.run_container.ensures.run
+    record { left = (c.run_container.ensures.left.0, c.run_container.ensures.left.1, IfOk-weaker c.run_container.result Node Below (λ v run. tree-of-container ts makes actions gives c.args.depth c.args.item.node s (map ran_view v.items) z deep (search rules) run) c.run_container.ensures.left.2, c.run_container.ensures.left.3) }
 
-pub TreeRunner::run_container-returns-in_ok-append-in-Ok-clause-run : goal.TreeRunner::run_container-returns-in_ok-append-in-Ok-clause-run
-TreeRunner::run_container-returns-in_ok-append-in-Ok-clause-run g t c =
+pub TreeRunner::run_container-returns-in_ok-append-in-Ok : goal.TreeRunner::run_container-returns-in_ok-append-in-Ok
+TreeRunner::run_container-returns-in_ok-append-in-Ok g t c =
     let r = c.args.self.now.nodes in
     let st = r.store.now in
     let registered = g.S.Callbacks.registered r.suite.now in
@@ -156,22 +160,25 @@ TreeRunner::run_container-returns-in_ok-append-in-Ok-clause-run g t c =
     let opened = slice_set c.args.lanes.now 0 c.call_befores-tally.new.lane in
     let called = slice_set c.run_body.new.lanes 0 c.call_afters.new.lane in
     let body : Lanes g.row.V.Denot = record { first = c.run_body.new.lanes; second = c.run_body.new.lock_lanes } in
-    let below = map ran_view c.in_ok-below.below.items in (
-      path,
+    let below = map ran_view c.in_ok-below.below.items in record { left = (
+      (search rules),
+      (search rules),
+     (path,
       calls.1,
       record {
         befores = b.0;
         opened = opened;
-        befores_made = befores-on makes c.args.lanes.now _ _ (befores_of registered false node path) b.0 bs c.requires.lanes.some b.1;
+        befores_made = befores-on makes c.args.lanes.now _ _ (befores_of registered false node path) b.0 bs c.requires.ready.2.some b.1;
         body = body;
         below = below;
-        body_made = subst (λ go. BodyMade ts gives actions closing (TreeRun ts gives actions closing (c.args.depth - 1)) go node (record { first = opened; second = c.args.lock_lanes.now }) below body) (c.is_successful-went_on.ensures b.0 b.2) c.in_ok-below.ensures.run;
+        body_made = subst (λ go. BodyMade ts gives actions closing (TreeRun ts gives actions closing (c.args.depth - 1)) go node (record { first = opened; second = c.args.lock_lanes.now }) below body) (c.is_successful-went_on.ensures b.0 b.2) c.in_ok-below.ensures.left.2;
         afters = a.0;
         called = called;
-        afters_made = afters-on makes c.run_body.new.lanes _ _ (afters_of registered false node path) a.0 as_ c.in_ok-below.ensures.lanes.some a.1;
+        afters_made = afters-on makes c.run_body.new.lanes _ _ (afters_of registered false node path) a.0 as_ c.in_ok-below.ensures.left.0.some a.1;
         faults = closed.0;
         closes = closed.1;
         no_locks = refl;
         ran_are = ran-first (record { result = c.result.result; went_on = c.is_successful-went_on.result }) _ _ c.append.new.self.items c.in_ok-below.below.items (search rules) (c.result.ensures (b.0 ++ a.0) closed.0 a.2 closed.2) (c.is_successful-went_on.ensures b.0 b.2);
-      },
-    )
+      }),
+      tt,
+    ) }

@@ -17,7 +17,7 @@ place-requires g c =
     let ts = setting_of st c.args.locks.now su (g.S.Callbacks.registered c.args.suite.now) g.V.StoreValue.is_closeable in
     let nodes = length st.tree in
     let tree = subst (λ t. IsTree t) c.tree.ensures c.len.ensures.tree in
-    let grow = grown ts (g.S.Suite.call_gives c.args.suite.now st) (g.S.Suite.action_gives c.args.suite.now) g.S.Action.CloseAction.close_gives tree c.requires.fit 16 0 _ (map ran_view c.in_ok-ran.ran.items) _ c.in_ok-ran.ensures.run in
+    let grow = grown ts (g.S.Suite.call_gives c.args.suite.now st) (g.S.Suite.action_gives c.args.suite.now) g.S.Action.CloseAction.close_gives tree c.requires.fit 16 0 _ (map ran_view c.in_ok-ran.ran.items) _ c.in_ok-ran.ensures.left.2 in
     let count : c.len.result ≡ nodes = search rules in
     let places : vec_len c.in_ok-results.results ≡ nodes = (let e = skipped-count su c.in_ok-results.results.items c.len.result c.in_ok-results.ensures in let f = c.in_ok-results.results.ok.0 in omega (arith, e, f, count)) in
     ran-placed c.in_ok-ran.ran.items nodes (vec_len c.in_ok-results.results) places (ran_within st.tree su tree 16 (map ran_view c.in_ok-ran.ran.items) grow)
