@@ -11,6 +11,7 @@ mod keys;
 mod outcome;
 mod places;
 mod plain;
+mod runs;
 mod stores;
 mod words;
 
@@ -48,7 +49,9 @@ fn outcome_after<R: Threads + Wait + Sync>(
         return Outcome::Early;
     }
     match outcome_of(rt, alloc, case) {
-        Outcome::NoMemory => outcome_of(rt, alloc, case).again(),
+        first @ (Outcome::NoMemory | Outcome::NoMemoryTold) => outcome_of(rt, alloc, case).after(
+            first,
+        ),
         outcome => outcome,
     }
 }
@@ -72,5 +75,6 @@ fn outcome_of<R: Threads + Wait + Sync>(rt: &R, alloc: Global, case: Case) -> Ou
         Case::Places => places::places(alloc),
         Case::Crew => crew::runs_jobs(rt, alloc),
         Case::Store => stores::keeps_and_computes(alloc),
+        Case::Run => runs::runs(rt, alloc),
     }
 }

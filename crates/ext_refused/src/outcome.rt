@@ -7,6 +7,8 @@ pub(crate) enum Outcome {
     Whole,
     /// One was answered with want of memory, and then all was as it has to be.
     NoMemory,
+    /// A report was written that says so of a step.
+    NoMemoryTold,
     /// An allocation was refused before the case began.
     Early,
     /// An answer is wrong, or what has to hold after a refused call does not.
@@ -23,14 +25,19 @@ impl Outcome {
         }
     }
 
-    /// The outcome of calls of which one was answered with want of memory, where this is what became of them once they were made
-    /// again: since one allocation alone is refused, they find memory then.
-    pub(crate) fn again(self) -> Outcome {
+    /// The first outcome of calls of which one was answered with want of memory, where this is what became of them once they were
+    /// made again: since one allocation alone is refused, they find memory then.
+    pub(crate) fn after(self, first: Outcome) -> Outcome {
         match self {
-            Outcome::Whole => Outcome::NoMemory,
+            Outcome::Whole => first,
             Outcome::Wrong(wrong) => Outcome::Wrong(wrong),
             _ => Outcome::Wrong("a call wants memory though none is refused"),
         }
+    }
+
+    /// The same of calls that were first answered with want of memory alone.
+    pub(crate) fn again(self) -> Outcome {
+        self.after(Outcome::NoMemory)
     }
 
     /// The outcome of both: what is wrong comes first, and then want of memory.
@@ -46,6 +53,7 @@ impl Outcome {
         match self {
             Outcome::Whole => ("ok", 0),
             Outcome::NoMemory => ("no memory", 0),
+            Outcome::NoMemoryTold => ("no memory in its report", 0),
             Outcome::Early => ("no memory before the case", 3),
             Outcome::Wrong(wrong) => (wrong, 1),
         }

@@ -1,4 +1,5 @@
-//! Tests that cross crates: runs from the bytes of a plan to those of its report, hostile devices, the calls of a node, and the listener.
+//! Tests that cross crates: runs from the bytes of a plan to those of its report, hostile devices, the calls of a node,
+//! the suite of a plan with its calls and closes, and the listener.
 #![tactic(auto)]
 
 #[cfg(test)]
@@ -15,3 +16,5 @@ mod locks;
 mod reading;
 #[cfg(test)]
 mod rows;
+#[cfg(test)]
+mod suites;

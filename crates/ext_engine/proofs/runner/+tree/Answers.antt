@@ -33,39 +33,41 @@ TreeRunner::run_beside-run_children-requires-clause-accepts g t c κs inside fro
     search rules
 
 pub TreeRunner::run_beside-returns-in-Ok : goal.TreeRunner::run_beside-returns-in-Ok
-TreeRunner::run_beside-returns-in-Ok g t c = record { left = (
+TreeRunner::run_beside-returns-in-Ok g t c = record {
+  left = (
     (
-      let st = c.args.self.now.nodes.store.now in let lk = c.args.self.now.nodes.locks.now in
-      let l : length c.run_children.new.first ≡ length c.args.lanes.now = search rules in
-      let m : length c.run_children.new.second ≡ length c.args.lock_lanes.now = search rules in
-      let P : StoreLane g.row.V.Denot → Type 0 = IsLaneOf st.id in
-      let Q : Lane → Type 0 = IsIdle lk in
-      let Y : Lanes g.row.V.Denot → Lanes g.row.V.Denot → Type 0 = λ a b. IsUsable st lk b in
-      let whole : Lanes g.row.V.Denot = record { first = c.args.lanes.now; second = c.args.lock_lanes.now } in
-      let left : Lanes g.row.V.Denot = record { first = c.run_children.new.first; second = c.run_children.new.second } in
-      let K : Lanes g.row.V.Denot → Type 0 = λ s. All P s.first × All Q s.second in
-      usable-then st lk whole left c.requires.ready.2 l m
-      (run-keeps _ K (λ job u o v k r. (let after : IsUsable st lk v = calls-from _ _ Y r.calls (search rules) in (after.lanes, after.idle))) (meet_split P Q) (meet_join P Q) _ _ whole left c.in-Ok.outcomes.items (c.requires.ready.2.lanes, c.requires.ready.2.idle) c.in-Ok.ensures.run)
-    ),
+        let st = c.args.self.now.nodes.store.now in let lk = c.args.self.now.nodes.locks.now in
+        let l : length c.run_children.new.first ≡ length c.args.lanes.now = search rules in
+        let m : length c.run_children.new.second ≡ length c.args.lock_lanes.now = search rules in
+        let P : StoreLane g.row.V.Denot → Type 0 = IsLaneOf st.id in
+        let Q : Lane → Type 0 = IsIdle lk in
+        let Y : Lanes g.row.V.Denot → Lanes g.row.V.Denot → Type 0 = λ a b. IsUsable st lk b in
+        let whole : Lanes g.row.V.Denot = record { first = c.args.lanes.now; second = c.args.lock_lanes.now } in
+        let left : Lanes g.row.V.Denot = record { first = c.run_children.new.first; second = c.run_children.new.second } in
+        let K : Lanes g.row.V.Denot → Type 0 = λ s. All P s.first × All Q s.second in
+        usable-then st lk whole left c.requires.ready.2 l m
+        (run-keeps _ K (λ job u o v k r. (let after : IsUsable st lk v = calls-from _ _ Y r.calls (search rules) in (after.lanes, after.idle))) (meet_split P Q) (meet_join P Q) _ _ whole left c.in-Ok.outcomes.items (c.requires.ready.2.lanes, c.requires.ready.2.idle) c.in-Ok.ensures.run)
+        ),
     (search rules),
     (
-      let r = c.args.self.now.nodes in
-      let Tree : ℕ → Lanes g.row.V.Denot → List _ → Lanes g.row.V.Denot → Type 0 = TreeRun (setting_of r.store.now r.locks.now (g.S.Suite.nodes r.suite.now) (g.S.Callbacks.registered r.suite.now) g.V.StoreValue.is_closeable) (g.S.Suite.call_gives r.suite.now r.store.now) (g.S.Suite.action_gives r.suite.now) g.S.Action.CloseAction.close_gives c.args.depth in
-      run-weaker _ _ c.in-Ok.ensures.run (λ job u o v r.
-      let X : Lanes g.row.V.Denot → Lanes g.row.V.Denot → Type 0 = λ s z. IfOk o (λ w. Tree r.item.node s (map ran_view w.items) z) in
-      let call : X u v = calls-from _ _ X r.calls (search rules) in
-      let I : ℕ → Type 0 = λ n. IfOk o (λ w. Tree n u (map ran_view w.items) v) in
-      subst I (sym (node_at c.args.items.items job r.item r.item_is)) call)
-    ),
+        let r = c.args.self.now.nodes in
+        let Tree : ℕ → Lanes g.row.V.Denot → List _ → Lanes g.row.V.Denot → Type 0 = TreeRun (setting_of r.store.now r.locks.now (g.S.Suite.nodes r.suite.now) (g.S.Callbacks.registered r.suite.now) g.V.StoreValue.is_closeable) (g.S.Suite.call_gives r.suite.now r.store.now) (g.S.Suite.action_gives r.suite.now) g.S.Action.CloseAction.close_gives c.args.depth in
+        run-weaker _ _ c.in-Ok.ensures.run (λ job u o v r.
+        let X : Lanes g.row.V.Denot → Lanes g.row.V.Denot → Type 0 = λ s z. IfOk o (λ w. Tree r.item.node s (map ran_view w.items) z) in
+        let call : X u v = calls-from _ _ X r.calls (search rules) in
+        let I : ℕ → Type 0 = λ n. IfOk o (λ w. Tree n u (map ran_view w.items) v) in
+        subst I (sym (node_at c.args.items.items job r.item r.item_is)) call)
+        ),
     (
-      let r = c.args.self.now.nodes in
-      let P : Result (Vec RanNode Global) EngineFault → Type 0 = λ o. IfErr o (IsFault (setting_of r.store.now r.locks.now (g.S.Suite.nodes r.suite.now) (g.S.Callbacks.registered r.suite.now) g.V.StoreValue.is_closeable) (g.S.Suite.action_gives r.suite.now) g.S.Action.CloseAction.close_gives) in
-      outcomes-meet _ P _ _ _ _ c.in-Ok.outcomes.items (λ job u o v less r.
-      let X : Lanes g.row.V.Denot → Lanes g.row.V.Denot → Type 0 = λ s z. P o in
-      calls-from _ _ X r.calls (search rules)) c.in-Ok.ensures.run
-    ),
+        let r = c.args.self.now.nodes in
+        let P : Result (Vec RanNode Global) EngineFault → Type 0 = λ o. IfErr o (IsFault (setting_of r.store.now r.locks.now (g.S.Suite.nodes r.suite.now) (g.S.Callbacks.registered r.suite.now) g.V.StoreValue.is_closeable) (g.S.Suite.action_gives r.suite.now) g.S.Action.CloseAction.close_gives) in
+        outcomes-meet _ P _ _ _ _ c.in-Ok.outcomes.items (λ job u o v less r.
+        let X : Lanes g.row.V.Denot → Lanes g.row.V.Denot → Type 0 = λ s z. P o in
+        calls-from _ _ X r.calls (search rules)) c.in-Ok.ensures.run
+        ),
     tt,
-  ) }
+  );
+}
 
 pub TreeRunner::run_body-returns : goal.TreeRunner::run_body-returns
 TreeRunner::run_body-returns g t c =
@@ -160,25 +162,29 @@ TreeRunner::run_container-returns-in_ok-append-in-Ok g t c =
     let opened = slice_set c.args.lanes.now 0 c.call_befores-tally.new.lane in
     let called = slice_set c.run_body.new.lanes 0 c.call_afters.new.lane in
     let body : Lanes g.row.V.Denot = record { first = c.run_body.new.lanes; second = c.run_body.new.lock_lanes } in
-    let below = map ran_view c.in_ok-below.below.items in record { left = (
-      (search rules),
-      (search rules),
-     (path,
-      calls.1,
-      record {
-        befores = b.0;
-        opened = opened;
-        befores_made = befores-on makes c.args.lanes.now _ _ (befores_of registered false node path) b.0 bs c.requires.ready.2.some b.1;
-        body = body;
-        below = below;
-        body_made = subst (λ go. BodyMade ts gives actions closing (TreeRun ts gives actions closing (c.args.depth - 1)) go node (record { first = opened; second = c.args.lock_lanes.now }) below body) (c.is_successful-went_on.ensures b.0 b.2) c.in_ok-below.ensures.left.2;
-        afters = a.0;
-        called = called;
-        afters_made = afters-on makes c.run_body.new.lanes _ _ (afters_of registered false node path) a.0 as_ c.in_ok-below.ensures.left.0.some a.1;
-        faults = closed.0;
-        closes = closed.1;
-        no_locks = refl;
-        ran_are = ran-first (record { result = c.result.result; went_on = c.is_successful-went_on.result }) _ _ c.append.new.self.items c.in_ok-below.below.items (search rules) (c.result.ensures (b.0 ++ a.0) closed.0 a.2 closed.2) (c.is_successful-went_on.ensures b.0 b.2);
-      }),
-      tt,
-    ) }
+    let below = map ran_view c.in_ok-below.below.items in record {
+      left = (
+        (search rules),
+        (search rules),
+        (
+          path,
+          calls.1,
+          record {
+            befores = b.0;
+            opened = opened;
+            befores_made = befores-on makes c.args.lanes.now _ _ (befores_of registered false node path) b.0 bs c.requires.ready.2.some b.1;
+            body = body;
+            below = below;
+            body_made = subst (λ go. BodyMade ts gives actions closing (TreeRun ts gives actions closing (c.args.depth - 1)) go node (record { first = opened; second = c.args.lock_lanes.now }) below body) (c.is_successful-went_on.ensures b.0 b.2) c.in_ok-below.ensures.left.2;
+            afters = a.0;
+            called = called;
+            afters_made = afters-on makes c.run_body.new.lanes _ _ (afters_of registered false node path) a.0 as_ c.in_ok-below.ensures.left.0.some a.1;
+            faults = closed.0;
+            closes = closed.1;
+            no_locks = refl;
+            ran_are = ran-first (record { result = c.result.result; went_on = c.is_successful-went_on.result }) _ _ c.append.new.self.items c.in_ok-below.below.items (search rules) (c.result.ensures (b.0 ++ a.0) closed.0 a.2 closed.2) (c.is_successful-went_on.ensures b.0 b.2);
+          },
+        ),
+        tt,
+      );
+    }
