@@ -3,7 +3,7 @@ use Rattle.ext_history.proofs.Composed.{same_number}
 use Rattle.ext_locks.specs.declared.event.LockMode.{LockMode}
 use Rattle.ext_locks.specs.Views.{LaneCalls}
 use Rattle.ext_locks.specs.Sets.{gives_of}
-use Rattle.ext_lock_rows.proofs.taking.take_and_give.Goals as goal
+use Rattle.ext_engine_rows.proofs.taking.take_and_give.Goals as goal
 
 pub returns-in-Ok-clause-held : goal.returns-in-Ok-clause-held
 returns-in-Ok-clause-held c =

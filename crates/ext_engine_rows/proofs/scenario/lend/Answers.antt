@@ -4,7 +4,7 @@ use Rattle.std.proofs.lemmas.List.Elements.{All-append, All-nil, All-cons}
 use Rattle.ext_locks.specs.Views.{Lane}
 use Rattle.ext_locks.specs.Sets.{HoldsNothing}
 use Rattle.ext_locks.specs.Opening.{fresh_lane, fresh_lanes}
-use Rattle.ext_lock_rows.proofs.scenario.lend.Goals as goal
+use Rattle.ext_engine_rows.proofs.scenario.lend.Goals as goal
 
 -- what holds of each lane that has seen nothing holds of all fresh lanes of the locks of a lane
 all_fresh : (P : Lane → Type 0) (of : Lane) (lanes : ℕ) → ((number : ℕ) → P (fresh_lane of.table lanes number)) → (n : ℕ) → All P (fresh_lanes of.table lanes n)

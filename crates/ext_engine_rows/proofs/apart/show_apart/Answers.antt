@@ -1,4 +1,4 @@
-use Rattle.ext_lock_rows.proofs.apart.show_apart.Goals as goal
+use Rattle.ext_engine_rows.proofs.apart.show_apart.Goals as goal
 
 pub returns-then-number-clause-one : goal.returns-then-number-clause-one
 returns-then-number-clause-one c = c.lock_laws.ensures.none c.args.one.now c.recall.ensures.legal

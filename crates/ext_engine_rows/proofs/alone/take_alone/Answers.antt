@@ -11,7 +11,7 @@ use Rattle.ext_locks.specs.History.{LockHistory, lane_of, IsLegal}
 use Rattle.ext_locks.specs.Views.{Lane}
 use Rattle.ext_locks.specs.Refusals.{IsRefused}
 use Rattle.ext_locks.specs.Laws.{BeginningsAreLegal, OnlyLanesHold}
-use Rattle.ext_lock_rows.proofs.alone.take_alone.Goals as goal
+use Rattle.ext_engine_rows.proofs.alone.take_alone.Goals as goal
 
 -- where there is one lane, no other makes an event
 quiet : (lanes lane : ℕ) (first more : LockHistory) → lanes ≡ 1 → lane < lanes → IsLegal lanes (first ++ more) → others lane_of lane more ≡ 0
