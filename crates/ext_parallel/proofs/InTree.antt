@@ -1,6 +1,6 @@
 -- Each result of a run is of a node of the plan.
 use Rattle.std.proofs.Common.{◌≡◌, ℕ, suc, zero, ◌+◌, ◌<◌, List, [], ◌∷◌, All, length, map, arith, subst, sym, ◌∙◌}
-use Rattle.std.specs.Prelude.{slice_set}
+use Rattle.std.specs.Prelude.{Result, Ok, Err, IfOk, IfErr, slice_set}
 use Rattle.std.specs.List.{range_with_len}
 use Rattle.std.proofs.lemmas.List.{length-map, length-set}
 use Rattle.std.proofs.lemmas.List.FromFn.{length-range_with_len}
@@ -34,3 +34,12 @@ results_within suite count ran results are =
     let long : length (all_skipped suite count) ≡ count = length-map nodes (λ node. skipped_result node (suite.is_test node)) ∙ length-range_with_len 0 count in
     let first : All (λ r. r.node < count) (all_skipped suite count) = All-map (λ r. r.node < count) (λ node. skipped_result node (suite.is_test node)) nodes (range_within 0 count count (omega arith)) in
     All-map-back (λ r. r.node < count) told results (subst (All (λ r. r.node < count)) (sym are) (placed_within count (all_skipped suite count) ran long first))
+
+-- a fact of what a result has, if it has it, from another
+pub if_ok : {T E : Type 0} {P Q : T → Type 0} (r : Result T E) → ((value : T) → P value → Q value) → IfOk r P → IfOk r Q
+if_ok (Ok value) more fact = more value fact
+if_ok (Err why) more fact = fact
+
+pub if_err : {T E : Type 0} {P Q : E → Type 0} (r : Result T E) → ((why : E) → P why → Q why) → IfErr r P → IfErr r Q
+if_err (Ok value) more fact = fact
+if_err (Err why) more fact = more why fact

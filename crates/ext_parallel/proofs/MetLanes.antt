@@ -1,5 +1,5 @@
 -- Lanes that met one after another.
-use Rattle.std.proofs.Common.{◌≡◌, List, [], ◌∷◌, length, arith, subst}
+use Rattle.std.proofs.Common.{◌≡◌, List, [], ◌∷◌, length, arith, subst, sym}
 use Rattle.std.specs.Prelude.{All, map}
 use Rattle.std.specs.List.{AllZip}
 use mathlib.Core.List.{IsPrefix}
@@ -86,3 +86,8 @@ module _ {V : Type 0} (store : StoreView) where
   met_mine [] (lane ∷ lanes) met = absurd met
   met_mine (lane ∷ lanes) [] met = absurd met
   met_mine (lane ∷ lanes) (later ∷ more) met = All-cons (IsLaneOf store.id) later more met.0.lane (met_mine lanes more met.1)
+
+-- where there are no lanes, none has done anything else
+pub none_met : {V : Type 0} (store : StoreView) (old new : List (StoreLane V)) → length old ≡ 0 → new ≡ old → AllZip (OnlyMeets store) old new
+none_met store [] new none is = subst (λ l. AllZip (OnlyMeets store) [] l) (sym is) tt
+none_met store (lane ∷ lanes) new none is = absurd (cc none)

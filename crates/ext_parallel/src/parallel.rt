@@ -85,13 +85,9 @@ fn results_of<R: Threads + Wait + Sync, L: RunListener + Sync>(
 {
     let (store, mut store_lanes, closers) = open_store(alloc, plan, lanes)?;
     let all_lanes = store_lanes.as_mut_slice();
-    match run_tree(
+    let ran = run_tree(
         rt, alloc, suite, &store, locks, all_lanes, lock_lanes, closers, &OpenGate,
-    ) {
-        Ok(results) => {
-            meet_all(&store, all_lanes);
-            Ok(results)
-        }
-        Err(fault) => Err(fault),
-    }
+    );
+    meet_all(&store, all_lanes);
+    ran
 }

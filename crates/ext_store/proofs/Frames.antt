@@ -86,6 +86,11 @@ pub frame_lane : {V : Type 0} (id : StoreId) (stored : List ℕ) (a b : StoreLan
 unfolding Frame
 frame_lane id stored a b frame = frame.lane
 
+-- and that it knows what it knew
+pub frame_known : {V : Type 0} (id : StoreId) (stored : List ℕ) (a b : StoreLane V) → Frame id stored a b → KeepsKnown a.known b.known
+unfolding Frame
+frame_known id stored a b frame = frame.known
+
 -- where only a number was stored that was not kept before, all that was kept still is
 pub frame_spares : {V : Type 0} (id : StoreId) (stored : ℕ) (a b : StoreLane V) → Frame id (stored ∷ []) a b → ((number : ℕ) → IsKeptBy a number → number ≢ stored) → Frame id [] a b
 unfolding Frame

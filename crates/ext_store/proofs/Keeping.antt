@@ -1,5 +1,5 @@
 -- What a call leaves of the numbers that a lane keeps, and what the drawing of a number says.
-use Rattle.std.proofs.Common.{◌≡◌, ◌≢◌, ℕ, ◌+◌, ◌≤◌, Bool, true, false, List, [], ◌∷◌, sym, refl, ap, ◌∙◌, subst, arith, nat_lt, Option, None, Some}
+use Rattle.std.proofs.Common.{◌≡◌, ◌≢◌, ℕ, ◌+◌, ◌≤◌, length, length-drop, Bool, true, false, List, [], ◌∷◌, sym, refl, ap, ◌∙◌, subst, arith, nat_lt, Option, None, Some}
 use Rattle.std.specs.Prelude.{Result, Ok, Err, All, IfErr, MatchResult, if◌then◌else◌}
 use Rattle.std.proofs.lemmas.List.Elements.{All-nil, All-cons}
 use Rattle.std.proofs.lemmas.Bool.Decides.{nat_tests}
@@ -24,15 +24,26 @@ use Rattle.ext_store.specs.Stores.{StoreView, StoreLane, IsKeptBy, StillKeeps, S
 use Rattle.ext_store.specs.Refusals.{keep_fault}
 use Rattle.ext_store.specs.Looking.{Looks}
 use Rattle.ext_store.proofs.Replies.{other_why}
-use Rattle.ext_store.specs.Calls.{HoldsAtPoint, reply_to, put_acts, remove_acts, KeepFails, Puts, Removes}
+use Rattle.ext_store.specs.Calls.{HoldsAtPoint, reply_to, steps_of, put_acts, remove_acts, KeepFails, Puts, Removes}
 
 -- where two are there, they are one
 pub one_number : (a b : ℕ) → (let x : Option ℕ = Some a in let y : Option ℕ = Some b in x ≡ y) → a ≡ b
 one_number a b e = cc e
 
+-- where none is there, there is no number
+pub no_number : (number : ℕ) → (let none : Option ℕ = None in none ≡ Some number) → ⊥
+no_number number e = absurd (cc e)
+
+pub is_number : (number : ℕ) → (let some : Option ℕ = Some number in some ≡ None) → ⊥
+is_number number e = absurd (cc e)
+
 -- under one number one key was declared
 pub one_key : (declared keys : List KeyValue) (number : ℕ) (a b : KeyValue) → declared ≡ keys → HasNumber declared a number → HasNumber keys b number → a ≡ b
 one_key declared keys number a b same first second = numbers_tell.one_key keys a b number (subst (λ l. HasNumber l a number) same first) second
+
+-- a value is known or none is
+pub not_both : {V : Type 0} (o : Option V) (v : V) → o ≡ Some v → o ≡ None → ⊥
+not_both o v some none = cc (some, none)
 
 -- the act stores another number, or none
 abbrev pub StoresNot : ℕ → Act ℕ → Type 0
@@ -70,9 +81,14 @@ module _ {V : Type 0} (limits : Limits) (before after : StoreLane V) where
   learnt_keeps drawn value calls learns free = (λ number kept.
       one_kept (Keep drawn ∷ []) number calls (All-cons (StoresNot number) (Keep drawn) [] (λ e. cc e) (All-nil (StoresNot number)))
       (learns.others number (λ same. not_both _ kept.value (ap (λ m. known_at before.known m) (sym same) ∙ kept.known) free)) kept)
-    where
-      not_both : (o : Option V) (v : V) → o ≡ Some v → o ≡ None → ⊥
-      not_both o v some none = cc (some, none)
+
+-- the steps of two calls, one after the other
+pub steps_add : (a b c : Lane) → steps_of a c ≤ steps_of a b + steps_of b c
+steps_add a b c = omega (arith, length-drop (length a.view.fronts) c.view.fronts, length-drop (length a.view.fronts) b.view.fronts, length-drop (length b.view.fronts) c.view.fronts)
+
+-- none where there was no call
+pub no_steps : (lane : Lane) (most : ℕ) → steps_of lane lane ≤ most
+no_steps lane most = omega (arith, length-drop (length lane.view.fronts) lane.view.fronts)
 
 -- ---- look-ups, puts and removes
 

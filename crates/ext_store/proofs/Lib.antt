@@ -3,12 +3,15 @@ pub mod LookUps
 pub mod Replies
 pub mod Keeping
 pub mod Fresh
+pub mod Opened
 pub mod Refused
 pub mod Frames
+pub mod Placing
 pub mod SealsKeep
 pub mod Standing
 pub mod Parts
 pub mod Missing
+pub mod Unused
 pub mod Filling
 pub mod Composing
 pub mod Waited

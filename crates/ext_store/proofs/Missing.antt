@@ -29,9 +29,9 @@ use Rattle.ext_store.specs.declared.computed.Unused.{Unused}
 use Rattle.ext_store.specs.declared.computed.Unused.TheVariants.{Found, Refused}
 use Rattle.ext_store.specs.Stores.{StoreView, cell_in}
 use Rattle.ext_store.specs.Refusals.{refusal_at}
-use Rattle.ext_store.specs.Looking.{IsTrail, LooksAt}
+use Rattle.ext_store.specs.Looking.{IsTrail, Looks, LooksAt}
 use Rattle.ext_store.specs.Computing.{LooksFirst, Claims, ClaimsAndLooks, Meets, IsRefused}
-use Rattle.ext_store.specs.Claiming.{Stands, ClaimsFrom, ClaimsMissing}
+use Rattle.ext_store.specs.Claiming.{Stands, ClaimsFrom, ClaimsMissing, unused_of}
 use Rattle.ext_store.proofs.Parts.{looks_second, happens_alone, first_stays, claims_stay, claims_first}
 use Rattle.ext_store.proofs.Standing.{Told, told}
 
@@ -66,6 +66,14 @@ trail_rest store context rest trail = let few = trail.few in record {
 }
 
 -- ---- one look-up
+
+-- what a look-up answers, as what it leaves to be computed
+pub stands_by : (store : StoreView) (path : List ℕ) (key : ℕ) (a b : Lane) (looked : Result Look Refusal) → Looks store path key a b looked → Stands store path key a b (unused_of looked)
+stands_by store path key a b (Ok look.Absent) l = l
+stands_by store path key a b (Ok (look.Found at number)) l = l
+stands_by store path key a b (Ok (look.Busy at)) l = l
+stands_by store path key a b (Ok (look.Closed at)) l = l
+stands_by store path key a b (Err why) l = subst (λ w. Stands store path key a b (Some (Refused w))) (sym l.0) l.1
 
 pub stands_calls : (store : StoreView) (path : List ℕ) (key : ℕ) (a b : Lane) (r : Option Unused) → Stands store path key a b r → Calls a.cells.limits a.view b.view []
 stands_calls store path key a b None s = s.calls

@@ -1,6 +1,6 @@
 -- What a lane does before a waiting form answers, and the answer, said of the whole call.
 use Rattle.std.proofs.Common.{◌≡◌, ◌≢◌, ℕ, zero, suc, ◌⊎◌, inl, inr, List, [], ◌∷◌, ◌++◌, sym, refl, ap, ◌∙◌, subst, append-nil}
-use Rattle.std.specs.Prelude.{Option, Some, Result, Err, All}
+use Rattle.std.specs.Prelude.{Option, Some, Result, Ok, Err, All}
 use Rattle.std.proofs.lemmas.List.Elements.{All-nil, All-append}
 use Rattle.ext_model.specs.declared.event.Act.{Act}
 use Rattle.ext_model.specs.declared.event.Act.TheVariants.{Keep, Put, Remove, Claim, Abandon}
@@ -28,10 +28,10 @@ use Rattle.ext_store.specs.declared.computed.Compute.{Compute}
 use Rattle.ext_store.specs.Stores.{StoreView, StoreLane, IsLaneOf, cell_in}
 use Rattle.ext_store.specs.Frames.{Frame}
 use Rattle.ext_store.specs.Calls.{Puts, Removes, with_kept, result_at, put_acts, remove_acts}
-use Rattle.ext_store.specs.Looking.{LooksAt}
+use Rattle.ext_store.specs.Looking.{Looks, LooksAt}
 use Rattle.ext_store.specs.Computing.{given_up_events, Meets, IsRefused, ComputesFrom}
 use Rattle.ext_store.specs.Claiming.{ClaimsFrom, ClaimsMissing}
-use Rattle.ext_store.specs.Waiting.{IsDecided, claims_given_up, ClaimsAfterWaits, ComputesAfterWaits}
+use Rattle.ext_store.specs.Waiting.{IsDecided, IsDecidedLook, busy_refused, claims_given_up, ClaimsAfterWaits, ComputesAfterWaits}
 use Rattle.ext_store.proofs.Filling.{StoresNone, none_stored, nor_this}
 use Rattle.ext_store.proofs.Composing.{claim_acts, storing_frame, for_path}
 
@@ -72,6 +72,15 @@ looks_later store path key a b c found waited x = elim waited [
         point = (x.point.0, later_point limits a.view b.view c.view [] x.point.0 o.1 two x.point.1, x.point.2);
       }
 ]
+
+-- a look-up that was answered, and that no factory decided
+pub decided_look : (store : StoreView) (path : List ℕ) (key : ℕ) (a b : Lane) (looked : Result Look Refusal) (found : Look) → (let r : Result Look Refusal = Ok found in r ≡ busy_refused looked) → Looks store path key a b looked
+    → LooksAt store path key a b found × IsDecidedLook found
+decided_look store path key a b (Ok look.Absent) found is l = let e : found ≡ look.Absent = cc is in subst (λ f. LooksAt store path key a b f × IsDecidedLook f) (sym e) (l, tt)
+decided_look store path key a b (Ok (look.Found at number)) found is l = let e : found ≡ look.Found at number = cc is in subst (λ f. LooksAt store path key a b f × IsDecidedLook f) (sym e) (l, tt)
+decided_look store path key a b (Ok (look.Closed at)) found is l = let e : found ≡ look.Closed at = cc is in subst (λ f. LooksAt store path key a b f × IsDecidedLook f) (sym e) (l, tt)
+decided_look store path key a b (Ok (look.Busy at)) found is l = absurd (cc is)
+decided_look store path key a b (Err why) found is l = absurd (cc is)
 
 -- a call whose result was answered after that, and is not that other lanes were in the way
 pub answers_later : {A : Type 0} (tries : ℕ) (contended : A) (a b c : Lane) (acts_of : A → List (Act ℕ)) (reply_of : CellsId → ℕ → History → A) (r : A) → Waited a b → r ≢ contended

@@ -2,11 +2,13 @@
 -- Own rule, below the public contracts.
 use Rattle.std.specs.Prelude.{ℕ, ◌≡◌, List, [], ◌∷◌, Option, None, Some, Result, Ok, Err}
 use Rattle.ext_model.specs.declared.event.Act.TheVariants.{Claim}
+use Rattle.ext_model.specs.declared.look.Look.{Look}
 use Rattle.ext_model.specs.declared.look.Look.TheVariants as look
 use Rattle.ext_model.specs.Views.{LaneView}
 use Rattle.ext_model.specs.Calls.{Calls, IsOvertaken, IsHeld}
 use Rattle.ext_tree.specs.Paths.{IsPathOf}
 use Rattle.ext_cells.specs.Lanes.{Lane}
+use Rattle.ext_store.specs.declared.fault.Refusal.{Refusal}
 use Rattle.ext_store.specs.declared.fault.Refusal.TheVariants.{Busy, Closed, Contended, UnknownKey, Exhausted}
 use Rattle.ext_store.specs.declared.computed.Unused.{Unused}
 use Rattle.ext_store.specs.declared.computed.Unused.TheVariants.{Found, Refused}
@@ -20,6 +22,14 @@ use Rattle.ext_store.specs.Computing.{ClaimsAndLooks, Meets, IsRefused}
 abbrev pub with_factory : {V F : Type 0} → F → Unused → Compute V F
 with_factory factory (Found at number) = compute.Found at number factory
 with_factory factory (Refused why) = compute.Refused why factory
+
+-- why no factory is called where a look-up answers this, if there is a reason
+abbrev pub unused_of : Result Look Refusal → Option Unused
+unused_of (Ok look.Absent) = None
+unused_of (Ok (look.Found at number)) = Some (Found at number)
+unused_of (Ok (look.Busy at)) = Some (Refused (Busy at))
+unused_of (Ok (look.Closed at)) = Some (Refused (Closed at))
+unused_of (Err why) = Some (Refused why)
 
 -- the look-up along the path, at a point of a call without events: nothing stands there, or this does, or other lanes were in the way
 abbrev pub Stands : StoreView → List ℕ → ℕ → Lane → Lane → Option Unused → Type 0

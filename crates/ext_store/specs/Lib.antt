@@ -1,9 +1,11 @@
 pub mod Stores
+pub mod Opening
 pub mod Frames
 pub mod FrameLaws
 pub mod Calls
 pub mod Looking
 pub mod Refusals
+pub mod Keeping
 pub mod Sealing
 pub mod Claiming
 pub mod Computing

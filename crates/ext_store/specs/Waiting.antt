@@ -1,6 +1,6 @@
 -- What the waiting forms say beside what their plain forms say: what they never answer, and what `compute_wait` may do before it answers.
 -- Own rule. JUnit waits for a running factory; that a compute claims its cell and gives it up before it waits is an own rule.
-use Rattle.std.specs.Prelude.{ℕ, zero, suc, List, [], ◌++◌, Result}
+use Rattle.std.specs.Prelude.{ℕ, zero, suc, List, [], ◌++◌, Result, Ok, Err}
 use Rattle.ext_model.specs.declared.event.Act.{Act}
 use Rattle.ext_model.specs.declared.look.Look.{Look}
 use Rattle.ext_model.specs.declared.look.Look.TheVariants as look
@@ -28,6 +28,14 @@ IsDecidedLook (look.Found at number) = Unit {0}
 IsDecidedLook look.Absent = Unit {0}
 IsDecidedLook (look.Busy at) = ⊥
 IsDecidedLook (look.Closed at) = Unit {0}
+
+-- a look-up that a running factory decides is as one that is refused for it
+abbrev pub busy_refused : Result Look Refusal → Result Look Refusal
+busy_refused (Ok (look.Found at number)) = Ok (look.Found at number)
+busy_refused (Ok look.Absent) = Ok look.Absent
+busy_refused (Ok (look.Busy at)) = Err (refusal.Busy at)
+busy_refused (Ok (look.Closed at)) = Ok (look.Closed at)
+busy_refused (Err why) = Err why
 
 -- the call is refused neither for a running factory nor because other lanes were in the way
 abbrev pub IsDecided : Refusal → Type 0

@@ -18,7 +18,7 @@ ghost use Rattle.ext_store.specs.Claiming.{ClaimsMissing, Stands};
 use crate::computed::Unused;
 use crate::{Compute, KeepFault, Lane, Refusal, Store, StoreValue};
 use ext_cells::{CellLane, Claim, Claimed};
-use ext_model::{ContextNo, Fault, KeyNo, Look};
+use ext_model::{ContextNo, Fault, KeyNo};
 use ext_tree::Key;
 
 impl<V: StoreValue + Drop> Store<V> {
@@ -220,12 +220,6 @@ impl<V: StoreValue + Drop> Store<V> {
         ensures stands { Stands self.now path.now key lane.old lane.new result }
         ensures steps { steps_of lane.old lane.new ≤ 16 * (self.now.tries + 1) }
     {
-        match self.look_along(lane, path, key) {
-            Ok(Look::Absent) => None,
-            Ok(Look::Found { at, number }) => Some(Unused::Found { at, number }),
-            Ok(Look::Busy(at)) => Some(Unused::Refused(Refusal::Busy(at))),
-            Ok(Look::Closed(at)) => Some(Unused::Refused(Refusal::Closed(at))),
-            Err(why) => Some(Unused::Refused(why)),
-        }
+        Unused::of(self.look_along(lane, path, key))
     }
 }

@@ -1,9 +1,9 @@
 //! What comes of a call that computes a missing value.
 ghost use Rattle.std.specs.Prelude.{◌≡◌};
-ghost use Rattle.ext_store.specs.Claiming.{with_factory};
+ghost use Rattle.ext_store.specs.Claiming.{unused_of, with_factory};
 
 use crate::{KeepFault, Refusal};
-use ext_model::{ContextNo, Fault};
+use ext_model::{ContextNo, Fault, Look};
 
 /// What `Store::compute` answers. A factory that was not called is handed back as it was, and can be called later.
 /// Own rule.
@@ -41,6 +41,19 @@ pub(crate) enum Unused {
 }
 
 impl Unused {
+    // Why no factory is called where a look-up answers this, or `None` where it found nothing.
+    pub(crate) fn of(looked: Result<Look, Refusal>) -> Option<Unused>
+        ensures { result ≡ unused_of looked }
+    {
+        match looked {
+            Ok(Look::Absent) => None,
+            Ok(Look::Found { at, number }) => Some(Unused::Found { at, number }),
+            Ok(Look::Busy(at)) => Some(Unused::Refused(Refusal::Busy(at))),
+            Ok(Look::Closed(at)) => Some(Unused::Refused(Refusal::Closed(at))),
+            Err(why) => Some(Unused::Refused(why)),
+        }
+    }
+
     // The result that hands the factory back.
     pub(crate) fn hand_back<V, F>(self, factory: F) -> Compute<V, F>
         ensures { result ≡ with_factory factory self }

@@ -3,7 +3,9 @@ ghost use Rattle.std.specs.Prelude.{ℕ, ◌≡◌, ◌^◌, ◌<◌, ◌%◌, O
 ghost use Rattle.ext_model.specs.declared.slot.Slot.{Slot};
 ghost use Rattle.ext_model.specs.State.{look_in};
 ghost use Rattle.ext_model.specs.Words.{number_code, slot_word};
+ghost use Rattle.ext_store.specs.Waiting.{busy_refused};
 
+use crate::Refusal;
 use ext_cells::{CellState, parts};
 use ext_model::{ContextNo, Look};
 
@@ -21,5 +23,18 @@ pub(crate) fn found_at(context: ContextNo, word: u64) -> Look
             number,
         },
         CellState::Sealed => Look::Closed(context),
+    }
+}
+
+// What a look-up answers that no factory decides, or why it has to be made again.
+pub(crate) fn unless_busy(looked: Result<Look, Refusal>) -> Result<Look, Refusal>
+    ensures { result ≡ busy_refused looked }
+{
+    match looked {
+        Ok(Look::Absent) => Ok(Look::Absent),
+        Ok(Look::Found { at, number }) => Ok(Look::Found { at, number }),
+        Ok(Look::Busy(at)) => Err(Refusal::Busy(at)),
+        Ok(Look::Closed(at)) => Ok(Look::Closed(at)),
+        Err(why) => Err(why),
     }
 }

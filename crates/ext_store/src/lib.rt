@@ -17,6 +17,7 @@
 mod closer;
 mod compute;
 mod computed;
+mod drawn;
 mod fault;
 mod found;
 mod kept;

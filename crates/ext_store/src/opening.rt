@@ -1,28 +1,49 @@
 //! What a store is made of that is opened: its cells and values, its lanes and its closers.
-ghost use Rattle.std.specs.Prelude.{◌≡◌, IfOk, length, map};
-ghost use Rattle.ext_cells.specs.Lanes.{AreLimits, fresh_lanes};
+ghost use Rattle.std.specs.Prelude.{◌≡◌, IfOk, MatchResult, map};
+ghost use Rattle.ext_cells.specs.Lanes.{AreLimits};
 ghost use Rattle.ext_store.specs.Stores.{closers_below, fresh_store_lane};
+ghost use Rattle.ext_store.specs.Opening.{AreOpened, AreParts, IsNotOpened};
 
-use crate::{Closer, Lane, Limits};
-use ext_cells::{CellLane, Cells};
+use crate::{Closer, Lane, Limits, StoreFault};
+use ext_cells::{CellLane, Cells, are_limits};
 use ext_model::ContextNo;
 use ext_values::{Notes, Values};
 use std::alloc::{AllocError, Global};
 use std::snapshot::Snapshot;
 
-// So many cells, the places of their values, a lane for each lane of the limits, and a closer for each of so many contexts.
-pub(crate) fn parts_of<V: Drop>(
+// What a store of so many cells and contexts is made of: the cells, the places of the values, a lane for each lane of the limits,
+// and a closer for each context. Or why it is not opened.
+pub(crate) fn open_parts<V: Drop>(
+    alloc: Global,
+    count: usize,
+    contexts: ContextNo,
+    limits: Limits,
+) -> Result<(Cells, Values<V>, Vec<Lane<V>>, Vec<Closer>), StoreFault>
+    ensures { MatchResult result
+        (λ r. AreOpened count contexts limits.lanes limits.tries limits.numbers r.0 r.1 r.2.items r.3.items)
+        (IsNotOpened count limits.lanes limits.tries limits.numbers) }
+{
+    if !are_limits(0, limits.lanes, limits.tries, limits.numbers) {
+        return Err(StoreFault::BadLimit);
+    }
+    if !are_limits(count, limits.lanes, limits.tries, limits.numbers) {
+        return Err(StoreFault::TooManyCells);
+    }
+    match parts_of(alloc, count, contexts, limits) {
+        Ok(parts) => Ok(parts),
+        Err(_) => Err(StoreFault::Memory),
+    }
+}
+
+// The same for limits that are within their ranges.
+fn parts_of<V: Drop>(
     alloc: Global,
     count: usize,
     contexts: ContextNo,
     limits: Limits,
 ) -> Result<(Cells, Values<V>, Vec<Lane<V>>, Vec<Closer>), AllocError>
     requires { AreLimits count limits.lanes limits.tries limits.numbers }
-    ensures limits { IfOk result (λ r. r.0.id.limits ≡ record { cells = count; lanes = limits.lanes; numbers = limits.numbers }) }
-    ensures tries { IfOk result (λ r. r.0.tries ≡ limits.tries) }
-    ensures places { IfOk result (λ r. length r.1 ≡ limits.numbers) }
-    ensures lanes { IfOk result (λ r. r.2.items ≡ map (fresh_store_lane r.1) (fresh_lanes r.0.id 0 limits.lanes)) }
-    ensures closers { IfOk result (λ r. r.3.items ≡ closers_below r.0.id contexts) }
+    ensures { IfOk result (λ r. AreParts count contexts limits.lanes limits.tries limits.numbers r.0 r.1 r.2.items r.3.items) }
 {
     let Limits {
         lanes,
@@ -41,7 +62,7 @@ pub(crate) fn parts_of<V: Drop>(
 }
 
 // A lane for each lane of the cells, in order. Each has room to know the value of every number.
-pub(crate) fn lanes_of<V: Drop>(
+fn lanes_of<V: Drop>(
     alloc: Global,
     values: &Values<V>,
     cell_lanes: Vec<CellLane>,
@@ -59,7 +80,7 @@ pub(crate) fn lanes_of<V: Drop>(
 }
 
 // A closer for each of so many contexts, in order.
-pub(crate) fn closers_of(
+fn closers_of(
     alloc: Global,
     cells: &Cells,
     contexts: ContextNo,

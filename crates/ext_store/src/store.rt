@@ -14,9 +14,9 @@ ghost use Rattle.ext_store.specs.Calls.{Gets, KeepsAs, KeepsNothing, Puts, Remov
 ghost use Rattle.ext_store.specs.Looking.{IsTrail, Looks};
 
 use crate::found::found_at;
-use crate::opening::parts_of;
+use crate::opening::open_parts;
 use crate::{Closer, KeepFault, Kept, Lane, Limits, Refusal, StoreFault, StoreValue};
-use ext_cells::{CellLane, CellRefusal, Cells, are_limits};
+use ext_cells::{CellLane, CellRefusal, Cells};
 use ext_model::{CellNo, ContextNo, KeyNo, Look};
 use ext_tree::{Directory, Key, Tree};
 use ext_values::Values;
@@ -220,16 +220,9 @@ impl<V: StoreValue + Drop> Store<V> {
         ensures bad_limit { (result ≡ Err store_fault.BadLimit) ↔ (¬ AreStoreLimits limits.lanes limits.tries limits.numbers) }
         ensures too_many { (result ≡ Err store_fault.TooManyCells) ↔ (AreStoreLimits limits.lanes limits.tries limits.numbers × (¬ AreLimits (length tree * length directory) limits.lanes limits.tries limits.numbers)) }
     {
-        if !are_limits(0, limits.lanes, limits.tries, limits.numbers) {
-            return Err(StoreFault::BadLimit);
-        }
-        let count = tree.len() * directory.len();
-        if !are_limits(count, limits.lanes, limits.tries, limits.numbers) {
-            return Err(StoreFault::TooManyCells);
-        }
-        let Ok((cells, values, lanes, closers)) = parts_of(alloc, count, tree.len(), limits) else {
-            return Err(StoreFault::Memory);
-        };
+        let contexts = tree.len();
+        let count = contexts * directory.len();
+        let (cells, values, lanes, closers) = open_parts(alloc, count, contexts, limits)?;
         let store = Store {
             tree,
             directory,
@@ -263,14 +256,8 @@ impl<V: StoreValue + Drop> Store<V> {
             Ok(boxed) => boxed,
             Err(failed) => return Err((failed.value, KeepFault::Memory)),
         };
-        let number = match self.cells.next_number(&mut lane.cells) {
-            Ok(number) => number,
-            Err(why) => return Err((Box::into_inner(boxed), KeepFault::of(why))),
-        };
-        if let Err(back) = lane.notes.place(&self.values, number, boxed) {
-            return Err((Box::into_inner(back), KeepFault::Unplaced));
-        }
-        Ok(Kept { number })
+        let drawn = self.cells.next_number(&mut lane.cells);
+        self.place_drawn(&mut lane.notes, drawn, boxed)
     }
 
     /// Looks for the key in the context and then in its ancestors, the nearest first, at one point of the call: the

@@ -17,6 +17,7 @@ ghost use Rattle.ext_store.specs.Computing.{Fills, HandsBack, IfComputed, IsUnke
 ghost use Rattle.ext_store.specs.Waiting.{ClaimsAfterWaits, ComputesAfterWaits, IsDecided, IsDecidedCompute, IsDecidedFault, IsDecidedLook, IsDecidedUnused};
 
 use crate::computed::Unused;
+use crate::found::unless_busy;
 use crate::{Compute, KeepFault, Kept, Lane, Refusal, Store, StoreValue};
 use ext_cells::{CellLane, CellRefusal, Claim};
 use ext_model::{ContextNo, Fault, KeyNo, Look};
@@ -226,14 +227,8 @@ impl<V: StoreValue + Drop> Store<V> {
             Ok(boxed) => boxed,
             Err(failed) => return Err((failed.value, KeepFault::Memory)),
         };
-        let number = match self.wait_to_draw(rt, &mut lane.cells) {
-            Ok(number) => number,
-            Err(why) => return Err((Box::into_inner(boxed), KeepFault::of(why))),
-        };
-        if let Err(back) = lane.notes.place(&self.values, number, boxed) {
-            return Err((Box::into_inner(back), KeepFault::Unplaced));
-        }
-        Ok(Kept { number })
+        let drawn = self.wait_to_draw(rt, &mut lane.cells);
+        self.place_drawn(&mut lane.notes, drawn, boxed)
     }
 
     /// As `compute`, but where a running factory decides a look-up or the claim it waits, parked, until a claim has ended,
@@ -399,14 +394,10 @@ impl<V> Store<V> {
     {
         let mut waiting = self.waiters.begin();
         for _ in rt.forever() {
-            let met = match self.look_along(lane, path, key) {
-                Ok(Look::Absent) => return Look::Absent,
-                Ok(Look::Found { at, number }) => return Look::Found { at, number },
-                Ok(Look::Closed(at)) => return Look::Closed(at),
-                Ok(Look::Busy(at)) => Refusal::Busy(at),
-                Err(why) => why,
-            };
-            pause(rt, &mut waiting, met);
+            match unless_busy(self.look_along(lane, path, key)) {
+                Ok(look) => return look,
+                Err(met) => pause(rt, &mut waiting, met),
+            }
         }
         unreachable!()
     }

@@ -11,43 +11,39 @@ use Rattle.ext_engine.specs.TreeRun.{IsFit, IsUsable, Lanes, TreeRun, all_result
 use Rattle.ext_suite.specs.PlanSuites.{HasKeys, suite_of}
 use Rattle.ext_suite.proofs.Fitting.{keys_fit, tree_fits}
 use Rattle.ext_parallel.specs.ParallelRun.{MakesCall, IsAction, ClosesValue}
-use Rattle.ext_parallel.proofs.InTree.{results_within}
+use Rattle.ext_parallel.proofs.InTree.{if_err, if_ok, results_within}
 use Rattle.ext_parallel.proofs.Refusals.{refused_run}
 use Rattle.ext_engine.proofs.Fresh.{fresh_usable}
 use Rattle.ext_parallel.proofs.parallel.results_of.Goals as goal
 
-pub run_tree-requires-clause-lanes : goal.run_tree-requires-clause-lanes
-run_tree-requires-clause-lanes g c κs inside =
+pub run_tree-ran-requires-clause-lanes : goal.run_tree-ran-requires-clause-lanes
+run_tree-ran-requires-clause-lanes g c κs inside =
     let st = c.in_ok-store.store in let lk = c.args.locks.now in
     let usable = fresh_usable st lk c.args.lanes c.in_ok-store.store_lanes.items c.args.lock_lanes.now c.requires.lanes c.in_ok-store.ensures.lanes c.in_ok-store.ensures.own_lanes c.requires.lock_lanes in
     let P : List (StoreLane StoredValue) → Type 0 = λ l. IsUsable st lk (record { first = l; second = c.args.lock_lanes.now }) in
     subst P (sym c.as_mut_slice-all_lanes.ensures.value) usable
 
-pub run_tree-requires-clause-fit : goal.run_tree-requires-clause-fit
-run_tree-requires-clause-fit g c κs inside =
+pub run_tree-ran-requires-clause-fit : goal.run_tree-ran-requires-clause-fit
+run_tree-ran-requires-clause-fit g c κs inside =
     let st = c.in_ok-store.store in let lk = c.args.locks.now in
     let plan = plan_view c.args.plan.now in
     let fits = tree_fits plan st lk c.in_ok-store.ensures.store.tree (λ name there. Contains-permutation (lock_names plan.nodes) lk.names name c.requires.locks.names there) c.requires.tests in
     let P : PlanText → Type 0 = λ p. IsFit st lk (suite_of p) in
     subst P (sym c.requires.suite) fits
 
-pub run_tree-requires-clause-suite_fits : goal.run_tree-requires-clause-suite_fits
-run_tree-requires-clause-suite_fits g c κs inside =
+pub run_tree-ran-requires-clause-suite_fits : goal.run_tree-ran-requires-clause-suite_fits
+run_tree-ran-requires-clause-suite_fits g c κs inside =
     let P : PlanText → Type 0 = λ p. HasKeys p c.in_ok-store.store in
     subst P (sym c.requires.suite) (keys_fit (plan_view c.args.plan.now) c.in_ok-store.store c.in_ok-store.ensures.store.keys)
 
-pub returns-in-Ok-clause-run : goal.returns-in-Ok-clause-run
-returns-in-Ok-clause-run g c =
+pub returns-clause-run : goal.returns-clause-run
+returns-clause-run g c =
     let st = c.in_ok-store.store in let lk = c.args.locks.now in
     let plan = plan_view c.args.plan.now in
-    let ran = c.in-Ok.ensures.run in
     let first : Lanes StoredValue = record { first = c.as_mut_slice-all_lanes.result.now; second = c.args.lock_lanes.now } in
-    let after : Lanes StoredValue = record { first = c.run_tree.new.lanes; second = c.run_tree.new.lock_lanes } in
-    let P : PlanText → Type 0 = λ p. TreeRun (setting_of st lk (suite_of p) (registered p) (λ (value : StoredValue). value.value.closeable)) (MakesCall p st) IsAction ClosesValue 16 0 first ran.0 after in
-    let Q : PlanText → Type 0 = λ p. map told c.in-Ok.results.items ≡ all_results (suite_of p) (length st.tree) ran.0 in
-    let R : ℕ → Type 0 = λ count. map told c.in-Ok.results.items ≡ all_results (suite_of plan) count ran.0 in
+    let after : Lanes StoredValue = record { first = c.run_tree-ran.new.lanes; second = c.run_tree-ran.new.lock_lanes } in
     let count : length st.tree ≡ length plan.nodes = ap length c.in_ok-store.ensures.store.tree ∙ length-map plan.nodes (λ n. n.id) in
-    record {
+    if_ok c.run_tree-ran.result (λ results ran. record {
       store = st;
       store_is = c.in_ok-store.ensures.store;
       locks = lk;
@@ -57,21 +53,24 @@ returns-in-Ok-clause-run g c =
       fresh_locks = c.requires.lock_lanes;
       ran = ran.0;
       after = after;
-      run = subst P c.requires.suite ran.1;
-      results_are = subst R count (subst Q c.requires.suite ran.2);
+      run = subst (λ (p : PlanText). TreeRun (setting_of st lk (suite_of p) (registered p) (λ (value : StoredValue). value.value.closeable)) (MakesCall p st) IsAction ClosesValue 16 0 first ran.0 after) c.requires.suite ran.1;
+      results_are =
+          subst (λ (n : ℕ). map told results.items ≡ all_results (suite_of plan) n ran.0) count
+          (subst (λ (p : PlanText). map told results.items ≡ all_results (suite_of p) (length st.tree) ran.0) c.requires.suite ran.2);
       met = c.meet_all.new.lanes;
       only_met = c.meet_all.ensures.only_met;
       shared = c.meet_all.ensures.shared;
-    }
+    }) c.run_tree-ran.ensures.run
 
-pub returns-in-Ok-clause-in_tree : goal.returns-in-Ok-clause-in_tree
-returns-in-Ok-clause-in_tree g c =
+pub returns-clause-in_tree : goal.returns-clause-in_tree
+returns-clause-in_tree g c =
     let plan = plan_view c.args.plan.now in
     let st = c.in_ok-store.store in
     let count : length st.tree ≡ length c.args.plan.now.nodes.items = ap length c.in_ok-store.ensures.store.tree ∙ length-map plan.nodes (λ n. n.id) ∙ length-map c.args.plan.now.nodes.items node_view in
-    let P : ℕ → Type 0 = λ count. All (λ r. r.node < count) c.in-Ok.results.items in
-    subst P count (results_within (suite_of c.args.suite.now) (length st.tree) c.in-Ok.ensures.run.0 c.in-Ok.results.items c.in-Ok.ensures.run.2)
+    if_ok c.run_tree-ran.result (λ results ran.
+        subst (λ (n : ℕ). All (λ r. r.node < n) results.items) count (results_within (suite_of c.args.suite.now) (length st.tree) ran.0 results.items ran.2)) c.run_tree-ran.ensures.run
 
 pub returns-clause-fault : goal.returns-clause-fault
 returns-clause-fault g c =
-    refused_run (plan_view c.args.plan.now) c.args.suite.now c.args.lanes c.in_ok-store.store c.args.locks.now c.requires.suite c.in_ok-store.ensures.store c.requires.locks c.in-Err.fault c.in-Err.ensures.fault
+    if_err c.run_tree-ran.result
+    (λ why fault. refused_run (plan_view c.args.plan.now) c.args.suite.now c.args.lanes c.in_ok-store.store c.args.locks.now c.requires.suite c.in_ok-store.ensures.store c.requires.locks why fault) c.run_tree-ran.ensures.fault

@@ -1,7 +1,8 @@
-use Rattle.std.proofs.Common.{rules, ap}
+use Rattle.std.proofs.Common.{◌≡◌, ◌∙◌, rules, ap, arith}
 use Rattle.std.specs.Prelude.{Some}
 use Rattle.ext_store.specs.Stores.{StoreView}
 use Rattle.ext_store.proofs.Missing.{ancestors_are_trail, first_look_ends, standing_ends, refusal_ends, claim_stands, second_look_ends, given_up_ends}
+use Rattle.ext_store.proofs.Keeping.{steps_add}
 use Rattle.ext_store.proofs.Refused.{claim_refusal}
 use Rattle.ext_store.proofs.store.Store.claim_missing.Goals as goal
 
@@ -50,3 +51,61 @@ returns-in-Some-stands_along-clause-claim g c =
 
 pub at-requires : goal.at-requires
 at-requires g c = claim_refusal c.self.inside.cells.tries c.stands_along.new.lane c.claim.new.lane _ c.in-Err.why c.in-Err.ensures.reply
+
+-- ---- the lane, and its steps
+
+pub returns-in-Some-clause-lane : goal.returns-in-Some-clause-lane
+returns-in-Some-clause-lane g c = c.stands_along.ensures.lane
+
+pub returns-in-Ok-Standing-clause-lane : goal.returns-in-Ok-Standing-clause-lane
+returns-in-Ok-Standing-clause-lane g c = c.claim.ensures.lane ∙ c.stands_along.ensures.lane
+
+pub returns-in-Err-clause-lane : goal.returns-in-Err-clause-lane
+returns-in-Err-clause-lane g c = c.claim.ensures.lane ∙ c.stands_along.ensures.lane
+
+pub returns-in-None-clause-lane : goal.returns-in-None-clause-lane
+returns-in-None-clause-lane g c = c.stands_along-2.ensures.lane ∙ (c.claim.ensures.lane ∙ c.stands_along.ensures.lane)
+
+pub returns-in-Some-stands_along-clause-lane : goal.returns-in-Some-stands_along-clause-lane
+returns-in-Some-stands_along-clause-lane g c = c.abandon.ensures.lane ∙ (c.stands_along-2.ensures.lane ∙ (c.claim.ensures.lane ∙ c.stands_along.ensures.lane))
+
+pub returns-in-Some-clause-steps : goal.returns-in-Some-clause-steps
+returns-in-Some-clause-steps g c = let first = c.stands_along.ensures.steps in omega (arith, first)
+
+pub returns-in-Ok-Standing-clause-steps : goal.returns-in-Ok-Standing-clause-steps
+returns-in-Ok-Standing-clause-steps g c =
+    let tries : c.self.inside.cells.tries ≡ c.args.self.now.tries = ap (λ (s : StoreView). s.tries) c.self.view_is in
+    let first = c.stands_along.ensures.steps in
+    let claim = c.claim.ensures.steps in
+    let both = steps_add c.args.lane.now c.stands_along.new.lane c.claim.new.lane in
+    omega (arith, tries, first, claim, both)
+
+pub returns-in-Err-clause-steps : goal.returns-in-Err-clause-steps
+returns-in-Err-clause-steps g c =
+    let tries : c.self.inside.cells.tries ≡ c.args.self.now.tries = ap (λ (s : StoreView). s.tries) c.self.view_is in
+    let first = c.stands_along.ensures.steps in
+    let claim = c.claim.ensures.steps in
+    let both = steps_add c.args.lane.now c.stands_along.new.lane c.claim.new.lane in
+    omega (arith, tries, first, claim, both)
+
+pub returns-in-None-clause-steps : goal.returns-in-None-clause-steps
+returns-in-None-clause-steps g c =
+    let tries : c.self.inside.cells.tries ≡ c.args.self.now.tries = ap (λ (s : StoreView). s.tries) c.self.view_is in
+    let first = c.stands_along.ensures.steps in
+    let claim = c.claim.ensures.steps in
+    let second = c.stands_along-2.ensures.steps in
+    let two = steps_add c.args.lane.now c.stands_along.new.lane c.claim.new.lane in
+    let three = steps_add c.args.lane.now c.claim.new.lane c.stands_along-2.new.lane in
+    omega (arith, tries, first, claim, second, two, three)
+
+pub returns-in-Some-stands_along-clause-steps : goal.returns-in-Some-stands_along-clause-steps
+returns-in-Some-stands_along-clause-steps g c =
+    let tries : c.self.inside.cells.tries ≡ c.args.self.now.tries = ap (λ (s : StoreView). s.tries) c.self.view_is in
+    let first = c.stands_along.ensures.steps in
+    let claim = c.claim.ensures.steps in
+    let second = c.stands_along-2.ensures.steps in
+    let given_up = c.abandon.ensures.steps in
+    let two = steps_add c.args.lane.now c.stands_along.new.lane c.claim.new.lane in
+    let three = steps_add c.args.lane.now c.claim.new.lane c.stands_along-2.new.lane in
+    let four = steps_add c.args.lane.now c.stands_along-2.new.lane c.abandon.new.lane in
+    omega (arith, tries, first, claim, second, given_up, two, three, four)

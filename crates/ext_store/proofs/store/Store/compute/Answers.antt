@@ -1,9 +1,67 @@
-use Rattle.std.proofs.Common.{rules, ◌≡◌, subst}
+use Rattle.std.proofs.Common.{◌≡◌, subst, sym, ap, refl}
+use Rattle.std.specs.Prelude.{Contains}
+use Rattle.ext_tree.specs.Keys.{HasNumber}
 use Rattle.ext_store.specs.Computing.{Computes, without_factory}
-use Rattle.ext_store.proofs.Keeping.{one_number}
+use Rattle.ext_store.specs.Stores.{StoreView}
+use Rattle.ext_store.proofs.Keeping.{no_number, is_number, one_number, no_steps}
+use Rattle.ext_store.proofs.Frames.{no_frame}
 use Rattle.ext_store.proofs.store.Store.compute.Goals as goal
+
+pub returns-in_default-clause-unknown : goal.returns-in_default-clause-unknown
+returns-in_default-clause-unknown g c absent = (refl, refl)
+
+pub returns-in_default-clause-answer : goal.returns-in_default-clause-answer
+returns-in_default-clause-answer g c number has = absurd (no_number number (c.in_default.ensures.found number (subst (λ keys. HasNumber keys c.args.key.now number) (sym (ap (λ (s : StoreView). s.keys) c.self.view_is)) has)))
+
+pub returns-in_default-clause-lane : goal.returns-in_default-clause-lane
+returns-in_default-clause-lane g c = c.requires.lane
+
+pub returns-in_default-clause-steps : goal.returns-in_default-clause-steps
+returns-in_default-clause-steps g c = no_steps c.args.lane.now.cells _
+
+pub returns-in_default-clause-frame : goal.returns-in_default-clause-frame
+returns-in_default-clause-frame g c = no_frame c.args.self.now.id c.args.lane.now c.requires.lane
+
+pub returns-in_default-clause-known : goal.returns-in_default-clause-known
+returns-in_default-clause-known g c number value known = known
+
+pub returns-in_default-clause-kept : goal.returns-in_default-clause-kept
+returns-in_default-clause-kept g c number kept = kept
+
+pub returns-in_default-clause-handed_back : goal.returns-in_default-clause-handed_back
+returns-in_default-clause-handed_back g c = refl
+
+pub returns-in_default-clause-apart : goal.returns-in_default-clause-apart
+returns-in_default-clause-apart g c = tt
+
+pub returns-in_default-clause-factory : goal.returns-in_default-clause-factory
+returns-in_default-clause-factory g c = refl
+
+pub returns-clause-unknown : goal.returns-clause-unknown
+returns-clause-unknown g c absent = absurd (is_number c.in-Some.number (c.in-Some.ensures.absent.1 (subst (λ keys. ¬ Contains keys c.args.key.now) (sym (ap (λ (s : StoreView). s.keys) c.self.view_is)) absent)))
 
 pub returns-clause-answer : goal.returns-clause-answer
 returns-clause-answer g c number has =
-    let same : c.in-Some.number ≡ number = one_number c.in-Some.number number (c.in-Some.ensures.found number (search rules)) in
+    let same : c.in-Some.number ≡ number = one_number c.in-Some.number number (c.in-Some.ensures.found number (subst (λ keys. HasNumber keys c.args.key.now number) (sym (ap (λ (s : StoreView). s.keys) c.self.view_is)) has)) in
     subst (λ k. Computes c.args.self.now c.args.context k c.args.lane.now.cells c.compute_numbered.new.lane.cells (without_factory c.compute_numbered.result)) same c.compute_numbered.ensures.answer
+
+pub returns-clause-known : goal.returns-clause-known
+returns-clause-known g c = c.compute_numbered.ensures.known
+
+pub returns-clause-lane : goal.returns-clause-lane
+returns-clause-lane g c = c.compute_numbered.ensures.lane
+
+pub returns-clause-kept : goal.returns-clause-kept
+returns-clause-kept g c = c.compute_numbered.ensures.kept
+
+pub returns-clause-frame : goal.returns-clause-frame
+returns-clause-frame g c = c.compute_numbered.ensures.frame
+
+pub returns-clause-steps : goal.returns-clause-steps
+returns-clause-steps g c = c.compute_numbered.ensures.steps
+
+pub returns-clause-handed_back : goal.returns-clause-handed_back
+returns-clause-handed_back g c = c.compute_numbered.ensures.handed_back
+
+pub returns-clause-apart : goal.returns-clause-apart
+returns-clause-apart g c = c.compute_numbered.ensures.apart

@@ -1,6 +1,6 @@
 use Rattle.std.proofs.Common.{◌≡◌, [], ◌∷◌, sym, refl, ap, ◌∙◌, subst}
 use Rattle.std.specs.Prelude.{Ok, Err}
-use Rattle.std.specs.Fn.{FnOnceReturns}
+use Rattle.std.specs.Fn.{FnOnceReturns, FnOnceReturnsAt}
 use Rattle.ext_model.specs.declared.event.Act.TheVariants.{Abandon}
 use Rattle.ext_model.specs.Calls.{Calls}
 use Rattle.ext_cells.specs.Lanes.{CellsId, Lane}
@@ -9,10 +9,11 @@ use Rattle.ext_store.specs.Stores.{StoreLane, StoreView}
 use Rattle.ext_store.specs.Computing.{ComputesFrom, without_factory}
 use Rattle.ext_store.specs.Waiting.{ClaimsAfterWaits, ComputesAfterWaits}
 use Rattle.ext_store.proofs.Filling.{none_stored, nor_this}
-use Rattle.ext_store.proofs.Frames.{frame_keeps, frame_lane, frames_compose}
+use Rattle.ext_store.proofs.Frames.{frame_keeps, frame_known, frame_lane, frames_compose}
 use Rattle.ext_store.proofs.Composing.{unused_computes, fails, computes, keeps_not, storing_frame}
 use Rattle.ext_store.proofs.Waited.{computes_later, waits_frame}
 use Rattle.ext_store.proofs.Keeping.{one_key}
+use Rattle.ext_store.proofs.Unused.{unused_apart, unused_back, unused_decided, unused_uses}
 use Rattle.ext_store.proofs.store.Store.compute_wait_numbered.Goals as goal
 
 pub returns-in-Err-clause-answer : goal.returns-in-Err-clause-answer
@@ -136,3 +137,65 @@ returns-in-Err-wait_to_fill-clause-factory g c name has =
     let kept = c.in-Err-wait_to_fill.ensures.known in
     let returned = subst (λ value. FnOnceReturns g.F.FnOnce c.args.factory (c.key.result, tt {0}) (Ok value)) (sym kept.0) c.in-Ok-factory.ensures in
     ((c.key.result, returned, same), kept.1 ∙ ap (λ (l : StoreLane g.row.V.Denot). l.known) c.lane.view_is)
+
+-- ---- what the frames say, and what comes of a factory that is not called
+
+pub returns-in-Err-clause-lane : goal.returns-in-Err-clause-lane
+returns-in-Err-clause-lane g c = frame_lane c.args.self.now.id [] c.args.lane.now (record { cells = c.wait_to_claim.new.lane; known = c.lane.inside.notes }) (returns-in-Err-clause-frame g c)
+
+pub returns-in-Err-clause-known : goal.returns-in-Err-clause-known
+returns-in-Err-clause-known g c = frame_known c.args.self.now.id [] c.args.lane.now (record { cells = c.wait_to_claim.new.lane; known = c.lane.inside.notes }) (returns-in-Err-clause-frame g c)
+
+pub returns-in-Err-factory-clause-lane : goal.returns-in-Err-factory-clause-lane
+returns-in-Err-factory-clause-lane g c = frame_lane c.args.self.now.id [] c.args.lane.now (record { cells = c.abandon.new.lane; known = c.lane.inside.notes }) (returns-in-Err-factory-clause-frame g c)
+
+pub returns-in-Err-factory-clause-known : goal.returns-in-Err-factory-clause-known
+returns-in-Err-factory-clause-known g c = frame_known c.args.self.now.id [] c.args.lane.now (record { cells = c.abandon.new.lane; known = c.lane.inside.notes }) (returns-in-Err-factory-clause-frame g c)
+
+pub returns-in-Err-factory-clause-handed_back : goal.returns-in-Err-factory-clause-handed_back
+returns-in-Err-factory-clause-handed_back g c = tt
+
+pub returns-in-Err-factory-clause-apart : goal.returns-in-Err-factory-clause-apart
+returns-in-Err-factory-clause-apart g c = tt
+
+pub returns-in-Err-factory-clause-decided : goal.returns-in-Err-factory-clause-decided
+returns-in-Err-factory-clause-decided g c = tt
+
+pub returns-in-Ok-wait_to_fill-clause-lane : goal.returns-in-Ok-wait_to_fill-clause-lane
+returns-in-Ok-wait_to_fill-clause-lane g c = frame_lane c.args.self.now.id [] c.args.lane.now c.wait_to_fill.new.lane (returns-in-Ok-wait_to_fill-clause-frame g c)
+
+pub returns-in-Ok-wait_to_fill-clause-known : goal.returns-in-Ok-wait_to_fill-clause-known
+returns-in-Ok-wait_to_fill-clause-known g c = frame_known c.args.self.now.id [] c.args.lane.now c.wait_to_fill.new.lane (returns-in-Ok-wait_to_fill-clause-frame g c)
+
+pub returns-in-Ok-wait_to_fill-clause-handed_back : goal.returns-in-Ok-wait_to_fill-clause-handed_back
+returns-in-Ok-wait_to_fill-clause-handed_back g c = tt
+
+pub returns-in-Ok-wait_to_fill-clause-decided : goal.returns-in-Ok-wait_to_fill-clause-decided
+returns-in-Ok-wait_to_fill-clause-decided g c = tt
+
+pub returns-in-Err-wait_to_fill-clause-lane : goal.returns-in-Err-wait_to_fill-clause-lane
+returns-in-Err-wait_to_fill-clause-lane g c = frame_lane c.args.self.now.id [] c.args.lane.now c.wait_to_fill.new.lane (returns-in-Err-wait_to_fill-clause-frame g c)
+
+pub returns-in-Err-wait_to_fill-clause-known : goal.returns-in-Err-wait_to_fill-clause-known
+returns-in-Err-wait_to_fill-clause-known g c = frame_known c.args.self.now.id [] c.args.lane.now c.wait_to_fill.new.lane (returns-in-Err-wait_to_fill-clause-frame g c)
+
+pub returns-in-Err-wait_to_fill-clause-handed_back : goal.returns-in-Err-wait_to_fill-clause-handed_back
+returns-in-Err-wait_to_fill-clause-handed_back g c = tt
+
+pub returns-in-Err-wait_to_fill-clause-apart : goal.returns-in-Err-wait_to_fill-clause-apart
+returns-in-Err-wait_to_fill-clause-apart g c = tt
+
+pub returns-in-Err-wait_to_fill-clause-decided : goal.returns-in-Err-wait_to_fill-clause-decided
+returns-in-Err-wait_to_fill-clause-decided g c = c.in-Err-wait_to_fill.ensures.decided
+
+pub returns-in-Err-clause-handed_back : goal.returns-in-Err-clause-handed_back
+returns-in-Err-clause-handed_back g c = unused_back c.args.factory c.in-Err.why c.hand_back.result c.hand_back.ensures
+
+pub returns-in-Err-clause-apart : goal.returns-in-Err-clause-apart
+returns-in-Err-clause-apart g c = unused_apart c.args.factory c.in-Err.why c.hand_back.result c.hand_back.ensures _
+
+pub returns-in-Err-clause-factory : goal.returns-in-Err-clause-factory
+returns-in-Err-clause-factory g c name has = unused_uses c.args.factory c.in-Err.why c.hand_back.result c.hand_back.ensures (λ answer. FnOnceReturnsAt g.F.FnOnce c.args.factory name answer) _ _ (ap (λ (l : StoreLane g.row.V.Denot). l.known) c.lane.view_is)
+
+pub returns-in-Err-clause-decided : goal.returns-in-Err-clause-decided
+returns-in-Err-clause-decided g c = unused_decided c.args.factory c.in-Err.why c.hand_back.result c.hand_back.ensures c.in-Err.ensures.decided

@@ -28,3 +28,12 @@ returns-in-Ok-None-clause-look g c =
     let few : c.args.lane.now.cells.limits.numbers ≡ c.args.self.now.id.cells.limits.numbers = ap (λ z. z.limits.numbers) c.requires.lane in
     looks_absent _ c.args.path.now _ c.args.lane.now c.nearest.new.lane _ (omega (arith, few, most)) c.cells_on.ensures
     (subst (StoodNearest c.args.lane.now c.nearest.new.lane (take (length c.args.path.now) c.cells_on.new.cells)) c.in-Ok-None.field-0-is c.in-Ok-None.ensures.nearest)
+
+pub returns-in-Ok-Some-clause-lane : goal.returns-in-Ok-Some-clause-lane
+returns-in-Ok-Some-clause-lane g c = c.nearest.ensures.lane
+
+pub returns-in-Ok-None-clause-lane : goal.returns-in-Ok-None-clause-lane
+returns-in-Ok-None-clause-lane g c = c.nearest.ensures.lane
+
+pub returns-in-Err-Contended-clause-lane : goal.returns-in-Err-Contended-clause-lane
+returns-in-Err-Contended-clause-lane g c = c.nearest.ensures.lane

@@ -1,8 +1,9 @@
-use Rattle.std.proofs.Common.{refl, subst}
+use Rattle.std.proofs.Common.{refl, ap, subst}
 use Rattle.std.specs.Prelude.{MatchResult}
 use Rattle.ext_store.specs.Stores.{StoreLane, StillKeeps, StillKeepsBut}
 use Rattle.ext_store.proofs.Keeping.{put_calls, put_keeps}
-use Rattle.ext_store.proofs.Frames.{put_frame}
+use Rattle.ext_store.proofs.Frames.{frame_lane, put_frame}
+use Rattle.ext_store.specs.Frames.{stored_by}
 use Rattle.ext_store.proofs.store.Store.put_wait_numbered.Goals as goal
 
 pub returns-clause-kept : goal.returns-clause-kept
@@ -19,3 +20,15 @@ returns-clause-frame g c =
     let after : StoreLane g.row.V.Denot = record { cells = c.wait_to_put.new.lane; known = c.lane.inside.notes } in
     put_frame c.args.self.now.id before c.args.lane.now after c.lane.view_is c.requires.lane c.wait_to_put.ensures.lane refl c.args.self.now c.args.context c.args.key c.args.kept c.wait_to_put.result
     (put_calls c.args.self.now c.args.context c.args.key before after c.args.kept c.wait_to_put.result c.wait_to_put.ensures.answer c.wait_to_put.ensures.handed_back)
+
+pub returns-clause-known : goal.returns-clause-known
+returns-clause-known g c = ap (λ (l : StoreLane g.row.V.Denot). l.known) c.lane.view_is
+
+pub returns-clause-lane : goal.returns-clause-lane
+returns-clause-lane g c = frame_lane c.args.self.now.id (stored_by c.args.kept c.wait_to_put.result) c.args.lane.now (record { cells = c.wait_to_put.new.lane; known = c.lane.inside.notes }) (returns-clause-frame g c)
+
+pub returns-clause-decided : goal.returns-clause-decided
+returns-clause-decided g c = c.wait_to_put.ensures.decided
+
+pub returns-clause-handed_back : goal.returns-clause-handed_back
+returns-clause-handed_back g c = c.wait_to_put.ensures.handed_back
