@@ -1,8 +1,41 @@
--- Words for the contracts within the crate: the shares of the workers, and what holds of each of them. No public call names them. Own rules.
-use Rattle.std.specs.Prelude.{◌≡◌, ℕ, ◌+◌, ◌-◌, ◌*◌, ◌≤◌, min, length, List, [], ◌∷◌, ⊤}
+-- Words for the contracts within the crate: what workers have in hand, their shares, and what holds of each of them. No public call names them. Own rules.
+use Rattle.std.specs.Prelude.{◌≡◌, ℕ, ◌+◌, ◌-◌, ◌*◌, ◌<◌, ◌≤◌, min, length, List, [], ◌∷◌, ⊤}
 use denote.Ref.{MutBor}
 use denote.Param.Members.{Shared}
+use Rattle.atomic_table.specs.Seated.{TableId}
+use Rattle.ext_jobs.specs.Counter.{Hand, drawn, jobs_of, HasEnded}
+use Rattle.ext_jobs.specs.declared.done.Done.{Done}
 use Rattle.ext_crew.specs.Dealing.{Share, front, back}
+
+-- ---- the hands
+
+module _ {T O : Type 0} where
+  abbrev pub draws_of : Hand T O → List ℕ
+  draws_of hand = hand.me.0.draws
+
+  abbrev pub given_of : Hand T O → List (Done O)
+  given_of hand = hand.me.0.given
+
+  abbrev pub jobs_done : Hand T O → List ℕ
+  jobs_done hand = jobs_of hand.me.0.given
+
+  -- nothing was drawn yet
+  pub record IsReady (table : TableId) (items : List T) (hand : Hand T O) : Type 0 where
+    pub same_table : hand.table_id ≡ table
+    pub me : hand.me ≡ (drawn 1 [] [] items, [])
+
+  -- what was drawn is the jobs that were done and given back, and then an end
+  pub record HasWorked (table : TableId) (items : List T) (hand : Hand T O) : Type 0 where
+    pub same_table : hand.table_id ≡ table
+    pub ended : HasEnded items hand.me (given_of hand)
+
+  -- the first seat has so many hands still to take in
+  pub record IsFirst (table : TableId) (hand : Hand T O) (left : ℕ) : Type 0 where
+    pub same_table : hand.table_id ≡ table
+    pub parts : hand.me.0.parts + left ≡ 17
+    pub some : 0 < hand.me.0.parts
+
+-- ---- the shares
 
 -- both lists make so many shares of `size` elements, of which the first `longer` ones have one more
 abbrev pub IsCut : {A B : Type 0} → ℕ → ℕ → ℕ → Share A B → Type 0
