@@ -1,9 +1,9 @@
 -- Words for the contracts within the crate: what workers have in hand, their shares, and what holds of each of them. No public call names them. Own rules.
-use Rattle.std.specs.Prelude.{◌≡◌, ℕ, ◌+◌, ◌-◌, ◌*◌, ◌<◌, ◌≤◌, min, length, List, [], ◌∷◌, ⊤}
+use Rattle.std.specs.Prelude.{◌≡◌, ℕ, ◌+◌, ◌-◌, ◌*◌, ◌<◌, ◌≤◌, min, length, List, [], ◌∷◌, All, ⊤}
 use denote.Ref.{MutBor}
 use denote.Param.Members.{Shared}
 use Rattle.atomic_table.specs.Seated.{TableId}
-use Rattle.ext_jobs.specs.Counter.{Hand, drawn, jobs_of, HasEnded}
+use Rattle.ext_jobs.specs.Counter.{Hand, drawn, jobs_of, HasEnded, IsCounter}
 use Rattle.ext_jobs.specs.declared.done.Done.{Done}
 use Rattle.ext_crew.specs.Dealing.{Share, front, back}
 
@@ -23,6 +23,20 @@ module _ {T O : Type 0} where
   pub record IsReady (table : TableId) (items : List T) (hand : Hand T O) : Type 0 where
     pub same_table : hand.table_id ≡ table
     pub me : hand.me ≡ (drawn 1 [] [] items, [])
+
+  -- the counter of so many items, the first seat, from which the hands were split off, and the hands, with which nothing was drawn yet
+  pub record IsOpened (table : TableId) (items : List T) (count : ℕ) (first : Hand T O) (hands : List (Hand T O)) : Type 0 where
+    pub counter : IsCounter table items count
+    pub first_table : first.table_id ≡ table
+    pub first_me : first.me ≡ (drawn (17 - length hands) [] [] items, [])
+    pub few : length hands ≤ 16
+    pub ready : All (λ h. IsReady table items h) hands
+
+  -- the same, for these items and so many workers
+  pub record IsOpenedFor (items : List T) (workers : ℕ) (table : TableId) (key : List T) (first : Hand T O) (hands : List (Hand T O)) : Type 0 where
+    pub same_items : key ≡ items
+    pub count : length hands ≡ workers
+    pub opened : IsOpened table key (length items) first hands
 
   -- what was drawn is the jobs that were done and given back, and then an end
   pub record HasWorked (table : TableId) (items : List T) (hand : Hand T O) : Type 0 where
