@@ -1,6 +1,8 @@
 -- Words for the contracts within the crate: what workers have in hand, their shares, and what holds of each of them. No public call names them. Own rules.
 use Rattle.std.specs.Prelude.{◌≡◌, ℕ, ◌+◌, ◌-◌, ◌*◌, ◌<◌, ◌≤◌, min, length, List, [], ◌∷◌, All, ⊤}
 use denote.Ref.{MutBor}
+use denote.RattleType.{RattleType}
+use denote.Param.Send.{IsSync, IsSend}
 use denote.Param.Members.{Shared}
 use Rattle.atomic_table.specs.Seated.{TableId}
 use Rattle.ext_jobs.specs.Counter.{Hand, drawn, jobs_of, HasEnded, IsCounter}
@@ -54,6 +56,14 @@ module _ {T O : Type 0} where
 -- both lists make so many shares of `size` elements, of which the first `longer` ones have one more
 abbrev pub IsCut : {A B : Type 0} → ℕ → ℕ → ℕ → Share A B → Type 0
 IsCut size longer count s = (length s.first ≡ count * size + longer) × (length s.second ≡ length s.first) × (longer ≤ count)
+
+-- what threads ask of the types: the runtime and the work are shared by threads, and hands and what shares consist of are handed from one to another
+pub record Cross (R W H A B : RattleType) : Type 0 where
+  pub runtime : IsSync R
+  pub work : IsSync W
+  pub hand : IsSend H
+  pub first : IsSend A
+  pub second : IsSend B
 
 -- P holds of each hand and its share. Shares are cut off one after another, as in `WorkedFrom`
 abbrev pub EachShare : {H A B : Type 0} → (H → Share A B → Type 0) → ℕ → ℕ → List H → Share A B → Type 0

@@ -168,3 +168,10 @@ pub record HasEnded {T O : Type 0} (items : List T) (me : Me (Slot T O) (Drawn T
 -- this is the counter of so many items, of which there are few, each with a slot
 abbrev pub IsCounter : {T : Type 0} → TableId → List T → ℕ → Type 0
 IsCounter table items count = (table.words ≡ 1) × (length items ≡ count) × (count ≤ 256) × (table.slots ≡ count)
+
+-- this is the counter of these items, from which nothing was drawn, and its first seat, which stands for all 17 seats that there may be
+pub record IsOpen {T O : Type 0} (table : TableId) (key items : List T) (first : Hand T O) : Type 0 where
+  pub counter : IsCounter table key (length items)
+  pub same_items : key ≡ items
+  pub same_table : first.table_id ≡ table
+  pub me : first.me ≡ (drawn 17 [] [] items, [])

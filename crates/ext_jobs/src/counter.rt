@@ -1,6 +1,6 @@
 //! The counter: it is opened over the items, drawn from by workers, given outcomes, and closed.
 ghost use Rattle.std.specs.Prelude.{◌≡◌, ℕ, ◌+◌, ◌<◌, ◌≤◌, ◌++◌, [], ◌∷◌, List, Option, length, map, cond, ltb, Some, None, slice_get, vec_capacity, filter_map, vec_len, All, IfOk, IfSome, IfNone};
-ghost use Rattle.ext_jobs.specs.Counter.{drawn, done_by, slot_of, outcomes_in, IsCounter, IsDrawing, HasDrawn, HasEnded};
+ghost use Rattle.ext_jobs.specs.Counter.{done_by, slot_of, outcomes_in, IsCounter, IsOpen, IsDrawing, HasDrawn, HasEnded};
 ghost use Rattle.ext_jobs.specs.Times.{times};
 ghost use Rattle.ext_jobs.specs.declared.slot.Slot.TheVariants.{Item, Empty};
 
@@ -23,10 +23,7 @@ pub fn open_counter<T: Drop, O: Drop, M: Allocator + Clone>(
     items: Vec<T, M>,
 ) -> Result<(CounterTable<T, O, M>, Hand<T, O>), AllocError>
     requires { length items.items ≤ 256 }
-    ensures counter { IfOk result (λ made. IsCounter made.0.shared.table_id made.0.shared.key.value.items (length items.items)) }
-    ensures items { IfOk result (λ made. made.0.shared.key.value.items ≡ items.items) }
-    ensures seat { IfOk result (λ made. (made.1.table_id ≡ made.0.shared.table_id)
-        × (made.1.me ≡ (drawn 17 [] [] items.items, []))) }
+    ensures opened { IfOk result (λ made. IsOpen made.0.shared.table_id made.0.shared.key.value.items items.items made.1) }
 {
     let key = Snapshot::of(&items);
     let slots = full_slots(alloc, items)?;
