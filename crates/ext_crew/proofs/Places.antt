@@ -1,5 +1,5 @@
 -- The outcomes, taken out of their slots in order, stand in the order of their jobs.
-use Rattle.std.proofs.Common.{◌≡◌, ℕ, ◌+◌, ◌/◌, ◌%◌, ◌<◌, ◌≤◌, cond, get_or, zero, suc, List, [], ◌∷◌, ◌++◌, length, take, map, ap, ◌∙◌, sym, refl, subst, arith}
+use Rattle.std.proofs.Common.{◌≡◌, ℕ, ◌+◌, ◌/◌, ◌%◌, ◌<◌, ◌≤◌, cond, get_or, List, [], ◌∷◌, ◌++◌, length, map, ap, ◌∙◌, sym, refl, subst, arith}
 use Rattle.std.specs.Prelude.{◌==◌, All, Option, Some, slice_get, flat_map, filter_map}
 use Rattle.std.specs.List.{concat}
 use Rattle.std.proofs.lemmas.List.{map-append}
