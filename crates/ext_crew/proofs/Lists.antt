@@ -1,5 +1,5 @@
 -- Laws of lists of any kind.
-use Rattle.std.proofs.Common.{◌≡◌, ℕ, ◌+◌, ◌<◌, zero, suc, Bool, false, get_or, set, List, [], ◌∷◌, ◌++◌, length, map, take, drop, ap, refl, subst, arith}
+use Rattle.std.proofs.Common.{◌≡◌, ℕ, ◌+◌, ◌<◌, zero, suc, List, [], ◌∷◌, ◌++◌, length, map, take, drop, ap, refl, subst, arith}
 use Rattle.std.specs.Prelude.{All, Option, Some, None, slice_get, flat_map, filter_map}
 use Rattle.std.proofs.lemmas.List.Elements.{All-append, All-cons, All-head, All-tail}
 
@@ -57,11 +57,3 @@ full {O} (None ∷ places) all = let h = all 0 (omega arith) in let bad : Some N
 full {O} (Some x ∷ places) all =
     let rest = full places (λ i l. all (suc i) (omega arith)) in
     (ap suc rest.0, first_of_some x places rest.1)
-
--- where all before a place are false, and that place becomes false, all up to it are
-pub false_up_to : (marks : List Bool) (i k : ℕ) → k < suc i → ((j : ℕ) → j < i → get_or marks j false ≡ false) → get_or (set marks i false) k false ≡ false
-false_up_to [] i k l before = refl
-false_up_to (m ∷ marks) zero zero l before = refl
-false_up_to (m ∷ marks) zero (suc k) l before = absurd (omega (arith, l))
-false_up_to (m ∷ marks) (suc i) zero l before = before zero (omega arith)
-false_up_to (m ∷ marks) (suc i) (suc k) l before = false_up_to marks i k (omega (arith, l)) (λ j b. before (suc j) (omega (arith, b)))

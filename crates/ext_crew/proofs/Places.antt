@@ -1,5 +1,5 @@
 -- The outcomes, taken out of their slots in order, stand in the order of their jobs.
-use Rattle.std.proofs.Common.{◌≡◌, ℕ, ◌+◌, ◌/◌, ◌%◌, ◌<◌, ◌≤◌, cond, get_or, zero, suc, List, [], ◌∷◌, ◌++◌, length, take, map, ap, ◌∙◌, sym, refl, subst, arith}
+use Rattle.std.proofs.Common.{◌≡◌, ℕ, ◌+◌, ◌/◌, ◌%◌, ◌<◌, ◌≤◌, cond, get_or, List, [], ◌∷◌, ◌++◌, length, map, ap, ◌∙◌, sym, refl, subst, arith}
 use Rattle.std.specs.Prelude.{◌==◌, All, Option, Some, slice_get, flat_map, filter_map}
 use Rattle.std.specs.List.{concat}
 use Rattle.std.proofs.lemmas.List.{map-append}
@@ -7,28 +7,11 @@ use Rattle.std.proofs.lemmas.List.Elements.{All-head, All-tail}
 use Rattle.std.proofs.lemmas.Bool.{cases_lt}
 use Rattle.std.proofs.lemmas.Bool.Decides.{nat_tests}
 use mathlib.Core.Logic.{⊎_elim}
-use mathlib.Core.Option.{some, some-injective, some-ne-none}
-use lib.ListN.{get_elem?}
-use Rattle.ext_crew.specs.Counter.{Hand, outcome_in, outcomes_in, given_of, jobs_done}
+use Rattle.ext_jobs.specs.Counter.{Hand}
+use Rattle.ext_crew.specs.Hands.{given_of, jobs_done}
 use Rattle.ext_crew.specs.Dealing.{Share, times, IsDealing, WorkedFrom, RunByDealing}
-use Rattle.ext_crew.specs.declared.done.Done.{Done}
-use Rattle.ext_crew.specs.declared.slot.Slot.{Slot}
-use Rattle.ext_crew.specs.declared.slot.Slot.TheVariants as slot
+use Rattle.ext_jobs.specs.declared.done.Done.{Done}
 use Rattle.ext_crew.proofs.Lists.{all_apart, lists_together, full}
-
--- one more slot
-pub outcomes-one_more : {T O : Type 0} (slots : List (Slot T O)) (k : ℕ) (x : Slot T O) → get_elem? slots k ≡ some x → outcomes_in (take (suc k) slots) ≡ outcomes_in (take k slots) ++ outcomes_in (x ∷ [])
-outcomes-one_more [] k x at = absurd (some-ne-none x (sym at))
-outcomes-one_more (y ∷ slots) zero x at = ap (λ z. outcomes_in (z ∷ [])) (some-injective y x at)
-outcomes-one_more (slot.Item item ∷ slots) (suc k) x at = outcomes-one_more slots k x at
-outcomes-one_more (slot.Outcome outcome ∷ slots) (suc k) x at = ap (λ l. outcome ∷ l) (outcomes-one_more slots k x at)
-outcomes-one_more (slot.Empty ∷ slots) (suc k) x at = outcomes-one_more slots k x at
-
--- the outcome in a slot is the one at its place
-pub place_of : {T O : Type 0} (slots : List (Slot T O)) (k : ℕ) (o : O) → get_elem? slots k ≡ some (slot.Outcome o) → slice_get (map outcome_in slots) k ≡ Some (Some o)
-place_of [] k o at = absurd (some-ne-none (slot.Outcome o) (sym at))
-place_of (x ∷ slots) zero o at = ap (λ z. Some (outcome_in z)) (some-injective x (slot.Outcome o) at)
-place_of (x ∷ slots) (suc k) o at = place_of slots k o at
 
 at_head : (j i n : ℕ) → 0 < cond (j == i) 1 0 + n → n ≤ 0 → j ≡ i
 at_head j i n l e = grind (arith, nat_tests)

@@ -1,12 +1,69 @@
--- Words for the contracts within the crate: the shares of the workers, and what holds of each of them. No public call names them. Own rules.
-use Rattle.std.specs.Prelude.{◌≡◌, ℕ, ◌+◌, ◌-◌, ◌*◌, ◌≤◌, min, length, List, [], ◌∷◌, ⊤}
+-- Words for the contracts within the crate: what workers have in hand, their shares, and what holds of each of them. No public call names them. Own rules.
+use Rattle.std.specs.Prelude.{◌≡◌, ℕ, ◌+◌, ◌-◌, ◌*◌, ◌<◌, ◌≤◌, min, length, List, [], ◌∷◌, All, ⊤}
 use denote.Ref.{MutBor}
+use denote.RattleType.{RattleType}
+use denote.Param.Send.{IsSync, IsSend}
 use denote.Param.Members.{Shared}
+use Rattle.atomic_table.specs.Seated.{TableId}
+use Rattle.ext_jobs.specs.Counter.{Hand, drawn, jobs_of, HasEnded, IsCounter}
+use Rattle.ext_jobs.specs.declared.done.Done.{Done}
 use Rattle.ext_crew.specs.Dealing.{Share, front, back}
+
+-- ---- the hands
+
+module _ {T O : Type 0} where
+  abbrev pub draws_of : Hand T O → List ℕ
+  draws_of hand = hand.me.0.draws
+
+  abbrev pub given_of : Hand T O → List (Done O)
+  given_of hand = hand.me.0.given
+
+  abbrev pub jobs_done : Hand T O → List ℕ
+  jobs_done hand = jobs_of hand.me.0.given
+
+  -- nothing was drawn yet
+  pub record IsReady (table : TableId) (items : List T) (hand : Hand T O) : Type 0 where
+    pub same_table : hand.table_id ≡ table
+    pub me : hand.me ≡ (drawn 1 [] [] items, [])
+
+  -- the counter of so many items, the first seat, from which the hands were split off, and the hands, with which nothing was drawn yet
+  pub record IsOpened (table : TableId) (items : List T) (count : ℕ) (first : Hand T O) (hands : List (Hand T O)) : Type 0 where
+    pub counter : IsCounter table items count
+    pub first_table : first.table_id ≡ table
+    pub first_me : first.me ≡ (drawn (17 - length hands) [] [] items, [])
+    pub few : length hands ≤ 16
+    pub ready : All (λ h. IsReady table items h) hands
+
+  -- the same, for these items and so many workers
+  pub record IsOpenedFor (items : List T) (workers : ℕ) (table : TableId) (key : List T) (first : Hand T O) (hands : List (Hand T O)) : Type 0 where
+    pub same_items : key ≡ items
+    pub count : length hands ≡ workers
+    pub opened : IsOpened table key (length items) first hands
+
+  -- what was drawn is the jobs that were done and given back, and then an end
+  pub record HasWorked (table : TableId) (items : List T) (hand : Hand T O) : Type 0 where
+    pub same_table : hand.table_id ≡ table
+    pub ended : HasEnded items hand.me (given_of hand)
+
+  -- the first seat has so many hands still to take in
+  pub record IsFirst (table : TableId) (hand : Hand T O) (left : ℕ) : Type 0 where
+    pub same_table : hand.table_id ≡ table
+    pub parts : hand.me.0.parts + left ≡ 17
+    pub some : 0 < hand.me.0.parts
+
+-- ---- the shares
 
 -- both lists make so many shares of `size` elements, of which the first `longer` ones have one more
 abbrev pub IsCut : {A B : Type 0} → ℕ → ℕ → ℕ → Share A B → Type 0
 IsCut size longer count s = (length s.first ≡ count * size + longer) × (length s.second ≡ length s.first) × (longer ≤ count)
+
+-- what threads ask of the types: the runtime and the work are shared by threads, and hands and what shares consist of are handed from one to another
+pub record Cross (R W H A B : RattleType) : Type 0 where
+  pub runtime : IsSync R
+  pub work : IsSync W
+  pub hand : IsSend H
+  pub first : IsSend A
+  pub second : IsSend B
 
 -- P holds of each hand and its share. Shares are cut off one after another, as in `WorkedFrom`
 abbrev pub EachShare : {H A B : Type 0} → (H → Share A B → Type 0) → ℕ → ℕ → List H → Share A B → Type 0

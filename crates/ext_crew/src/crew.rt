@@ -1,17 +1,16 @@
 //! Runs one job for each item on several workers.
-ghost use Rattle.std.specs.Prelude.{◌≡◌, ℕ, ◌+◌, ◌/◌, ◌%◌, ◌<◌, ◌≤◌, length, min, List, All, map, IfOk, IfErr, OnErr, IsOk, []};
+ghost use Rattle.std.specs.Prelude.{◌≡◌, ℕ, ◌+◌, ◌/◌, ◌%◌, ◌<◌, ◌≤◌, length, min, List, All, map, vec_capacity, IfOk, IfErr, OnErr, IsOk, []};
 ghost use denote.Param.Send.{IsSync, IsSend, Frees};
 ghost use Rattle.ext_crew.specs.Dealing.{Share, RunByDealing, Runs, Accepts, AcceptsParts, InTurn, WorkedFrom};
 ghost use Rattle.ext_crew.specs.declared.fault.CrewFault.TheVariants.{Memory};
-ghost use Rattle.ext_crew.specs.Counter.{given_of, IsCounter, IsReady, HasWorked};
-ghost use Rattle.ext_crew.specs.Hands.{IsCut};
+ghost use Rattle.ext_jobs.specs.Counter.{IsCounter};
+ghost use Rattle.ext_crew.specs.Hands.{given_of, IsReady, IsOpened, IsOpenedFor, HasWorked, IsCut};
 
-use crate::counter::{open_counter, take_outcomes};
 use crate::hand::{join_hands, make_hands, work};
-use crate::rule::{Counter, Hand};
 use crate::workers::for_each_share;
 use crate::{CrewFault, Gate};
-use std::alloc::Allocator;
+use ext_jobs::{Counter, CounterTable, Hand, open_counter, take_outcomes};
+use std::alloc::{AllocError, Allocator};
 use std::sync::Wait;
 use std::thread::Threads;
 
@@ -67,11 +66,74 @@ pub fn run_children<
         return Ok(Vec::new(alloc));
     }
     let workers = first.len().min(count);
+    let (crew, mut outcomes) = open_crew(&alloc, items, workers)?;
+    run_crew(rt, crew, count, run, gate, first, second, &mut outcomes);
+    Ok(outcomes)
+}
+
+/// What a run needs, all of whose memory is taken: the counter, the seat from which those of the workers were split off, and a hand
+/// for each worker.
+#[derive(Drop)]
+struct Crew<T, O, M: Allocator> {
+    table: CounterTable<T, O, M>,
+    seat: Hand<T, O>,
+    hands: Vec<Hand<T, O>, M>,
+}
+
+/// A counter for the items, a hand for each worker, and room for each outcome. No more memory is needed from here on.
+fn open_crew<T: Drop, O: Drop, M: Allocator + Clone>(
+    alloc: &M,
+    items: Vec<T, M>,
+    workers: usize,
+) -> Result<(Crew<T, O, M>, Vec<O, M>), AllocError>
+    requires few { (length items.items ≤ 256) × (workers ≤ 16) }
+    ensures { IfOk result (λ made. IsOpenedFor items.items workers made.0.table.shared.table_id made.0.table.shared.key.value.items
+        made.0.seat made.0.hands.items × (length items.items ≤ vec_capacity made.1) × (made.1.items ≡ [])) }
+{
+    let outcomes = Vec::with_capacity(alloc.clone()?, items.len())?;
+    let (table, mut seat) = open_counter(alloc, items)?;
+    let hands = make_hands(alloc, &table.shared, &mut seat, workers)?;
+    Ok((Crew { table, seat, hands }, outcomes))
+}
+
+/// Runs the hands of a crew, each with a share of its own, and moves the outcomes out of their slots. Takes no memory.
+fn run_crew<
+    R: Threads + Wait + Sync,
+    M: Allocator + Send,
+    A: Send,
+    B: Send,
+    T: Send + Drop,
+    O: Send + Drop,
+    F: Fn(usize, T, &mut [A], &mut [B]) -> O + Sync,
+    G: Gate + Sync,
+>(
+    rt: &R,
+    crew: Crew<T, O, M>,
+    count: usize,
+    run: &F,
+    gate: &G,
+    first: &mut [A],
+    second: &mut [B],
+    outcomes: &mut Vec<O, M>,
+)
+    requires opened { IsOpened crew.table.shared.table_id crew.table.shared.key.value.items count crew.seat crew.hands.items }
+    requires lengths { (0 < length crew.hands.items) × (length crew.hands.items ≤ length first.old)
+        × (length second.old ≡ length first.old) }
+    requires accepts { AcceptsParts F.Fn run.now crew.table.shared.key.value.items
+        (record { first = first.old; second = second.old }) }
+    requires room { (count ≤ vec_capacity outcomes.old) × (outcomes.old.items ≡ []) }
+    ensures { RunByDealing (Runs F.Fn run.now crew.table.shared.key.value.items) count (length crew.hands.items)
+        (record { first = first.old; second = second.old }) outcomes.new.items
+        (record { first = first.new; second = second.new }) }
+{
+    let Crew {
+        table,
+        mut seat,
+        mut hands,
+    } = crew;
+    let workers = hands.len();
     let size = first.len() / workers;
     let longer = first.len() % workers;
-    let mut outcomes = Vec::with_capacity(alloc.clone()?, count)?;
-    let (table, mut seat) = open_counter(&alloc, items)?;
-    let mut hands = make_hands(&alloc, &table.shared, &mut seat, workers)?;
     run_hands(
         rt,
         &table.shared,
@@ -85,8 +147,7 @@ pub fn run_children<
         second,
     );
     join_hands(&table.shared, &mut seat, hands);
-    take_outcomes(table, seat, &mut outcomes);
-    Ok(outcomes)
+    take_outcomes(table, seat, outcomes);
 }
 
 /// Runs the hands, each with a share of its own. Takes no memory.

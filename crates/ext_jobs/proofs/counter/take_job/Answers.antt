@@ -1,10 +1,10 @@
 use Rattle.std.proofs.Common.{◌<◌, length, ap, sym, ◌∙◌, subst, rules}
 use Rattle.std.specs.Prelude.{slice_get, Option}
 use Rattle.std.specs.Option.{IsSome}
-use Rattle.ext_crew.specs.Counter.{item_in, slot_of}
-use Rattle.ext_crew.specs.declared.slot.Slot.{Slot}
-use Rattle.ext_crew.proofs.Draws.{taken_slot, holds_one, same_value, item_in-slot_of, some_item}
-use Rattle.ext_crew.proofs.counter.take_job.Goals as goal
+use Rattle.ext_jobs.specs.Counter.{item_in, slot_of}
+use Rattle.ext_jobs.specs.declared.slot.Slot.{Slot}
+use Rattle.ext_jobs.proofs.Draws.{taken_slot, holds_one, same_value, item_in-slot_of, some_item}
+use Rattle.ext_jobs.proofs.counter.take_job.Goals as goal
 
 pub exchange-requires : goal.exchange-requires
 exchange-requires g c =

@@ -1,4 +1,5 @@
--- The rule of the counter from which workers draw jobs, and what each step tells. No public call names these words. Own rules.
+-- The rule of the counter from which workers draw jobs, what each step tells, and what is known of a hand round each call. The contracts of the calls name
+-- only the last of these, and `done_by`, what a hand has done. Own rules.
 -- Each job has a slot: its item stands there until a worker draws the job, and its outcome once that worker has given the slot back, which it does with its next draw.
 -- A seat's view is the list of its draws and the list of the jobs that it did and gave back. Beside them stand for how many of the seats that were split off it counts
 -- (so that the one that stands for all of them knows that no other seat has drawn anything) and the items (since what a step tells can't read the table's key).
@@ -9,11 +10,11 @@ use lib.ListN.{get_elem?}
 use Rattle.atomic_table.specs.Table.{State, Me, rest}
 use Rattle.atomic_table.specs.Seated.{TableId}
 use Rattle.atomic_table.specs.declared.shared.Seat.{Seat}
-use Rattle.ext_crew.specs.declared.done.Done.{Done}
-use Rattle.ext_crew.specs.declared.rule.Drawn.{Drawn}
-use Rattle.ext_crew.specs.declared.slot.Slot.{Slot}
-use Rattle.ext_crew.specs.declared.slot.Slot.TheVariants as slot
-use Rattle.ext_crew.specs.Dealing.{times}
+use Rattle.ext_jobs.specs.declared.done.Done.{Done}
+use Rattle.ext_jobs.specs.declared.rule.Drawn.{Drawn}
+use Rattle.ext_jobs.specs.declared.slot.Slot.{Slot}
+use Rattle.ext_jobs.specs.declared.slot.Slot.TheVariants as slot
+use Rattle.ext_jobs.specs.Times.{times}
 
 -- what a worker has in hand
 abbrev pub Hand : Type 0 → Type 0 → Type 0
@@ -162,34 +163,15 @@ pub record HasEnded {T O : Type 0} (items : List T) (me : Me (Slot T O) (Drawn T
   pub left : me ≡ (drawn 1 (jobs_of done ++ end ∷ []) done items, [])
   pub no_end : ends (length items) (jobs_of done) ≡ 0
 
--- ---- the counter of a run, and its hands
+-- ---- the counter of a run
 
 -- this is the counter of so many items, of which there are few, each with a slot
 abbrev pub IsCounter : {T : Type 0} → TableId → List T → ℕ → Type 0
 IsCounter table items count = (table.words ≡ 1) × (length items ≡ count) × (count ≤ 256) × (table.slots ≡ count)
 
-module _ {T O : Type 0} where
-  abbrev pub draws_of : Hand T O → List ℕ
-  draws_of hand = hand.me.0.draws
-
-  abbrev pub given_of : Hand T O → List (Done O)
-  given_of hand = hand.me.0.given
-
-  abbrev pub jobs_done : Hand T O → List ℕ
-  jobs_done hand = jobs_of hand.me.0.given
-
-  -- nothing was drawn yet
-  pub record IsReady (table : TableId) (items : List T) (hand : Hand T O) : Type 0 where
-    pub same_table : hand.table_id ≡ table
-    pub me : hand.me ≡ (drawn 1 [] [] items, [])
-
-  -- what was drawn is the jobs that were done and given back, and then an end
-  pub record HasWorked (table : TableId) (items : List T) (hand : Hand T O) : Type 0 where
-    pub same_table : hand.table_id ≡ table
-    pub ended : HasEnded items hand.me (given_of hand)
-
-  -- the first seat has so many hands still to take in
-  pub record IsFirst (table : TableId) (hand : Hand T O) (left : ℕ) : Type 0 where
-    pub same_table : hand.table_id ≡ table
-    pub parts : hand.me.0.parts + left ≡ 17
-    pub some : 0 < hand.me.0.parts
+-- this is the counter of these items, from which nothing was drawn, and its first seat, which stands for all 17 seats that there may be
+pub record IsOpen {T O : Type 0} (table : TableId) (key items : List T) (first : Hand T O) : Type 0 where
+  pub counter : IsCounter table key (length items)
+  pub same_items : key ≡ items
+  pub same_table : first.table_id ≡ table
+  pub me : first.me ≡ (drawn 17 [] [] items, [])

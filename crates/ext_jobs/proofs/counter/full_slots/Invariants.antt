@@ -1,7 +1,7 @@
 use Rattle.std.proofs.Common.{◌≡◌, ◌+◌, ◌≤◌, ◌++◌, map, vec_len, vec_capacity}
 use Rattle.std.specs.VecDeque.{deque_len}
-use Rattle.ext_crew.specs.declared.slot.Slot.TheVariants as slot
-use Rattle.ext_crew.proofs.counter.full_slots.Given as goal
+use Rattle.ext_jobs.specs.declared.slot.Slot.TheVariants as slot
+use Rattle.ext_jobs.proofs.counter.full_slots.Given as goal
 
 abbrev pub invariant-loop-item : goal.invariant-loop-item
 invariant-loop-item g l =

@@ -3,13 +3,12 @@ use Rattle.std.proofs.lemmas.List.{length-map}
 use Rattle.std.specs.Slots.{slots_items, slots_filled}
 use lib.ListN.{get_elem?}
 use mathlib.Core.Option.{some}
-use Rattle.ext_crew.specs.Counter.{outcome_in, outcomes_in}
-use Rattle.ext_crew.specs.declared.slot.Slot.{Slot}
-use Rattle.ext_crew.proofs.Draws.{ends_with}
+use Rattle.ext_jobs.specs.Counter.{outcome_in, outcomes_in}
+use Rattle.ext_jobs.specs.declared.slot.Slot.{Slot}
+use Rattle.ext_jobs.proofs.Draws.{ends_with}
 use Rattle.std.proofs.Common.{take_all}
-use Rattle.ext_crew.proofs.Lists.{false_up_to}
-use Rattle.ext_crew.proofs.Places.{outcomes-one_more, place_of}
-use Rattle.ext_crew.proofs.counter.take_outcomes.Goals as goal
+use Rattle.ext_jobs.proofs.Slots.{false_up_to, outcomes-one_more, place_of}
+use Rattle.ext_jobs.proofs.counter.take_outcomes.Goals as goal
 
 pub loop-slot-preserved : goal.loop-slot-preserved
 loop-slot-preserved g c =

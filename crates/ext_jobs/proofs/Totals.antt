@@ -5,9 +5,9 @@ use Rattle.std.proofs.lemmas.Bool.Decides.{nat_tests}
 use Rattle.std.proofs.lemmas.List.Elements.{All-cons, All-weaker}
 use mathlib.Core.Option.{some, some-injective, some-ne-none}
 use lib.ListN.{get_elem?}
-use Rattle.ext_crew.specs.Dealing.{times}
-use Rattle.ext_crew.specs.Counter.{total, ends, jobs_of}
-use Rattle.ext_crew.specs.declared.done.Done.{Done}
+use Rattle.ext_jobs.specs.Times.{times}
+use Rattle.ext_jobs.specs.Counter.{total, ends, jobs_of}
+use Rattle.ext_jobs.specs.declared.done.Done.{Done}
 
 module _ {V : Type 0} (f : V → ℕ) where
   -- one view changes

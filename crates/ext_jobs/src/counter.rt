@@ -1,8 +1,8 @@
-//! The counter of one run: it is opened over the items, drawn from by workers, given outcomes, and closed.
+//! The counter: it is opened over the items, drawn from by workers, given outcomes, and closed.
 ghost use Rattle.std.specs.Prelude.{◌≡◌, ℕ, ◌+◌, ◌<◌, ◌≤◌, ◌++◌, [], ◌∷◌, List, Option, length, map, cond, ltb, Some, None, slice_get, vec_capacity, filter_map, vec_len, All, IfOk, IfSome, IfNone};
-ghost use Rattle.ext_crew.specs.Counter.{drawn, done_by, slot_of, outcomes_in, IsCounter, IsDrawing, HasDrawn, HasEnded};
-ghost use Rattle.ext_crew.specs.Dealing.{times};
-ghost use Rattle.ext_crew.specs.declared.slot.Slot.TheVariants.{Item, Empty};
+ghost use Rattle.ext_jobs.specs.Counter.{done_by, slot_of, outcomes_in, IsCounter, IsOpen, IsDrawing, HasDrawn, HasEnded};
+ghost use Rattle.ext_jobs.specs.Times.{times};
+ghost use Rattle.ext_jobs.specs.declared.slot.Slot.TheVariants.{Item, Empty};
 
 use crate::Done;
 use crate::job::Job;
@@ -13,17 +13,17 @@ use std::alloc::{AllocError, Allocator};
 use std::snapshot::Snapshot;
 use std::sync::Wait;
 
-/// A counter at 0 over a slot for each item, and the seat from which those of the workers are split off. Takes memory for a slot
-/// for each item, and for the counter.
-pub(crate) fn open_counter<T: Drop, O: Drop, M: Allocator + Clone>(
+/// Opens a counter at 0 over a slot for each item, and gives it with the first hand, from which those of up to 16 workers can be
+/// split off (`split_seat::<Hires>` of the counter).
+///
+/// There are at most 256 items, possibly none. Takes memory for a slot for each item, and for the counter; where an allocation fails
+/// the items are dropped. Own rule.
+pub fn open_counter<T: Drop, O: Drop, M: Allocator + Clone>(
     alloc: &M,
     items: Vec<T, M>,
 ) -> Result<(CounterTable<T, O, M>, Hand<T, O>), AllocError>
     requires { length items.items ≤ 256 }
-    ensures counter { IfOk result (λ made. IsCounter made.0.shared.table_id made.0.shared.key.value.items (length items.items)) }
-    ensures items { IfOk result (λ made. made.0.shared.key.value.items ≡ items.items) }
-    ensures seat { IfOk result (λ made. (made.1.table_id ≡ made.0.shared.table_id)
-        × (made.1.me ≡ (drawn 17 [] [] items.items, []))) }
+    ensures opened { IfOk result (λ made. IsOpen made.0.shared.table_id made.0.shared.key.value.items items.items made.1) }
 {
     let key = Snapshot::of(&items);
     let slots = full_slots(alloc, items)?;
@@ -47,9 +47,13 @@ fn full_slots<T: Drop, O: Drop, M: Allocator + Clone>(
     Ok(slots)
 }
 
-/// Draws the next number, and gives back the slot of the job before. Gives the job with this index, or `None` where there is none,
-/// and then nothing is drawn any more. An exchange that fails is tried again from the number that it found. Takes no memory.
-pub(crate) fn draw<R: Wait, T: Drop, O: Drop, M: Allocator>(
+/// Draws the next job, and gives back the slot of the job before with its outcome. Answers `None` where all jobs were drawn, and then
+/// this hand draws nothing any more.
+///
+/// `count` is the number of items. The jobs come in the order of the items, each to one hand. An exchange that fails, since another
+/// hand drew at the same time, is tried again from the number that it found, so the call takes the runtime and may wait. Takes no
+/// memory. Own rule.
+pub fn draw<R: Wait, T: Drop, O: Drop, M: Allocator>(
     rt: &R,
     counter: &Counter<T, O, M>,
     hand: &mut Hand<T, O>,
@@ -103,8 +107,9 @@ fn take_job<T: Drop, O: Drop, M: Allocator>(
     Some(Job { index, item })
 }
 
-/// Puts the outcome of the job that was drawn last into its slot, which the next draw gives back. Takes no memory.
-pub(crate) fn put_outcome<T: Drop, O: Drop, M: Allocator>(
+/// Puts the outcome of the job that the hand drew last into its slot, which the hand's next draw gives back. Takes no memory, and does
+/// not wait. Own rule.
+pub fn put_outcome<T: Drop, O: Drop, M: Allocator>(
     counter: &Counter<T, O, M>,
     hand: &mut Hand<T, O>,
     done: Done<O>,
@@ -119,9 +124,13 @@ pub(crate) fn put_outcome<T: Drop, O: Drop, M: Allocator>(
     counter.exchange(hand, job, Slot::Outcome(outcome));
 }
 
-/// Closes the counter after all workers have ended, and moves the outcomes out of their slots, in the order of the jobs. The first
-/// seat stands for every seat again, so its draws are all that there were. Takes no memory.
-pub(crate) fn take_outcomes<T: Drop, O: Drop, M: Allocator>(
+/// Closes the counter after all workers have ended, and moves the outcomes out of their slots into `outcomes`, in the order of the
+/// jobs.
+///
+/// Every hand was joined into the first one again (`join_seat::<Hires>` of the counter), so its draws are all that there were:
+/// each number below some number once. Each job that was given back has its outcome at its place; a job that was not drawn has none, and
+/// its item is dropped. `outcomes` is empty and has room for an outcome for each item. Takes no memory, and does not wait. Own rule.
+pub fn take_outcomes<T: Drop, O: Drop, M: Allocator>(
     table: CounterTable<T, O, M>,
     first: Hand<T, O>,
     outcomes: &mut Vec<O, M>,

@@ -1,11 +1,11 @@
 use Rattle.std.proofs.Common.{◌≡◌, ℕ, [], ◌∷◌, sym, ◌∙◌, refl, subst, arith, rules}
 use Rattle.std.specs.Prelude.{Some, slice_get}
-use Rattle.ext_crew.specs.Counter.{IsDrawing, HasDrawn, Took, done_by}
-use Rattle.ext_crew.specs.declared.job.Job.{Job}
-use Rattle.ext_crew.specs.declared.slot.Slot.TheVariants as slot
+use Rattle.ext_jobs.specs.Counter.{IsDrawing, HasDrawn, Took, done_by}
+use Rattle.ext_jobs.specs.declared.job.Job.{Job}
+use Rattle.ext_jobs.specs.declared.slot.Slot.TheVariants as slot
 use Rattle.std.proofs.lemmas.Option.{slice_get_within}
-use Rattle.ext_crew.proofs.Draws.{may_load, may_draw, goes_on, if_both}
-use Rattle.ext_crew.proofs.counter.draw.Goals as goal
+use Rattle.ext_jobs.proofs.Draws.{may_load, may_draw, goes_on, if_both}
+use Rattle.ext_jobs.proofs.counter.draw.Goals as goal
 
 pub load-number-requires : goal.load-number-requires
 load-number-requires g c = (c.requires.table, (let words = c.requires.counter.0 in omega (arith, words)), may_load c.args.counter.now.key.value.items _ _ c.args.hand.now.me c.requires.drawing)

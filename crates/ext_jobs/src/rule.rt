@@ -7,23 +7,17 @@ use std::alloc::Allocator;
 use std::collections::LinkedList;
 use std::snapshot::Snapshot;
 
-/// The counter, word 0, and a slot for each job, as workers share them.
-pub(crate) type Counter<T, O, M> = Shared<Slot<T, O>, Drawn<T, O>, Snapshot<Vec<T, M>>, Drawing>;
+/// The counter, word 0, and a slot for each job, as workers share them. The key is the list of items. Own rule.
+pub type Counter<T, O, M> = Shared<Slot<T, O>, Drawn<T, O>, Snapshot<Vec<T, M>>, Drawing>;
 
-/// The counter and the slots with their memory.
-pub(crate) type CounterTable<T, O, M> = Table<
-    Slot<T, O>,
-    Drawn<T, O>,
-    Snapshot<Vec<T, M>>,
-    Drawing,
-    M,
->;
+/// The counter and the slots with their memory. Workers share `shared` of it. Own rule.
+pub type CounterTable<T, O, M> = Table<Slot<T, O>, Drawn<T, O>, Snapshot<Vec<T, M>>, Drawing, M>;
 
-/// What a worker has in hand: a seat at the counter, with which it draws jobs and gives back what they gave. It takes no bytes.
-pub(crate) type Hand<T, O> = Seat<Slot<T, O>, Drawn<T, O>>;
+/// What a worker has in hand: a seat at the counter, with which it draws jobs and gives back what they gave. It takes no bytes. Own rule.
+pub type Hand<T, O> = Seat<Slot<T, O>, Drawn<T, O>>;
 
 /// The view of a seat. No value of it is made.
-pub(crate) struct Drawn<T, O> {
+pub struct Drawn<T, O> {
     /// For how many of the seats that were split off at first this one stands. A seat that stands for none is spent.
     pub parts: u64,
     /// The numbers that it drew.
@@ -36,11 +30,11 @@ pub(crate) struct Drawn<T, O> {
 
 /// The views hold each number below the counter once in all, each slot from the counter on has its item, and each slot that was
 /// given back has its job's outcome.
-pub(crate) struct Drawing;
+pub struct Drawing;
 
 impl<T, O, M: Allocator> TableRule<Slot<T, O>, Drawn<T, O>, Snapshot<Vec<T, M>>> for Drawing {
     ghost use Rattle.std.specs.Prelude.{[]};
-    ghost use Rattle.ext_crew.specs.Counter.{Kept, drawn};
+    ghost use Rattle.ext_jobs.specs.Counter.{Kept, drawn};
 
     ghost holds = { λ key s. Kept key.value.items s };
 
@@ -51,7 +45,7 @@ impl<T, O, M: Allocator> TableRule<Slot<T, O>, Drawn<T, O>, Snapshot<Vec<T, M>>>
 pub(crate) struct Loads;
 
 impl<T, O> Play<Slot<T, O>, Drawn<T, O>> for Loads {
-    ghost use Rattle.ext_crew.specs.Counter.{Loaded};
+    ghost use Rattle.ext_jobs.specs.Counter.{Loaded};
 
     ghost then = { λ _ v found w. Loaded v found w };
 }
@@ -61,16 +55,16 @@ pub(crate) struct Draws;
 
 impl<T, O> Play<Slot<T, O>, Drawn<T, O>> for Draws {
     ghost use Rattle.std.specs.Prelude.{◌==◌};
-    ghost use Rattle.ext_crew.specs.Counter.{DrawsIf};
+    ghost use Rattle.ext_jobs.specs.Counter.{DrawsIf};
 
     ghost then = { λ s v found w. DrawsIf (found == s.first) v found w };
 }
 
 /// A worker's seat is split off the first one, and joined in again.
-pub(crate) struct Hires;
+pub struct Hires;
 
 impl<T, O> Split<Drawn<T, O>> for Hires {
-    ghost use Rattle.ext_crew.specs.Counter.{hirer, hired};
+    ghost use Rattle.ext_jobs.specs.Counter.{hirer, hired};
 
     ghost left = { hirer };
 
@@ -78,7 +72,7 @@ impl<T, O> Split<Drawn<T, O>> for Hires {
 }
 
 impl<T, O> Join<Drawn<T, O>> for Hires {
-    ghost use Rattle.ext_crew.specs.Counter.{together, spent};
+    ghost use Rattle.ext_jobs.specs.Counter.{together, spent};
 
     ghost both = { together };
 

@@ -1,10 +1,10 @@
 //! What stands in the slot of a job.
 ghost use Rattle.std.specs.Prelude.{◌≡◌};
-ghost use Rattle.ext_crew.specs.Counter.{item_in};
+ghost use Rattle.ext_jobs.specs.Counter.{item_in};
 
 /// What stands in the slot of a job: its item until it is drawn, its outcome once it has ended, and nothing between.
 #[derive(Drop)]
-pub(crate) enum Slot<T, O> {
+pub enum Slot<T, O> {
     /// The item of a job that was not drawn yet.
     Item(T),
     /// The outcome of a job that has ended.

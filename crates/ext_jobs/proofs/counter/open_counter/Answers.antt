@@ -1,9 +1,9 @@
 use Rattle.std.proofs.Common.{rules, ◌≡◌, ◌∷◌, [], List, sym, subst}
 use Rattle.atomic_table.specs.Table.{opening}
-use Rattle.ext_crew.specs.Counter.{Kept, drawn}
-use Rattle.ext_crew.specs.declared.slot.Slot.{Slot}
-use Rattle.ext_crew.proofs.Draws.{opens}
-use Rattle.ext_crew.proofs.counter.open_counter.Goals as goal
+use Rattle.ext_jobs.specs.Counter.{Kept, drawn}
+use Rattle.ext_jobs.specs.declared.slot.Slot.{Slot}
+use Rattle.ext_jobs.proofs.Draws.{opens}
+use Rattle.ext_jobs.proofs.counter.open_counter.Goals as goal
 
 pub new-requires : goal.new-requires
 new-requires g c =

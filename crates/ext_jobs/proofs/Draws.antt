@@ -10,13 +10,13 @@ use mathlib.Core.Option as maybe
 use lib.ListN.{get_elem?}
 use Rattle.atomic_table.specs.Table.{State, Act, Me, keeps, gives, takes, chain, rest, put_back, carried_after, Valid, stepped, Allows, Splits, Joins, opening, Final, Seen}
 use Rattle.atomic_table.proofs.Lists.{at_set, at_snoc, set_else, set_here, set_again}
-use Rattle.ext_crew.specs.declared.done.Done.{Done}
-use Rattle.ext_crew.specs.declared.rule.Drawn.{Drawn}
-use Rattle.ext_crew.specs.declared.slot.Slot.{Slot}
-use Rattle.ext_crew.specs.declared.slot.Slot.TheVariants as slot
-use Rattle.ext_crew.specs.Dealing.{times}
-use Rattle.ext_crew.specs.Counter.{drawn, item_in, slot_of, done_at, giving, done_by, jobs_of, total, ends, Fits, Stands, Kept, Loaded, Took, DrawsIf, hirer, hired, together, spent, HoldsOutcome, IsDrawing, HasDrawn, HasEnded}
-use Rattle.ext_crew.proofs.Totals.{total_set, total_push, total_one, total_two, total_most, total_sole, times-append, ends-append, ends_none, below_next, is_below, at_most_once, end_once, end_none, end_most, none_below, same_once, done_counted}
+use Rattle.ext_jobs.specs.declared.done.Done.{Done}
+use Rattle.ext_jobs.specs.declared.rule.Drawn.{Drawn}
+use Rattle.ext_jobs.specs.declared.slot.Slot.{Slot}
+use Rattle.ext_jobs.specs.declared.slot.Slot.TheVariants as slot
+use Rattle.ext_jobs.specs.Times.{times}
+use Rattle.ext_jobs.specs.Counter.{drawn, item_in, slot_of, done_at, giving, done_by, jobs_of, total, ends, Fits, Stands, Kept, Loaded, Took, DrawsIf, hirer, hired, together, spent, HoldsOutcome, IsDrawing, HasDrawn}
+use Rattle.ext_jobs.proofs.Totals.{total_set, total_push, total_one, total_two, total_most, total_sole, times-append, ends-append, ends_none, below_next, is_below, at_most_once, end_once, end_none, end_most, none_below, same_once, done_counted}
 
 set_same : (ws : List ℕ) (k : ℕ) → set ws k (get_or ws k 0) ≡ ws
 set_same [] k = refl

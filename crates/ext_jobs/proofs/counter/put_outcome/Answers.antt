@@ -1,6 +1,6 @@
 use Rattle.std.proofs.Common.{ap}
-use Rattle.ext_crew.proofs.Draws.{holds_one, put_in}
-use Rattle.ext_crew.proofs.counter.put_outcome.Goals as goal
+use Rattle.ext_jobs.proofs.Draws.{holds_one, put_in}
+use Rattle.ext_jobs.proofs.counter.put_outcome.Goals as goal
 
 pub exchange-requires : goal.exchange-requires
 exchange-requires g c = (c.requires.table, (_, holds_one c.args.hand.now.me.1 c.args.done.job _ (ap (λ m. m.1) c.requires.drawn.left)))
