@@ -1,14 +1,18 @@
 -- What is told of the first of the nodes that ran, and what holds of the first of some lanes.
-use Rattle.std.proofs.Common.{◌≡◌, ◌<◌, Bool, List, [], ◌∷◌, length, map, ap, ◌∙◌, refl, subst, arith}
-use Rattle.std.specs.Prelude.{slice_set, slice_index_or}
+use Rattle.std.proofs.Common.{◌≡◌, ◌<◌, Bool, true, List, [], ◌∷◌, length, map, ap, ◌∙◌, sym, refl, subst, arith, length-set}
+use Rattle.std.specs.Prelude.{All, slice_set, slice_index_or}
+use Rattle.std.proofs.lemmas.List.Elements.{All-set}
 use Rattle.ext_model.specs.declared.look.Fault.{Fault}
 use Rattle.ext_lifecycle.specs.Results.{ResultOf, told}
 use Rattle.ext_lifecycle.specs.declared.call.Call.{Call}
 use Rattle.ext_lifecycle.specs.declared.outcome.Outcome.{Outcome}
 use Rattle.ext_lifecycle.specs.Lifecycle.{MakesAll, MakesBefores, MakesCalls}
+use Rattle.ext_locks.specs.Opening.{LocksView}
+use Rattle.ext_locks.specs.Views.{Lane}
+use Rattle.ext_store.specs.Stores.{StoreView, StoreLane, IsLaneOf}
 use Rattle.ext_node_run.specs.declared.results.RanNode.{RanNode}
 use Rattle.ext_node_run.specs.Helpers.{ran_view}
-use Rattle.ext_node_run.specs.NodeRun.{Ran, OnFirst}
+use Rattle.ext_node_run.specs.NodeRun.{Ran, OnFirst, Lanes, IsIdle, IsUsable}
 
 -- a node's result, and what ran below it
 pub ran-first : (x : RanNode) (result : ResultOf Fault) (went_on : Bool) (items below : List RanNode) → items ≡ x ∷ below → told x.result ≡ result → x.went_on ≡ went_on
@@ -16,6 +20,13 @@ pub ran-first : (x : RanNode) (result : ResultOf Fault) (went_on : Bool) (items 
 ran-first x result went_on items below is told_is went_on_is =
     let first : ResultOf Fault → Bool → Ran = λ r w. record { result = r; went_on = w } in
     ap (map ran_view) is ∙ (ap (λ r. first r x.went_on ∷ map ran_view below) told_is ∙ ap (λ w. first result w ∷ map ran_view below) went_on_is)
+
+-- a node's result, of a test
+abbrev pub of_result : ResultOf Fault → List Ran
+of_result result = record { result = result; went_on = true } ∷ []
+
+pub same-told : (told_as result : ResultOf Fault) → told_as ≡ result → of_result told_as ≡ of_result result
+same-told told_as result is = ap of_result is
 
 -- ---- the first of some lanes
 
@@ -41,3 +52,23 @@ pub afters-on : {X : Type 0} (makes : X → Call → Outcome → X → Type 0) (
 afters-on {X} makes xs d left {afters} afters' os e some_here made =
     let P : List Call → Type 0 = λ l. MakesAll makes l (slice_index_or xs 0 d) os left in
     on-first (λ a b. MakesAll makes afters' a os b) xs d left some_here (subst P e made)
+
+-- ---- lanes that a test leaves
+
+set-twice : {X : Type 0} (xs : List X) (x y : X) → slice_set (slice_set xs 0 x) 0 y ≡ slice_set xs 0 y
+set-twice [] x y = refl
+set-twice (z ∷ xs) x y = refl
+
+-- lanes of the store, and lock lanes of which the first took something and gave it back
+pub still_usable : {V : Type 0} (store : StoreView) (locks : LocksView) (before : Lanes V) (after : List (StoreLane V)) (taken given : Lane)
+    → IsUsable store locks before → length after ≡ length before.first → All (IsLaneOf store.id) after → IsIdle locks given → IsUsable store locks (record { first = after; second = slice_set (slice_set before.second 0 taken) 0 given })
+still_usable store locks before after taken given usable count own idle =
+    let some = usable.some in let few = usable.few in
+    let twice = set-twice before.second taken given in
+    record {
+      some = omega (arith, some, count);
+      same = ap length twice ∙ (length-set before.second 0 given ∙ (usable.same ∙ sym count));
+      few = omega (arith, few, count);
+      lanes = own;
+      idle = subst (All (IsIdle locks)) (sym twice) (All-set (IsIdle locks) before.second 0 given idle usable.idle);
+    }

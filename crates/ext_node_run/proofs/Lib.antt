@@ -6,6 +6,5 @@ pub mod Items
 pub mod NodeCalls
 pub mod Placing
 pub mod Refusals
-pub mod Requests
 pub mod Seen
 pub mod Within

@@ -9,7 +9,7 @@ use Rattle.ext_lifecycle.specs.declared.node_result.NodeResult.{NodeResult}
 use Rattle.ext_lifecycle.specs.Results.{ResultOf, told, skipped_result}
 use Rattle.ext_node_run.specs.declared.results.RanNode.{RanNode}
 use Rattle.ext_node_run.specs.Helpers.{ran_view}
-use Rattle.ext_node_run.specs.Suites.{SuiteView}
+use Rattle.ext_nodes.specs.Suites.{SuiteView}
 use Rattle.ext_node_run.specs.NodeRun.{placed, all_skipped}
 
 -- ---- skipped nodes

@@ -1,5 +1,5 @@
 -- What the clauses of this crate speak of.
-pub mod Suites
+pub use Rattle.ext_nodes.specs.Suites
 pub mod Closers
 pub mod Helpers
 pub mod NodeRun

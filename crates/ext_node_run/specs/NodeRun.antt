@@ -1,7 +1,7 @@
 -- How one node is run: the locks of a test, its calls and its close; what is told of it; and why a run does not come to its end.
 -- JUnit 5 User Guide, "Relative Execution Order of User Code and Extensions", "Synchronization" and "Keeping State in Extensions"; lanes, shares and what is told
 -- of a node are own rules.
-use Rattle.std.specs.Prelude.{◌≡◌, ℕ, ◌<◌, ◌≤◌, Bool, true, Option, Some, None, List, [], ◌∷◌, length, map, All, ⊤, Contains, slice_set, Err}
+use Rattle.std.specs.Prelude.{◌≡◌, ℕ, ◌<◌, ◌≤◌, Bool, true, Option, Some, List, [], ◌∷◌, length, map, All, slice_set, Err}
 use Rattle.std.specs.List.{range_with_len}
 use Rattle.ext_model.specs.declared.look.Fault.{Fault}
 use Rattle.ext_lifecycle.specs.declared.call.Call.{Call}
@@ -18,12 +18,13 @@ use Rattle.ext_closing.specs.Closing.{Answer, fault_in}
 use Rattle.ext_closing.specs.Closes.{Closes, IsClosedBy}
 use Rattle.ext_locks.specs.declared.event.LockMode.{LockMode}
 use Rattle.ext_locks.specs.Opening.{LocksView}
-use Rattle.ext_locks.specs.Views.{Lane, LaneCalls}
-use Rattle.ext_locks.specs.Sets.{HeldView, HoldsNothing, HoldsExactly, IsHeldBy, takes_of, gives_of}
+use Rattle.ext_locks.specs.Views.{Lane}
+use Rattle.ext_locks.specs.Sets.{HeldView}
 use Rattle.ext_crew.specs.Dealing.{Share}
 use Rattle.ext_node_run.specs.declared.fault.EngineFault.{EngineFault}
 use Rattle.ext_node_run.specs.declared.fault.EngineFault.TheVariants as faults
-use Rattle.ext_node_run.specs.Suites.{SuiteView, locks_on, IsSetOf}
+use Rattle.ext_nodes.specs.Suites.{SuiteView, locks_on, IsSetOf}
+pub use Rattle.ext_nodes.specs.Taking.{IsNamedLock, IsIdle, TakesSet, GivesBack}
 
 -- ---- results
 
@@ -57,27 +58,6 @@ setting_of store locks suite registered is_closeable = record { store = store; l
 -- lanes of the store, and as many lanes of the locks
 abbrev pub Lanes : Type 0 → Type 0
 Lanes V = Share (StoreLane V) Lane
-
--- ---- locks
-
--- the set is taken: the lane then holds it, and nothing else
-pub record TakesSet (locks : LocksView) (set : List (ℕ × LockMode)) (before : Lane) (held : HeldView) (after : Lane) : Type 0 where
-  pub events : LaneCalls before after (takes_of before.view.number set)
-  pub holds : HoldsExactly after set
-  pub held_set : held.set ≡ set
-  pub names : held.names ≡ locks.names
-  pub is_held : IsHeldBy held after
-
--- it is given back by the lane that took it and made no event since
-pub record GivesBack (held : HeldView) (before after : Lane) : Type 0 where
-  pub was_held : IsHeldBy held before
-  pub nothing : HoldsNothing after
-  pub events : LaneCalls before after (gives_of before.view.number held.set)
-
--- a lane of these locks that holds nothing
-pub record IsIdle (locks : LocksView) (lane : Lane) : Type 0 where
-  pub of_table : lane.table ≡ locks.table
-  pub nothing : HoldsNothing lane
 
 -- ---- shares
 
@@ -137,11 +117,6 @@ pub record IsUsable {V : Type 0} (store : StoreView) (locks : LocksView) (s : La
   pub few : length s.first ≤ 16
   pub lanes : All (IsLaneOf store.id) s.first
   pub idle : All (IsIdle locks) s.second
-
--- the locks have the name that is asked for
-abbrev pub IsNamedLock : List (List ℕ) → Option (List ℕ) → Type 0
-IsNamedLock names None = ⊤
-IsNamedLock names (Some name) = Contains names name
 
 -- the locks have every name that a node asks for, and no node is below a test
 pub record IsFit (store : StoreView) (locks : LocksView) (suite : SuiteView) : Type 0 where

@@ -52,6 +52,17 @@ pub fn take_own<V>(store: &Store<V>, node: ContextNo, closers: &mut Vec<Closer>)
     closers.remove(at)
 }
 
+/// The closer of the node of an item. Those of the nodes below it are dropped.
+pub(crate) fn closer_of<V>(store: &Store<V>, item: Item) -> Closer
+    requires node { item.node < length store.now.tree }
+    requires own { OfStore store.now item.closers.items }
+    requires closers { HasClosers store.now item.node item.closers.items }
+    ensures { IsCloserOf store.now result × (result.context ≡ item.node) }
+{
+    let Item { node, mut closers } = item;
+    take_own(store, node, &mut closers)
+}
+
 /// Where the node's closer stands.
 fn place_of(closers: &[Closer], node: ContextNo) -> Option<usize>
     ensures within { IfSome result (λ at. at < length closers.now) }
@@ -70,9 +81,9 @@ fn split_closers<V>(
 ) -> Result<(Vec<Closer>, Vec<Closer>), AllocError>
     requires own { OfStore store.now closers.items }
     requires node { node < length store.now.tree }
-    ensures own { IfOk result (λ r. OfStore store.now r.0.items × OfStore store.now r.1.items) }
-    ensures mine { IfOk result (λ r. (k : ℕ) → IsWithin store.now.tree node k → Contains (contexts closers.items) k → Contains (contexts r.0.items) k) }
-    ensures others { IfOk result (λ r. (k : ℕ) → ¬ IsWithin store.now.tree node k → Contains (contexts closers.items) k → Contains (contexts r.1.items) k) }
+    ensures { IfOk result (λ r. OfStore store.now r.0.items × OfStore store.now r.1.items
+        × ((k : ℕ) → IsWithin store.now.tree node k → Contains (contexts closers.items) k → Contains (contexts r.0.items) k)
+        × ((k : ℕ) → ¬ IsWithin store.now.tree node k → Contains (contexts closers.items) k → Contains (contexts r.1.items) k)) }
 {
     let mut mine = Vec::new(alloc);
     let mut others = Vec::new(alloc);

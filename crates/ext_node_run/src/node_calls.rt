@@ -4,7 +4,7 @@ ghost use Rattle.ext_store.specs.Stores.{IsLaneOf, StoreView};
 ghost use Rattle.ext_locks.specs.Sets.{HeldView};
 ghost use Rattle.ext_lifecycle.specs.Lifecycle.{IsRoomy, MakesAll, MakesBefores, MakesCalls, tally_of};
 ghost use Rattle.ext_lifecycle.specs.declared.outcome.Outcome.{Outcome};
-ghost use Rattle.ext_node_run.specs.Suites.{IsLent, SuiteView};
+ghost use Rattle.ext_nodes.specs.Suites.{IsLent, SuiteView};
 
 use crate::Suite;
 use ext_lifecycle::{Call, Caller, Outcome, Tally, run_afters, run_befores, run_calls};

@@ -1,26 +1,23 @@
 //! How one node is run.
-ghost use Rattle.std.specs.Prelude.{◌≡◌, ◌+◌, ◌≤◌, ℕ, List, Option, length, map, All, IfOk, IfErr, true, vec_len};
+ghost use Rattle.std.specs.Prelude.{◌≡◌, ◌<◌, ◌≤◌, ℕ, List, Option, length, map, All, IfOk, IfErr, true};
 ghost use Rattle.ext_model.specs.declared.look.Fault.{Fault};
 ghost use Rattle.ext_tree.specs.Paths.{IsPathOf};
-ghost use Rattle.ext_lifecycle.specs.Callbacks.{befores_of as calls_before, afters_of as calls_after};
 ghost use Rattle.ext_lifecycle.specs.Results.{closes_of};
-ghost use Rattle.ext_locks.specs.Sets.{AllBelow};
 ghost use Rattle.ext_store.specs.Stores.{IsCloserOf, IsLaneOf};
 ghost use Rattle.ext_node_run.specs.Closers.{IsNode};
-ghost use Rattle.ext_node_run.specs.declared.fault.EngineFault.TheVariants as engine_fault;
-ghost use Rattle.ext_node_run.specs.Helpers.{ran_view};
-ghost use Rattle.ext_node_run.specs.Suites.{IsSetOf, locks_on};
+ghost use Rattle.ext_node_run.specs.Helpers.{ran_view, of_test, ArePartsOf, TestEnds};
 ghost use Rattle.ext_node_run.specs.NodeRun.{setting_of, ClosesNode, IsUnjoined, IsUsable, IsFit, IsFault, TestRun};
 
+use crate::closers::closer_of;
 use crate::closing::close_again;
-use crate::locking::{give_locks, take_locks, test_set};
 use crate::node_calls::call_test;
-use crate::{EngineFault, Item, RanNode, Suite, take_own};
-use ext_lifecycle::{Call, Closes, Kind, calls_round};
+use crate::{EngineFault, Item, RanNode, Suite};
+use ext_lifecycle::{Call, Closes, Kind, NodeResult, calls_round};
 use ext_locks::{LockLane, LockSet, Locks};
 use ext_model::ContextNo;
+use ext_nodes::{give_locks, take_locks, test_set};
 use ext_store::{Closer, Lane, Store, StoreValue};
-use std::alloc::Global;
+use std::alloc::{AllocError, Global};
 use std::sync::Wait;
 
 /// What runs a node: the runtime, the suite of the nodes, the store and the locks. Own rule.
@@ -36,13 +33,13 @@ pub struct NodeRunner<'a, R, V: StoreValue + Drop, S: Suite<V>> {
     pub locks: &'a Locks,
 }
 
-/// What a test is run with: the closer of its context, its callbacks in the order in which they are called, and its locks.
+/// What a test is run with: its callbacks in the order in which they are called, its locks, and a list with room for its result.
 #[derive(Drop)]
 struct TestParts {
-    closer: Closer,
     befores: Vec<Call>,
     afters: Vec<Call>,
     set: LockSet,
+    ran: Vec<RanNode>,
 }
 
 impl<'a, R: Wait, V: StoreValue + Drop, S: Suite<V>> NodeRunner<'a, R, V, S> {
@@ -80,19 +77,80 @@ impl<'a, R: Wait, V: StoreValue + Drop, S: Suite<V>> NodeRunner<'a, R, V, S> {
         ensures fault { IfErr result (IsFault (setting_of self.now.store.now self.now.locks.now (S.nodes self.now.suite.now) (S.registered self.now.suite.now) V.is_closeable) (S.action_gives self.now.suite.now) S.Action.close_gives) }
     {
         let node = item.node;
-        let mut ran = Vec::with_capacity(alloc, 1)?;
-        let TestParts {
-            closer,
+        let closer = closer_of(self.store, item);
+        let parts = self.test_parts(alloc, node)?;
+        self.run_parts(node, closer, parts, lanes, lock_lanes)
+    }
+
+    /// What the test is run with: its callbacks, its locks, and a list for its result. Takes memory for them.
+    fn test_parts(&self, alloc: Global, node: ContextNo) -> Result<TestParts, AllocError>
+        requires node { node < length self.now.store.now.tree }
+        requires fit { IsFit self.now.store.now self.now.locks.now (S.nodes self.now.suite.now) }
+        ensures { IfOk result (ArePartsOf (setting_of self.now.store.now self.now.locks.now (S.nodes self.now.suite.now) (S.registered self.now.suite.now) V.is_closeable) node) }
+    {
+        let path = self.store.tree().path(node);
+        let (befores, afters) = calls_round(alloc, self.suite, true, node, path.as_slice())?;
+        let set = test_set(alloc, self.suite, self.locks, path.as_slice())?;
+        let ran = Vec::with_capacity(alloc, 1)?;
+        Ok(TestParts {
             befores,
             afters,
             set,
-        } = self.test_parts(alloc, depth, item)?;
+            ran,
+        })
+    }
+
+    /// Runs the test with its parts. Takes no memory but what its calls take.
+    fn run_parts(
+        &self,
+        node: ContextNo,
+        closer: Closer,
+        parts: TestParts,
+        lanes: &mut [Lane<V>],
+        lock_lanes: &mut [LockLane],
+    ) -> Result<Vec<RanNode>, EngineFault>
+        requires lanes { IsUsable self.now.store.now self.now.locks.now (record { first = lanes.old; second = lock_lanes.old }) }
+        requires suite_fits { S.fits self.now.suite.now self.now.store.now }
+        requires test { (S.nodes self.now.suite.now).is_test node ≡ true }
+        requires closer { IsCloserOf self.now.store.now closer × (closer.context ≡ node) }
+        requires node { node < length self.now.store.now.tree }
+        requires parts { ArePartsOf (setting_of self.now.store.now self.now.locks.now (S.nodes self.now.suite.now) (S.registered self.now.suite.now) V.is_closeable) node parts }
+        ensures { TestEnds (setting_of self.now.store.now self.now.locks.now (S.nodes self.now.suite.now) (S.registered self.now.suite.now) V.is_closeable) (S.call_gives self.now.suite.now self.now.store.now) (S.action_gives self.now.suite.now) S.Action.close_gives (λ ran. map ran_view ran.items) node
+            (record { first = lanes.old; second = lock_lanes.old }) result (record { first = lanes.new; second = lock_lanes.new }) }
+    {
+        let result = self.run_locked(node, closer, &parts, lanes, lock_lanes)?;
+        let mut ran = parts.ran;
+        ran.push_reserved(RanNode {
+            result,
+            went_on: true,
+        });
+        Ok(ran)
+    }
+
+    /// Takes the locks of the test, makes its calls, closes its context, and gives the locks back.
+    fn run_locked(
+        &self,
+        node: ContextNo,
+        closer: Closer,
+        parts: &TestParts,
+        lanes: &mut [Lane<V>],
+        lock_lanes: &mut [LockLane],
+    ) -> Result<NodeResult, EngineFault>
+        requires lanes { IsUsable self.now.store.now self.now.locks.now (record { first = lanes.old; second = lock_lanes.old }) }
+        requires suite_fits { S.fits self.now.suite.now self.now.store.now }
+        requires test { (S.nodes self.now.suite.now).is_test node ≡ true }
+        requires closer { IsCloserOf self.now.store.now closer × (closer.context ≡ node) }
+        requires node { node < length self.now.store.now.tree }
+        requires parts { ArePartsOf (setting_of self.now.store.now self.now.locks.now (S.nodes self.now.suite.now) (S.registered self.now.suite.now) V.is_closeable) node parts.now }
+        ensures { TestEnds (setting_of self.now.store.now self.now.locks.now (S.nodes self.now.suite.now) (S.registered self.now.suite.now) V.is_closeable) (S.call_gives self.now.suite.now self.now.store.now) (S.action_gives self.now.suite.now) S.Action.close_gives of_test node
+            (record { first = lanes.old; second = lock_lanes.old }) result (record { first = lanes.new; second = lock_lanes.new }) }
+    {
         let body = Call {
             kind: Kind::Test,
             from: node,
             index: 0,
         };
-        let held = take_locks(self.rt, self.locks, &mut lock_lanes[0], &set);
+        let held = take_locks(self.rt, self.locks, &mut lock_lanes[0], &parts.set);
         let tally = call_test(
             self.rt,
             self.suite,
@@ -100,47 +158,16 @@ impl<'a, R: Wait, V: StoreValue + Drop, S: Suite<V>> NodeRunner<'a, R, V, S> {
             node,
             &held,
             &mut lanes[0],
-            befores.as_slice(),
+            parts.befores.as_slice(),
             body,
-            afters.as_slice(),
+            parts.afters.as_slice(),
         );
         let closed = self.close_node(node, closer, lanes);
         give_locks(self.locks, &mut lock_lanes[0], held);
         match closed {
-            Ok(closes) => {
-                ran.push_reserved(RanNode {
-                    result: tally.result(node, true, closes),
-                    went_on: true,
-                });
-                Ok(ran)
-            }
+            Ok(closes) => Ok(tally.result(node, true, closes)),
             Err(number) => Err(EngineFault::Unjoined(node, number)),
         }
-    }
-
-    /// What the test is run with: its closer, its callbacks and its locks. Takes memory for them.
-    fn test_parts(&self, alloc: Global, depth: usize, item: Item) -> Result<TestParts, EngineFault>
-        requires item { IsNode self.now.store.now depth item }
-        requires fit { IsFit self.now.store.now self.now.locks.now (S.nodes self.now.suite.now) }
-        ensures closer { IfOk result (λ r. IsCloserOf self.now.store.now r.closer × (r.closer.context ≡ item.node)) }
-        ensures calls { IfOk result (λ r. (path : List ℕ) × IsPathOf self.now.store.now.tree item.node path
-            × (r.befores.items ≡ calls_before (S.registered self.now.suite.now) true item.node path) × (r.afters.items ≡ calls_after (S.registered self.now.suite.now) true item.node path)
-            × IsSetOf self.now.locks.now.names (locks_on (S.nodes self.now.suite.now) path) r.set) }
-        ensures few { IfOk result (λ r. (vec_len r.befores ≤ 16777216) × (vec_len r.afters ≤ 16777216)) }
-        ensures within { IfOk result (λ r. AllBelow (length self.now.locks.now.names + 1) r.set) }
-        ensures fault { IfErr result (λ why. why ≡ engine_fault.Memory) }
-    {
-        let Item { node, mut closers } = item;
-        let closer = take_own(self.store, node, &mut closers);
-        let path = self.store.tree().path(node);
-        let (befores, afters) = calls_round(alloc, self.suite, true, node, path.as_slice())?;
-        let set = test_set(alloc, self.suite, self.locks, path.as_slice())?;
-        Ok(TestParts {
-            closer,
-            befores,
-            afters,
-            set,
-        })
     }
 
     /// Closes the context of a node with the lanes in hand, by an action of the suite, and asks again where a lane computes a value for it or others are in

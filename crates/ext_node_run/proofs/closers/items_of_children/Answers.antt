@@ -24,9 +24,9 @@ loop-child-preserved-in_ok-push g c =
     let passes : p child ≡ true = search rules in
     let tree = subst (λ t. IsTree t) c.tree.ensures c.len-count.ensures.tree in
     let item : Item = record { node = child; closers = c.in_ok-closers.closers } in
-    let own = left-item store node child _ _ _ is I.left item refl e.own.0 e.mine in
+    let own = left-item store node child _ _ _ is I.left item refl e.0 e.2 in
     record {
-      left = left-more store node child _ _ _ is I.left _ tree e.own.1 e.others;
+      left = left-more store node child _ _ _ is I.left _ tree e.1 e.3;
       beside = items-in store node p _ _ _ _ item is passes own c.in_ok-push.ensures.items I.beside;
       in_turn = items-out store node (λ x. not (p x)) child _ _ _ is (ap not passes) I.in_turn;
     }
@@ -40,9 +40,9 @@ loop-child-preserved g c =
     let fails : p child ≡ false = search rules in
     let tree = subst (λ t. IsTree t) c.tree.ensures c.len-count.ensures.tree in
     let item : Item = record { node = child; closers = c.in_ok-closers.closers } in
-    let own = left-item store node child _ _ _ is I.left item refl e.own.0 e.mine in
+    let own = left-item store node child _ _ _ is I.left item refl e.0 e.2 in
     record {
-      left = left-more store node child _ _ _ is I.left _ tree e.own.1 e.others;
+      left = left-more store node child _ _ _ is I.left _ tree e.1 e.3;
       beside = items-out store node p child _ _ _ is fails I.beside;
       in_turn = items-in store node (λ x. not (p x)) _ _ _ _ item is (ap not fails) own c.in_ok-push-2.ensures.items I.in_turn;
     }

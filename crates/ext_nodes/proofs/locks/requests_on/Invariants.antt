@@ -1,7 +1,7 @@
 use Rattle.std.proofs.Common.{◌≡◌, ◌∷◌, map, take, None}
 use Rattle.std.specs.List.{flat_map}
-use Rattle.ext_node_run.specs.Suites.{asks, global_mode}
-use Rattle.ext_node_run.proofs.locking.requests_on.Given as goal
+use Rattle.ext_nodes.specs.Suites.{asks, global_mode}
+use Rattle.ext_nodes.proofs.locks.requests_on.Given as goal
 
 abbrev pub invariant-loop-node : goal.invariant-loop-node
 invariant-loop-node g l =

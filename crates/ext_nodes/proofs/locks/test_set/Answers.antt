@@ -1,7 +1,7 @@
 use Rattle.std.proofs.Common.{subst}
 use Rattle.ext_locks.specs.Names.{IsNotMerged}
-use Rattle.ext_node_run.proofs.Requests.{is-merged}
-use Rattle.ext_node_run.proofs.locking.test_set.Goals as goal
+use Rattle.ext_nodes.proofs.Requests.{is-merged}
+use Rattle.ext_nodes.proofs.locks.test_set.Goals as goal
 
 pub unreachable-requires : goal.unreachable-requires
 unreachable-requires g c =

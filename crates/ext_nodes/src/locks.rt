@@ -2,8 +2,8 @@
 ghost use Rattle.std.specs.Prelude.{◌≡◌, ◌+◌, ◌<◌, length, map, All, IfOk, OnOk, ◌++◌};
 ghost use Rattle.std.specs.List.{list_any};
 ghost use Rattle.ext_locks.specs.Sets.{AllBelow, IsHeldBy};
-ghost use Rattle.ext_node_run.specs.Suites.{locks_on, global_mode, IsSetOf, asks};
-ghost use Rattle.ext_node_run.specs.NodeRun.{TakesSet, GivesBack, IsIdle, IsNamedLock};
+ghost use Rattle.ext_nodes.specs.Suites.{locks_on, global_mode, IsSetOf, asks};
+ghost use Rattle.ext_nodes.specs.Taking.{TakesSet, GivesBack, IsIdle, IsNamedLock};
 
 use crate::Suite;
 use ext_locks::{Held, LockLane, LockMode, LockRequest, LockSet, Locks, Resource};
@@ -13,7 +13,10 @@ use std::alloc::{AllocError, Global};
 use std::sync::Wait;
 
 /// Takes the locks of a set, and waits until they are to be had.
-pub(crate) fn take_locks<R: Wait>(rt: &R, locks: &Locks, lane: &mut LockLane, set: &LockSet) -> Held
+///
+/// The lane is one of the locks, and holds nothing; the numbers of the set are those of the locks. Takes no memory. May wait: it promises its clauses
+/// if it returns. JUnit 5 User Guide, section "Synchronization".
+pub fn take_locks<R: Wait>(rt: &R, locks: &Locks, lane: &mut LockLane, set: &LockSet) -> Held
     requires lane { IsIdle locks.now lane.old }
     requires set { AllBelow (length locks.now.names + 1) set.now }
     ensures takes { TakesSet locks.now set.now lane.old result lane.new }
@@ -23,7 +26,10 @@ pub(crate) fn take_locks<R: Wait>(rt: &R, locks: &Locks, lane: &mut LockLane, se
 }
 
 /// Gives the locks back.
-pub(crate) fn give_locks(locks: &Locks, lane: &mut LockLane, held: Held)
+///
+/// The lane is one of the locks, and took them; it made no event since. Takes no memory, and waits for nobody. JUnit 5 User Guide, section
+/// "Synchronization".
+pub fn give_locks(locks: &Locks, lane: &mut LockLane, held: Held)
     requires table { lane.old.table ≡ locks.now.table }
     requires held { IsHeldBy held lane.old }
     ensures gives { GivesBack held lane.old lane.new }
@@ -33,7 +39,10 @@ pub(crate) fn give_locks(locks: &Locks, lane: &mut LockLane, held: Held)
 }
 
 /// The set of the locks that a test with this path takes: of the global one, and of those named at itself and at its ancestors.
-pub(crate) fn test_set<V: StoreValue + Drop, S: Suite<V>>(
+///
+/// The locks have every name that the nodes of the path ask for. Refused where memory is. Takes memory. JUnit 5 User Guide, section
+/// "Synchronization"; the global lock and the locks of ancestors are own rules.
+pub fn test_set<V: StoreValue + Drop, S: Suite<V>>(
     alloc: Global,
     suite: &S,
     locks: &Locks,

@@ -18,7 +18,7 @@ pub trait Suite<V: StoreValue + Drop>: Callbacks {
     ghost use Rattle.ext_lifecycle.specs.Modes.{is_concurrent};
     ghost use Rattle.ext_lifecycle.specs.declared.call.Call.{Call};
     ghost use Rattle.ext_lifecycle.specs.declared.outcome.Outcome.{Outcome};
-    ghost use Rattle.ext_node_run.specs.Suites.{SuiteView, asks, IsLent};
+    ghost use Rattle.ext_nodes.specs.Suites.{SuiteView, asks, IsLent};
 
     /// What closes the values of a context.
     type Action: CloseAction<V> + Drop + Send + Sync;

@@ -1,0 +1,3 @@
+-- What the clauses of this crate speak of.
+pub mod Suites
+pub mod Taking
