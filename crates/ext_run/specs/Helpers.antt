@@ -1,7 +1,6 @@
 -- What the contracts of private functions cite, and nothing else: no public clause needs it.
 use Rattle.std.specs.Prelude.{◌≡◌, ◌<◌, ◌≤◌, ℕ, ◌+◌, false, List, ◌++◌, length, Option, Result, Ok, Err, string_bytes}
 use Rattle.std.specs.Io.KnownBytes.{Consumes, IsAtEnd}
-use Rattle.ext_node_run.specs.declared.fault.EngineFault.{EngineFault}
 use Rattle.ext_parallel.specs.ParallelRun.{IsRefusedRun}
 use Rattle.ext_plan_model.specs.Plans.{PlanText}
 use Rattle.ext_run.specs.declared.fault.RunFault.{RunFault}

@@ -1,4 +1,4 @@
-use Rattle.std.proofs.Common.{◌≡◌, ℕ, ◌≤◌, ◌<◌, ◌+◌, ◌++◌, length, arith, length-append, ap, ◌∙◌, sym, subst}
+use Rattle.std.proofs.Common.{◌≡◌, ◌+◌, length, arith, length-append, ap, ◌∙◌, sym, subst}
 use Rattle.std.specs.Io.KnownBytes.{Consumes}
 use Rattle.ext_run.specs.Answers.{IsReadFault}
 use Rattle.ext_run.proofs.ReadBytes.{Consumes-all, Consumes-long, Consumes-more, fault_is, fault_same, not_ok}
