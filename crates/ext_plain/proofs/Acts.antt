@@ -1,21 +1,17 @@
 -- A store's replies and a step's end, from what the calls of the one-thread store ensure.
 use Rattle.ext_steps.specs.declared.plan_value.PlanValue.{PlanValue}
-use Rattle.std.proofs.Common.{Bool, true, false, ◌≡◌, ℕ, ◌+◌, ◌-◌, List, [], ◌∷◌, ◌++◌, length, take, arith, Option, Some, None, Result, Ok, Err, IfOk, refl, ap, ◌∙◌}
+use Rattle.std.proofs.Common.{Bool, true, false, ◌≡◌, ℕ, ◌+◌, ◌-◌, List, [], ◌∷◌, ◌++◌, length, take, arith, Option, Some, None, Ok, Err, refl, ap, ◌∙◌}
 use Rattle.std.specs.Prelude.{if◌then◌else◌}
 use Rattle.std.proofs.lemmas.List.{take-append-le, take_all}
+use Rattle.ext_model.specs.declared.event.Act.TheVariants.{Remove}
 use Rattle.ext_model.specs.declared.plain_fault.PlainFault.{PlainFault}
 use Rattle.ext_model.specs.declared.plain_fault.PlainFault.TheVariants as plain
 use Rattle.ext_steps.specs.declared.reason.Reason.TheVariants as reasons
 use Rattle.ext_model.specs.Events.{Reply, Happens, Answers, Refuses, NumbersFull, Busy, Closed, Standing, Exhausted, Barred}
 use Rattle.ext_model.specs.State.{State, lookup}
 use Rattle.ext_model.specs.Plain.{Place, number_drawn, result_of, under}
-use Rattle.ext_plain.specs.declared.value_store.ValueStore.{ValueStore}
-use Rattle.ext_lifecycle.specs.declared.outcome.Outcome.{Outcome}
-use Rattle.ext_lifecycle.specs.declared.outcome.Verdict.{Verdict}
 use Rattle.ext_plain.specs.ValueStates.{Memory, ValueState, refusal}
-use Rattle.ext_plain.specs.Steps.{StepEnd, ended, compute_by, computefail_by}
-use Rattle.ext_plain.specs.Helpers.{state_view, end_view}
-use Rattle.ext_lifecycle.specs.FaultTexts.{VerdictText, verdict_text}
+use Rattle.ext_plain.specs.Steps.{StepEnd, act_ends, compute_by, computefail_by, put_by, said_by}
 use Rattle.ext_steps.specs.Values.{ValueText, value_view}
 use Rattle.ext_steps.specs.Calls.{start_of, CallText}
 
@@ -56,26 +52,22 @@ popped xs x n is =
     let count : n - 1 ≡ length xs = omega (arith, is) in
     ap (λ k. take k (xs ++ x ∷ [])) count ∙ take-append-le (length xs) xs (x ∷ []) (omega arith) ∙ take_all (length xs) xs (omega arith)
 
--- a step that computed and found nothing
-pub outcome_ended : (store : ValueStore) (s : ValueState) (o : Outcome) (verdict : Verdict) (v : VerdictText) → state_view store ≡ s → o.verdict ≡ verdict → o.computed ≡ 0 → o.found ≡ 0 → verdict_text verdict ≡ v
-    → end_view store o ≡ ended v s
-outcome_ended store s o verdict v state is computed found told =
-    ap (λ t. record { state = t; verdict = verdict_text o.verdict; computed = o.computed; found = o.found }) state
-    ∙ ap (λ w. record { state = s; verdict = w; computed = o.computed; found = o.found }) (ap verdict_text is ∙ told)
-    ∙ ap (λ n. record { state = s; verdict = v; computed = n; found = o.found }) computed
-    ∙ ap (λ n. record { state = s; verdict = v; computed = 0; found = n }) found
-
 -- ---- a step by the call that it makes
-
-pub IfOk-into : {A B E : Type 0} (view : A → B) (a b : B) (r : Result A E) → IfOk r (λ x. view x ≡ a) → a ≡ b → IfOk r (λ x. view x ≡ b)
-IfOk-into view a b (Ok x) h is = h ∙ is
-IfOk-into view a b (Err e) h is = tt
 
 abbrev pub computes_by : Memory → CallText → ValueText → ValueState → StepEnd
 computes_by found call value s = compute_by found call.name call.label (start_of call.path, call.key) value s (lookup (under s.store call.key) call.path)
 
 pub computes_as : (found : Memory) (a b : CallText) (v w : ValueText) (s : ValueState) → a ≡ b → v ≡ w → computes_by found a v s ≡ computes_by found b w s
 computes_as found a b v w s e f = ap (λ call. computes_by found call v s) e ∙ ap (λ value. computes_by found b value s) f
+
+abbrev pub puts_by : Memory → CallText → ValueText → ValueState → StepEnd
+puts_by found call value s = put_by found call.name call.label (start_of call.path, call.key) value s
+
+pub puts_as : (found : Memory) (a b : CallText) (v w : ValueText) (s : ValueState) → a ≡ b → v ≡ w → puts_by found a v s ≡ puts_by found b w s
+puts_as found a b v w s e f = ap (λ call. puts_by found call v s) e ∙ ap (λ value. puts_by found b value s) f
+
+abbrev pub removes_by : Memory → CallText → ValueState → StepEnd
+removes_by found call s = said_by found (act_ends call.name call.label (Remove (start_of call.path, call.key)) s)
 
 abbrev pub computefails_by : Memory → CallText → ValueState → StepEnd
 computefails_by found call s = computefail_by found call.name call.label (start_of call.path, call.key) s (lookup (under s.store call.key) call.path)

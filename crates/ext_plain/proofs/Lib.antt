@@ -4,6 +4,7 @@ pub mod Stepping
 pub mod Sealing
 pub mod Acts
 pub mod Lacks
+pub mod Few
 pub mod NodeCalls
 pub mod CallsDone
 pub mod Nodes

@@ -1,5 +1,5 @@
 -- What the contracts of private functions cite, and nothing else: no public clause needs it.
-use Rattle.std.specs.Prelude.{◌≡◌, ◌<◌, ◌≤◌, ℕ, Bool, true, false, not, List, [], length, map, Option, Some, None, option_map, Result, Ok, Err, if◌then◌else◌}
+use Rattle.std.specs.Prelude.{◌≡◌, ◌<◌, ◌≤◌, ℕ, Bool, true, false, not, List, [], codes, drop, length, map, Option, Some, None, option_map, Result, Ok, Err, if◌then◌else◌}
 use Rattle.ext_model.specs.declared.look.Fault.{Fault}
 use Rattle.ext_model.specs.declared.event.Act.TheVariants.{Abandon}
 use Rattle.ext_model.specs.declared.plain_fault.PlainFault.{PlainFault}
@@ -10,14 +10,14 @@ use Rattle.ext_lifecycle.specs.declared.call.Call.{Call}
 use Rattle.ext_lifecycle.specs.declared.closes.Closes.{Closes}
 use Rattle.ext_lifecycle.specs.declared.outcome.Outcome.{Outcome}
 use Rattle.ext_lifecycle.specs.declared.tally.Tally.{Tally}
-use Rattle.ext_lifecycle.specs.Endings.{with_fault}
-use Rattle.ext_lifecycle.specs.FaultTexts.{fault_text, results_view, verdict_text}
+use Rattle.ext_lifecycle.specs.Endings.{is_successful, with_fault}
+use Rattle.ext_lifecycle.specs.FaultTexts.{VerdictText, fault_text, results_view, verdict_text}
 use Rattle.ext_lifecycle.specs.Lifecycle.{computed_in, endings_of, found_in, tally_of}
 use Rattle.ext_lifecycle.specs.Results.{closes_of}
-use Rattle.ext_plan_model.specs.Plans.{PlanText, plan_view}
+use Rattle.ext_plan_model.specs.Plans.{KeyText, PlanText, StepText, plan_view, put, put_closeable, want, nothing, remove, compute, compute_closeable, compute_fail, fail, abort}
 use Rattle.ext_steps.specs.declared.reason.Reason.{Reason}
 use Rattle.ext_steps.specs.declared.step_keys.StepCall.{StepCall}
-use Rattle.ext_steps.specs.Calls.{start_of}
+use Rattle.ext_steps.specs.Calls.{CallText, key_number, label_of, start_of}
 use Rattle.ext_steps.specs.Values.{ValueText, value_view}
 use Rattle.ext_plain.specs.declared.callers.NodeCaller.{NodeCaller}
 use Rattle.ext_plain.specs.declared.lack.Lack.{Lack}
@@ -29,8 +29,8 @@ use Rattle.ext_plain.specs.NodeCalls.{CallsEnd, call_run}
 use Rattle.ext_tree.specs.Trees.{IsTree}
 use Rattle.ext_tree.specs.Paths.{IsPathOf}
 use Rattle.ext_plain.specs.PlainRun.{RunState, key_count, node_end}
-use Rattle.ext_plain.specs.Steps.{StepEnd, factory_gave, no_memory, said_by}
-use Rattle.ext_plain.specs.ValueStates.{Memory, no_value, no_place, no_words, ValueState, after_act, reason, why_refused, next_number, keep_value, with_memory}
+use Rattle.ext_plain.specs.Steps.{StepEnd, ended, factory_gave, no_memory, said_by}
+use Rattle.ext_plain.specs.ValueStates.{Memory, enough, no_value, no_place, no_words, ValueState, after_act, reason, why_refused, next_number, keep_value, with_memory}
 
 -- ---- the store and its values
 
@@ -96,11 +96,52 @@ found_lacking (lacks.Words found) = found
 abbrev pub lack_end : ValueState → Lack → StepEnd
 lack_end s lack = record { state = s; verdict = no_memory; computed = 0; found = found_lacking lack }
 
+-- what a step leaves that answered this
+abbrev pub answer_end : ValueState → Result Outcome Lack → StepEnd
+answer_end s (Ok outcome) = step_end s outcome
+answer_end s (Err lack) = lack_end s lack
+
+-- what a step found of memory that answered this
+abbrev pub memory_of : Result Outcome Lack → Memory
+memory_of (Ok outcome) = enough
+memory_of (Err lack) = lacking lack
+
+-- a step ends with this verdict that found a value where it would have computed one
+abbrev pub counted_found : VerdictText → ValueState → StepEnd
+counted_found verdict s = record { state = s; verdict = verdict; computed = 0; found = 1 }
+
+-- what a step of this name calls the store with, under a label's key, on the path of an ancestor so many contexts up
+abbrev pub called : List KeyText → List ℕ → List ℕ → ℕ → ℕ → CallText
+called keys path name key up = record { name = name; label = label_of keys key; path = drop up path; key = key_number keys key }
+
+-- what a step calls the store with; `fail` and `abort` don't call it
+abbrev pub call_of : List KeyText → List ℕ → StepText → CallText
+call_of keys path (put key text up) = called keys path (codes "put") key up
+call_of keys path (put_closeable key text up) = called keys path (codes "put!") key up
+call_of keys path (want key text up) = called keys path (codes "want") key up
+call_of keys path (nothing key up) = called keys path (codes "none") key up
+call_of keys path (remove key up) = called keys path (codes "remove") key up
+call_of keys path (compute key text up) = called keys path (codes "compute") key up
+call_of keys path (compute_closeable key text up) = called keys path (codes "compute!") key up
+call_of keys path (compute_fail key text up) = called keys path (codes "computefail") key up
+call_of keys path (fail text) = called keys path (codes "fail") 0 0
+call_of keys path (abort text) = called keys path (codes "abort") 0 0
+
+-- a step that does nothing more ends with this verdict; it lacks memory only for the words of one that isn't a success
+abbrev pub Says : VerdictText → Result Outcome Lack → Type 0
+Says v (Ok outcome) = (s : ValueState) → step_end s outcome ≡ ended v s
+Says v (Err lack) = (lack ≡ lacks.Words 0) × (is_successful v ≡ false)
+
 -- what is left where memory is lacked once a factory gave a value, under the claim that stands; the place of the claim is in use
 abbrev pub LacksGiven : Lack → List ℕ → List ℕ → Place → ValueText → ValueState → ValueState → Type 0
 LacksGiven lacks.Value name label place value old new = new ≡ after_act (Abandon place) old
 LacksGiven lacks.Place name label place value old new = ⊥
 LacksGiven (lacks.Words found) name label place value old new = lack_end new (lacks.Words found) ≡ said_by no_words (factory_gave name label place value old)
+
+-- what is left once a factory gave a value, under the claim that stands
+abbrev pub Gives : List ℕ → List ℕ → Place → ValueText → ValueState → ValueState → Result Outcome Lack → Type 0
+Gives name label place value old new (Ok outcome) = step_end new outcome ≡ factory_gave name label place value old
+Gives name label place value old new (Err lack) = LacksGiven lack name label place value old new
 
 -- one step computes or finds one value at most
 pub record AreFew (o : Outcome) : Type 0 where

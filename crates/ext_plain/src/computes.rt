@@ -1,20 +1,20 @@
 //! Steps that compute.
-ghost use Rattle.std.specs.Prelude.{◌≡◌, ◌≤◌, IfErr, IfOk, Some};
+ghost use Rattle.std.specs.Prelude.{◌≡◌, Some};
 ghost use Rattle.ext_model.specs.declared.slot.Slot.TheVariants as slot;
 ghost use Rattle.ext_model.specs.declared.look.Look.TheVariants as look;
 ghost use Rattle.ext_model.specs.State.{lookup};
 ghost use Rattle.ext_model.specs.Plain.{any_lane, under};
-ghost use Rattle.ext_plain.specs.Steps.{factory_gave, factory_failed, claim_and, compute_by, compute_looked, computefail_by, computefail_looked};
+ghost use Rattle.ext_plain.specs.Steps.{compute_by, computefail_by};
 ghost use Rattle.ext_steps.specs.Calls.{call_view};
 ghost use Rattle.ext_steps.specs.Values.{value_view};
-ghost use Rattle.ext_plain.specs.Helpers.{place_of_call, state_view, end_view, found_lacking, lack_end, lacking, AreFew, LacksGiven};
+ghost use Rattle.ext_plain.specs.Helpers.{answer_end, memory_of, place_of_call, state_view, Gives};
 
-use crate::found::shown;
 use crate::lack::Lack;
+use crate::said::say_refused;
 use crate::value_store::ValueStore;
 use ext_lifecycle::{Outcome, Verdict};
 use ext_model::Look;
-use ext_steps::{PlanValue, Reason, StepCall, none_verdict, refused};
+use ext_steps::{PlanValue, Reason, StepCall};
 use std::alloc::Global;
 
 impl<'a> ValueStore<'a> {
@@ -25,12 +25,8 @@ impl<'a> ValueStore<'a> {
         call: &StepCall<'_>,
         value: PlanValue<'a>,
     ) -> Result<Outcome, Lack>
-        ensures end { IfOk result (λ o. end_view self.new o ≡ compute_looked (call_view call.now).name (call_view call.now).label (place_of_call call.now)
-            (value_view value.entry) (state_view self.old) (lookup (under (state_view self.old).store (call_view call.now).key) (call_view call.now).path)) }
-        ensures few { IfOk result AreFew }
-        ensures lacks { IfErr result (λ lack. lack_end (state_view self.new) lack ≡ compute_by (lacking lack) (call_view call.now).name (call_view call.now).label (place_of_call call.now)
-            (value_view value.entry) (state_view self.old) (lookup (under (state_view self.old).store (call_view call.now).key) (call_view call.now).path)) }
-        ensures few_lacking { IfErr result (λ lack. found_lacking lack ≤ 1) }
+        ensures { answer_end (state_view self.new) result ≡ compute_by (memory_of result) (call_view call.now).name (call_view call.now).label (place_of_call call.now)
+            (value_view value.entry) (state_view self.old) (lookup (under (state_view self.old).store (call_view call.now).key) (call_view call.now).path) }
     {
         match self.look(call.path, call.key) {
             Look::Found { .. } => Ok(Outcome {
@@ -39,8 +35,8 @@ impl<'a> ValueStore<'a> {
                 found: 1,
             }),
             Look::Absent => self.compute_absent(alloc, call, value),
-            Look::Busy(_) => Ok(Outcome::of(refused(alloc, call, Reason::Busy)?)),
-            Look::Closed(_) => Ok(Outcome::of(refused(alloc, call, Reason::Closed)?)),
+            Look::Busy(_) => say_refused(alloc, call, Reason::Busy),
+            Look::Closed(_) => say_refused(alloc, call, Reason::Closed),
         }
     }
 
@@ -51,15 +47,11 @@ impl<'a> ValueStore<'a> {
         call: &StepCall<'_>,
         value: PlanValue<'a>,
     ) -> Result<Outcome, Lack>
-        ensures end { IfOk result (λ o. end_view self.new o ≡ claim_and (call_view call.now).name (call_view call.now).label (place_of_call call.now)
-            (factory_gave (call_view call.now).name (call_view call.now).label (place_of_call call.now) (value_view value.entry)) (state_view self.old)) }
-        ensures few { IfOk result AreFew }
-        ensures lacks { IfErr result (λ lack. lack_end (state_view self.new) lack ≡ compute_by (lacking lack) (call_view call.now).name (call_view call.now).label (place_of_call call.now)
-            (value_view value.entry) (state_view self.old) look.Absent) }
-        ensures few_lacking { IfErr result (λ lack. found_lacking lack ≤ 1) }
+        ensures { answer_end (state_view self.new) result ≡ compute_by (memory_of result) (call_view call.now).name (call_view call.now).label (place_of_call call.now)
+            (value_view value.entry) (state_view self.old) look.Absent }
     {
         match self.claim(call.at(), call.key)? {
-            Some(why) => Ok(Outcome::of(refused(alloc, call, why)?)),
+            Some(why) => say_refused(alloc, call, why),
             None => self.fill_claim(alloc, call, value),
         }
     }
@@ -73,12 +65,7 @@ impl<'a> ValueStore<'a> {
         value: PlanValue<'a>,
     ) -> Result<Outcome, Lack>
         requires { (state_view self.old).store.slots (place_of_call call.now) ≡ Some (slot.Claim any_lane) }
-        ensures end { IfOk result (λ o. end_view self.new o ≡ factory_gave (call_view call.now).name (call_view call.now).label (place_of_call call.now)
-            (value_view value.entry) (state_view self.old)) }
-        ensures few { IfOk result AreFew }
-        ensures lacks { IfErr result (λ lack. LacksGiven lack (call_view call.now).name (call_view call.now).label (place_of_call call.now)
-            (value_view value.entry) (state_view self.old) (state_view self.new)) }
-        ensures few_lacking { IfErr result (λ lack. found_lacking lack ≤ 1) }
+        ensures { Gives (call_view call.now).name (call_view call.now).label (place_of_call call.now) (value_view value.entry) (state_view self.old) (state_view self.new) result }
     {
         match self.keep(value) {
             Ok(Ok(number)) => {
@@ -91,7 +78,7 @@ impl<'a> ValueStore<'a> {
             }
             Ok(Err(why)) => {
                 self.abandon(call.at(), call.key);
-                Ok(Outcome::of(refused(alloc, call, why)?))
+                say_refused(alloc, call, why)
             }
             Err(lack) => {
                 self.abandon(call.at(), call.key);
@@ -103,43 +90,24 @@ impl<'a> ValueStore<'a> {
     /// A step `computefail`: looks up along the path. Where nothing is found the place is claimed, the factory fails, and
     /// its own fault comes back, so that the claim goes and the step passes.
     pub fn computefail(&mut self, alloc: Global, call: &StepCall<'_>) -> Result<Outcome, Lack>
-        ensures end { IfOk result (λ o. end_view self.new o ≡ computefail_looked (call_view call.now).name (call_view call.now).label (place_of_call call.now)
-            (state_view self.old) (lookup (under (state_view self.old).store (call_view call.now).key) (call_view call.now).path)) }
-        ensures few { IfOk result AreFew }
-        ensures lacks { IfErr result (λ lack. lack_end (state_view self.new) lack ≡ computefail_by (lacking lack) (call_view call.now).name (call_view call.now).label (place_of_call call.now)
-            (state_view self.old) (lookup (under (state_view self.old).store (call_view call.now).key) (call_view call.now).path)) }
-        ensures few_lacking { IfErr result (λ lack. found_lacking lack ≤ 1) }
+        ensures { answer_end (state_view self.new) result ≡ computefail_by (memory_of result) (call_view call.now).name (call_view call.now).label (place_of_call call.now)
+            (state_view self.old) (lookup (under (state_view self.old).store (call_view call.now).key) (call_view call.now).path) }
     {
         match self.look(call.path, call.key) {
-            Look::Found { number, .. } => match none_verdict(
-                alloc,
-                call,
-                shown(self.value_of(number)),
-            ) {
-                Ok(verdict) => Ok(Outcome {
-                    verdict,
-                    computed: 0,
-                    found: 1,
-                }),
-                Err(_) => Err(Lack::Words { found: 1 }),
-            },
+            Look::Found { number, .. } => self.fail_found(alloc, call, number),
             Look::Absent => self.fail_claimed(alloc, call),
-            Look::Busy(_) => Ok(Outcome::of(refused(alloc, call, Reason::Busy)?)),
-            Look::Closed(_) => Ok(Outcome::of(refused(alloc, call, Reason::Closed)?)),
+            Look::Busy(_) => say_refused(alloc, call, Reason::Busy),
+            Look::Closed(_) => say_refused(alloc, call, Reason::Closed),
         }
     }
 
     /// Where nothing was found: claims the place, and gives it back once the factory failed.
     fn fail_claimed(&mut self, alloc: Global, call: &StepCall<'_>) -> Result<Outcome, Lack>
-        ensures end { IfOk result (λ o. end_view self.new o ≡ claim_and (call_view call.now).name (call_view call.now).label (place_of_call call.now)
-            (factory_failed (place_of_call call.now)) (state_view self.old)) }
-        ensures few { IfOk result AreFew }
-        ensures lacks { IfErr result (λ lack. lack_end (state_view self.new) lack ≡ computefail_by (lacking lack) (call_view call.now).name (call_view call.now).label (place_of_call call.now)
-            (state_view self.old) look.Absent) }
-        ensures few_lacking { IfErr result (λ lack. found_lacking lack ≤ 1) }
+        ensures { answer_end (state_view self.new) result ≡ computefail_by (memory_of result) (call_view call.now).name (call_view call.now).label (place_of_call call.now)
+            (state_view self.old) look.Absent }
     {
         match self.claim(call.at(), call.key)? {
-            Some(why) => Ok(Outcome::of(refused(alloc, call, why)?)),
+            Some(why) => say_refused(alloc, call, why),
             None => {
                 self.abandon(call.at(), call.key);
                 Ok(Outcome::of(Verdict::Successful))

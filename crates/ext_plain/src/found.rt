@@ -1,45 +1,57 @@
 //! Steps that look whether a value is found, and what it is.
-ghost use Rattle.std.specs.Prelude.{◌≡◌, false, option_map, IfErr, IfOk};
-ghost use Rattle.ext_lifecycle.specs.Endings.{is_successful};
-ghost use Rattle.ext_lifecycle.specs.FaultTexts.{verdict_text};
+ghost use Rattle.std.specs.Prelude.{◌≡◌, option_map};
 ghost use Rattle.ext_model.specs.State.{lookup};
 ghost use Rattle.ext_model.specs.Plain.{under};
 ghost use Rattle.ext_steps.specs.Calls.{call_view};
 ghost use Rattle.ext_steps.specs.Values.{value_view};
 ghost use Rattle.ext_steps.specs.Verdicts.{none_verdict, seen_view, want_verdict};
-ghost use Rattle.ext_plain.specs.Steps.{seen_by, shown};
-ghost use Rattle.ext_plain.specs.Helpers.{state_view};
+ghost use Rattle.ext_plain.specs.Steps.{ended, said_by, seen_by, shown};
+ghost use Rattle.ext_plain.specs.ValueStates.{value_of};
+ghost use Rattle.ext_plain.specs.Helpers.{answer_end, counted_found, memory_of, state_view};
 
+use crate::lack::Lack;
+use crate::said::said;
 use crate::value_store::ValueStore;
-use ext_lifecycle::Verdict;
+use ext_lifecycle::Outcome;
 use ext_model::Look;
 use ext_steps::{PlanValue, Reason, Seen, StepCall, none_verdict, want_verdict};
-use std::alloc::{AllocError, Global};
+use std::alloc::Global;
 
 impl<'a> ValueStore<'a> {
     /// A step `want`: looks up along the path, and compares the text of the value found.
-    pub fn want(
-        &self,
-        alloc: Global,
-        call: &StepCall<'_>,
-        text: &str,
-    ) -> Result<Verdict, AllocError>
-        ensures verdict { IfOk result (λ v. verdict_text v ≡ want_verdict (call_view call.now).name (call_view call.now).label text.now
-            (seen_by (state_view self.now).values (lookup (under (state_view self.now).store (call_view call.now).key) (call_view call.now).path))) }
-        ensures memory { IfErr result (λ _. is_successful (want_verdict (call_view call.now).name (call_view call.now).label text.now
-            (seen_by (state_view self.now).values (lookup (under (state_view self.now).store (call_view call.now).key) (call_view call.now).path))) ≡ false) }
+    pub fn want(&self, alloc: Global, call: &StepCall<'_>, text: &str) -> Result<Outcome, Lack>
+        ensures { answer_end (state_view self.now) result ≡ said_by (memory_of result) (ended (want_verdict (call_view call.now).name (call_view call.now).label text.now
+            (seen_by (state_view self.now).values (lookup (under (state_view self.now).store (call_view call.now).key) (call_view call.now).path))) (state_view self.now)) }
     {
-        want_verdict(alloc, call, text, self.see(call))
+        said(want_verdict(alloc, call, text, self.see(call)))
     }
 
     /// A step `none`: looks up along the path, where nothing is to be found.
-    pub fn none(&self, alloc: Global, call: &StepCall<'_>) -> Result<Verdict, AllocError>
-        ensures verdict { IfOk result (λ v. verdict_text v ≡ none_verdict (call_view call.now).name (call_view call.now).label
-            (seen_by (state_view self.now).values (lookup (under (state_view self.now).store (call_view call.now).key) (call_view call.now).path))) }
-        ensures memory { IfErr result (λ _. is_successful (none_verdict (call_view call.now).name (call_view call.now).label
-            (seen_by (state_view self.now).values (lookup (under (state_view self.now).store (call_view call.now).key) (call_view call.now).path))) ≡ false) }
+    pub fn none(&self, alloc: Global, call: &StepCall<'_>) -> Result<Outcome, Lack>
+        ensures { answer_end (state_view self.now) result ≡ said_by (memory_of result) (ended (none_verdict (call_view call.now).name (call_view call.now).label
+            (seen_by (state_view self.now).values (lookup (under (state_view self.now).store (call_view call.now).key) (call_view call.now).path))) (state_view self.now)) }
     {
-        none_verdict(alloc, call, self.see(call))
+        said(none_verdict(alloc, call, self.see(call)))
+    }
+
+    /// A step `computefail` that finds the value of this number: says which, and counts it.
+    pub fn fail_found(
+        &self,
+        alloc: Global,
+        call: &StepCall<'_>,
+        number: u32,
+    ) -> Result<Outcome, Lack>
+        ensures { answer_end (state_view self.now) result ≡ said_by (memory_of result) (counted_found (none_verdict (call_view call.now).name (call_view call.now).label
+            (shown (value_of (state_view self.now).values number))) (state_view self.now)) }
+    {
+        match none_verdict(alloc, call, shown(self.value_of(number))) {
+            Ok(verdict) => Ok(Outcome {
+                verdict,
+                computed: 0,
+                found: 1,
+            }),
+            Err(_) => Err(Lack::Words { found: 1 }),
+        }
     }
 
     /// What a look-up along the path shows.

@@ -16,6 +16,7 @@ mod lack;
 mod laws;
 mod plain;
 mod reasons;
+mod said;
 mod setting;
 mod skipped;
 mod steps;

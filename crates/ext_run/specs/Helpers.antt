@@ -1,13 +1,36 @@
 -- What the contracts of private functions cite, and nothing else: no public clause needs it.
-use Rattle.std.specs.Prelude.{◌≡◌, false, Result, Ok, Err, string_bytes}
-use Rattle.ext_node_run.specs.declared.fault.EngineFault.{EngineFault}
+use Rattle.std.specs.Prelude.{◌≡◌, ◌<◌, ◌≤◌, ℕ, ◌+◌, false, List, ◌++◌, length, Option, Result, Ok, Err, string_bytes}
+use Rattle.std.specs.Io.KnownBytes.{Consumes, IsAtEnd}
 use Rattle.ext_parallel.specs.ParallelRun.{IsRefusedRun}
 use Rattle.ext_plan_model.specs.Plans.{PlanText}
 use Rattle.ext_run.specs.declared.fault.RunFault.{RunFault}
 use Rattle.ext_run.specs.declared.fault.RunFault.TheVariants as faults
 use Rattle.ext_run.specs.declared.options.Options.{Options}
 use Rattle.ext_run.specs.declared.runs.Output.{Output}
-use Rattle.ext_run.specs.Answers.{Answer, Answers, RefusedAs}
+use Rattle.ext_run.specs.Answers.{Answer, Answers, IsReadFault, RefusedAs, input_limit}
+
+-- ---- the input
+
+-- so many bytes more were read, none only at the end, and the input keeps within its limit
+pub record ReadsMore (before after : Option (List ℕ)) (old new : List ℕ) (count : ℕ) : Type 0 where
+  pub bytes : List ℕ
+  pub taken : Consumes before after bytes
+  pub kept : new ≡ old ++ bytes
+  pub counted : length bytes ≡ count
+  pub short : length new ≤ input_limit
+  pub ended : count ≡ 0 → IsAtEnd after
+
+-- these bytes more were read, and then no more, for this fault
+pub record StopsReading (before after : Option (List ℕ)) (old : List ℕ) (fault : RunFault) : Type 0 where
+  pub bytes : List ℕ
+  pub taken : Consumes before after bytes
+  pub short : length (old ++ bytes) ≤ input_limit + 1
+  pub known : IsReadFault fault
+  pub long : fault ≡ faults.TooLong → input_limit < length (old ++ bytes)
+
+abbrev pub Reads : Option (List ℕ) → Option (List ℕ) → List ℕ → List ℕ → Result ℕ RunFault → Type 0
+Reads before after old new (Ok count) = ReadsMore before after old new count
+Reads before after old new (Err fault) = StopsReading before after old fault
 
 -- ---- the run
 

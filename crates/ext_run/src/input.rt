@@ -1,7 +1,8 @@
 //! Reading a plan's bytes.
-ghost use Rattle.std.specs.Prelude.{◌≡◌, ℕ, ◌+◌, ◌<◌, ◌≤◌, List, length, IfOk, IfErr, IfSome, Err};
+ghost use Rattle.std.specs.Prelude.{◌≡◌, ℕ, ◌+◌, ◌<◌, ◌≤◌, List, length, vec_len, IfOk, IfErr, IfSome, Err};
 ghost use Rattle.std.specs.Io.KnownBytes.{Consumes};
 ghost use Rattle.ext_run.specs.Answers.{input_limit, IsReadFault};
+ghost use Rattle.ext_run.specs.Helpers.{Reads};
 
 use crate::fault::RunFault;
 use std::alloc::Global;
@@ -27,22 +28,31 @@ pub fn read_input<R: Read>(alloc: Global, reader: &mut R) -> Result<Vec<u8>, Run
     ensures faults { IfErr result IsReadFault }
 {
     let mut input = Vec::new(alloc);
-    let mut chunk = [0u8; CHUNK];
     // Each turn reads a byte at least, so that so many turns always suffice.
     for _ in 0..=INPUT_LIMIT {
-        // One byte past the limit tells an input that is too long from one that just fits.
-        let room = (INPUT_LIMIT + 1 - input.len()).min(CHUNK);
-        let count = match reader.read(&mut chunk[..room]) {
-            Ok(count) => count,
-            Err(_) => return Err(RunFault::Read),
-        };
+        let count = read_more(reader, &mut input)?;
         if count == 0 {
             return Ok(input);
         }
-        input.extend_from_slice(&chunk[..count])?;
-        if input.len() > INPUT_LIMIT {
-            return Err(RunFault::TooLong);
-        }
     }
     Err(RunFault::TooLong)
+}
+
+/// Reads some bytes more, none only at the end, and answers how many.
+fn read_more<R: Read>(reader: &mut R, input: &mut Vec<u8>) -> Result<usize, RunFault>
+    requires { vec_len input.old ≤ input_limit }
+    ensures { Reads (R.remaining reader.old) (R.remaining reader.new) input.old.items input.new.items result }
+{
+    let mut chunk = [0u8; CHUNK];
+    // One byte past the limit tells an input that is too long from one that just fits.
+    let room = (INPUT_LIMIT + 1 - input.len()).min(CHUNK);
+    let count = match reader.read(&mut chunk[..room]) {
+        Ok(count) => count,
+        Err(_) => return Err(RunFault::Read),
+    };
+    input.extend_from_slice(&chunk[..count])?;
+    if input.len() > INPUT_LIMIT {
+        return Err(RunFault::TooLong);
+    }
+    Ok(count)
 }

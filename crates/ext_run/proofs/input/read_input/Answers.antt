@@ -1,22 +1,42 @@
-use Rattle.std.proofs.Common.{ℕ, ◌≤◌, length, arith, length-append, length-take}
-use Rattle.std.proofs.lemmas.List.{take-append-le}
-use Rattle.ext_run.proofs.ReadBytes.{Consumes-more}
+use Rattle.std.proofs.Common.{◌≡◌, ◌+◌, length, arith, length-append, ap, ◌∙◌, sym, subst}
+use Rattle.std.specs.Io.KnownBytes.{Consumes}
+use Rattle.ext_run.specs.Answers.{IsReadFault}
+use Rattle.ext_run.proofs.ReadBytes.{Consumes-all, Consumes-long, Consumes-more, fault_is, fault_same, not_ok}
 use Rattle.ext_run.proofs.input.read_input.Goals as goal
 
-pub returns-in_err-extend_from_slice-clause-taken : goal.returns-in_err-extend_from_slice-clause-taken
-returns-in_err-extend_from_slice-clause-taken g c =
-    let both = Consumes-more _ _ _ _ _ c.loop.invariant.taken c.in-Ok.ensures.bytes.0 in
-    let own = c.loop.input.ok.0 in
-    let bound = c.in-Ok.ensures.bound in
-    (_, rw (length-append, length-take) (omega (arith, bound.0, own, c.loop.invariant.short, c.min-room.ensures, c.read.auto.buf, c.len.ensures, length-take {A = ℕ})), both)
+pub returns-in_err-count : goal.returns-in_err-count
+returns-in_err-count g c =
+    let errs = c.from_residual.ensures.1 in
+    let stops = c.in_err-count.ensures in
+    let read = Consumes-more _ _ _ _ _ c.loop.invariant.taken stops.taken in
+    record {
+      whole = not_ok _ _ c.from_residual.result errs;
+      short = not_ok _ _ c.from_residual.result errs;
+      long = λ is. Consumes-long _ _ _ _ read (stops.long (fault_same c.from_residual.result _ _ errs is));
+      taken = (_, stops.short, read);
+      faults = fault_is IsReadFault c.from_residual.result _ errs stops.known;
+    }
+
+pub returns-then-count-eq0 : goal.returns-then-count-eq0
+returns-then-count-eq0 g c =
+    let more = c.in_ok-count.ensures in
+    let read = subst (Consumes _ _) (sym more.kept) (Consumes-more _ _ _ _ _ c.loop.invariant.taken more.taken) in
+    record {
+      whole = Consumes-all _ _ _ read (more.ended c.if-count-eq0.true);
+      short = more.short;
+      long = λ is. absurd cc;
+      taken = (_, omega (arith, more.short), read);
+      faults = tt;
+    }
 
 pub loop-preserved : goal.loop-preserved
 loop-preserved g c =
-    let bound = c.in-Ok.ensures.bound in
-    let inside : c.in-Ok.count ≤ length c.read.new.buf = omega (arith, bound) in
-    let both = Consumes-more _ _ _ _ _ c.loop.invariant.taken c.in-Ok.ensures.bytes.0 in
+    let more = c.in_ok-count.ensures in
+    let own = c.read_more.new.input.ok.0 in
+    let before = c.loop.input.ok.0 in
+    let longer : length c.read_more.new.input.items ≡ length c.loop.input.items + length more.bytes = ap length more.kept ∙ length-append c.loop.input.items more.bytes in
     record {
-      turns = omega (arith, c.in_ok-extend_from_slice.ensures.len, length-take {A = ℕ}, inside, c.loop.invariant.turns);
-      short = omega (arith, c.len-in-loop.ensures);
-      taken = rw (c.in_ok-extend_from_slice.ensures.items, take-append-le _ _ _ inside) both;
+      turns = omega (arith, own, before, longer, more.counted, c.if-count-eq0.false, c.loop.invariant.turns);
+      short = omega (arith, own, more.short);
+      taken = subst (Consumes _ _) (sym more.kept) (Consumes-more _ _ _ _ _ c.loop.invariant.taken more.taken);
     }

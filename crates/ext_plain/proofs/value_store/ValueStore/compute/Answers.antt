@@ -1,24 +1,39 @@
 use Rattle.std.proofs.Common.{◌∙◌, refl, ap, sym}
-use Rattle.ext_plain.specs.Steps.{compute_looked}
-use Rattle.ext_plain.specs.Helpers.{place_of_call, state_view}
-use Rattle.ext_plain.proofs.Acts.{outcome_ended}
+use Rattle.ext_model.specs.declared.look.Look.{Look}
+use Rattle.ext_model.specs.declared.look.Look.TheVariants as look
+use Rattle.ext_plain.specs.ValueStates.{Memory}
+use Rattle.ext_plain.specs.Steps.{compute_by, compute_looked}
+use Rattle.ext_plain.specs.Helpers.{memory_of, place_of_call, state_view}
+use Rattle.ext_plain.proofs.Lacks.{says-by}
 use Rattle.ext_plain.proofs.value_store.ValueStore.compute.Goals as goal
 use Rattle.ext_steps.specs.Calls.{call_view}
 use Rattle.ext_steps.specs.Values.{value_view}
+use Rattle.ext_steps.specs.declared.reason.Reason.TheVariants as reasons
+use Rattle.ext_steps.specs.Verdicts.{refused}
 
-pub returns-in-Found-clause-end : goal.returns-in-Found-clause-end
-returns-in-Found-clause-end c =
+pub returns-in-Found : goal.returns-in-Found
+returns-in-Found c =
     let call = call_view c.args.call.now in
     ap (compute_looked call.name call.label (place_of_call c.args.call.now) (value_view c.args.value) (state_view c.args.self.now)) (sym c.in-Found.is ∙ c.look.ensures)
 
-pub returns-in_ok-refused-in-Busy-clause-end : goal.returns-in_ok-refused-in-Busy-clause-end
-returns-in_ok-refused-in-Busy-clause-end c =
+pub returns-in-Absent : goal.returns-in-Absent
+returns-in-Absent c =
     let call = call_view c.args.call.now in
-    outcome_ended c.args.self.now _ c.of.result _ _ refl c.of.ensures.verdict c.of.ensures.computed c.of.ensures.found c.in_ok-refused-in-Busy.ensures
-    ∙ ap (compute_looked call.name call.label (place_of_call c.args.call.now) (value_view c.args.value) (state_view c.args.self.now)) (sym c.in-Busy.is ∙ c.look.ensures)
+    c.compute_absent.ensures
+    ∙ ap (compute_by (memory_of c.compute_absent.result) call.name call.label (place_of_call c.args.call.now) (value_view c.args.value) (state_view c.args.self.now)) (sym c.in-Absent.is ∙ c.look.ensures)
 
-pub returns-in_ok-refused-in-Closed-clause-end : goal.returns-in_ok-refused-in-Closed-clause-end
-returns-in_ok-refused-in-Closed-clause-end c =
+pub returns-in-Busy : goal.returns-in-Busy
+returns-in-Busy c =
     let call = call_view c.args.call.now in
-    outcome_ended c.args.self.now _ c.of-in-Closed.result _ _ refl c.of-in-Closed.ensures.verdict c.of-in-Closed.ensures.computed c.of-in-Closed.ensures.found c.in_ok-refused-in-Closed.ensures
-    ∙ ap (compute_looked call.name call.label (place_of_call c.args.call.now) (value_view c.args.value) (state_view c.args.self.now)) (sym c.in-Closed.is ∙ c.look.ensures)
+    let s = state_view c.args.self.now in
+    let by = λ (found : Look) (m : Memory). compute_by m call.name call.label (place_of_call c.args.call.now) (value_view c.args.value) s found in
+    says-by (by (look.Busy c.in-Busy.field-0)) c.say_refused.result (refused call.name call.label reasons.Busy) s s c.say_refused.ensures refl refl refl
+    ∙ ap (λ found. by found (memory_of c.say_refused.result)) (sym c.in-Busy.is ∙ c.look.ensures)
+
+pub returns-in-Closed : goal.returns-in-Closed
+returns-in-Closed c =
+    let call = call_view c.args.call.now in
+    let s = state_view c.args.self.now in
+    let by = λ (found : Look) (m : Memory). compute_by m call.name call.label (place_of_call c.args.call.now) (value_view c.args.value) s found in
+    says-by (by (look.Closed c.in-Closed.field-0)) c.say_refused-in-Closed.result (refused call.name call.label reasons.Closed) s s c.say_refused-in-Closed.ensures refl refl refl
+    ∙ ap (λ found. by found (memory_of c.say_refused-in-Closed.result)) (sym c.in-Closed.is ∙ c.look.ensures)
