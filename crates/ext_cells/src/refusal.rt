@@ -3,6 +3,7 @@ ghost use Rattle.std.specs.Prelude.{◌≡◌};
 ghost use Rattle.ext_cells.specs.declared.refusal.CellRefusal.TheVariants.{Memory};
 
 use std::alloc::AllocError;
+use std::fmt;
 use thiserror::Error;
 
 /// Why a call on the cells was refused. After any of them the cells are as other lanes left them: a refused
@@ -10,26 +11,38 @@ use thiserror::Error;
 #[derive(Clone, Copy, Debug, PartialEq, Eq, Error)]
 pub enum CellRefusal {
     /// Other lanes were in the way: they made at least as many events as a call has tries.
-    #[error("contended")]
     Contended,
     /// A lane's claim stands at the cell.
-    #[error("busy")]
     Busy,
     /// The cell is sealed.
-    #[error("closed")]
     Closed,
     /// The cell has had too many events: its version is above 2^40 - 3, or for a claim above 2^40 - 4.
-    #[error("exhausted")]
     Exhausted,
     /// All numbers were drawn.
-    #[error("numbers full")]
     NumbersFull,
     /// An allocation failed.
-    #[error("no memory")]
     Memory,
     /// There were to be too many cells, or too few or too many lanes, tries or numbers.
-    #[error("a limit is out of its range")]
     BadLimit,
+}
+
+// What a refusal prints.
+fn text(refusal: CellRefusal) -> &'static str {
+    match refusal {
+        CellRefusal::Contended => "contended",
+        CellRefusal::Busy => "busy",
+        CellRefusal::Closed => "closed",
+        CellRefusal::Exhausted => "exhausted",
+        CellRefusal::NumbersFull => "numbers full",
+        CellRefusal::Memory => "no memory",
+        CellRefusal::BadLimit => "a limit is out of its range",
+    }
+}
+
+impl fmt::Display for CellRefusal {
+    fn fmt<W: fmt::Write>(&self, f: &mut fmt::Formatter<W>) -> fmt::Result {
+        f.write_str(text(*self))
+    }
 }
 
 impl From<AllocError> for CellRefusal {

@@ -1,15 +1,12 @@
 //! Locks with names, and the lanes that take them.
-ghost use Rattle.std.specs.Prelude.{◌≡◌, ◌≤◌, IfOk, IsPermutation, length, replicate};
-ghost use Rattle.std.specs.List.Sorted.{IsSorted};
-ghost use Rattle.std.specs.Ordering.{nat_cmp};
-ghost use Rattle.std.specs.Cmp.Lexicographic.{slice_cmp};
+ghost use Rattle.std.specs.Prelude.{◌≡◌, ◌≤◌, ◌<◌, IfOk, length, replicate};
 ghost use Rattle.ext_locks.specs.Names.{texts_of, AreDifferent};
-ghost use Rattle.ext_locks.specs.Opening.{AreLimits, fresh_lanes};
+ghost use Rattle.ext_locks.specs.Opening.{AreLimits, IsOpened, fresh_lanes};
+ghost use Rattle.ext_locks.specs.Rule.{founder};
 
 use crate::merging::merge_requests;
 use crate::names::{first_twice, sorted_copies};
-use crate::rule::{Deals, LockCounts, LockRule};
-use crate::seat::SeatView;
+use crate::rule::{Deals, LaneSeat, LockCounts, LockTable, LockWords};
 use crate::set::MAX_LOCKS;
 use crate::steps::MAX_LANES;
 use crate::taking::{give_locks, take_locks};
@@ -31,7 +28,7 @@ const MAX_TRIES: u32 = 64;
 /// Contracts see the table of words, the names, the number of lanes, and the tries (own rule).
 #[derive(Drop)]
 pub struct Locks {
-    table: Table<(), SeatView, LockCounts, LockRule, Global>,
+    table: LockTable,
     names: Vec<String>,
     tries: u32,
     /// The lanes that wait until a lane gives locks back. No clause speaks of them.
@@ -266,7 +263,36 @@ fn zero_words(alloc: Global, count: usize) -> Result<Vec<u64>, AllocError>
     Vec::from_elem(alloc, 0, count)
 }
 
-/// The words of so many locks, all zero, and a seat for each lane; takes memory.
+/// The table of so many locks that nobody holds, and the seat that gives the lanes theirs; takes memory.
+fn zero_table(alloc: Global, counts: &LockCounts) -> Result<(LockTable, LaneSeat), AllocError>
+    requires { counts.now.lanes ≤ 16 }
+    ensures { IfOk result (λ r. (r.0.shared.table_id.words ≡ counts.now.locks) × (r.0.shared.key ≡ counts.now) × (r.1.table_id ≡ r.0.shared.table_id) × (r.1.me.0 ≡ founder counts.now.lanes)) }
+{
+    let zeros = zero_words(alloc, counts.locks)?;
+    Table::of_words(alloc, zeros.as_slice(), counts)
+}
+
+/// A lane for each number, whose seat the dealer gives; takes memory.
+fn deal_lanes(
+    words: &LockWords,
+    alloc: Global,
+    dealer: &mut LaneSeat,
+    lanes: usize,
+) -> Result<Vec<LockLane>, AllocError>
+    requires table { (dealer.old.table_id ≡ words.now.table_id) × (0 < words.now.table_id.words) }
+    requires dealer { dealer.old.me.0 ≡ founder lanes }
+    requires lanes { (words.now.key.lanes ≡ lanes) × (lanes ≤ 16) }
+    ensures { IfOk result (λ made. made.items ≡ fresh_lanes words.now.table_id lanes lanes) }
+{
+    let mut made = Vec::with_capacity(alloc, lanes)?;
+    for number in 0..lanes {
+        let seat = words.split_seat::<Deals>(dealer);
+        made.push_reserved(LockLane { seat, number });
+    }
+    Ok(made)
+}
+
+/// The locks of these names, which nobody holds, and their lanes; takes memory.
 fn open_words(
     alloc: Global,
     names: &[&str],
@@ -276,22 +302,12 @@ fn open_words(
     requires names { length names.now ≤ 63 }
     requires different { AreDifferent (texts_of names.now) }
     requires limits { AreLimits lanes tries }
-    ensures names { IfOk result (λ made. IsPermutation (texts_of names.now) made.0.names) }
-    ensures sorted { IfOk result (λ made. IsSorted (slice_cmp nat_cmp) made.0.names) }
-    ensures tries { IfOk result (λ made. made.0.tries ≡ tries) }
-    ensures limits { IfOk result (λ made. made.0.lanes ≡ lanes) }
-    ensures lanes { IfOk result (λ made. made.1.items ≡ fresh_lanes made.0.table lanes lanes) }
+    ensures { IfOk result (λ made. IsOpened (texts_of names.now) lanes tries made.0 made.1.items) }
 {
     let names = sorted_copies(alloc, names)?;
     let locks = names.len() + 1;
-    let zeros = zero_words(alloc, locks)?;
-    let counts = LockCounts { locks, lanes };
-    let (table, mut dealer) = Table::of_words(alloc, zeros.as_slice(), &counts)?;
-    let mut made = Vec::with_capacity(alloc, lanes)?;
-    for number in 0..lanes {
-        let seat = table.shared.split_seat::<Deals>(&mut dealer);
-        made.push_reserved(LockLane { seat, number });
-    }
+    let (table, mut dealer) = zero_table(alloc, &LockCounts { locks, lanes })?;
+    let made = deal_lanes(&table.shared, alloc, &mut dealer, lanes)?;
     Ok((
         Locks {
             table,

@@ -1,6 +1,7 @@
 //! The rule of the table of lock words, what its steps tell, and how seats are split off and joined in.
 use crate::seat::SeatView;
-use atomic_table::{Join, Play, Seat, Shared, Split, TableRule};
+use atomic_table::{Join, Play, Seat, Shared, Split, Table, TableRule};
+use std::alloc::Global;
 
 /// How many locks and lanes there are: the rule reads it, and nothing changes it.
 #[derive(Clone, Copy)]
@@ -8,6 +9,9 @@ pub(crate) struct LockCounts {
     pub locks: usize,
     pub lanes: usize,
 }
+
+/// The words of the locks, with the memory that they stand in.
+pub(crate) type LockTable = Table<(), SeatView, LockCounts, LockRule, Global>;
 
 /// The words of the locks, which all lanes step on.
 pub(crate) type LockWords = Shared<(), SeatView, LockCounts, LockRule>;

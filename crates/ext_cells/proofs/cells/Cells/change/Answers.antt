@@ -1,6 +1,6 @@
-use Rattle.std.proofs.Common.{◌<◌, ◌^◌, sym, ap, subst, arith}
+use Rattle.std.proofs.Common.{◌≡◌, ◌<◌, ◌^◌, sym, ap, ◌∙◌, subst, arith}
 use Rattle.ext_cells.specs.Lanes.{Lane}
-use Rattle.ext_cells.proofs.Tries.{first_on, next_on}
+use Rattle.ext_cells.proofs.Tries.{first_on, next_on, overtaken, steps_next}
 use Rattle.ext_cells.proofs.Changing.{place_is, place_in_is, word_now, act_now, may_change, changed, done, would_happen, settled_otherwise}
 use Rattle.ext_cells.proofs.cells.Cells.change.Goals as goal
 
@@ -82,3 +82,60 @@ returns-in-Change-decide-clause-contended c e =
     let few : c.args.lane.now.cells.limits.numbers < 2 ^ 20 = subst (λ z. z.limits.numbers < 2 ^ 20) (sym c.requires.lane) c.read-word.ensures.numbers in
     let less : c.args.cell < c.args.lane.now.cells.limits.cells = subst (λ z. c.args.cell < z.limits.cells) (sym c.requires.lane) c.requires.cell in
     would_happen c.args.lane.now c.loop.lane c.loop.word c.loop.counter c.args.cell c.args.act few less c.requires.act c.requires.number c.loop.invariant c.in-Change-decide.next c.in-Change-decide.answer c.in-Change-decide.ensures
+
+pub returns-in-Change-decide-clause-reply : goal.returns-in-Change-decide-clause-reply
+returns-in-Change-decide-clause-reply c =
+    let tries : c.self.inside.tries ≡ c.args.self.now.tries = ap (λ z. z.tries) c.self.view_is in
+    let all = c.loop-test.false in
+    overtaken c.args.lane.now.cells.limits c.args.lane.now.view c.loop.lane.view c.args.cell c.loop.word c.loop.counter c.loop.invariant.tries c.args.self.now.tries (omega (arith, tries, all))
+
+-- ---- how many steps, and whose the lane stays
+
+pub exchange-requires-clause-lane : goal.exchange-requires-clause-lane
+exchange-requires-clause-lane c = c.loop.invariant.cells ∙ c.requires.lane
+
+pub exchange-requires-clause-within : goal.exchange-requires-clause-within
+exchange-requires-clause-within c = let less = c.requires.cell in omega (arith, less)
+
+pub read-word-requires-clause-place : goal.read-word-requires-clause-place
+read-word-requires-clause-place c = let less = c.requires.cell in omega (arith, less)
+
+pub returns-in-Done-clause-lane : goal.returns-in-Done-clause-lane
+returns-in-Done-clause-lane c = c.loop.invariant.cells
+
+pub returns-in-Done-clause-steps : goal.returns-in-Done-clause-steps
+returns-in-Done-clause-steps c =
+    let tries : c.self.inside.tries ≡ c.args.self.now.tries = ap (λ z. z.tries) c.self.view_is in
+    let steps = c.loop.invariant.tries.steps in
+    let less = c.loop-test.true in omega (arith, tries, steps, less)
+
+pub returns-in-Ok-clause-contended : goal.returns-in-Ok-clause-contended
+returns-in-Ok-clause-contended c e = absurd (cc e)
+
+pub returns-in-Ok-clause-lane : goal.returns-in-Ok-clause-lane
+returns-in-Ok-clause-lane c = ap (λ (l : Lane). l.cells) c.in-Ok.ensures.made.3 ∙ c.loop.invariant.cells
+
+pub returns-in-Ok-clause-steps : goal.returns-in-Ok-clause-steps
+returns-in-Ok-clause-steps c =
+    let tries : c.self.inside.tries ≡ c.args.self.now.tries = ap (λ z. z.tries) c.self.view_is in
+    let m = c.in-Ok.ensures.made in
+    let steps = steps_next c.args.lane.now c.loop.lane c.exchange.new.lane c.args.cell c.loop.word c.loop.counter m.0 c.args.act c.loop.invariant m.1 m.2.allowed m.3 in
+    let less = c.loop-test.true in omega (arith, tries, steps, less)
+
+pub returns-in-Done-decide-clause-lane : goal.returns-in-Done-decide-clause-lane
+returns-in-Done-decide-clause-lane c = c.loop.invariant.cells
+
+pub returns-in-Done-decide-clause-steps : goal.returns-in-Done-decide-clause-steps
+returns-in-Done-decide-clause-steps c =
+    let tries : c.self.inside.tries ≡ c.args.self.now.tries = ap (λ z. z.tries) c.self.view_is in
+    let steps = c.loop.invariant.tries.steps in
+    let end = c.loop.auto.counter-end in omega (arith, tries, steps, end)
+
+pub returns-in-Change-decide-clause-lane : goal.returns-in-Change-decide-clause-lane
+returns-in-Change-decide-clause-lane c = c.loop.invariant.cells
+
+pub returns-in-Change-decide-clause-steps : goal.returns-in-Change-decide-clause-steps
+returns-in-Change-decide-clause-steps c =
+    let tries : c.self.inside.tries ≡ c.args.self.now.tries = ap (λ z. z.tries) c.self.view_is in
+    let steps = c.loop.invariant.tries.steps in
+    let end = c.loop.auto.counter-end in omega (arith, tries, steps, end)

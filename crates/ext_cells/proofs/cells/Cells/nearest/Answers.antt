@@ -1,6 +1,7 @@
-use Rattle.std.proofs.Common.{◌≡◌, ◌<◌, ◌^◌, ◌++◌, [], take, drop, length, ◌-◌, sym, refl, ap, ◌∙◌, subst, arith}
+use Rattle.std.proofs.Common.{◌≡◌, ◌<◌, ◌^◌, ◌++◌, [], take, drop, length, length-take-le, ◌-◌, sym, refl, ap, ◌∙◌, subst, arith}
 use Rattle.std.specs.Prelude.{All, sum_by}
 use Rattle.std.proofs.lemmas.List.{length-drop, take_all}
+use Rattle.std.proofs.lemmas.List.Elements.{All-take, All-drop}
 use Rattle.ext_cells.specs.Passes.{FirstPass, ReadPass, version_in}
 use Rattle.ext_cells.proofs.Collecting.{passes_again, passes_overtaken, steps_within, steps_all, stood}
 use Rattle.ext_cells.proofs.Readings.{still_none, still_some, begun_here, same_again, nearest_of, within_two}
@@ -128,3 +129,67 @@ returns-clause-steps c =
     let some = c.recall.ensures.tries in
     let end = c.loop.auto.counter-end in
     steps_all c.args.lane.now.cells.limits _ _ _ c.loop.invariant.passes.0 c.loop.counter c.requires.different c.loop.invariant.passes.2 _ (omega (arith, tries, some, end))
+
+-- ---- what the reads ask, and whose the lane stays
+
+pub read_on-again-requires-clause-lane : goal.read_on-again-requires-clause-lane
+read_on-again-requires-clause-lane c = c.read_empty-stands.ensures.lane ∙ c.requires.lane
+
+pub read_on-again-requires-clause-few : goal.read_on-again-requires-clause-few
+read_on-again-requires-clause-few c =
+    let none = c.new.ensures.empty.0 in
+    let within = c.read_empty-stands.ensures.within in
+    let few = c.requires.few in
+    let long = length-take-le c.read_empty-stands.result.0.count c.args.cells.now within in omega (arith, none, within, few, long)
+
+pub read_on-again-requires-clause-versions : goal.read_on-again-requires-clause-versions
+read_on-again-requires-clause-versions c = let none = c.new.ensures.empty.1 in omega (arith, none)
+
+pub read_on-again-requires-clause-known : goal.read_on-again-requires-clause-known
+read_on-again-requires-clause-known c = All-take (λ cell. cell < c.args.self.now.id.limits.cells) _ _ c.requires.known
+
+pub read_on-seen-requires-clause-lane : goal.read_on-seen-requires-clause-lane
+read_on-seen-requires-clause-lane c = c.read_on-again.ensures.lane ∙ (c.read_empty-stands.ensures.lane ∙ c.requires.lane)
+
+pub read_on-seen-requires-clause-few : goal.read_on-seen-requires-clause-few
+read_on-seen-requires-clause-few c =
+    let none = c.new.ensures.empty.0 in
+    let within = c.read_empty-stands.ensures.within in
+    let few = c.requires.few in
+    let long = length-take-le c.read_empty-stands.result.0.count c.args.cells.now within in
+    let counted = c.read_on-again.ensures.count in
+    let left = length-drop c.read_empty-stands.result.0.count c.args.cells.now in
+    let rest = length-take-le (length c.args.cells.now - c.read_empty-stands.result.0.count) (drop c.read_empty-stands.result.0.count c.args.cells.now) (omega (arith, left)) in
+    omega (arith, none, within, few, long, counted, rest)
+
+pub read_on-seen-requires-clause-versions : goal.read_on-seen-requires-clause-versions
+read_on-seen-requires-clause-versions c = c.read_on-again.ensures.versions
+
+pub read_on-seen-requires-clause-known : goal.read_on-seen-requires-clause-known
+read_on-seen-requires-clause-known c = All-take (λ cell. cell < c.args.self.now.id.limits.cells) _ _ (All-drop (λ cell. cell < c.args.self.now.id.limits.cells) _ _ c.requires.known)
+
+pub read_on-again-requires-in-loop-clause-lane : goal.read_on-again-requires-in-loop-clause-lane
+read_on-again-requires-in-loop-clause-lane c = c.loop.invariant.cells ∙ c.requires.lane
+
+pub read_on-again-requires-in-loop-clause-few : goal.read_on-again-requires-in-loop-clause-few
+read_on-again-requires-in-loop-clause-few c =
+    let none = c.new-in-loop.ensures.empty.0 in
+    let few = c.requires.few in omega (arith, none, few)
+
+pub read_on-again-requires-in-loop-clause-versions : goal.read_on-again-requires-in-loop-clause-versions
+read_on-again-requires-in-loop-clause-versions c = let none = c.new-in-loop.ensures.empty.1 in omega (arith, none)
+
+pub read_on-again-requires-in-loop-clause-known : goal.read_on-again-requires-in-loop-clause-known
+read_on-again-requires-in-loop-clause-known c = c.requires.known
+
+pub returns-in-Some-clause-lane : goal.returns-in-Some-clause-lane
+returns-in-Some-clause-lane c = c.read_on-again.ensures.lane ∙ c.read_empty-stands.ensures.lane
+
+pub returns-in-None-clause-lane : goal.returns-in-None-clause-lane
+returns-in-None-clause-lane c = c.read_on-again.ensures.lane ∙ c.read_empty-stands.ensures.lane
+
+pub returns-then-again-seen-clause-lane : goal.returns-then-again-seen-clause-lane
+returns-then-again-seen-clause-lane c = c.read_on-again-in-loop.ensures.lane ∙ c.loop.invariant.cells
+
+pub returns-clause-lane : goal.returns-clause-lane
+returns-clause-lane c = c.loop.invariant.cells

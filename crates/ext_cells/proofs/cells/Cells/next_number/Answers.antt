@@ -3,7 +3,7 @@ use Rattle.ext_model.specs.declared.event.Act.TheVariants.{Keep}
 use Rattle.ext_model.specs.History.{History}
 use Rattle.ext_cells.specs.Lanes.{Lane}
 use Rattle.ext_cells.specs.Steps.{Finds, MayGoOn}
-use Rattle.ext_cells.proofs.Tries.{first_on, next_on}
+use Rattle.ext_cells.proofs.Tries.{first_on, next_on, overtaken, steps_next}
 use Rattle.ext_cells.proofs.Drawing.{full_now, would_draw, may_draw, drew}
 use Rattle.ext_cells.proofs.Storable.{drew_storable}
 use Rattle.ext_cells.proofs.cells.Cells.next_number.Goals as goal
@@ -70,3 +70,76 @@ returns-clause-contended c e =
     let from = c.from-most.ensures in
     let less = c.if-count-most-2.false in
     would_draw c.args.lane.now c.loop.lane c.loop.count c.loop.counter c.loop.invariant (omega (arith, limit, from, less))
+
+pub returns-clause-reply : goal.returns-clause-reply
+returns-clause-reply c =
+    let tries : c.self.inside.tries ≡ c.args.self.now.tries = ap (λ z. z.tries) c.self.view_is in
+    let all = c.loop-test.false in
+    record { overtaken = λ e. overtaken c.args.lane.now.cells.limits c.args.lane.now.view c.loop.lane.view c.args.lane.now.cells.limits.cells c.loop.count c.loop.counter c.loop.invariant.tries c.args.self.now.tries (omega (arith, tries, all)); replied = λ other. absurd (other refl) }
+
+pub exchange-requires-clause-lane : goal.exchange-requires-clause-lane
+exchange-requires-clause-lane c = c.loop.invariant.cells ∙ c.requires.lane
+
+pub exchange-requires-clause-place : goal.exchange-requires-clause-place
+exchange-requires-clause-place c = ap (λ z. z.id.limits.cells) c.self.view_is
+
+pub exchange-requires-clause-within : goal.exchange-requires-clause-within
+exchange-requires-clause-within c = let same : c.self.inside.limits.cells ≡ c.args.self.now.id.limits.cells = ap (λ z. z.id.limits.cells) c.self.view_is in omega (arith, same)
+
+-- ---- how many steps, and whose the lane stays
+
+pub returns-then-count-most-clause-contended : goal.returns-then-count-most-clause-contended
+returns-then-count-most-clause-contended c e = absurd (cc e)
+
+pub returns-then-count-most-clause-lane : goal.returns-then-count-most-clause-lane
+returns-then-count-most-clause-lane c = c.loop.invariant.cells
+
+pub returns-then-count-most-clause-storable : goal.returns-then-count-most-clause-storable
+returns-then-count-most-clause-storable c = tt
+
+pub returns-then-count-most-clause-steps : goal.returns-then-count-most-clause-steps
+returns-then-count-most-clause-steps c =
+    let tries : c.self.inside.tries ≡ c.args.self.now.tries = ap (λ z. z.tries) c.self.view_is in
+    let steps = c.loop.invariant.tries.steps in
+    let less = c.loop-test.true in omega (arith, tries, steps, less)
+
+pub returns-in-Ok-clause-contended : goal.returns-in-Ok-clause-contended
+returns-in-Ok-clause-contended c e = absurd (cc e)
+
+pub returns-in-Ok-clause-lane : goal.returns-in-Ok-clause-lane
+returns-in-Ok-clause-lane c = ap (λ (l : Lane). l.cells) c.in-Ok.ensures.made.3 ∙ c.loop.invariant.cells
+
+pub returns-in-Ok-clause-steps : goal.returns-in-Ok-clause-steps
+returns-in-Ok-clause-steps c =
+    let place : c.self.inside.limits.cells ≡ c.args.lane.now.cells.limits.cells = ap (λ z. z.id.limits.cells) c.self.view_is ∙ ap (λ z. z.limits.cells) (sym c.requires.lane) in
+    let tries : c.self.inside.tries ≡ c.args.self.now.tries = ap (λ z. z.tries) c.self.view_is in
+    let m = c.in-Ok.ensures.made in
+    let steps = steps_next c.args.lane.now c.loop.lane c.exchange.new.lane c.args.lane.now.cells.limits.cells c.loop.count c.loop.counter m.0 (Keep (c.loop.count + 1)) c.loop.invariant (subst (λ p. Finds c.loop.lane.cells.limits c.loop.lane.view p c.loop.count m.0) place m.1) m.2.allowed m.3 in
+    let less = c.loop-test.true in omega (arith, tries, steps, less)
+
+pub returns-then-count-most-2-clause-contended : goal.returns-then-count-most-2-clause-contended
+returns-then-count-most-2-clause-contended c e = absurd (cc e)
+
+pub returns-then-count-most-2-clause-lane : goal.returns-then-count-most-2-clause-lane
+returns-then-count-most-2-clause-lane c = c.loop.invariant.cells
+
+pub returns-then-count-most-2-clause-storable : goal.returns-then-count-most-2-clause-storable
+returns-then-count-most-2-clause-storable c = tt
+
+pub returns-then-count-most-2-clause-steps : goal.returns-then-count-most-2-clause-steps
+returns-then-count-most-2-clause-steps c =
+    let tries : c.self.inside.tries ≡ c.args.self.now.tries = ap (λ z. z.tries) c.self.view_is in
+    let steps = c.loop.invariant.tries.steps in
+    let end = c.loop.auto.counter-end in omega (arith, tries, steps, end)
+
+pub returns-clause-lane : goal.returns-clause-lane
+returns-clause-lane c = c.loop.invariant.cells
+
+pub returns-clause-storable : goal.returns-clause-storable
+returns-clause-storable c = tt
+
+pub returns-clause-steps : goal.returns-clause-steps
+returns-clause-steps c =
+    let tries : c.self.inside.tries ≡ c.args.self.now.tries = ap (λ z. z.tries) c.self.view_is in
+    let steps = c.loop.invariant.tries.steps in
+    let end = c.loop.auto.counter-end in omega (arith, tries, steps, end)

@@ -1,4 +1,5 @@
 use Rattle.std.proofs.Common.{◌<◌, ◌++◌, [], ◌∷◌, get_or, sym, refl, ap, ◌∙◌, subst, arith, append_assoc, append-nil}
+use Rattle.std.proofs.lemmas.List.{take_all}
 use Rattle.ext_cells.specs.Lanes.{Lane}
 use Rattle.ext_cells.specs.Passes.{IsReading, ReadPass}
 use Rattle.ext_cells.specs.Steps.{Finds}
@@ -40,3 +41,33 @@ loop-cell-preserved c =
             subst (λ ws. IsReading ws c.with-reading.result) (append_assoc words more.0 (word ∷ [])) (c.with-reading.ensures.reading (words ++ more.0) more.2),
           );
     }
+
+pub with-reading-requires-clause-count : goal.with-reading-requires-clause-count
+with-reading-requires-clause-count c =
+    let counted = c.loop-cell.invariant.count in
+    let few = c.requires.few in
+    let within = c.loop-cell-test.true in omega (arith, counted, few, within)
+
+pub with-reading-requires-clause-versions : goal.with-reading-requires-clause-versions
+with-reading-requires-clause-versions c = c.loop-cell.invariant.versions
+
+pub returns-clause-lane : goal.returns-clause-lane
+returns-clause-lane c = c.loop-cell.invariant.cells
+
+pub returns-clause-count : goal.returns-clause-count
+returns-clause-count c =
+    let counted = c.loop-cell.invariant.count in
+    let end = c.loop-cell-test.false in
+    let most = c.loop-cell.auto.cell-index-end in omega (arith, counted, end, most)
+
+pub returns-clause-versions : goal.returns-clause-versions
+returns-clause-versions c = c.loop-cell.invariant.versions
+
+pub returns-clause-read : goal.returns-clause-read
+returns-clause-read c = λ words is.
+    let more = c.loop-cell.invariant.read words is in
+    let end = c.loop-cell-test.false in (
+      more.0,
+      subst (λ z. ReadPass c.args.lane.now.cells.limits c.args.lane.now.view c.loop-cell.lane.view z more.0) (take_all c.loop-cell.cell-index c.args.cells.now (omega (arith, end))) more.1,
+      more.2,
+    )
