@@ -1,13 +1,12 @@
 //! The run of a tree.
-ghost use Rattle.std.specs.Prelude.{◌≡◌, ℕ, ◌+◌, ◌-◌, ◌≤◌, List, length, min, map, IfOk, IfErr, All, false, slice_index_or, vec_len};
+ghost use Rattle.std.specs.Prelude.{◌≡◌, ℕ, ◌+◌, ◌-◌, ◌≤◌, List, length, min, map, IfOk, IfErr, All, slice_index_or, vec_len};
 ghost use denote.Param.Send.{IsSync, IsSend};
-ghost use Rattle.ext_tree.specs.Paths.{IsPathOf};
 ghost use Rattle.ext_lifecycle.specs.Results.{told};
 ghost use Rattle.ext_store.specs.Stores.{closers_below};
 ghost use Rattle.ext_crew.specs.Dealing.{RunByDealing};
 ghost use Rattle.ext_node_run.specs.Closers.{IsNode};
 ghost use Rattle.ext_container_run.specs.Containers.{AreChildren};
-ghost use Rattle.ext_engine.specs.TreeRun.{Ran, setting_of, IsUsable, IsFit, IsFault, TreeRun, ContainerRun, BodyMade, RanInTurn, all_results};
+ghost use Rattle.ext_engine.specs.TreeRun.{Ran, setting_of, IsUsable, IsFit, IsFault, TreeRun, BodyMade, RanInTurn, all_results};
 ghost use Rattle.ext_node_run.specs.Helpers.{ran_view};
 
 use crate::runner::TreeRunner;
@@ -94,7 +93,8 @@ impl<
     S: Suite<V> + Sync,
     G: Gate + Sync,
 > TreeRunner<'a, R, V, S, G> {
-    /// A node and all below it.
+    /// A node and all below it: a test, or a container with its before-callbacks, its children where these were all successful, its
+    /// after-callbacks, and its close.
     #[cycle(tree)]
     fn run_node(
         &self,
@@ -114,35 +114,10 @@ impl<
             (record { first = lanes.old; second = lock_lanes.old }) (map ran_view ran.items) (record { first = lanes.new; second = lock_lanes.new }))
             × IfErr result (IsFault (setting_of self.now.nodes.store.now self.now.nodes.locks.now (S.nodes self.now.nodes.suite.now) (S.registered self.now.nodes.suite.now) V.is_closeable) (S.action_gives self.now.nodes.suite.now) S.Action.close_gives) }
     {
-        let _path = self.nodes.store.tree().path(item.node);
         if self.nodes.suite.is_test(item.node) {
-            self.nodes.run_test(alloc, depth, item, lanes, lock_lanes)
-        } else {
-            self.run_container(alloc, depth, item, lanes, lock_lanes)
+            let _path = self.nodes.store.tree().path(item.node);
+            return self.nodes.run_test(alloc, depth, item, lanes, lock_lanes);
         }
-    }
-
-    /// A container: its before-callbacks, its children where these were all successful, its after-callbacks, and its close.
-    #[cycle(tree)]
-    fn run_container(
-        &self,
-        alloc: Global,
-        depth: usize,
-        item: Item,
-        lanes: &mut [Lane<V>],
-        lock_lanes: &mut [LockLane],
-    ) -> Result<Vec<RanNode>, EngineFault>
-        requires item { IsNode self.now.nodes.store.now depth item }
-        requires container { (S.nodes self.now.nodes.suite.now).is_test item.node ≡ false }
-        requires ready { IsFit self.now.nodes.store.now self.now.nodes.locks.now (S.nodes self.now.nodes.suite.now)
-            × S.fits self.now.nodes.suite.now self.now.nodes.store.now
-            × IsUsable self.now.nodes.store.now self.now.nodes.locks.now (record { first = lanes.old; second = lock_lanes.old }) }
-        ensures left { IsUsable self.now.nodes.store.now self.now.nodes.locks.now (record { first = lanes.new; second = lock_lanes.new })
-            × (length lanes.new ≡ length lanes.old)
-            × IfOk result (λ ran. (path : List ℕ) × IsPathOf self.now.nodes.store.now.tree item.node path × ContainerRun (setting_of self.now.nodes.store.now self.now.nodes.locks.now (S.nodes self.now.nodes.suite.now) (S.registered self.now.nodes.suite.now) V.is_closeable) (S.call_gives self.now.nodes.suite.now self.now.nodes.store.now) (S.action_gives self.now.nodes.suite.now) S.Action.close_gives (TreeRun (setting_of self.now.nodes.store.now self.now.nodes.locks.now (S.nodes self.now.nodes.suite.now) (S.registered self.now.nodes.suite.now) V.is_closeable) (S.call_gives self.now.nodes.suite.now self.now.nodes.store.now) (S.action_gives self.now.nodes.suite.now) S.Action.close_gives (depth - 1)) item.node path
-            (record { first = lanes.old; second = lock_lanes.old }) (map ran_view ran.items) (record { first = lanes.new; second = lock_lanes.new }))
-            × IfErr result (IsFault (setting_of self.now.nodes.store.now self.now.nodes.locks.now (S.nodes self.now.nodes.suite.now) (S.registered self.now.nodes.suite.now) V.is_closeable) (S.action_gives self.now.nodes.suite.now) S.Action.close_gives) }
-    {
         let node = item.node;
         let mut ran = Vec::with_capacity(alloc, 1)?;
         let (begun, children) = open_container(&self.nodes, alloc, depth, item, lanes)?;

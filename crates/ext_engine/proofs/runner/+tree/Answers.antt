@@ -13,7 +13,7 @@ use Rattle.ext_node_run.specs.declared.fault.EngineFault.{EngineFault}
 use Rattle.ext_node_run.specs.declared.results.RanNode.{RanNode}
 use Rattle.ext_node_run.specs.Closers.{IsNode}
 use Rattle.ext_node_run.specs.Helpers.{ran_view}
-use Rattle.ext_engine.specs.TreeRun.{Lanes, setting_of, IsUsable, IsIdle, IsFault, TreeRun, TestRun, ContainerRun, BodyMade}
+use Rattle.ext_engine.specs.TreeRun.{Lanes, setting_of, IsUsable, IsIdle, IsFault, TreeRun, TestRun, BodyMade}
 use Rattle.ext_engine.proofs.Trees.{usable_part, usable-shown, usable-then, at_item, node_at, outcomes-meet, ran-none, ran-push, tree-of-test, tree-of-container, body-of}
 use Rattle.ext_engine.proofs.runner.+tree.Goals as goal
 
@@ -123,22 +123,8 @@ TreeRunner::run_node-returns-then-is_test g t c =
     let Below : Vec RanNode Global → Type 0 = λ v. TreeRun ts makes actions gives c.args.depth c.args.item.node s (map ran_view v.items) z in
     record { left = (c.run_test.ensures.lanes, c.run_test.ensures.count, IfOk-weaker c.run_test.result Node Below (λ v run. tree-of-test ts makes actions gives c.args.depth c.args.item.node s (map ran_view v.items) z deep (search rules) run) c.run_test.ensures.run, c.run_test.ensures.fault) }
 
-pub TreeRunner::run_node-returns-else-is_test : goal.TreeRunner::run_node-returns-else-is_test
-TreeRunner::run_node-returns-else-is_test g t c =
-    let r = c.args.self.now.nodes in
-    let ts = setting_of r.store.now r.locks.now (g.S.Suite.nodes r.suite.now) (g.S.Callbacks.registered r.suite.now) g.V.StoreValue.is_closeable in
-    let makes = g.S.Suite.call_gives r.suite.now r.store.now in
-    let actions = g.S.Suite.action_gives r.suite.now in
-    let gives = g.S.Action.CloseAction.close_gives in
-    let s : Lanes g.row.V.Denot = record { first = c.args.lanes.now; second = c.args.lock_lanes.now } in
-    let z : Lanes g.row.V.Denot = record { first = c.run_container.new.lanes; second = c.run_container.new.lock_lanes } in
-    let deep : 1 ≤ c.args.depth = (let e = ap (λ ids. length (id_at ids c.args.item.node)) c.tree.ensures in omega (arith, c.requires.item.depth_is, c.path-path.ensures.depth, c.path-path.ensures.few, e)) in
-    let Node : Vec RanNode Global → Type 0 = λ v. (path : List ℕ) × IsPathOf r.store.now.tree c.args.item.node path × ContainerRun ts makes actions gives (TreeRun ts makes actions gives (c.args.depth - 1)) c.args.item.node path s (map ran_view v.items) z in
-    let Below : Vec RanNode Global → Type 0 = λ v. TreeRun ts makes actions gives c.args.depth c.args.item.node s (map ran_view v.items) z in
-    record { left = (c.run_container.ensures.left.0, c.run_container.ensures.left.1, IfOk-weaker c.run_container.result Node Below (λ v run. tree-of-container ts makes actions gives c.args.depth c.args.item.node s (map ran_view v.items) z deep (search rules) run) c.run_container.ensures.left.2, c.run_container.ensures.left.3) }
-
-pub TreeRunner::run_container-returns : goal.TreeRunner::run_container-returns
-TreeRunner::run_container-returns g t c =
+pub TreeRunner::run_node-returns : goal.TreeRunner::run_node-returns
+TreeRunner::run_node-returns g t c =
     let r = c.args.self.now.nodes in
     let st = r.store.now in
     let ts = setting_of st r.locks.now (g.S.Suite.nodes r.suite.now) (g.S.Callbacks.registered r.suite.now) g.V.StoreValue.is_closeable in
@@ -154,11 +140,12 @@ TreeRunner::run_container-returns g t c =
     let kept = c.in_ok-below.ensures.left.0 in
     let below = map ran_view c.in_ok-below.below.items in
     let is : c.append.new.self.items ≡ c.in_ok-own.own ∷ c.in_ok-below.below.items = search rules in
+    let container : ts.suite.is_test node ≡ false = search rules in
     record {
       left = (
         usable-then st r.locks.now body after kept c.close_container.ensures.count refl (c.close_container.ensures.own_lanes, kept.idle),
         c.close_container.ensures.count ∙ c.in_ok-below.ensures.left.1 ∙ c.open_container.ensures.count,
-        (
+        tree-of-container ts makes actions gives c.args.depth node (record { first = c.args.lanes.now; second = c.args.lock_lanes.now }) (map ran_view c.append.new.self.items) after c.in_ok-begun.ensures.children.1 container (
           opens.path,
           opens.path_is,
           record {
