@@ -1,25 +1,23 @@
 //! The run of a tree.
-ghost use Rattle.std.specs.Prelude.{◌≡◌, ℕ, ◌+◌, ◌-◌, ◌<◌, ◌≤◌, List, length, min, map, IfOk, IfErr, All, not, filter, true, false, slice_index_or, vec_len};
+ghost use Rattle.std.specs.Prelude.{◌≡◌, ℕ, ◌+◌, ◌-◌, ◌≤◌, List, length, min, map, IfOk, IfErr, All, slice_index_or, vec_len};
 ghost use denote.Param.Send.{IsSync, IsSend};
-ghost use Rattle.ext_tree.specs.Paths.{IsPathOf, children_of};
 ghost use Rattle.ext_lifecycle.specs.Results.{told};
-ghost use Rattle.ext_lifecycle.specs.Callbacks.{befores_of as calls_before, afters_of as calls_after};
-ghost use Rattle.ext_store.specs.Stores.{IsCloserOf, closers_below};
+ghost use Rattle.ext_store.specs.Stores.{closers_below};
 ghost use Rattle.ext_crew.specs.Dealing.{RunByDealing};
-ghost use Rattle.ext_node_run.specs.declared.fault.EngineFault.TheVariants as engine_fault;
 ghost use Rattle.ext_node_run.specs.Closers.{IsNode};
-ghost use Rattle.ext_engine.specs.TreeRun.{Ran, setting_of, IsUsable, IsFit, IsFault, TreeRun, ContainerRun, BodyMade, RanInTurn, all_results};
+ghost use Rattle.ext_node_run.specs.Containers.{AreChildren};
+ghost use Rattle.ext_engine.specs.TreeRun.{Ran, setting_of, IsUsable, IsFit, IsFault, TreeRun, BodyMade, RanInTurn, all_results};
 ghost use Rattle.ext_node_run.specs.Helpers.{ran_view};
 
-use crate::runner::{Container, TreeRunner};
+use crate::runner::TreeRunner;
 use crate::{EngineFault, Suite};
 use ext_crew::{Gate, run_children};
-use ext_lifecycle::{NodeResult, afters_of, befores_of};
+use ext_lifecycle::NodeResult;
 use ext_locks::{LockLane, Locks};
 use ext_model::ContextNo;
 use ext_node_run::{
-    Item, NodeRunner, RanNode, all_skipped, call_afters, call_befores, gathered, items_of_children,
-    place, take_own,
+    Children, Item, NodeRunner, RanNode, all_skipped, close_container, gathered, open_container,
+    place,
 };
 use ext_store::{Closer, Lane, Store, StoreValue};
 use std::alloc::Global;
@@ -97,7 +95,8 @@ impl<
     S: Suite<V> + Sync,
     G: Gate + Sync,
 > TreeRunner<'a, R, V, S, G> {
-    /// A node and all below it.
+    /// A node and all below it: a test, or a container with its before-callbacks, its children where these were all successful, its
+    /// after-callbacks, and its close.
     #[cycle(tree)]
     fn run_node(
         &self,
@@ -117,118 +116,27 @@ impl<
             (record { first = lanes.old; second = lock_lanes.old }) (map ran_view ran.items) (record { first = lanes.new; second = lock_lanes.new }))
             × IfErr result (IsFault (setting_of self.now.nodes.store.now self.now.nodes.locks.now (S.nodes self.now.nodes.suite.now) (S.registered self.now.nodes.suite.now) V.is_closeable) (S.action_gives self.now.nodes.suite.now) S.Action.close_gives) }
     {
-        let _path = self.nodes.store.tree().path(item.node);
         if self.nodes.suite.is_test(item.node) {
-            self.nodes.run_test(alloc, depth, item, lanes, lock_lanes)
-        } else {
-            self.run_container(alloc, depth, item, lanes, lock_lanes)
+            let _path = self.nodes.store.tree().path(item.node);
+            return self.nodes.run_test(alloc, depth, item, lanes, lock_lanes);
         }
-    }
-
-    /// What the container is run with: its closer, its callbacks and its children. Takes memory for them.
-    fn container(&self, alloc: Global, depth: usize, item: Item) -> Result<Container, EngineFault>
-        requires item { IsNode self.now.nodes.store.now depth item }
-        ensures closer { IfOk result (λ r. IsCloserOf self.now.nodes.store.now r.closer × (r.closer.context ≡ item.node)) }
-        ensures calls { IfOk result (λ r. (path : List ℕ) × IsPathOf self.now.nodes.store.now.tree item.node path
-            × (r.befores.items ≡ calls_before (S.registered self.now.nodes.suite.now) false item.node path) × (r.afters.items ≡ calls_after (S.registered self.now.nodes.suite.now) false item.node path)) }
-        ensures few_calls { IfOk result (λ r. (vec_len r.befores ≤ 16777216) × (vec_len r.afters ≤ 16777216)) }
-        ensures beside { IfOk result (λ r. map (λ i. i.node) r.beside.items ≡ filter (S.nodes self.now.nodes.suite.now).is_concurrent (children_of self.now.nodes.store.now.tree item.node)) }
-        ensures in_turn { IfOk result (λ r. map (λ i. i.node) r.in_turn.items ≡ filter (λ c. not ((S.nodes self.now.nodes.suite.now).is_concurrent c)) (children_of self.now.nodes.store.now.tree item.node)) }
-        ensures below { IfOk result (λ r. All (IsNode self.now.nodes.store.now (depth - 1)) r.beside.items × All (IsNode self.now.nodes.store.now (depth - 1)) r.in_turn.items) }
-        ensures few { IfOk result (λ r. vec_len r.beside ≤ 256) }
-        ensures deep { IfOk result (λ _. 1 ≤ depth) }
-        ensures fault { IfErr result (λ why. why ≡ engine_fault.Memory) }
-    {
-        let Item { node, mut closers } = item;
-        let closer = take_own(self.nodes.store, node, &mut closers);
-        let path = self.nodes.store.tree().path(node);
-        let befores = befores_of(alloc, self.nodes.suite, false, node, path.as_slice())?;
-        let afters = afters_of(alloc, self.nodes.suite, false, node, path.as_slice())?;
-        let (beside, in_turn) = items_of_children(
-            alloc,
-            self.nodes.suite,
-            self.nodes.store,
-            node,
-            closers,
-        )?;
-        Ok(Container {
-            closer,
-            befores,
-            afters,
-            beside,
-            in_turn,
-        })
-    }
-
-    /// A container: its before-callbacks, its children where these were all successful, its after-callbacks, and its close.
-    #[cycle(tree)]
-    fn run_container(
-        &self,
-        alloc: Global,
-        depth: usize,
-        item: Item,
-        lanes: &mut [Lane<V>],
-        lock_lanes: &mut [LockLane],
-    ) -> Result<Vec<RanNode>, EngineFault>
-        requires item { IsNode self.now.nodes.store.now depth item }
-        requires container { (S.nodes self.now.nodes.suite.now).is_test item.node ≡ false }
-        requires ready { IsFit self.now.nodes.store.now self.now.nodes.locks.now (S.nodes self.now.nodes.suite.now)
-            × S.fits self.now.nodes.suite.now self.now.nodes.store.now
-            × IsUsable self.now.nodes.store.now self.now.nodes.locks.now (record { first = lanes.old; second = lock_lanes.old }) }
-        ensures left { IsUsable self.now.nodes.store.now self.now.nodes.locks.now (record { first = lanes.new; second = lock_lanes.new })
-            × (length lanes.new ≡ length lanes.old)
-            × IfOk result (λ ran. (path : List ℕ) × IsPathOf self.now.nodes.store.now.tree item.node path × ContainerRun (setting_of self.now.nodes.store.now self.now.nodes.locks.now (S.nodes self.now.nodes.suite.now) (S.registered self.now.nodes.suite.now) V.is_closeable) (S.call_gives self.now.nodes.suite.now self.now.nodes.store.now) (S.action_gives self.now.nodes.suite.now) S.Action.close_gives (TreeRun (setting_of self.now.nodes.store.now self.now.nodes.locks.now (S.nodes self.now.nodes.suite.now) (S.registered self.now.nodes.suite.now) V.is_closeable) (S.call_gives self.now.nodes.suite.now self.now.nodes.store.now) (S.action_gives self.now.nodes.suite.now) S.Action.close_gives (depth - 1)) item.node path
-            (record { first = lanes.old; second = lock_lanes.old }) (map ran_view ran.items) (record { first = lanes.new; second = lock_lanes.new }))
-            × IfErr result (IsFault (setting_of self.now.nodes.store.now self.now.nodes.locks.now (S.nodes self.now.nodes.suite.now) (S.registered self.now.nodes.suite.now) V.is_closeable) (S.action_gives self.now.nodes.suite.now) S.Action.close_gives) }
-    {
         let node = item.node;
         let mut ran = Vec::with_capacity(alloc, 1)?;
-        let Container {
-            closer,
-            befores,
-            afters,
-            beside,
-            in_turn,
-        } = self.container(alloc, depth, item)?;
-        let mut tally = call_befores(
-            self.nodes.rt,
-            self.nodes.suite,
-            self.nodes.store,
-            node,
-            &mut lanes[0],
-            befores.as_slice(),
-        );
-        let went_on = tally.is_successful();
+        let (begun, children) = open_container(&self.nodes, alloc, depth, item, lanes)?;
+        let went_on = begun.went_on;
         let mut below = self.run_body(
             alloc,
             depth - 1,
             went_on,
             node,
-            beside,
-            in_turn,
+            children,
             lanes,
             lock_lanes,
         )?;
-        call_afters(
-            self.nodes.rt,
-            self.nodes.suite,
-            self.nodes.store,
-            node,
-            &mut lanes[0],
-            afters.as_slice(),
-            &mut tally,
-        );
-        match self.nodes.close_node(node, closer, lanes) {
-            Ok(closes) => {
-                ran.push_reserved(RanNode {
-                    result: tally.result(node, false, closes),
-                    went_on,
-                });
-                ran.append(&mut below)?;
-                Ok(ran)
-            }
-            Err(number) => Err(EngineFault::Unjoined(node, number)),
-        }
+        let own = close_container(&self.nodes, node, begun, lanes)?;
+        ran.push_reserved(own);
+        ran.append(&mut below)?;
+        Ok(ran)
     }
 
     /// The children of a container, where they are to be run: those that run beside one another, and then the others.
@@ -239,16 +147,11 @@ impl<
         depth: usize,
         go: bool,
         node: ContextNo,
-        beside: Vec<Item>,
-        in_turn: Vec<Item>,
+        children: Children,
         lanes: &mut [Lane<V>],
         lock_lanes: &mut [LockLane],
     ) -> Result<Vec<RanNode>, EngineFault>
-        requires beside { All (IsNode self.now.nodes.store.now depth) beside.items }
-        requires few { vec_len beside ≤ 256 }
-        requires in_turn { All (IsNode self.now.nodes.store.now depth) in_turn.items }
-        requires concurrent { map (λ i. i.node) beside.items ≡ filter (S.nodes self.now.nodes.suite.now).is_concurrent (children_of self.now.nodes.store.now.tree node) }
-        requires same_thread { map (λ i. i.node) in_turn.items ≡ filter (λ c. not ((S.nodes self.now.nodes.suite.now).is_concurrent c)) (children_of self.now.nodes.store.now.tree node) }
+        requires children { AreChildren self.now.nodes.store.now (S.nodes self.now.nodes.suite.now) depth node children }
         requires ready { IsFit self.now.nodes.store.now self.now.nodes.locks.now (S.nodes self.now.nodes.suite.now)
             × S.fits self.now.nodes.suite.now self.now.nodes.store.now
             × IsUsable self.now.nodes.store.now self.now.nodes.locks.now (record { first = lanes.old; second = lock_lanes.old }) }
@@ -261,6 +164,7 @@ impl<
         if !go {
             return Ok(Vec::new(alloc));
         }
+        let Children { beside, in_turn } = children;
         let outcomes = self.run_beside(alloc, depth, beside, lanes, lock_lanes)?;
         let mut ran = gathered(alloc, outcomes)?;
         let mut others = self.run_in_turn(alloc, depth, in_turn, lanes, lock_lanes)?;

@@ -1,4 +1,5 @@
 -- Lemmas of this crate.
+pub mod Below
 pub mod Contexts
 pub mod Firsts
 pub mod Gathering

@@ -1,22 +1,27 @@
 //! How one node of a tree of tests is run: its calls on a lane, the locks of a test, the close of its context, and its result.
 //!
 //! What the nodes are, and what their calls do, is told by a `Suite`, that of `ext_nodes`, which has the locks of a test, too. A `NodeRunner` runs a test and
-//! closes the context of any node; the calls of a container, its children with their closers, and the places of results are functions of their own. `ext_engine`
-//! puts them together to the run of a tree. `specs/NodeRun` says what the run of a test is. Which calls of a node are made, and what they come to, is that of
+//! closes the context of any node. `open_container` does what comes before a container's children and `close_container` what comes after them; its children with
+//! their closers, and the places of results are functions of their own. `ext_engine` puts them together to the run of a tree. `specs/NodeRun` says what the run
+//! of a test is, and `specs/Containers` what is done for a container. Which calls of a node are made, and what they come to, is that of
 //! `ext_lifecycle`. Own rule, for JUnit 5 User Guide, sections "Relative Execution Order of User Code and Extensions", "Synchronization" and "Keeping State in
 //! Extensions".
 #![tactic(auto)]
 
 mod closers;
 mod closing;
+mod container;
 mod fault;
 mod node_calls;
 mod node_runner;
+mod parts;
 mod results;
 
 pub use closers::{Item, items_of_children, take_own};
+pub use container::{OpenContainer, close_container, open_container};
 pub use ext_nodes::Suite;
 pub use fault::EngineFault;
 pub use node_calls::{call_afters, call_befores};
 pub use node_runner::NodeRunner;
+pub use parts::Children;
 pub use results::{RanNode, all_skipped, gathered, place};

@@ -1,5 +1,5 @@
 use Rattle.std.proofs.Common.{rules, ◌≡◌, ◌≤◌, ◌++◌, ◌-◌, ℕ, true, false, List, ◌∷◌, [], ◌∙◌, length, map, refl, arith, ap, subst, sym, append_assoc}
-use Rattle.std.specs.Prelude.{All, IfOk, IfErr, None, Result, Vec, slice_set}
+use Rattle.std.specs.Prelude.{All, IfOk, IfErr, Result, Vec}
 use Rattle.std.specs.declared.alloc.Global.{Global}
 use Rattle.std.proofs.lemmas.List.{length-map, map-append}
 use Rattle.std.proofs.lemmas.Result.{IfOk-weaker}
@@ -8,17 +8,13 @@ use Rattle.ext_tree.specs.Paths.{IsPathOf}
 use Rattle.ext_store.specs.Stores.{StoreLane, IsLaneOf}
 use Rattle.ext_locks.specs.Views.{Lane}
 use Rattle.ext_crew.proofs.Runs.{run-weaker, run-keeps, turn-keeps, calls-from, meet_split, meet_join}
-use Rattle.ext_lifecycle.specs.declared.call.Call.{Call}
-use Rattle.ext_lifecycle.specs.declared.outcome.Outcome.{Outcome}
-use Rattle.ext_lifecycle.specs.Callbacks.{befores_of, afters_of}
 use Rattle.ext_node_run.specs.declared.closers.Item.{Item}
 use Rattle.ext_node_run.specs.declared.fault.EngineFault.{EngineFault}
 use Rattle.ext_node_run.specs.declared.results.RanNode.{RanNode}
 use Rattle.ext_node_run.specs.Closers.{IsNode}
 use Rattle.ext_node_run.specs.Helpers.{ran_view}
-use Rattle.ext_engine.specs.TreeRun.{Lanes, setting_of, IsUsable, IsIdle, IsFault, TreeRun, TestRun, ContainerRun, BodyMade}
+use Rattle.ext_engine.specs.TreeRun.{Lanes, setting_of, IsUsable, IsIdle, IsFault, TreeRun, TestRun, BodyMade}
 use Rattle.ext_engine.proofs.Trees.{usable_part, usable-shown, usable-then, at_item, node_at, outcomes-meet, ran-none, ran-push, tree-of-test, tree-of-container, body-of}
-use Rattle.ext_node_run.proofs.Firsts.{ran-first, befores-on, afters-on}
 use Rattle.ext_engine.proofs.runner.+tree.Goals as goal
 
 pub TreeRunner::run_beside-run_children-requires-clause-accepts : goal.TreeRunner::run_beside-run_children-requires-clause-accepts
@@ -78,10 +74,10 @@ TreeRunner::run_body-returns g t c =
     let gives = g.S.Action.CloseAction.close_gives in
     let is : c.append.new.self.items ≡ c.in_ok-ran.ran.items ++ c.in_ok-others.others.items = search rules in
     let views = ap (map ran_view) is ∙ map-append ran_view c.in_ok-ran.ran.items c.in_ok-others.others.items in
-    let size = length-map c.args.beside.items (λ (i : Item). i.node) in
-    let body = body-of ts makes actions gives (TreeRun ts makes actions gives c.args.depth) c.args.node (map (λ i. i.node) c.args.beside.items) (map (λ i. i.node) c.args.in_turn.items)
+    let size = length-map c.args.children.beside.items (λ (i : Item). i.node) in
+    let body = body-of ts makes actions gives (TreeRun ts makes actions gives c.args.depth) c.args.node (map (λ i. i.node) c.args.children.beside.items) (map (λ i. i.node) c.args.children.in_turn.items)
     (record { first = c.args.lanes.now; second = c.args.lock_lanes.now }) (record { first = c.run_beside.new.lanes; second = c.run_beside.new.lock_lanes }) (record { first = c.run_in_turn.new.lanes; second = c.run_in_turn.new.lock_lanes })
-    c.in_ok-outcomes.outcomes.items (map ran_view c.in_ok-others.others.items) (map ran_view c.append.new.self.items) (map ran_view c.in_ok-ran.ran.items) (length c.args.beside.items) size c.requires.concurrent c.requires.same_thread
+    c.in_ok-outcomes.outcomes.items (map ran_view c.in_ok-others.others.items) (map ran_view c.append.new.self.items) (map ran_view c.in_ok-ran.ran.items) (length c.args.children.beside.items) size c.requires.children.concurrent c.requires.children.same_thread
     c.in_ok-outcomes.ensures.left.2 c.in_ok-ran.ensures.all.0 c.in_ok-ran.ensures.all.1 c.in_ok-others.ensures.left.2 views in
     record { left = (c.in_ok-others.ensures.left.0, c.in_ok-others.ensures.left.1 ∙ c.in_ok-outcomes.ensures.left.1, record { made = λ _. body; skipped = λ bad. absurd (let e : c.args.go ≡ true = search rules in let f : true ≡ false = sym e ∙ bad in cc) }, tt) }
 
@@ -127,62 +123,45 @@ TreeRunner::run_node-returns-then-is_test g t c =
     let Below : Vec RanNode Global → Type 0 = λ v. TreeRun ts makes actions gives c.args.depth c.args.item.node s (map ran_view v.items) z in
     record { left = (c.run_test.ensures.lanes, c.run_test.ensures.count, IfOk-weaker c.run_test.result Node Below (λ v run. tree-of-test ts makes actions gives c.args.depth c.args.item.node s (map ran_view v.items) z deep (search rules) run) c.run_test.ensures.run, c.run_test.ensures.fault) }
 
-pub TreeRunner::run_node-returns-else-is_test : goal.TreeRunner::run_node-returns-else-is_test
-TreeRunner::run_node-returns-else-is_test g t c =
-    let r = c.args.self.now.nodes in
-    let ts = setting_of r.store.now r.locks.now (g.S.Suite.nodes r.suite.now) (g.S.Callbacks.registered r.suite.now) g.V.StoreValue.is_closeable in
-    let makes = g.S.Suite.call_gives r.suite.now r.store.now in
-    let actions = g.S.Suite.action_gives r.suite.now in
-    let gives = g.S.Action.CloseAction.close_gives in
-    let s : Lanes g.row.V.Denot = record { first = c.args.lanes.now; second = c.args.lock_lanes.now } in
-    let z : Lanes g.row.V.Denot = record { first = c.run_container.new.lanes; second = c.run_container.new.lock_lanes } in
-    let deep : 1 ≤ c.args.depth = (let e = ap (λ ids. length (id_at ids c.args.item.node)) c.tree.ensures in omega (arith, c.requires.item.depth_is, c.path-path.ensures.depth, c.path-path.ensures.few, e)) in
-    let Node : Vec RanNode Global → Type 0 = λ v. (path : List ℕ) × IsPathOf r.store.now.tree c.args.item.node path × ContainerRun ts makes actions gives (TreeRun ts makes actions gives (c.args.depth - 1)) c.args.item.node path s (map ran_view v.items) z in
-    let Below : Vec RanNode Global → Type 0 = λ v. TreeRun ts makes actions gives c.args.depth c.args.item.node s (map ran_view v.items) z in
-    record { left = (c.run_container.ensures.left.0, c.run_container.ensures.left.1, IfOk-weaker c.run_container.result Node Below (λ v run. tree-of-container ts makes actions gives c.args.depth c.args.item.node s (map ran_view v.items) z deep (search rules) run) c.run_container.ensures.left.2, c.run_container.ensures.left.3) }
-
-pub TreeRunner::run_container-returns-in_ok-append-in-Ok : goal.TreeRunner::run_container-returns-in_ok-append-in-Ok
-TreeRunner::run_container-returns-in_ok-append-in-Ok g t c =
+pub TreeRunner::run_node-returns : goal.TreeRunner::run_node-returns
+TreeRunner::run_node-returns g t c =
     let r = c.args.self.now.nodes in
     let st = r.store.now in
-    let registered = g.S.Callbacks.registered r.suite.now in
-    let ts = setting_of st r.locks.now (g.S.Suite.nodes r.suite.now) registered g.V.StoreValue.is_closeable in
-    let gives = g.S.Suite.call_gives r.suite.now st in
+    let ts = setting_of st r.locks.now (g.S.Suite.nodes r.suite.now) (g.S.Callbacks.registered r.suite.now) g.V.StoreValue.is_closeable in
+    let makes = g.S.Suite.call_gives r.suite.now st in
     let actions = g.S.Suite.action_gives r.suite.now in
-    let closing = g.S.Action.CloseAction.close_gives in
+    let gives = g.S.Action.CloseAction.close_gives in
     let node = c.args.item.node in
-    let calls = c.in_ok-closer.ensures.calls in
-    let path = calls.0 in
-    let bs = c.as_slice.ensures.value ∙ calls.2 in
-    let as_ = c.as_slice-2.ensures.value ∙ calls.3 in
-    let makes : StoreLane g.row.V.Denot → Call → Outcome → StoreLane g.row.V.Denot → Type 0 = λ a call o b. gives node call None a o b in
-    let b = c.call_befores-tally.ensures.calls in
-    let a = c.call_afters.ensures.calls b.0 b.2 in
-    let closed = c.in-Ok.ensures.closes in
-    let opened = slice_set c.args.lanes.now 0 c.call_befores-tally.new.lane in
-    let called = slice_set c.run_body.new.lanes 0 c.call_afters.new.lane in
+    let opens = c.in_ok-begun.ensures.befores in
+    let ends = c.in_ok-own.ensures.ends opens.path opens.befores opens.begun_by in
+    let opened : Lanes g.row.V.Denot = record { first = c.open_container.new.lanes; second = c.args.lock_lanes.now } in
     let body : Lanes g.row.V.Denot = record { first = c.run_body.new.lanes; second = c.run_body.new.lock_lanes } in
-    let below = map ran_view c.in_ok-below.below.items in record {
+    let after : Lanes g.row.V.Denot = record { first = c.close_container.new.lanes; second = c.run_body.new.lock_lanes } in
+    let kept = c.in_ok-below.ensures.left.0 in
+    let below = map ran_view c.in_ok-below.below.items in
+    let is : c.append.new.self.items ≡ c.in_ok-own.own ∷ c.in_ok-below.below.items = search rules in
+    let container : ts.suite.is_test node ≡ false = search rules in
+    record {
       left = (
-        (search rules),
-        (search rules),
-        (
-          path,
-          calls.1,
+        usable-then st r.locks.now body after kept c.close_container.ensures.count refl (c.close_container.ensures.own_lanes, kept.idle),
+        c.close_container.ensures.count ∙ c.in_ok-below.ensures.left.1 ∙ c.open_container.ensures.count,
+        tree-of-container ts makes actions gives c.args.depth node (record { first = c.args.lanes.now; second = c.args.lock_lanes.now }) (map ran_view c.append.new.self.items) after c.in_ok-begun.ensures.children.1 container (
+          opens.path,
+          opens.path_is,
           record {
-            befores = b.0;
-            opened = opened;
-            befores_made = befores-on makes c.args.lanes.now _ _ (befores_of registered false node path) b.0 bs c.requires.ready.2.some b.1;
+            befores = opens.befores;
+            opened = opened.first;
+            befores_made = opens.befores_made;
             body = body;
             below = below;
-            body_made = subst (λ go. BodyMade ts gives actions closing (TreeRun ts gives actions closing (c.args.depth - 1)) go node (record { first = opened; second = c.args.lock_lanes.now }) below body) (c.is_successful-went_on.ensures b.0 b.2) c.in_ok-below.ensures.left.2;
-            afters = a.0;
-            called = called;
-            afters_made = afters-on makes c.run_body.new.lanes _ _ (afters_of registered false node path) a.0 as_ c.in_ok-below.ensures.left.0.some a.1;
-            faults = closed.0;
-            closes = closed.1;
+            body_made = subst (λ go. BodyMade ts makes actions gives (TreeRun ts makes actions gives (c.args.depth - 1)) go node opened below body) opens.begun_by.went_on_is c.in_ok-below.ensures.left.2;
+            afters = ends.afters;
+            called = ends.called;
+            afters_made = ends.afters_made;
+            faults = ends.faults;
+            closes = ends.closes;
             no_locks = refl;
-            ran_are = ran-first (record { result = c.result.result; went_on = c.is_successful-went_on.result }) _ _ c.append.new.self.items c.in_ok-below.below.items (search rules) (c.result.ensures (b.0 ++ a.0) closed.0 a.2 closed.2) (c.is_successful-went_on.ensures b.0 b.2);
+            ran_are = ap (map ran_view) is ∙ ap (λ first. first ∷ below) ends.ran_is;
           },
         ),
         tt,

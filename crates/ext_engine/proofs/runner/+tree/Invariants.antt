@@ -15,9 +15,6 @@ decreases-TreeRunner::run_in_turn g l = 8 * l.depth + 7
 abbrev pub decreases-TreeRunner::run_body : goal.decreases-TreeRunner::run_body
 decreases-TreeRunner::run_body g l = 8 * l.depth + 8
 
-abbrev pub decreases-TreeRunner::run_container : goal.decreases-TreeRunner::run_container
-decreases-TreeRunner::run_container g l = 8 * l.depth + 4
-
 abbrev pub decreases-TreeRunner::run_node : goal.decreases-TreeRunner::run_node
 decreases-TreeRunner::run_node g l = 8 * l.depth + 5
 
