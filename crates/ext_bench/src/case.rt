@@ -1,7 +1,7 @@
 //! What can be measured.
 
 /// A case: what an operation is, and in which contexts.
-#[derive(Clone, Copy, Debug, PartialEq, Eq)]
+#[derive(Clone, Copy)]
 pub(crate) enum Case {
     /// A look-up of a value in the own context, three contexts deep.
     GetOwn3,
@@ -66,7 +66,12 @@ impl Case {
 
     /// The case of this word.
     pub(crate) fn named(name: &str) -> Option<Case> {
-        Case::ALL.iter().copied().find(|case| case.name() == name)
+        for case in &Case::ALL {
+            if case.name() == name {
+                return Some(*case);
+            }
+        }
+        None
     }
 
     /// On how many threads the table has it.

@@ -15,6 +15,7 @@ mod work;
 use case::Case;
 use fault::BenchFault;
 use round::round_of;
+use spent::Spent;
 use std::process::ExitCode;
 use std::thread::Threads;
 use std::time::{Clock, CpuClock};
@@ -24,7 +25,8 @@ fn main(rt: HostRuntime) -> ExitCode {
     match done(&rt, request_of(&rt)) {
         Ok(()) => ExitCode::from(0),
         Err(fault) => {
-            let _ = eprintln!(rt; "ext_bench: {fault}");
+            let text = fault.text();
+            let _ = eprintln!(rt; "ext_bench: {text}");
             ExitCode::from(fault.status())
         }
     }
@@ -52,7 +54,7 @@ fn done<R: Threads + Sync + Clock + CpuClock + AllocGlobal + Print>(
 }
 
 fn usage(rt: &impl Print) -> Result<(), BenchFault> {
-    print!(rt; "{USAGE}").map_err(|_| BenchFault::Output)
+    print!(rt; "{USAGE}").or(Err(BenchFault::Output))
 }
 
 /// A round of two seconds for each case, on one thread, and on four where threads are in each other's way.
@@ -75,10 +77,13 @@ fn rounds_of<R: Threads + Sync + Clock + CpuClock + AllocGlobal + Print>(
 ) -> Result<(), BenchFault> {
     for _ in 0..rounds {
         let spent = round_of(rt, case, threads, millis)?;
-        let (name, wall, processor) = (case.name(), spent.wall_each(), spent.processor_each());
-        println!(rt; "ext_store {name} {threads} {wall} {processor}").map_err(
-            |_| BenchFault::Output,
-        )?;
+        tell(rt, case, threads, spent)?;
     }
     Ok(())
+}
+
+/// Prints the line of a round.
+fn tell<R: Print>(rt: &R, case: Case, threads: usize, spent: Spent) -> Result<(), BenchFault> {
+    let (name, wall, processor) = (case.name(), spent.wall_each(), spent.processor_each());
+    println!(rt; "ext_store {name} {threads} {wall} {processor}").or(Err(BenchFault::Output))
 }

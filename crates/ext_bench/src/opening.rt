@@ -9,7 +9,7 @@ use ext_tree::{Directory, Key, Namespace, Tree};
 use std::alloc::Global;
 
 /// A value: a number, and whether it is closeable.
-#[derive(Clone, Copy, Debug, PartialEq, Eq)]
+#[derive(Clone, Copy)]
 pub(crate) struct Payload {
     pub(crate) number: u32,
     pub(crate) closeable: bool,
@@ -37,27 +37,46 @@ pub(crate) const NUMBERS: u32 = 65_535;
 /// A store, its lanes and its closers.
 pub(crate) type Opened = (Store<Payload>, Vec<Lane<Payload>>, Vec<Closer>);
 
+/// One more context.
+fn add(alloc: Global, ids: &mut Vec<UniqueId>, text: &str) -> Option<()> {
+    ids.push(UniqueId::parse(alloc, text).ok()?).ok()
+}
+
 /// An engine, and so many contexts one below the other.
 pub(crate) fn chain(alloc: Global, below: usize) -> Option<Tree> {
     let mut ids = Vec::new(alloc);
+    add_chain(alloc, &mut ids, below)?;
+    Tree::build(alloc, ids.as_slice()).ok()
+}
+
+fn add_chain(alloc: Global, ids: &mut Vec<UniqueId>, below: usize) -> Option<()> {
     let mut text = String::from_str(alloc, "[engine:x]").ok()?;
-    ids.push(UniqueId::parse(alloc, text.as_str()).ok()?).ok()?;
+    add(alloc, ids, text.as_str())?;
     for _ in 0..below {
         text.push_str("/[class:x]").ok()?;
-        ids.push(UniqueId::parse(alloc, text.as_str()).ok()?).ok()?;
+        add(alloc, ids, text.as_str())?;
     }
-    Tree::build(alloc, ids.as_slice()).ok()
+    Some(())
 }
 
 /// An engine with 255 classes.
 pub(crate) fn wide(alloc: Global) -> Option<Tree> {
     let mut ids = Vec::new(alloc);
-    ids.push(UniqueId::parse(alloc, "[engine:x]").ok()?).ok()?;
-    for class in 0..255u32 {
-        let text = format!(in alloc; "[engine:x]/[class:{class}]").ok()?;
-        ids.push(UniqueId::parse(alloc, text.as_str()).ok()?).ok()?;
-    }
+    add_wide(alloc, &mut ids)?;
     Tree::build(alloc, ids.as_slice()).ok()
+}
+
+fn add_wide(alloc: Global, ids: &mut Vec<UniqueId>) -> Option<()> {
+    add(alloc, ids, "[engine:x]")?;
+    for class in 0..255 {
+        add_class(alloc, ids, class)?;
+    }
+    Some(())
+}
+
+fn add_class(alloc: Global, ids: &mut Vec<UniqueId>, class: u32) -> Option<()> {
+    let text = format!(in alloc; "[engine:x]/[class:{class}]").ok()?;
+    add(alloc, ids, text.as_str())
 }
 
 /// The global key of this number.
@@ -66,29 +85,30 @@ fn key(alloc: Global, number: u32) -> Option<Key> {
     Key::new(alloc, Namespace::global(), name.as_str()).ok()
 }
 
-/// The global key of this number.
-pub(crate) fn key_of(alloc: Global, number: u32) -> Result<Key, BenchFault> {
-    key(alloc, number).ok_or(BenchFault::Opening)
+/// So many keys.
+pub(crate) fn names(alloc: Global, count: u32) -> Option<Vec<Key>> {
+    let mut names = Vec::new(alloc);
+    add_names(alloc, &mut names, count).and(Some(names))
 }
 
-/// So many keys.
-pub(crate) fn names(alloc: Global, count: u32) -> Result<Vec<Key>, BenchFault> {
-    let mut names = Vec::new(alloc);
+fn add_names(alloc: Global, names: &mut Vec<Key>, count: u32) -> Option<()> {
     for number in 0..count {
-        names
-            .push(key_of(alloc, number)?)
-            .map_err(|_| BenchFault::Opening)?;
+        names.push(key(alloc, number)?).ok()?;
     }
-    Ok(names)
+    Some(())
 }
 
 /// So many keys, declared in their order.
 pub(crate) fn keys(alloc: Global, count: u32) -> Option<Directory> {
     let mut directory = Directory::new(alloc);
+    declare(alloc, &mut directory, count).and(Some(directory))
+}
+
+fn declare(alloc: Global, directory: &mut Directory, count: u32) -> Option<()> {
     for number in 0..count {
         directory.declare(key(alloc, number)?).ok()?;
     }
-    Some(directory)
+    Some(())
 }
 
 /// A store of these contexts and keys, with so many lanes.
@@ -101,13 +121,13 @@ pub(crate) fn open(
     ensures lanes { IfOk result (λ r. All (IsLaneOf r.0.id) r.1.items) }
     ensures closers { IfOk result (λ r. All (IsCloserOf r.0) r.2.items) }
 {
-    let (Some(tree), Some(keys)) = (tree, keys) else {
-        return Err(BenchFault::Opening);
-    };
     let limits = Limits {
         lanes,
         tries: 64,
         numbers: NUMBERS,
+    };
+    let Some((tree, keys)) = tree.zip(keys) else {
+        return Err(BenchFault::Opening);
     };
     match Store::open(alloc, tree, keys, limits) {
         Ok(opened) => Ok(opened),

@@ -4,7 +4,7 @@ ghost use Rattle.ext_store.specs.Stores.{IsCloserOf, IsLaneOf};
 
 use crate::case::Case;
 use crate::fault::BenchFault;
-use crate::opening::{NUMBERS, Payload, chain, key_of, keys, names, open, wide};
+use crate::opening::{NUMBERS, Opened, Payload, chain, keys, names, open, wide};
 use crate::spent::{Span, Spent, Started};
 use crate::work::{
     compute_all, compute_often, look_up, look_up_numbered, put_and_remove, put_one, put_over,
@@ -35,29 +35,58 @@ pub(crate) fn round_of<R: Threads + Sync + Clock + CpuClock + AllocGlobal>(
         if spent.is_over(millis) {
             break;
         }
-        spent = match case {
-            Case::Open256x16 => spent.and(&[opening(rt)?]),
-            Case::ComputeFreshAndClose => spent.and(&[computing(rt)?]),
-            _ => spent.and(batch(rt, case, threads)?.as_slice()),
-        };
+        spent = spent_after(rt, case, threads, spent)?;
     }
     Ok(spent)
+}
+
+/// What is spent after one more batch of the case.
+fn spent_after<R: Threads + Sync + Clock + CpuClock + AllocGlobal>(
+    rt: &R,
+    case: Case,
+    threads: usize,
+    spent: Spent,
+) -> Result<Spent, BenchFault> {
+    match case {
+        Case::Open256x16 => and_one(spent, opening(rt)),
+        Case::ComputeFreshAndClose => and_one(spent, computing(rt)),
+        _ => match batch(rt, case, threads) {
+            Ok(spans) => Ok(spent.and(spans.as_slice())),
+            Err(fault) => Err(fault),
+        },
+    }
+}
+
+fn and_one(spent: Spent, span: Result<Span, BenchFault>) -> Result<Spent, BenchFault> {
+    Ok(spent.and(&[span?]))
 }
 
 // ---- cases of one thread
 
 /// A store of 256 contexts and 16 keys opened.
 fn opening<R: Clock + CpuClock + AllocGlobal>(rt: &R) -> Result<Span, BenchFault> {
-    let (tree, keys) = (wide(rt.alloc()), keys(rt.alloc(), KEYS));
-    let started = Started::now(rt)?;
-    let opened = open(rt.alloc(), tree, keys, 16)?;
-    let span = started.end(rt, 1);
-    drop(opened);
-    span
+    let tree = wide(rt.alloc());
+    let keys = keys(rt.alloc(), KEYS);
+    let started = Started::now(rt);
+    let opened = open(rt.alloc(), tree, keys, 16);
+    let span = ended(rt, started, 1);
+    match opened.err() {
+        None => span,
+        Some(fault) => started.and(Err(fault)),
+    }
+}
+
+/// What was spent since the clocks were started, if they were.
+fn ended<R: Clock + CpuClock>(
+    rt: &R,
+    started: Result<Started, BenchFault>,
+    operations: u64,
+) -> Result<Span, BenchFault> {
+    started?.end(rt, operations)
 }
 
 /// Counts what it closes.
-#[derive(Clone, Copy, Debug)]
+#[derive(Clone, Copy)]
 struct Counting {
     closed: u64,
 }
@@ -75,8 +104,25 @@ impl CloseAction<Payload> for Counting {
 /// All keys computed in each of 255 contexts, which are closed.
 fn computing<R: Clock + CpuClock + AllocGlobal>(rt: &R) -> Result<Span, BenchFault> {
     let alloc = rt.alloc();
-    let (store, mut lanes, mut closers) = open(alloc, wide(alloc), keys(alloc, KEYS), 1)?;
-    computed_and_closed(rt, &store, lanes.as_mut_slice(), &mut closers)
+    match open(alloc, wide(alloc), keys(alloc, KEYS), 1) {
+        Ok(opened) => computed_in(rt, opened),
+        Err(fault) => Err(fault),
+    }
+}
+
+/// All keys computed in the contexts of this store but the root, which are closed.
+fn computed_in<R: Clock + CpuClock + AllocGlobal>(
+    rt: &R,
+    opened: Opened,
+) -> Result<Span, BenchFault>
+    requires lanes { All (IsLaneOf opened.0.id) opened.1.items }
+    requires closers { All (IsCloserOf opened.0) opened.2.items }
+{
+    let mut opened = opened;
+    let lanes = opened.1.as_mut_slice();
+    let span = computed_and_closed(rt, &opened.0, lanes, &mut opened.2);
+    drop(opened);
+    span
 }
 
 /// All keys computed in the contexts of the closers but the first, which are closed.
@@ -89,9 +135,25 @@ fn computed_and_closed<R: Clock + CpuClock + AllocGlobal>(
     requires lanes { All (IsLaneOf store.now.id) lanes.old }
     requires closers { All (IsCloserOf store.now) closers.old.items }
 {
-    let names = names(rt.alloc(), KEYS)?;
+    match names(rt.alloc(), KEYS) {
+        Some(names) => spent_on(rt, store, lanes, closers, names.as_slice()),
+        None => Err(BenchFault::Opening),
+    }
+}
+
+/// What is spent when these keys are computed in the contexts of the closers but the first, and closed.
+fn spent_on<R: Clock + CpuClock>(
+    rt: &R,
+    store: &Store<Payload>,
+    lanes: &mut [Lane<Payload>],
+    closers: &mut Vec<Closer>,
+    names: &[Key],
+) -> Result<Span, BenchFault>
+    requires lanes { All (IsLaneOf store.now.id) lanes.old }
+    requires closers { All (IsCloserOf store.now) closers.old.items }
+{
     let started = Started::now(rt)?;
-    let closed = compute_and_close(store, lanes, closers, names.as_slice());
+    let closed = compute_and_close(store, lanes, closers, names);
     let span = started.end(rt, closed);
     if closed != 255 * u64::from(KEYS) {
         return Err(BenchFault::Answer);
@@ -158,26 +220,77 @@ fn batch<R: Threads + Sync + Clock + CpuClock + AllocGlobal>(
     case: Case,
     threads: usize,
 ) -> Result<Vec<Span>, BenchFault> {
-    let alloc = rt.alloc();
-    // One more for what stands before the batch.
-    let count = threads.min(14) + usize::from(case.has_writer()) + 1;
-    let (store, lanes, _closers) = open(alloc, contexts(alloc, case), keys(alloc, 2), count)?;
-    spans_of(rt, &store, lanes, Job { case, threads })
+    match names(rt.alloc(), 2) {
+        Some(names) => batch_by(rt, case, threads, names.as_slice()),
+        None => Err(BenchFault::Opening),
+    }
 }
 
-/// What each thread of the job spent that is counted.
+/// The same by these keys.
+fn batch_by<R: Threads + Sync + Clock + CpuClock + AllocGlobal>(
+    rt: &R,
+    case: Case,
+    threads: usize,
+    names: &[Key],
+) -> Result<Vec<Span>, BenchFault> {
+    let [key, other] = names else {
+        return Err(BenchFault::Opening);
+    };
+    let job = Job {
+        case,
+        threads,
+        key,
+        other,
+    };
+    open_and_run(rt, job)
+}
+
+/// What each thread of a batch does, with which keys.
+#[derive(Clone, Copy)]
+struct Job<'a> {
+    case: Case,
+    threads: usize,
+    key: &'a Key,
+    other: &'a Key,
+}
+
+/// What each thread of the job spent that is counted, on a store of their own.
+fn open_and_run<R: Threads + Sync + Clock + CpuClock + AllocGlobal>(
+    rt: &R,
+    job: Job<'_>,
+) -> Result<Vec<Span>, BenchFault> {
+    let alloc = rt.alloc();
+    // One more for what stands before the batch.
+    let count = job.threads.min(14) + usize::from(job.case.has_writer()) + 1;
+    match open(alloc, contexts(alloc, job.case), keys(alloc, 2), count) {
+        Ok(opened) => spans_in(rt, opened, job),
+        Err(fault) => Err(fault),
+    }
+}
+
+/// What each thread of the job spent that is counted, on this store.
+fn spans_in<R: Threads + Sync + Clock + CpuClock + AllocGlobal>(
+    rt: &R,
+    opened: Opened,
+    job: Job<'_>,
+) -> Result<Vec<Span>, BenchFault>
+    requires { All (IsLaneOf opened.0.id) opened.1.items }
+{
+    let (store, lanes, _closers) = opened;
+    spans_of(rt, &store, lanes, job)
+}
+
+/// What the thread of each of these lanes spent that is counted.
 fn spans_of<R: Threads + Sync + Clock + CpuClock + AllocGlobal>(
     rt: &R,
     store: &Store<Payload>,
     lanes: Vec<Lane<Payload>>,
-    job: Job,
+    job: Job<'_>,
 ) -> Result<Vec<Span>, BenchFault>
     requires { All (IsLaneOf store.now.id) lanes.items }
 {
-    let alloc = rt.alloc();
-    let key = key_of(alloc, 0)?;
-    let other = key_of(alloc, 1)?;
-    counted_of(alloc, run(rt, store, lanes, job, &key, &other)?)
+    let done = run(rt, store, lanes, job)?;
+    counted_of(rt.alloc(), done.as_slice())
 }
 
 /// What came of each lane's job, over what stands before the batch.
@@ -185,25 +298,13 @@ fn run<R: Threads + Sync + Clock + CpuClock>(
     rt: &R,
     store: &Store<Payload>,
     lanes: Vec<Lane<Payload>>,
-    job: Job,
-    key: &Key,
-    other: &Key,
+    job: Job<'_>,
 ) -> Result<Vec<Result<Option<Span>, BenchFault>>, BenchFault>
-    requires lanes { All (IsLaneOf store.now.id) lanes.items }
+    requires { All (IsLaneOf store.now.id) lanes.items }
 {
     let mut lanes = lanes;
-    let Some(first) = lanes.pop() else {
-        return Err(BenchFault::Opening);
-    };
-    prepare(store, first, job.case, key)?;
-    on_threads(rt, store, lanes, job, key, other)
-}
-
-/// What each thread of a batch does.
-#[derive(Clone, Copy, Debug)]
-struct Job {
-    case: Case,
-    threads: usize,
+    prepare(store, &mut lanes, job)?;
+    on_threads(rt, store, lanes, job)
 }
 
 /// What came of each lane's job, each in a thread of its own.
@@ -211,50 +312,67 @@ fn on_threads<R: Threads + Sync + Clock + CpuClock>(
     rt: &R,
     store: &Store<Payload>,
     lanes: Vec<Lane<Payload>>,
-    job: Job,
-    key: &Key,
-    other: &Key,
+    job: Job<'_>,
 ) -> Result<Vec<Result<Option<Span>, BenchFault>>, BenchFault>
-    requires lanes { All (IsLaneOf store.now.id) lanes.items }
+    requires { All (IsLaneOf store.now.id) lanes.items }
 {
     let on_lane = |lane: Lane<Payload>| -> Result<Option<Span>, BenchFault>
         requires { IsLaneOf store.now.id lane }
     {
         let mut lane = lane;
-        work(rt, job, store, &mut lane, key, other)
+        work(rt, job, store, &mut lane)
     };
-    map_vec(rt, lanes, &on_lane).map_err(|_| BenchFault::Opening)
+    map_vec(rt, lanes, &on_lane).or(Err(BenchFault::Opening))
 }
 
 /// Those that are counted, or the first fault.
 fn counted_of(
     alloc: Global,
-    done: Vec<Result<Option<Span>, BenchFault>>,
+    done: &[Result<Option<Span>, BenchFault>],
 ) -> Result<Vec<Span>, BenchFault> {
     let mut counted = Vec::new(alloc);
     for span in done {
-        if let Some(span) = span? {
-            counted.push(span).map_err(|_| BenchFault::Opening)?;
-        }
+        count(&mut counted, *span)?;
     }
     Ok(counted)
 }
 
-/// What stands before the batch.
+/// One more that may be counted.
+fn count(
+    counted: &mut Vec<Span>,
+    span: Result<Option<Span>, BenchFault>,
+) -> Result<(), BenchFault> {
+    match span? {
+        Some(span) => counted.push(span).or(Err(BenchFault::Opening)),
+        None => Ok(()),
+    }
+}
+
+/// Takes a lane, by which it puts what stands before the batch.
 fn prepare(
     store: &Store<Payload>,
-    lane: Lane<Payload>,
-    case: Case,
-    key: &Key,
+    lanes: &mut Vec<Lane<Payload>>,
+    job: Job<'_>,
 ) -> Result<(), BenchFault>
+    requires { All (IsLaneOf store.now.id) lanes.old.items }
+    ensures { All (IsLaneOf store.now.id) lanes.new.items }
+{
+    match lanes.pop() {
+        Some(lane) => put_first(store, lane, job),
+        None => Err(BenchFault::Opening),
+    }
+}
+
+/// Puts what stands before the batch.
+fn put_first(store: &Store<Payload>, lane: Lane<Payload>, job: Job<'_>) -> Result<(), BenchFault>
     requires lane { IsLaneOf store.now.id lane }
 {
     let mut lane = lane;
     let deepest = store.tree().len() - 1;
-    let stored = match case {
+    let stored = match job.case {
         Case::GetAbsent3 => true,
-        Case::GetOwn3 | Case::PutOver => put_one(store, &mut lane, deepest, key, 1),
-        _ => put_one(store, &mut lane, 0, key, 1),
+        Case::GetOwn3 | Case::PutOver => put_one(store, &mut lane, deepest, job.key, 1),
+        _ => put_one(store, &mut lane, 0, job.key, 1),
     };
     if stored {
         Ok(())
@@ -266,28 +384,38 @@ fn prepare(
 /// A thread's operations; none is counted of the thread that writes beside the others.
 fn work<R: Clock + CpuClock>(
     rt: &R,
-    job: Job,
+    job: Job<'_>,
     store: &Store<Payload>,
     lane: &mut Lane<Payload>,
-    key: &Key,
-    other: &Key,
 ) -> Result<Option<Span>, BenchFault>
     requires lane { IsLaneOf store.now.id lane.old }
 {
-    let deepest = store.tree().len() - 1;
     let writes = job.case.has_writer() && lane.number() == job.threads;
-    let puts = NUMBERS / 16;
     let started = Started::now(rt)?;
-    let done = match job.case {
-        Case::GetBesideOther if writes => put_over(store, lane, 0, other, 60_000)?,
-        Case::GetBesideSame if writes => put_over(store, lane, 0, key, 60_000)?,
-        Case::GetRoot3Numbered => look_up_numbered(store, lane, deepest, key, LOOKS)?,
-        Case::GetAbsent3 => look_up(store, lane, deepest, key, LOOKS, false)?,
-        Case::PutOver => put_over(store, lane, deepest, key, puts)?,
-        Case::PutRemove => put_and_remove(store, lane, deepest, key, puts)?,
-        Case::ComputeHot => compute_often(store, lane, deepest, key, LOOKS)?,
-        _ => look_up(store, lane, deepest, key, LOOKS, true)?,
-    };
+    let done = operate(store, lane, job, writes)?;
     let span = started.end(rt, done)?;
     Ok((!writes).then_some(span))
+}
+
+/// The operations of a thread that writes beside the others, or of one that doesn't. Answers how many they were.
+fn operate(
+    store: &Store<Payload>,
+    lane: &mut Lane<Payload>,
+    job: Job<'_>,
+    writes: bool,
+) -> Result<u64, BenchFault>
+    requires lane { IsLaneOf store.now.id lane.old }
+{
+    let (key, deepest) = (job.key, store.tree().len() - 1);
+    let puts = NUMBERS / 16;
+    match job.case {
+        Case::GetBesideOther if writes => put_over(store, lane, 0, job.other, 60_000),
+        Case::GetBesideSame if writes => put_over(store, lane, 0, key, 60_000),
+        Case::GetRoot3Numbered => look_up_numbered(store, lane, deepest, key, LOOKS),
+        Case::GetAbsent3 => look_up(store, lane, deepest, key, LOOKS, false),
+        Case::PutOver => put_over(store, lane, deepest, key, puts),
+        Case::PutRemove => put_and_remove(store, lane, deepest, key, puts),
+        Case::ComputeHot => compute_often(store, lane, deepest, key, LOOKS),
+        _ => look_up(store, lane, deepest, key, LOOKS, true),
+    }
 }

@@ -4,7 +4,7 @@ use std::fmt::{self, Display, Formatter, Write};
 use std::time::{Clock, CpuClock, Duration, Instant};
 
 /// What a thread spent on its operations, and from when to when.
-#[derive(Clone, Copy, Debug)]
+#[derive(Clone, Copy)]
 pub(crate) struct Span {
     started: Instant,
     ended: Instant,
@@ -13,7 +13,7 @@ pub(crate) struct Span {
 }
 
 /// A thread's clocks, started.
-#[derive(Clone, Copy, Debug)]
+#[derive(Clone, Copy)]
 pub(crate) struct Started {
     wall: Instant,
     processor: Duration,
@@ -22,8 +22,8 @@ pub(crate) struct Started {
 impl Started {
     /// Reads the clocks.
     pub(crate) fn now<R: Clock + CpuClock>(rt: &R) -> Result<Started, BenchFault> {
-        let processor = rt.thread_cpu_time().map_err(|_| BenchFault::Clock)?;
-        let wall = Instant::now(rt).map_err(|_| BenchFault::Clock)?;
+        let processor = rt.thread_cpu_time().or(Err(BenchFault::Clock))?;
+        let wall = Instant::now(rt).or(Err(BenchFault::Clock))?;
         Ok(Started { wall, processor })
     }
 
@@ -33,8 +33,8 @@ impl Started {
         rt: &R,
         operations: u64,
     ) -> Result<Span, BenchFault> {
-        let ended = Instant::now(rt).map_err(|_| BenchFault::Clock)?;
-        let processor = rt.thread_cpu_time().map_err(|_| BenchFault::Clock)?;
+        let ended = Instant::now(rt).or(Err(BenchFault::Clock))?;
+        let processor = rt.thread_cpu_time().or(Err(BenchFault::Clock))?;
         Ok(Span {
             started: self.wall,
             ended,
@@ -45,7 +45,7 @@ impl Started {
 }
 
 /// What threads spent in all.
-#[derive(Clone, Copy, Debug)]
+#[derive(Clone, Copy)]
 pub(crate) struct Spent {
     wall: Duration,
     processor: Duration,
@@ -64,16 +64,17 @@ impl Spent {
 
     /// The same and what threads spent side by side: the wall's time is from the first start to the last end.
     pub(crate) fn and(self, spans: &[Span]) -> Spent {
-        let Some(first) = spans.iter().map(|it| it.started).min() else {
+        let Some(first) = spans.first() else {
             return self;
         };
-        let last = spans.iter().map(|it| it.ended).max().unwrap_or(first);
-        let mut all = self;
-        all.wall = all.wall.saturating_add(last.duration_since(first));
+        let (mut all, mut started, mut ended) = (self, first.started, first.ended);
         for span in spans {
+            started = started.min(span.started);
+            ended = ended.max(span.ended);
             all.processor = all.processor.saturating_add(span.processor);
             all.operations = all.operations.saturating_add(span.operations);
         }
+        all.wall = all.wall.saturating_add(ended.duration_since(started));
         all
     }
 
@@ -94,7 +95,7 @@ impl Spent {
 }
 
 /// Nanoseconds, in tenths.
-#[derive(Clone, Copy, Debug, PartialEq, Eq)]
+#[derive(Clone, Copy)]
 pub(crate) struct Nanoseconds {
     tenths: u64,
 }

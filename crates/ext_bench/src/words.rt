@@ -1,7 +1,6 @@
 //! The words of the command line.
 use crate::case::Case;
 use crate::fault::BenchFault;
-use std::alloc::AllocError;
 use std::rt::Env;
 
 /// What `--help` prints.
@@ -22,7 +21,7 @@ compute-fresh-and-close open-256x16 get-root-3-beside-other get-root-3-beside-sa
 ";
 
 /// What the words ask for.
-#[derive(Clone, Copy, Debug, PartialEq, Eq)]
+#[derive(Clone, Copy)]
 pub(crate) enum Request {
     /// The usage alone.
     Usage,
@@ -42,47 +41,42 @@ pub(crate) enum Request {
 /// What the command line asks for. Takes memory for the words. Own rule.
 pub(crate) fn request_of<R: Env + AllocGlobal>(rt: &R) -> Request {
     match words_of(rt) {
-        Ok(Some(words)) => request_in(words.as_slice()),
-        _ => Request::Refused(BenchFault::Words),
+        Some(words) => request_in(words.as_slice()),
+        None => Request::Refused(BenchFault::Words),
     }
 }
 
-/// The words after the program's name, where they are texts.
-fn words_of<R: Env + AllocGlobal>(rt: &R) -> Result<Option<Vec<String>>, AllocError> {
-    let Ok(words) = std::env::args(rt) else {
-        return Ok(None);
-    };
-    Ok(Some(words.skip(1).collect(rt.alloc())?))
+/// The program's name and the words after it, where they are texts and there is memory for them.
+fn words_of<R: Env + AllocGlobal>(rt: &R) -> Option<Vec<String>> {
+    let words = std::env::args(rt).ok()?;
+    words.collect(rt.alloc()).ok()
 }
 
 fn request_in(words: &[String]) -> Request {
     match words {
-        [] => Request::Table,
-        [help] if help.as_str() == "--help" => Request::Usage,
-        [case, threads, rounds, millis] => {
-            rounds_in(case, threads, rounds, millis).unwrap_or(Request::Refused(BenchFault::Words))
-        }
+        [] | [_] => Request::Table,
+        [_, help] if help.as_str() == "--help" => Request::Usage,
+        [_, case, threads, rounds, millis] => rounds_in(case, threads, rounds, millis),
         _ => Request::Refused(BenchFault::Words),
     }
 }
 
-fn rounds_in(case: &str, threads: &str, rounds: &str, millis: &str) -> Option<Request> {
-    let request = Request::Rounds {
-        case: Case::named(case)?,
-        threads: usize::try_from(number_in(threads, 14)?).ok()?,
-        rounds: number_in(rounds, 1_000)?,
-        millis: number_in(millis, 600_000)?,
+fn rounds_in(case: &str, threads: &str, rounds: &str, millis: &str) -> Request {
+    let (Some(case), Some(threads)) = (Case::named(case), number_in(threads, 14)) else {
+        return Request::Refused(BenchFault::Words);
     };
-    Some(fitting(request))
-}
-
-/// The request, or its refusal where a case of one thread is asked for on several.
-fn fitting(request: Request) -> Request {
-    match request {
-        Request::Rounds { case, threads, .. } if case.is_of_one_thread() && threads != 1 => {
-            Request::Refused(BenchFault::OneThread)
-        }
-        request => request,
+    let (Some(rounds), Some(millis)) = (number_in(rounds, 1_000), number_in(millis, 600_000)) else {
+        return Request::Refused(BenchFault::Words);
+    };
+    // A case of one thread is not run on several.
+    if case.is_of_one_thread() && threads != 1 {
+        return Request::Refused(BenchFault::OneThread);
+    }
+    Request::Rounds {
+        case,
+        threads: threads as usize,
+        rounds,
+        millis,
     }
 }
 

@@ -85,7 +85,7 @@ pub(crate) fn look<R: Wait>(
     requires place { (place.context < 7) × (place.key < 4) }
     ensures { IsLaneOf shared.now.store.id lane.new }
 {
-    let name = &shared.names[place.key];
+    let name = shared.name(place.key);
     let seen = if waits {
         shared.store.get_wait(rt, lane, place.context, name)
     } else {
@@ -152,7 +152,7 @@ pub(crate) fn put<R: Wait>(
     };
     let number = kept.number();
     log.tell(Told::Kept(number));
-    let name = &shared.names[place.key];
+    let name = shared.name(place.key);
     let put = if waits {
         shared.store.put_wait(rt, lane, place.context, name, kept)
     } else {
@@ -189,7 +189,7 @@ pub(crate) fn remove<R: Wait>(
     requires place { (place.context < 7) × (place.key < 4) }
     ensures { IsLaneOf shared.now.store.id lane.new }
 {
-    let name = &shared.names[place.key];
+    let name = shared.name(place.key);
     let removed = if waits {
         shared.store.remove_wait(rt, lane, place.context, name)
     } else {
@@ -263,7 +263,7 @@ fn compute<R: Wait>(
         let closeable = manner == 1;
         Ok(Payload { place, closeable })
     };
-    let name = &shared.names[place.key];
+    let name = shared.name(place.key);
     let computed = if waits {
         shared
             .store

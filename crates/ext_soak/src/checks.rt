@@ -13,12 +13,11 @@ struct Fate {
     left: bool,
 }
 
-/// The fates of all numbers, how often each place was filled and emptied, and the first fault.
+/// The fates of all numbers, how often each place was filled and not emptied, and the first fault.
 #[derive(Drop)]
 pub(crate) struct Checks {
     fates: Vec<Fate>,
-    filled: Vec<u32>,
-    emptied: Vec<u32>,
+    standing: Vec<u32>,
     fault: Option<SoakFault>,
 }
 
@@ -45,27 +44,43 @@ fn unknown_fates(alloc: Global) -> Result<Vec<Fate>, AllocError> {
     Ok(fates)
 }
 
-/// Counts one more at the place.
-fn count(counts: &mut [u32], place: Place) {
+/// Counts so many more at the place, which may wrap.
+fn count(counts: &mut [u32], place: Place, more: u32) {
     let at = place.context.saturating_mul(KEYS).saturating_add(place.key);
     if let Some(word) = counts.get_mut(at) {
-        *word = word.wrapping_add(1);
+        *word = word.wrapping_add(more);
     }
 }
 
-/// Whether each number up to the last was drawn once.
+/// Whether each number up to the last was drawn once. The first fate is that of 0, which is none.
 fn were_drawn_once(fates: &[Fate]) -> bool {
-    let drawn = fates.iter().filter(|fate| fate.drawn == 1).count();
-    let once = fates.iter().skip(1).take(drawn).all(|fate| fate.drawn == 1);
-    once && !fates.iter().any(|fate| fate.drawn > 1)
+    let Some((_, fates)) = fates.split_first() else {
+        return false;
+    };
+    let (mut right, mut last) = (true, 1);
+    for fate in fates {
+        right = right && fate.drawn <= last;
+        last = fate.drawn;
+    }
+    right
 }
 
 /// Whether each place was filled as often as it was emptied, or once more.
-fn stand_at_most_once(filled: &[u32], emptied: &[u32]) -> bool {
-    filled
-        .iter()
-        .zip(emptied)
-        .all(|(filled, emptied)| filled.wrapping_sub(*emptied) <= 1)
+fn stand_at_most_once(standing: &[u32]) -> bool {
+    let mut right = true;
+    for count in standing {
+        right = right && *count <= 1;
+    }
+    right
+}
+
+/// Whether a closeable value that was stored is still there.
+fn is_closeable_left(fates: &[Fate]) -> bool {
+    let mut left = false;
+    for fate in fates {
+        left = left || (fate.closeable && !fate.left);
+    }
+    left
 }
 
 impl Checks {
@@ -73,8 +88,7 @@ impl Checks {
     pub(crate) fn new(alloc: Global) -> Result<Checks, AllocError> {
         Ok(Checks {
             fates: unknown_fates(alloc)?,
-            filled: zeros(alloc, CONTEXTS * KEYS)?,
-            emptied: zeros(alloc, CONTEXTS * KEYS)?,
+            standing: zeros(alloc, CONTEXTS * KEYS)?,
             fault: None,
         })
     }
@@ -114,7 +128,7 @@ impl Checks {
             } => {
                 self.store(place, number, closeable);
                 if stood.is_none() {
-                    count(self.filled.as_mut_slice(), place);
+                    count(self.standing.as_mut_slice(), place, 1);
                 }
                 last
             }
@@ -124,7 +138,7 @@ impl Checks {
                 closeable,
             } => {
                 self.store(place, number, closeable);
-                count(self.filled.as_mut_slice(), place);
+                count(self.standing.as_mut_slice(), place, 1);
                 self.draw(number, last)
             }
             Told::Wrong(fault) => {
@@ -176,7 +190,7 @@ impl Checks {
             } => self.leave(place, number),
             Told::Removed { place, number } => {
                 self.leave(place, number);
-                count(self.emptied.as_mut_slice(), place);
+                count(self.standing.as_mut_slice(), place, u32::MAX);
             }
             Told::Closed { place, number } => self.leave(place, number),
             Told::Found {
@@ -226,9 +240,9 @@ impl Checks {
     pub(crate) fn settled(&mut self) -> Option<SoakFault> {
         let once = were_drawn_once(self.fates.as_slice());
         self.wrong_unless(once, SoakFault::Numbers);
-        let one = stand_at_most_once(self.filled.as_slice(), self.emptied.as_slice());
+        let one = stand_at_most_once(self.standing.as_slice());
         self.wrong_unless(one, SoakFault::TwoFactories);
-        let stays = self.fates.iter().any(|fate| fate.closeable && !fate.left);
+        let stays = is_closeable_left(self.fates.as_slice());
         self.wrong_unless(!stays, SoakFault::NotClosed);
         self.fault
     }

@@ -1,5 +1,5 @@
 //! The closes of a round: by one lane beside the others, and of what is left by all lanes.
-ghost use Rattle.std.specs.Prelude.{◌≤◌, ◌<◌, All, IfSome, length};
+ghost use Rattle.std.specs.Prelude.{◌<◌, All, IfSome};
 ghost use Rattle.ext_store.specs.Stores.{IsCloserOf, IsLaneOf};
 
 use crate::calls::look;
@@ -17,10 +17,12 @@ use std::sync::Wait;
 /// How many turns a lane has for a context beside the others: in each it looks, and in one of ten it tries to close.
 const TURNS: u32 = 60;
 
-/// What the closes of a round give to their action, and the replies of the lane that closes. Every third number fails.
+/// What the closes of a round give to their action, and the numbers and the replies of the lane that closes. Every third number
+/// fails.
 #[derive(Drop)]
 pub(crate) struct Closing {
     pub(crate) log: Log,
+    numbers: Pcg32,
     context: ContextNo,
     last: u32,
     calls: u32,
@@ -47,9 +49,10 @@ impl CloseAction<Payload> for Closing {
 }
 
 impl Closing {
-    pub(crate) fn new(alloc: Global) -> Closing {
+    pub(crate) fn new(alloc: Global, numbers: Pcg32) -> Closing {
         Closing {
             log: Log::new(alloc),
+            numbers,
             context: 0,
             last: 0,
             calls: 0,
@@ -100,19 +103,21 @@ fn look_once<R: Wait>(
     }
 }
 
-/// Tries to close the context. Answers its closer where it is not closed.
+/// Tries to close the context. Answers its closer where it is not closed, as it is not without a lane.
 fn close_once(
     shared: &Shared,
     hand: &mut [Lane<Payload>],
     closer: Closer,
     closing: &mut Closing,
 ) -> Option<Closer>
-    requires one { 1 ≤ length hand.old }
     requires lanes { All (IsLaneOf shared.now.store.id) hand.old }
     requires closer { IsCloserOf shared.now.store closer }
     ensures lanes { All (IsLaneOf shared.now.store.id) hand.new }
     ensures closer { IfSome result (IsCloserOf shared.now.store) }
 {
+    if hand.is_empty() {
+        return Some(closer);
+    }
     closing.begin(closer.context());
     match close(&shared.store, closer, hand, closing) {
         Ok(closes) => {
@@ -132,10 +137,8 @@ fn close_beside<R: Wait>(
     shared: &Shared,
     hand: &mut [Lane<Payload>],
     closer: Closer,
-    numbers: &mut Pcg32,
     closing: &mut Closing,
 ) -> Option<Closer>
-    requires one { 1 ≤ length hand.old }
     requires lanes { All (IsLaneOf shared.now.store.id) hand.old }
     requires closer { IsCloserOf shared.now.store closer }
     ensures lanes { All (IsLaneOf shared.now.store.id) hand.new }
@@ -143,34 +146,43 @@ fn close_beside<R: Wait>(
 {
     let mut closer = closer;
     for _ in 0..TURNS {
-        look_once(rt, shared, hand, numbers, &mut closing.log);
-        if once_in(numbers, 10) {
+        look_once(rt, shared, hand, &mut closing.numbers, &mut closing.log);
+        if once_in(&mut closing.numbers, 10) {
             closer = close_once(shared, hand, closer, closing)?;
         }
     }
     Some(closer)
 }
 
-/// Closes the context beside the other lanes, or leaves its closer.
-fn close_or_leave<R: Wait>(
+/// Closes the next context, the last first, beside the other lanes. Answers its closer where it is not closed.
+fn close_next<R: Wait>(
     rt: &R,
     shared: &Shared,
     hand: &mut [Lane<Payload>],
-    closer: Closer,
-    left: &mut Vec<Closer>,
-    numbers: &mut Pcg32,
+    closers: &mut Vec<Closer>,
     closing: &mut Closing,
-)
-    requires one { 1 ≤ length hand.old }
+) -> Option<Closer>
     requires lanes { All (IsLaneOf shared.now.store.id) hand.old }
-    requires closer { IsCloserOf shared.now.store closer }
-    requires left { All (IsCloserOf shared.now.store) left.old.items }
+    requires closers { All (IsCloserOf shared.now.store) closers.old.items }
     ensures lanes { All (IsLaneOf shared.now.store.id) hand.new }
-    ensures left { All (IsCloserOf shared.now.store) left.new.items }
+    ensures closers { All (IsCloserOf shared.now.store) closers.new.items }
+    ensures closer { IfSome result (IsCloserOf shared.now.store) }
 {
-    if let Some(closer) = close_beside(rt, shared, hand, closer, numbers, closing) {
+    match closers.pop() {
+        Some(closer) => close_beside(rt, shared, hand, closer, closing),
+        None => None,
+    }
+}
+
+/// Leaves the closer, if there is one.
+fn leave(shared: &Shared, closer: Option<Closer>, left: &mut Vec<Closer>, log: &mut Log)
+    requires closer { IfSome closer (IsCloserOf shared.now.store) }
+    requires left { All (IsCloserOf shared.now.store) left.old.items }
+    ensures { All (IsCloserOf shared.now.store) left.new.items }
+{
+    if let Some(closer) = closer {
         let kept = left.push(closer).is_ok();
-        closing.log.wrong_unless(kept, SoakFault::Memory);
+        log.wrong_unless(kept, SoakFault::Memory);
     }
 }
 
@@ -182,10 +194,8 @@ pub(crate) fn close_some<R: Wait>(
     hand: &mut [Lane<Payload>],
     closers: &mut Vec<Closer>,
     left: &mut Vec<Closer>,
-    numbers: &mut Pcg32,
     closing: &mut Closing,
 )
-    requires one { 1 ≤ length hand.old }
     requires lanes { All (IsLaneOf shared.now.store.id) hand.old }
     requires closers { All (IsCloserOf shared.now.store) closers.old.items }
     requires left { All (IsCloserOf shared.now.store) left.old.items }
@@ -193,16 +203,13 @@ pub(crate) fn close_some<R: Wait>(
     ensures left { All (IsCloserOf shared.now.store) left.new.items }
 {
     for _ in 0..CONTEXTS {
-        let Some(closer) = closers.pop() else {
-            break;
-        };
-        close_or_leave(rt, shared, hand, closer, left, numbers, closing);
+        let closer = close_next(rt, shared, hand, closers, closing);
+        leave(shared, closer, left, &mut closing.log);
     }
 }
 
 /// Closes the context once all other lanes have ended: it can't be refused.
 fn close_last(shared: &Shared, lanes: &mut [Lane<Payload>], closer: Closer, closing: &mut Closing)
-    requires one { 1 ≤ length lanes.old }
     requires lanes { All (IsLaneOf shared.now.store.id) lanes.old }
     requires closer { IsCloserOf shared.now.store closer }
     ensures { All (IsLaneOf shared.now.store.id) lanes.new }
@@ -218,7 +225,6 @@ pub(crate) fn close_all(
     closers: &mut Vec<Closer>,
     closing: &mut Closing,
 )
-    requires one { 1 ≤ length lanes.old }
     requires lanes { All (IsLaneOf shared.now.store.id) lanes.old }
     requires closers { All (IsCloserOf shared.now.store) closers.old.items }
     ensures { All (IsLaneOf shared.now.store.id) lanes.new }
@@ -238,8 +244,8 @@ fn is_closed(shared: &Shared, lane: &mut Lane<Payload>, context: ContextNo) -> b
     ensures { IsLaneOf shared.now.store.id lane.new }
 {
     let mut closed = true;
-    for name in &shared.names {
-        let seen = shared.store.get(lane, context, name);
+    for key in 0..KEYS {
+        let seen = shared.store.get(lane, context, shared.name(key));
         closed = closed && seen == Ok(Look::Closed(context));
     }
     closed

@@ -30,7 +30,8 @@ fn main(rt: HostRuntime) -> ExitCode {
     match done(&rt, request_of(&rt)) {
         Ok(()) => ExitCode::from(0),
         Err(fault) => {
-            let _ = eprintln!(rt; "ext_soak: {fault}");
+            let text = fault.text();
+            let _ = eprintln!(rt; "ext_soak: {text}");
             ExitCode::from(fault.status())
         }
     }
@@ -42,16 +43,22 @@ fn done<R: Threads + Sync + Wait + Clock + AllocGlobal + Print>(
     request: Request,
 ) -> Result<(), SoakFault> {
     match request {
-        Request::Usage => print!(rt; "{USAGE}").map_err(|_| SoakFault::Output),
-        Request::Rounds(soak) => {
-            let rounds = make_rounds(rt, soak)?;
-            let lanes = soak.lanes;
-            println!(rt;
-                "ext_soak: {rounds} rounds of {lanes} lanes, each reply as it has to be"
-            ).map_err(|_| SoakFault::Output)
-        }
+        Request::Usage => print!(rt; "{USAGE}").or(Err(SoakFault::Output)),
+        Request::Rounds(soak) => make_and_tell(rt, soak),
         Request::Refused(fault) => Err(fault),
     }
+}
+
+/// Makes the rounds, and prints how many were made.
+fn make_and_tell<R: Threads + Sync + Wait + Clock + AllocGlobal + Print>(
+    rt: &R,
+    soak: Soak,
+) -> Result<(), SoakFault> {
+    let rounds = make_rounds(rt, soak)?;
+    let lanes = soak.lanes;
+    println!(rt; "ext_soak: {rounds} rounds of {lanes} lanes, each reply as it has to be").or(Err(
+        SoakFault::Output,
+    ))
 }
 
 /// Makes the rounds, and begins none once the time is over. Answers how many were made.
@@ -59,15 +66,27 @@ fn make_rounds<R: Threads + Sync + Wait + Clock + AllocGlobal>(
     rt: &R,
     soak: Soak,
 ) -> Result<u32, SoakFault> {
-    let started = Instant::now(rt).map_err(|_| SoakFault::Clock)?;
+    let started = now(rt)?;
     let most = Duration::from_secs(u64::from(soak.seconds));
     for round in 0..soak.rounds {
-        let now = Instant::now(rt).map_err(|_| SoakFault::Clock)?;
-        if now.duration_since(started) >= most {
+        if now(rt)?.duration_since(started) >= most {
             return Ok(round);
         }
-        make_round(rt, soak, round)?;
-        make_races(rt, soak, round)?;
+        make_calls_and_races(rt, soak, round)?;
     }
     Ok(soak.rounds)
+}
+
+fn now<R: Clock>(rt: &R) -> Result<Instant, SoakFault> {
+    Instant::now(rt).or(Err(SoakFault::Clock))
+}
+
+/// Makes a round and its races.
+fn make_calls_and_races<R: Threads + Sync + Wait + AllocGlobal>(
+    rt: &R,
+    soak: Soak,
+    round: u32,
+) -> Result<(), SoakFault> {
+    make_round(rt, soak, round)?;
+    make_races(rt, soak, round)
 }

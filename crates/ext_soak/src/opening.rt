@@ -1,5 +1,5 @@
 //! What the lanes of a round share: a store of seven contexts and four keys.
-ghost use Rattle.std.specs.Prelude.{◌≡◌, All, IfOk, length};
+ghost use Rattle.std.specs.Prelude.{◌≡◌, ◌<◌, All, IfOk, length};
 ghost use Rattle.ext_store.specs.Stores.{IsCloserOf, IsLaneOf};
 
 use crate::fault::SoakFault;
@@ -61,10 +61,19 @@ impl StoreValue for Payload {
 #[derive(Drop)]
 pub(crate) struct Shared {
     pub(crate) store: Store<Payload>,
-    pub(crate) names: [Key; KEYS],
     /// The places for which a factory runs, one bit each.
     pub(crate) running: AtomicU64,
     ghost contexts: { length store.tree ≡ 7 },
+    ghost keys: { length store.keys ≡ 4 },
+}
+
+impl Shared {
+    /// The key of this number.
+    pub(crate) fn name(&self, key: KeyNo) -> &Key
+        requires { key < 4 }
+    {
+        self.store.directory().key(key)
+    }
 }
 
 /// A round's store, its lanes and its closers.
@@ -83,6 +92,11 @@ fn add(alloc: Global, ids: &mut Vec<UniqueId>, text: &str) -> Option<()> {
 /// An engine with two classes, of which A has a class of its own, and a method in each of the three.
 fn contexts(alloc: Global) -> Option<Tree> {
     let mut ids = Vec::new(alloc);
+    add_contexts(alloc, &mut ids)?;
+    Tree::build(alloc, ids.as_slice()).ok()
+}
+
+fn add_contexts(alloc: Global, ids: &mut Vec<UniqueId>) -> Option<()> {
     for text in [
         "[engine:x]",
         "[engine:x]/[class:A]",
@@ -92,54 +106,59 @@ fn contexts(alloc: Global) -> Option<Tree> {
         "[engine:x]/[class:C]",
         "[engine:x]/[class:C]/[method:m()]",
     ] {
-        add(alloc, &mut ids, text)?;
+        add(alloc, ids, text)?;
     }
-    Tree::build(alloc, ids.as_slice()).ok()
+    Some(())
 }
 
-fn key(alloc: Global, name: &str) -> Option<Key> {
-    Key::new(alloc, Namespace::global(), name).ok()
+/// One more key.
+fn declare(alloc: Global, directory: &mut Directory, name: &str) -> Option<()> {
+    let key = Key::new(alloc, Namespace::global(), name).ok()?;
+    directory.declare(key).ok()?;
+    Some(())
 }
 
-/// The keys of two names.
-fn pair(alloc: Global, first: &str, second: &str) -> Option<(Key, Key)> {
-    let first = key(alloc, first)?;
-    Some((first, key(alloc, second)?))
-}
-
-/// The four keys.
-fn names(alloc: Global) -> Option<[Key; KEYS]> {
-    let (standing, moved) = pair(alloc, NAMES[0], NAMES[1])?;
-    let (third, fourth) = pair(alloc, NAMES[2], NAMES[3])?;
-    Some([standing, moved, third, fourth])
+fn declare_all(alloc: Global, directory: &mut Directory) -> Option<()> {
+    for name in NAMES {
+        declare(alloc, directory, name)?;
+    }
+    Some(())
 }
 
 /// The four keys, declared in their order.
 fn directory(alloc: Global) -> Option<Directory> {
     let mut directory = Directory::new(alloc);
-    for name in NAMES {
-        directory.declare(key(alloc, name)?).ok()?;
-    }
-    Some(directory)
+    declare_all(alloc, &mut directory).and(Some(directory))
 }
 
-/// The tree, where it was made with so many contexts.
-fn tree_of(tree: Option<Tree>, contexts: usize) -> Result<Tree, SoakFault>
-    ensures { IfOk result (λ tree. length tree ≡ contexts) }
+/// The tree and the four keys, where they were made with so many contexts.
+fn made(
+    tree: Option<Tree>,
+    directory: Option<Directory>,
+    contexts: usize,
+) -> Result<(Tree, Directory), SoakFault>
+    ensures { IfOk result (λ r. (length r.0 ≡ contexts) × (length r.1 ≡ 4)) }
 {
-    let tree = tree.ok_or(SoakFault::Memory)?;
-    if tree.len() != contexts {
+    let Some((tree, directory)) = tree.zip(directory) else {
+        return Err(SoakFault::Memory);
+    };
+    if tree.len() != contexts || directory.len() != KEYS {
         return Err(SoakFault::Answer);
     }
-    Ok(tree)
+    Ok((tree, directory))
 }
 
 /// A store, its lanes and its closers.
 type Parts = (Store<Payload>, Vec<Lane<Payload>>, Vec<Closer>);
 
-/// A store of these contexts and the four keys.
-fn open_store(alloc: Global, tree: Tree, lanes: usize, tries: u32) -> Result<Parts, SoakFault>
-    ensures tree { IfOk result (λ r. r.0.tree ≡ tree) }
+/// A store of these contexts and keys.
+fn open_store(
+    alloc: Global,
+    made: (Tree, Directory),
+    lanes: usize,
+    tries: u32,
+) -> Result<Parts, SoakFault>
+    ensures made { IfOk result (λ r. (r.0.tree ≡ made.0) × (r.0.keys ≡ made.1)) }
     ensures lanes { IfOk result (λ r. All (IsLaneOf r.0.id) r.1.items) }
     ensures closers { IfOk result (λ r. All (IsCloserOf r.0) r.2.items) }
 {
@@ -148,7 +167,7 @@ fn open_store(alloc: Global, tree: Tree, lanes: usize, tries: u32) -> Result<Par
         tries,
         numbers: NUMBERS,
     };
-    let directory = directory(alloc).ok_or(SoakFault::Memory)?;
+    let (tree, directory) = made;
     match Store::open(alloc, tree, directory, limits) {
         Ok(parts) => Ok(parts),
         Err(_) => Err(SoakFault::Memory),
@@ -160,28 +179,50 @@ pub(crate) fn open(alloc: Global, lanes: usize, tries: u32) -> Result<Opened, So
     ensures lanes { IfOk result (λ o. All (IsLaneOf o.shared.store.id) o.lanes.items) }
     ensures closers { IfOk result (λ o. All (IsCloserOf o.shared.store) o.closers.items) }
 {
-    let tree = tree_of(contexts(alloc), CONTEXTS)?;
-    let names = names(alloc).ok_or(SoakFault::Memory)?;
-    let (store, lanes, closers) = open_store(alloc, tree, lanes, tries)?;
-    let running = AtomicU64::new(0);
-    let shared = Shared {
-        store,
-        names,
-        running,
-    };
-    Ok(Opened {
-        shared,
-        lanes,
-        closers,
-    })
+    match made(contexts(alloc), directory(alloc), CONTEXTS) {
+        Ok(made) => open_with(alloc, made, lanes, tries),
+        Err(fault) => Err(fault),
+    }
 }
 
-/// A store of sixteen contexts, one below the other, and one key.
+/// The store of these seven contexts and four keys.
+fn open_with(
+    alloc: Global,
+    made: (Tree, Directory),
+    lanes: usize,
+    tries: u32,
+) -> Result<Opened, SoakFault>
+    requires { (length made.0 ≡ 7) × (length made.1 ≡ 4) }
+    ensures lanes { IfOk result (λ o. All (IsLaneOf o.shared.store.id) o.lanes.items) }
+    ensures closers { IfOk result (λ o. All (IsCloserOf o.shared.store) o.closers.items) }
+{
+    match open_store(alloc, made, lanes, tries) {
+        Ok((store, lanes, closers)) => {
+            let running = AtomicU64::new(0);
+            let shared = Shared { store, running };
+            Ok(Opened {
+                shared,
+                lanes,
+                closers,
+            })
+        }
+        Err(fault) => Err(fault),
+    }
+}
+
+/// A store of sixteen contexts, one below the other.
 #[derive(Drop)]
 pub(crate) struct Deep {
     pub(crate) store: Store<Payload>,
-    pub(crate) name: Key,
     ghost contexts: { length store.tree ≡ 16 },
+    ghost keys: { length store.keys ≡ 4 },
+}
+
+impl Deep {
+    /// The key that the races are for.
+    pub(crate) fn name(&self) -> &Key {
+        self.store.directory().key(0)
+    }
 }
 
 /// The deep store and its two lanes.
@@ -212,9 +253,22 @@ fn add_chain(alloc: Global, ids: &mut Vec<UniqueId>) -> Option<()> {
 pub(crate) fn open_deep(alloc: Global) -> Result<OpenedDeep, SoakFault>
     ensures { IfOk result (λ o. All (IsLaneOf o.deep.store.id) o.lanes.items) }
 {
-    let tree = tree_of(chain(alloc), 16)?;
-    let name = key(alloc, NAMES[0]).ok_or(SoakFault::Memory)?;
-    let (store, lanes, _closers) = open_store(alloc, tree, 2, 64)?;
-    let deep = Deep { store, name };
-    Ok(OpenedDeep { deep, lanes })
+    match made(chain(alloc), directory(alloc), 16) {
+        Ok(made) => open_deep_with(alloc, made),
+        Err(fault) => Err(fault),
+    }
+}
+
+/// The deep store of these sixteen contexts and four keys.
+fn open_deep_with(alloc: Global, made: (Tree, Directory)) -> Result<OpenedDeep, SoakFault>
+    requires { (length made.0 ≡ 16) × (length made.1 ≡ 4) }
+    ensures { IfOk result (λ o. All (IsLaneOf o.deep.store.id) o.lanes.items) }
+{
+    match open_store(alloc, made, 2, 64) {
+        Ok((store, lanes, _closers)) => {
+            let deep = Deep { store };
+            Ok(OpenedDeep { deep, lanes })
+        }
+        Err(fault) => Err(fault),
+    }
 }

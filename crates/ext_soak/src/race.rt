@@ -76,7 +76,7 @@ fn computes(deep: &Deep, lane: &mut Lane<Payload>) -> bool
     ensures { IsLaneOf deep.now.store.id lane.new }
 {
     let factory = |_key: &Key| -> Result<Payload, Fault> { Ok(value(BELOW)) };
-    let computed = deep.store.compute(lane, BELOW, &deep.name, factory);
+    let computed = deep.store.compute(lane, BELOW, deep.name(), factory);
     matches!(computed, Compute::Computed { .. })
 }
 
@@ -86,8 +86,8 @@ fn puts_above(deep: &Deep, lane: &mut Lane<Payload>, kept: Kept) -> bool
     requires kept { IsKeptBy lane.old kept }
     ensures { IsLaneOf deep.now.store.id lane.new }
 {
-    let put = deep.store.put(lane, ABOVE, &deep.name, kept).is_ok();
-    put && matches!(deep.store.remove(lane, BELOW, &deep.name), Ok(None))
+    let put = deep.store.put(lane, ABOVE, deep.name(), kept).is_ok();
+    put && matches!(deep.store.remove(lane, BELOW, deep.name()), Ok(None))
 }
 
 /// Computes in each race. Says whether the other lane came each time.
@@ -128,8 +128,8 @@ fn put_once(
         return Err(SoakFault::Late);
     }
     let ran = race.ran.load(Ordering::SeqCst) == 1;
-    let above = deep.store.remove(lane, ABOVE, &deep.name).is_ok();
-    let below = deep.store.remove(lane, BELOW, &deep.name).is_ok();
+    let above = deep.store.remove(lane, ABOVE, deep.name()).is_ok();
+    let below = deep.store.remove(lane, BELOW, deep.name()).is_ok();
     if !above || !below {
         return Err(SoakFault::Answer);
     }

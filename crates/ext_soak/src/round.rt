@@ -1,5 +1,5 @@
 //! A round: all lanes make their calls at once, and their replies are checked afterwards.
-ghost use Rattle.std.specs.Prelude.{◌≤◌, All, length};
+ghost use Rattle.std.specs.Prelude.{All};
 ghost use Rattle.ext_store.specs.Stores.{IsCloserOf, IsLaneOf};
 
 use crate::calls::{make_calls, put};
@@ -15,16 +15,7 @@ use ext_store::{Closer, Lane};
 use rand_pcg::Pcg32;
 use std::alloc::{AllocError, Global};
 use std::sync::{Mutex, Wait};
-use std::thread::{Threads, for_each_mut, join};
-
-/// The lane that closes: its closers, its numbers and its replies.
-#[derive(Drop)]
-struct Ender {
-    lane: Lane<Payload>,
-    closers: Vec<Closer>,
-    numbers: Pcg32,
-    closing: Closing,
-}
+use std::thread::{Threads, for_each_mut, join_mut};
 
 /// Makes a round: the last lane closes contexts beside the others, the first moves a value, all others make all calls.
 pub(crate) fn make_round<R: Threads + Sync + Wait + AllocGlobal>(
@@ -46,13 +37,38 @@ fn open_and_call<R: Threads + Sync + Wait + AllocGlobal>(
     round: u32,
 ) -> Result<(), SoakFault> {
     let mut numbers = numbers_of(soak.seed, round, soak.lanes);
-    let Opened {
-        shared,
+    match open(rt.alloc(), soak.lanes, tries_of(&mut numbers)) {
+        Ok(opened) => call_in(rt, opened, numbers, logs, soak, round),
+        Err(fault) => Err(fault),
+    }
+}
+
+/// Has all lanes of this store make their calls, and checks their replies.
+fn call_in<R: Threads + Sync + Wait + AllocGlobal>(
+    rt: &R,
+    opened: Opened,
+    numbers: Pcg32,
+    logs: &[Mutex<Log>],
+    soak: Soak,
+    round: u32,
+) -> Result<(), SoakFault>
+    requires lanes { All (IsLaneOf opened.shared.store.id) opened.lanes.items }
+    requires closers { All (IsCloserOf opened.shared.store) opened.closers.items }
+{
+    let mut opened = opened;
+    let lanes = opened.lanes.as_mut_slice();
+    let closers = &mut opened.closers;
+    let checked = call_and_check(
+        rt,
+        &opened.shared,
         lanes,
         closers,
-    } = open(rt.alloc(), soak.lanes, tries_of(&mut numbers))?;
-    let checked = call_and_check(rt, &shared, lanes, closers, numbers, logs, soak, round);
-    drop(shared);
+        numbers,
+        logs,
+        soak,
+        round,
+    );
+    drop(opened);
     checked
 }
 
@@ -60,76 +76,65 @@ fn open_and_call<R: Threads + Sync + Wait + AllocGlobal>(
 fn call_and_check<R: Threads + Sync + Wait + AllocGlobal>(
     rt: &R,
     shared: &Shared,
-    lanes: Vec<Lane<Payload>>,
-    closers: Vec<Closer>,
+    lanes: &mut [Lane<Payload>],
+    closers: &mut Vec<Closer>,
     numbers: Pcg32,
     logs: &[Mutex<Log>],
     soak: Soak,
     round: u32,
 ) -> Result<(), SoakFault>
-    requires lanes { All (IsLaneOf shared.now.store.id) lanes.items }
-    requires closers { All (IsCloserOf shared.now.store) closers.items }
+    requires lanes { All (IsLaneOf shared.now.store.id) lanes.old }
+    requires closers { All (IsCloserOf shared.now.store) closers.old.items }
 {
-    let mut lanes = lanes;
-    let Some(lane) = lanes.pop() else {
-        return Err(SoakFault::Answer);
-    };
-    let ender = ender_of(rt, shared, lane, closers, numbers);
-    let (ender, lanes) = at_once(rt, rt.alloc(), shared, ender, lanes, logs, soak, round);
-    end_and_check(rt, shared, ender, lanes, logs)
-}
-
-/// The lane that closes, which puts the first values.
-fn ender_of<R: Wait + AllocGlobal>(
-    rt: &R,
-    shared: &Shared,
-    lane: Lane<Payload>,
-    closers: Vec<Closer>,
-    numbers: Pcg32,
-) -> Ender
-    requires lane { IsLaneOf shared.now.store.id lane }
-    requires closers { All (IsCloserOf shared.now.store) closers.items }
-    ensures lane { IsLaneOf shared.now.store.id result.lane }
-    ensures closers { All (IsCloserOf shared.now.store) result.closers.items }
-{
-    let mut lane = lane;
-    let mut closing = Closing::new(rt.alloc());
-    put_first(rt, shared, &mut lane, &mut closing.log);
-    Ender {
-        lane,
-        closers,
-        numbers,
-        closing,
-    }
-}
-
-/// Closes what is left and checks all replies.
-fn end_and_check<R: Wait + AllocGlobal>(
-    rt: &R,
-    shared: &Shared,
-    ender: Ender,
-    lanes: Vec<Lane<Payload>>,
-    logs: &[Mutex<Log>],
-) -> Result<(), SoakFault>
-    requires lane { IsLaneOf shared.now.store.id ender.lane }
-    requires closers { All (IsCloserOf shared.now.store) ender.closers.items }
-    requires lanes { All (IsLaneOf shared.now.store.id) lanes.items }
-{
-    let Ender {
-        lane,
-        mut closers,
-        mut closing,
-        ..
-    } = ender;
-    end(shared, lane, lanes, &mut closers, &mut closing)?;
+    let mut closing = Closing::new(rt.alloc(), numbers);
+    call(rt, shared, lanes, closers, &mut closing, logs, soak, round);
+    end_all(shared, lanes, closers, &mut closing);
     check(rt, rt.alloc(), &closing.log, logs)
 }
 
-/// Puts a value in the engine under the key where one always stands, and one under the key whose value is moved.
-fn put_first<R: Wait>(rt: &R, shared: &Shared, lane: &mut Lane<Payload>, log: &mut Log)
-    requires { IsLaneOf shared.now.store.id lane.old }
-    ensures { IsLaneOf shared.now.store.id lane.new }
+/// Has all lanes of the round make their calls: the last one puts the first values, and then closes while the others call. It
+/// has met all others afterwards.
+fn call<R: Threads + Sync + Wait + AllocGlobal>(
+    rt: &R,
+    shared: &Shared,
+    lanes: &mut [Lane<Payload>],
+    closers: &mut Vec<Closer>,
+    closing: &mut Closing,
+    logs: &[Mutex<Log>],
+    soak: Soak,
+    round: u32,
+)
+    requires lanes { All (IsLaneOf shared.now.store.id) lanes.old }
+    requires closers { All (IsCloserOf shared.now.store) closers.old.items }
+    ensures lanes { All (IsLaneOf shared.now.store.id) lanes.new }
+    ensures closers { All (IsCloserOf shared.now.store) closers.new.items }
 {
+    let count = lanes.len().saturating_sub(1);
+    let (others, hand) = lanes.split_at_mut(count);
+    put_first(rt, shared, hand, &mut closing.log);
+    at_once(
+        rt,
+        rt.alloc(),
+        shared,
+        hand,
+        others,
+        closers,
+        closing,
+        logs,
+        soak,
+        round,
+    );
+    meet_all(shared, hand, others);
+}
+
+/// Puts a value in the engine under the key where one always stands, and one under the key whose value is moved.
+fn put_first<R: Wait>(rt: &R, shared: &Shared, hand: &mut [Lane<Payload>], log: &mut Log)
+    requires { All (IsLaneOf shared.now.store.id) hand.old }
+    ensures { All (IsLaneOf shared.now.store.id) hand.new }
+{
+    let Some(lane) = hand.first_mut() else {
+        return;
+    };
     let standing = Place {
         context: ENGINE,
         key: STANDING,
@@ -160,71 +165,56 @@ fn logs_of(alloc: Global, lanes: usize) -> Result<Vec<Mutex<Log>>, AllocError> {
     Ok(logs)
 }
 
-/// Has all lanes make their calls at once.
+/// Has the lane in hand close contexts while the others make their calls.
 fn at_once<R: Threads + Sync + Wait>(
     rt: &R,
     alloc: Global,
     shared: &Shared,
-    ender: Ender,
-    lanes: Vec<Lane<Payload>>,
+    hand: &mut [Lane<Payload>],
+    others: &mut [Lane<Payload>],
+    closers: &mut Vec<Closer>,
+    closing: &mut Closing,
     logs: &[Mutex<Log>],
     soak: Soak,
     round: u32,
-) -> (Ender, Vec<Lane<Payload>>)
-    requires lane { IsLaneOf shared.now.store.id ender.lane }
-    requires closers { All (IsCloserOf shared.now.store) ender.closers.items }
-    requires lanes { All (IsLaneOf shared.now.store.id) lanes.items }
-    ensures lane { IsLaneOf shared.now.store.id result.0.lane }
-    ensures closers { All (IsCloserOf shared.now.store) result.0.closers.items }
-    ensures lanes { All (IsLaneOf shared.now.store.id) result.1.items }
+)
+    requires hand { All (IsLaneOf shared.now.store.id) hand.old }
+    requires others { All (IsLaneOf shared.now.store.id) others.old }
+    requires closers { All (IsCloserOf shared.now.store) closers.old.items }
+    ensures hand { All (IsLaneOf shared.now.store.id) hand.new }
+    ensures others { All (IsLaneOf shared.now.store.id) others.new }
+    ensures closers { All (IsCloserOf shared.now.store) closers.new.items }
 {
-    let (lanes, ender) = join(
-        rt,
-        move || -> Vec<Lane<Payload>>
-            requires lanes { All (IsLaneOf shared.now.store.id) lanes.items }
-            ensures lanes { All (IsLaneOf shared.entry.now.store.id) result.items }
-        { call_all(rt, alloc, shared, lanes, logs, soak, round) },
-        move || -> Ender
-            requires lane { IsLaneOf shared.now.store.id ender.lane }
-            requires closers { All (IsCloserOf shared.now.store) ender.closers.items }
-            ensures lane { IsLaneOf shared.entry.now.store.id result.lane }
-            ensures closers { All (IsCloserOf shared.entry.now.store) result.closers.items }
-        { close_beside_others(rt, alloc, shared, ender) },
-    );
-    (ender, lanes)
+    let mut calls = ||
+        requires others { All (IsLaneOf shared.now.store.id) others.now }
+        ensures others { All (IsLaneOf shared.entry.now.store.id) others.exit.now }
+    { call_all(rt, alloc, shared, others, logs, soak, round) };
+    let mut closes = ||
+        requires hand { All (IsLaneOf shared.now.store.id) hand.now }
+        requires closers { All (IsCloserOf shared.now.store) closers.now.items }
+        ensures hand { All (IsLaneOf shared.entry.now.store.id) hand.exit.now }
+        ensures closers { All (IsCloserOf shared.entry.now.store) closers.exit.now.items }
+    { close_beside_others(rt, alloc, shared, hand, closers, closing) };
+    join_mut(rt, &mut calls, &mut closes);
 }
 
-/// Closes contexts while the other lanes make their calls.
-fn close_beside_others<R: Wait>(rt: &R, alloc: Global, shared: &Shared, ender: Ender) -> Ender
-    requires lane { IsLaneOf shared.now.store.id ender.lane }
-    requires closers { All (IsCloserOf shared.now.store) ender.closers.items }
-    ensures lane { IsLaneOf shared.now.store.id result.lane }
-    ensures closers { All (IsCloserOf shared.now.store) result.closers.items }
+/// Closes contexts while the other lanes make their calls, and leaves the closers of the others.
+fn close_beside_others<R: Wait>(
+    rt: &R,
+    alloc: Global,
+    shared: &Shared,
+    hand: &mut [Lane<Payload>],
+    closers: &mut Vec<Closer>,
+    closing: &mut Closing,
+)
+    requires hand { All (IsLaneOf shared.now.store.id) hand.old }
+    requires closers { All (IsCloserOf shared.now.store) closers.old.items }
+    ensures hand { All (IsLaneOf shared.now.store.id) hand.new }
+    ensures closers { All (IsCloserOf shared.now.store) closers.new.items }
 {
-    let Ender {
-        lane,
-        mut closers,
-        mut numbers,
-        mut closing,
-    } = ender;
-    let mut hand = [lane];
     let mut left = Vec::new(alloc);
-    close_some(
-        rt,
-        shared,
-        &mut hand,
-        &mut closers,
-        &mut left,
-        &mut numbers,
-        &mut closing,
-    );
-    let [lane] = hand;
-    Ender {
-        lane,
-        closers: left,
-        numbers,
-        closing,
-    }
+    close_some(rt, shared, hand, closers, &mut left, closing);
+    *closers = left;
 }
 
 /// Has each of these lanes make its calls in a thread of its own.
@@ -232,18 +222,17 @@ fn call_all<R: Threads + Sync + Wait>(
     rt: &R,
     alloc: Global,
     shared: &Shared,
-    lanes: Vec<Lane<Payload>>,
+    lanes: &mut [Lane<Payload>],
     logs: &[Mutex<Log>],
     soak: Soak,
     round: u32,
-) -> Vec<Lane<Payload>>
-    requires { All (IsLaneOf shared.now.store.id) lanes.items }
-    ensures { All (IsLaneOf shared.now.store.id) result.items }
+)
+    requires { All (IsLaneOf shared.now.store.id) lanes.old }
+    ensures { All (IsLaneOf shared.now.store.id) lanes.new }
 {
-    let mut lanes = lanes;
     for_each_mut(
         rt,
-        lanes.as_mut_slice(),
+        lanes,
         16,
         &|at, lane: &mut Lane<Payload>|
             requires lane { IsLaneOf shared.now.store.id lane.old }
@@ -254,7 +243,6 @@ fn call_all<R: Threads + Sync + Wait>(
             keep_log(rt, logs, at, log);
         },
     );
-    lanes
 }
 
 /// Makes a lane's calls. The first lane moves a value.
@@ -285,37 +273,28 @@ fn keep_log<R: Wait>(rt: &R, logs: &[Mutex<Log>], at: usize, log: Log) {
     }
 }
 
-/// The lane that closes meets all others.
-fn meet_all(shared: &Shared, lane: &mut Lane<Payload>, lanes: &mut [Lane<Payload>])
-    requires lane { IsLaneOf shared.now.store.id lane.old }
-    requires lanes { All (IsLaneOf shared.now.store.id) lanes.old }
-    ensures lane { IsLaneOf shared.now.store.id lane.new }
-    ensures lanes { All (IsLaneOf shared.now.store.id) lanes.new }
+/// The lane that closes, the first in hand, meets all others.
+fn meet_all(shared: &Shared, hand: &mut [Lane<Payload>], others: &mut [Lane<Payload>])
+    requires hand { All (IsLaneOf shared.now.store.id) hand.old }
+    requires others { All (IsLaneOf shared.now.store.id) others.old }
+    ensures hand { All (IsLaneOf shared.now.store.id) hand.new }
+    ensures others { All (IsLaneOf shared.now.store.id) others.new }
 {
-    for at in 0..lanes.len() {
-        shared.store.meet(&mut lanes[at], lane);
+    if let Some(lane) = hand.first_mut() {
+        meet(shared, lane, others);
     }
 }
 
-/// Closes all contexts that are left, once all lanes have ended, with the lane that closes among them.
-fn end(
-    shared: &Shared,
-    lane: Lane<Payload>,
-    lanes: Vec<Lane<Payload>>,
-    closers: &mut Vec<Closer>,
-    closing: &mut Closing,
-) -> Result<(), SoakFault>
-    requires lane { IsLaneOf shared.now.store.id lane }
-    requires lanes { All (IsLaneOf shared.now.store.id) lanes.items }
-    requires closers { All (IsCloserOf shared.now.store) closers.old.items }
+/// The lane meets all others.
+fn meet(shared: &Shared, lane: &mut Lane<Payload>, others: &mut [Lane<Payload>])
+    requires lane { IsLaneOf shared.now.store.id lane.old }
+    requires others { All (IsLaneOf shared.now.store.id) others.old }
+    ensures lane { IsLaneOf shared.now.store.id lane.new }
+    ensures others { All (IsLaneOf shared.now.store.id) others.new }
 {
-    let (mut lane, mut lanes) = (lane, lanes);
-    meet_all(shared, &mut lane, lanes.as_mut_slice());
-    if lanes.push(lane).is_err() {
-        return Err(SoakFault::Memory);
+    for at in 0..others.len() {
+        shared.store.meet(&mut others[at], lane);
     }
-    end_all(shared, lanes.as_mut_slice(), closers, closing);
-    Ok(())
 }
 
 /// Closes all contexts that are left, with all lanes in hand.
@@ -325,7 +304,6 @@ fn end_all(
     closers: &mut Vec<Closer>,
     closing: &mut Closing,
 )
-    requires one { 1 ≤ length lanes.old }
     requires lanes { All (IsLaneOf shared.now.store.id) lanes.old }
     requires closers { All (IsCloserOf shared.now.store) closers.old.items }
 {

@@ -40,29 +40,33 @@ pub(crate) fn request_of<R: Env + AllocGlobal>(rt: &R) -> Request {
     }
 }
 
-/// The words after the program's name, where they are texts and there is memory for them.
+/// The program's name and the words after it, where they are texts and there is memory for them.
 fn words_of<R: Env + AllocGlobal>(rt: &R) -> Option<Vec<String>> {
     let words = std::env::args(rt).ok()?;
-    words.skip(1).collect(rt.alloc()).ok()
+    words.collect(rt.alloc()).ok()
 }
 
 fn request_in(words: &[String]) -> Request {
     match words {
-        [help] if help.as_str() == "--help" => Request::Usage,
-        [seed, lanes, rounds, seconds] => match soak_in(seed, lanes, rounds, seconds) {
-            Some(soak) => Request::Rounds(soak),
-            None => Request::Refused(SoakFault::Words),
-        },
+        [_, help] if help.as_str() == "--help" => Request::Usage,
+        [_, seed, lanes, rounds, seconds] => soak_in(seed, lanes, rounds, seconds),
         _ => Request::Refused(SoakFault::Words),
     }
 }
 
-fn soak_in(seed: &str, lanes: &str, rounds: &str, seconds: &str) -> Option<Soak> {
-    Some(Soak {
-        seed: seed.parse().ok()?,
-        lanes: usize::try_from(number_in(lanes, 3, 16)?).ok()?,
-        rounds: number_in(rounds, 1, 1_000_000)?,
-        seconds: number_in(seconds, 1, 86_400)?,
+fn soak_in(seed: &str, lanes: &str, rounds: &str, seconds: &str) -> Request {
+    let (Some(seed), Some(lanes)) = (number_in(seed, 0, u32::MAX), number_in(lanes, 3, 16)) else {
+        return Request::Refused(SoakFault::Words);
+    };
+    let rounds = number_in(rounds, 1, 1_000_000);
+    let (Some(rounds), Some(seconds)) = (rounds, number_in(seconds, 1, 86_400)) else {
+        return Request::Refused(SoakFault::Words);
+    };
+    Request::Rounds(Soak {
+        seed,
+        lanes: lanes as usize,
+        rounds,
+        seconds,
     })
 }
 

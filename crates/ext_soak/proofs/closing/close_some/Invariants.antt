@@ -1,10 +1,9 @@
-use Rattle.std.specs.Prelude.{◌≤◌, All, length}
+use Rattle.std.specs.Prelude.{All}
 use Rattle.ext_store.specs.Stores.{IsCloserOf, IsLaneOf}
 use Rattle.ext_soak.proofs.closing.close_some.Given as goal
 
 abbrev pub invariant-loop : goal.invariant-loop
 invariant-loop g l = record {
-  one : 1 ≤ length l.hand;
   lanes : All (IsLaneOf l.shared.store.id) l.hand;
   closers : All (IsCloserOf l.shared.store) l.closers.items;
   left : All (IsCloserOf l.shared.store) l.left.items;
