@@ -1,5 +1,7 @@
 -- `part_text`, a part as it is written: it is read to its closing mark and decoded to what was spelled, and what is read as a part was spelled so.
-use Rattle.std.proofs.Common.{◌≡◌, ◌≢◌, ℕ, zero, suc, ◌+◌, ◌≤◌, Bool, true, false, List, [], ◌∷◌, ◌++◌, length, Ok, refl, ap, sym, ◌∙◌, arith, append_assoc, ⊎_elim, length-append}
+use Rattle.std.proofs.Common.{◌≡◌, ◌≢◌, ℕ, zero, suc, ◌+◌, ◌≤◌, Bool, true, false, List, [], ◌∷◌, ◌++◌, length, Result, Ok, Err, is_ok, refl, ap, sym, ◌∙◌, arith, append_assoc, ⊎_elim, length-append}
+use Rattle.std.proofs.lemmas.Bool.{false≢true, true≢false}
+use Rattle.ext_ids.specs.declared.fault.IdFault.{IdFault}
 use Rattle.ext_ids.specs.declared.scan.Part.{Part}
 use Rattle.ext_ids.specs.declared.scan.Part.TheVariants as parts
 use Rattle.ext_ids.specs.Grammar.{spelled, part_text}
@@ -59,30 +61,40 @@ one_before part at some text more c end front r = record {
   filled = λ _ none. cc;
 }
 
+no_place : (what : IdFault) (end : ℕ) → Err what ≡ Ok end → ⊥
+no_place what end e = false≢true (ap is_ok e)
+
+same_place : (at end : ℕ) (r : Result ℕ IdFault) → r ≡ Ok at → r ≡ Ok end → end ≡ at
+same_place at end r is e = ap place (sym e ∙ is)
+  where
+    place : Result ℕ IdFault → ℕ
+    place (Ok n) = n
+    place (Err what) = 0
+
 found_marked : (fuel : ℕ) (part : Part) (at : ℕ) (some : Bool) (b : ℕ) (text : List ℕ) (end : ℕ) → ((p : Part) (a : ℕ) (s : Bool) (t : List ℕ) → length t ≤ fuel → part_end p a s t ≡ Ok end → ReadPart p a s t end)
     → Mark b → length text ≤ fuel → part_end part at some (b ∷ text) ≡ Ok end → ReadPart part at some (b ∷ text) end
 found_marked fuel part at some b text end before (plain _ h) short e =
     one_before part at some (b ∷ text) text b end (rw (spelled_plain b h) refl)
     (before part (at + length (spelled b)) true text short (rw (spelled_plain b h) (sym (plain_step part at some b text h) ∙ e)))
 found_marked fuel part at some b text end before percent short e = ⊎_elim
-    (λ none. absurd (let bad = rw none at e in cc))
+    (λ none. absurd (let bad = rw none at e in no_place _ end bad))
     (λ x. one_before part at some (37 ∷ text) x.more x.character end x.spells
     (before part _ true x.more (omega (arith, x.shorter)) (sym (item_read part at some x.character x.more) ∙ ap (part_end part at some) (sym x.spells) ∙ e)))
     (escape_cases text)
-found_marked fuel part at some b text end before plus short e = absurd cc
-found_marked fuel part at some b text end before opening short e = absurd cc
-found_marked fuel part at some b text end before slash short e = absurd cc
-found_marked fuel parts.Type at true b text end before closing_mark short e = absurd cc
-found_marked fuel parts.Type at false b text end before closing_mark short e = absurd cc
-found_marked fuel parts.Value at true b text end before closing_mark short e = record { value = []; rest = text; spells = refl; ends = let same : at ≡ end = cc in omega arith; filled = λ t. absurd cc }
-found_marked fuel parts.Value at false b text end before closing_mark short e = absurd cc
-found_marked fuel parts.Type at true b text end before colon short e = record { value = []; rest = text; spells = refl; ends = let same : at ≡ end = cc in omega arith; filled = λ t. absurd cc }
-found_marked fuel parts.Type at false b text end before colon short e = absurd cc
-found_marked fuel parts.Value at true b text end before colon short e = absurd cc
-found_marked fuel parts.Value at false b text end before colon short e = absurd cc
+found_marked fuel part at some b text end before plus short e = absurd (no_place _ end e)
+found_marked fuel part at some b text end before opening short e = absurd (no_place _ end e)
+found_marked fuel part at some b text end before slash short e = absurd (no_place _ end e)
+found_marked fuel parts.Type at true b text end before closing_mark short e = absurd (no_place _ end e)
+found_marked fuel parts.Type at false b text end before closing_mark short e = absurd (no_place _ end e)
+found_marked fuel parts.Value at true b text end before closing_mark short e = record { value = []; rest = text; spells = refl; ends = same_place at end (Ok at) refl e ∙ omega arith; filled = λ t. absurd (true≢false t) }
+found_marked fuel parts.Value at false b text end before closing_mark short e = absurd (no_place _ end e)
+found_marked fuel parts.Type at true b text end before colon short e = record { value = []; rest = text; spells = refl; ends = same_place at end (Ok at) refl e ∙ omega arith; filled = λ t. absurd (true≢false t) }
+found_marked fuel parts.Type at false b text end before colon short e = absurd (no_place _ end e)
+found_marked fuel parts.Value at true b text end before colon short e = absurd (no_place _ end e)
+found_marked fuel parts.Value at false b text end before colon short e = absurd (no_place _ end e)
 
 found_within : (fuel : ℕ) (part : Part) (at : ℕ) (some : Bool) (text : List ℕ) (end : ℕ) → length text ≤ fuel → part_end part at some text ≡ Ok end → ReadPart part at some text end
-found_within fuel part at some [] end short e = absurd cc
+found_within fuel part at some [] end short e = absurd (no_place _ end e)
 found_within zero part at some (b ∷ text) end short e = absurd (omega arith)
 found_within (suc fuel) part at some (b ∷ text) end short e =
     found_marked fuel part at some b text end (λ p a s t. found_within fuel p a s t end) (mark_of b) (omega arith) e

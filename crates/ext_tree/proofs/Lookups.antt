@@ -1,6 +1,6 @@
 -- From the answers of the table of ids to what stands before an id.
-use Rattle.std.proofs.Common.{◌≡◌, ◌<◌, ◌+◌, ◌-◌, ℕ, Bool, List, [], ◌∷◌, ◌++◌, length, take, get_or, slice_get, Option, Some, None, Contains, IsTrue, ◌↔◌, refl, ap, sym, ◌∙◌, arith}
-use Rattle.std.specs.List.{list_any}
+use Rattle.std.proofs.Common.{◌≡◌, ◌<◌, ◌+◌, ◌-◌, ℕ, Bool, List, [], ◌∷◌, ◌++◌, length, take, get_or, slice_get, Option, Some, None, Contains, IsTrue, ◌↔◌, true, false, true≢false, refl, ap, sym, ◌∙◌, arith}
+use Rattle.std.specs.List.{list_any, IsAnyAnswer}
 use Rattle.std.specs.Cmp.Lexicographic.{pointwise, lists_equiv}
 use Rattle.std.proofs.lemmas.List.{get_or_default, get_or-take, length-take-le, take_more, take_all, length_push}
 use Rattle.std.proofs.Math.Seq.{take-append_seam}
@@ -44,6 +44,14 @@ module _ (ids : List Id) (at : ℕ) (within : at < length ids) where
   stands_judged x b e is = (
     λ h. let s = stands_to x (Contains-list_any (pointwise pair_eq) (λ p q. (ids_Decides p q).0) (take at ids) x (sym is ∙ h)) in (s.0, s.1, s.2 ∙ e),
     λ (j, less, same). is ∙ list_any-from_Contains (lists_equiv pair_eq_equiv) x (take at ids) (stands_from x j less (same ∙ sym e)),
+  )
+
+  pub stands_said : (x : Id) (b : Bool) → x ≡ id_at ids at → IsAnyAnswer (λ y b. pointwise pair_eq y x ≡ b) (take at ids) b → IsTrue b ↔ StandsBefore ids at
+  stands_said x true e (k, less, h) = (λ _. let s = stands_to x (k, less, (ids_Decides (get_or (take at ids) k x) x).0 (h x)) in (s.0, s.1, s.2 ∙ e), λ _. refl)
+  stands_said x false e none = (
+    λ t. absurd (true≢false (sym t)),
+    λ (j, less, same). let s = stands_from x j less (same ∙ sym e) in
+        absurd (true≢false (sym ((ids_Decides (get_or (take at ids) s.0 x) x).1 s.2) ∙ none s.0 x (omega arith) s.1)),
   )
 
   pub parent_judged : (x : Id) (r : Option ℕ) → 0 < length (id_at ids at) → x ≡ take (length (id_at ids at) - 1) (id_at ids at) → IsPlace (take at ids) x r → IsParentBefore ids at r

@@ -1,12 +1,12 @@
 -- What follows from the definitions of trees: no list is a tree and has a fault, and none has two; ids tell contexts apart; parents come first.
-use Rattle.std.proofs.Common.{◌≡◌, ◌≢◌, ◌<◌, ◌+◌, ℕ, zero, suc, ◌⊎◌, List, [], ◌∷◌, ◌++◌, length, get_or, refl, ap, sym, subst, ◌∙◌, arith, inl, inr}
-use Rattle.std.proofs.lemmas.Bool.{cases_order}
+use Rattle.std.proofs.Common.{◌≡◌, ◌≢◌, ◌<◌, ◌≤◌, ◌+◌, ℕ, HoldsAt, zero, suc, ◌⊎◌, List, [], ◌∷◌, ◌++◌, length, get_or, refl, ap, sym, subst, ◌∙◌, arith, inl, inr}
+use Rattle.std.proofs.lemmas.Bool.{cases_order, cases_eq}
 use Rattle.std.proofs.lemmas.List.{get_or_default, get_or_push, get_or_append_left, same_from_push, length_push}
 use Rattle.ext_tree.specs.declared.fault.TreeFault.{TreeFault}
 use Rattle.ext_tree.specs.declared.fault.TreeFault.TheVariants as faults
 use Rattle.ext_tree.specs.Trees.{Id, id_at, IsParent, MayFollow, IsWrong, twice, second_root, without_parent, HasRoot, FollowBelow, IsTree, HasFault, none_at_all, too_many, no_root, later}
-use Rattle.ext_tree.specs.Building.{Follows, AreParents}
-use Rattle.ext_tree.specs.Paths.{IsParentOf}
+use Rattle.ext_tree.specs.Building.{Follows, AreParents, ArePaths}
+use Rattle.ext_tree.specs.Paths.{IsParentOf, IsPathOf}
 
 -- what an index reads
 pub read_id : (ids : List Id) (at : ℕ) (x : Id) → at < length ids → x ≡ get_or ids at x → x ≡ id_at ids at
@@ -123,6 +123,24 @@ module _ (ids : List Id) (tree : IsTree ids) where
 
   pub parent_of : (k p : ℕ) → k < length ids → Follows ids k p → IsParentOf ids p k
   parent_of k p less f = record { parent_within = (let before = f.before in omega (arith, before, less)); child_within = less; ids_are = f.is }
+
+-- one more item at the end, where each has what is said of its place
+pub held_more : {A : Type 0} (P : ℕ → A → Type 0) (xs : List A) (x : A) (n : ℕ) → length xs ≡ n → ((k : ℕ) → k < n → HoldsAt (P k) xs k) → P n x
+    → (k : ℕ) → k < n + 1 → HoldsAt (P k) (xs ++ x ∷ []) k
+held_more P xs x n count all last k less d = elim (cases_eq k n) [
+  | inl same ↦ subst (P k) (sym (get_or_push xs x d k (count ∙ sym same))) (subst (λ j. P j x) (sym same) last)
+  | inr other ↦
+      let below : k < n = omega (arith, less, other) in
+      subst (P k) (sym (get_or_append_left xs (x ∷ []) d k (omega (arith, below, count)))) (all k below d)
+]
+
+-- one more path
+pub more_paths : (ids : List Id) (n : ℕ) (path : List ℕ) (paths : List (List ℕ)) → ArePaths ids n paths → IsPathOf ids n path → length path ≤ 16
+    → ArePaths ids (n + 1) (paths ++ path ∷ [])
+more_paths ids n path paths are is few = record {
+  count = length_push paths path ∙ ap (λ k. k + 1) are.count;
+  each = held_more (λ c p. IsPathOf ids c p × (length p ≤ 16)) paths path n are.count are.each (is, few);
+}
 
 -- one more parent's place
 pub more_parents : (ids : List Id) (n p : ℕ) (parents : List ℕ) → AreParents ids n parents → Follows ids n p → AreParents ids (n + 1) (parents ++ p ∷ [])

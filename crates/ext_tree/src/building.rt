@@ -1,5 +1,5 @@
 //! From a list of ids to the places of their parents, their children and their paths, or to what is wrong with the list.
-ghost use Rattle.std.specs.Prelude.{ℕ, ◌≡◌, ◌≢◌, ◌+◌, ◌<◌, ◌≤◌, ◌↔◌, IsTrue, IfOk, IfErr, OnOk, MatchResult, length, take, Contains, []};
+ghost use Rattle.std.specs.Prelude.{ℕ, ◌≡◌, ◌≢◌, ◌+◌, ◌<◌, ◌≤◌, ◌↔◌, IsTrue, IfOk, IfErr, OnOk, MatchResult, length, take, []};
 ghost use Rattle.ext_tree.specs.Trees.{StandsBefore, HasRoot, IsTree, HasFault, IsWrong};
 ghost use Rattle.ext_tree.specs.Building.{IsParentBefore, IsJudged, AreParents, AreChildren, ArePaths, Follows};
 ghost use Rattle.ext_tree.specs.Paths.{IsPathOf};
@@ -36,32 +36,46 @@ pub fn check_root(ids: &[UniqueId]) -> Result<(), TreeFault>
 /// The places of the parents. Each id and its parent are looked up in a table, and not among all other ids.
 pub fn parents_of(alloc: Global, ids: &[UniqueId]) -> Result<Vec<ContextNo>, TreeFault>
     requires { HasRoot ids.now }
-    ensures ok { IfOk result (λ v. AreParents ids.now (length ids.now) v.items) }
-    ensures err { IfErr result (λ e. e ≢ Memory → HasFault ids.now e) }
+    ensures { MatchResult result (λ v. AreParents ids.now (length ids.now) v.items) (λ e. e ≢ Memory → HasFault ids.now e) }
 {
     let mut table = IndexSet::new(alloc);
-    parents_by(alloc, &mut table, ids)
+    let mut parents = Vec::new(alloc);
+    parents_by(alloc, &mut table, &mut parents, ids)?;
+    Ok(parents)
 }
 
-/// As `parents_of`, by a table that is empty before.
+/// As `parents_of`, by a table and into a list that are empty before.
 fn parents_by(
     alloc: Global,
     table: &mut IndexSet<Trail>,
+    parents: &mut Vec<ContextNo>,
     ids: &[UniqueId],
-) -> Result<Vec<ContextNo>, TreeFault>
+) -> Result<(), TreeFault>
     requires root { HasRoot ids.now }
-    requires empty { table.old.keys ≡ [] }
-    ensures ok { IfOk result (λ v. AreParents ids.now (length ids.now) v.items) }
-    ensures err { IfErr result (λ e. e ≢ Memory → HasFault ids.now e) }
+    requires empty { (table.old.keys ≡ []) × (parents.old.items ≡ []) }
+    ensures { MatchResult result (λ _. AreParents ids.now (length ids.now) parents.new.items) (λ e. e ≢ Memory → HasFault ids.now e) }
 {
-    let mut parents = Vec::new(alloc);
-    table.insert(Trail::of(alloc, &ids[0], ids[0].len())?)?;
+    enter_root(alloc, table, ids)?;
     parents.push(0)?;
     for i in 1..ids.len() {
         let parent = enter(alloc, table, ids, i)?;
         parents.push(parent)?;
     }
-    Ok(parents)
+    Ok(())
+}
+
+/// Puts the first id into the table, which is empty before.
+fn enter_root(
+    alloc: Global,
+    table: &mut IndexSet<Trail>,
+    ids: &[UniqueId],
+) -> Result<(), AllocError>
+    requires root { HasRoot ids.now }
+    requires empty { table.old.keys ≡ [] }
+    ensures { OnOk result (table.new.keys ≡ take 1 ids.now) }
+{
+    table.insert(Trail::of(alloc, &ids[0], ids[0].len())?)?;
+    Ok(())
 }
 
 /// Puts the id into the table of those before it, and answers the place of its parent.
@@ -73,9 +87,7 @@ fn enter(
 ) -> Result<ContextNo, TreeFault>
     requires within { (0 < at) × (at < length ids.now) }
     requires table { table.old.keys ≡ take at ids.now }
-    ensures ok { IfOk result (Follows ids.now at) }
-    ensures table { OnOk result (table.new.keys ≡ take (at + 1) ids.now) }
-    ensures err { IfErr result (λ e. e ≢ Memory → IsWrong ids.now at e) }
+    ensures { MatchResult result (λ parent. Follows ids.now at parent × (table.new.keys ≡ take (at + 1) ids.now)) (λ e. e ≢ Memory → IsWrong ids.now at e) }
 {
     let id = &ids[at];
     let above = id.len() - 1;
@@ -145,12 +157,7 @@ fn stands_before(ids: &[UniqueId], at: usize) -> bool
     requires { at < length ids.now }
     ensures { IsTrue result ↔ StandsBefore ids.now at }
 {
-    for id in &ids[..at] {
-        if *id == ids[at] {
-            return true;
-        }
-    }
-    false
+    ids[..at].contains(&ids[at])
 }
 
 /// The earlier place of the id's parent.
@@ -189,9 +196,9 @@ fn empty_lists(alloc: Global, ids: &[UniqueId]) -> Result<Vec<Vec<ContextNo>>, A
     requires { IsTree ids.now }
     ensures { IfOk result (λ v. AreChildren ids.now 1 v.items) }
 {
-    let mut lists = Vec::new(alloc);
+    let mut lists = Vec::with_capacity(alloc, ids.len())?;
     for _ in 0..ids.len() {
-        lists.push(Vec::new(alloc))?;
+        lists.push_reserved(Vec::new(alloc));
     }
     Ok(lists)
 }
@@ -208,7 +215,7 @@ pub fn paths_of(
 {
     let mut paths = Vec::with_capacity(alloc, ids.len())?;
     for context in 0..ids.len() {
-        paths.push(path_of(ids, parents, context))?;
+        paths.push_reserved(path_of(ids, parents, context));
     }
     Ok(paths)
 }

@@ -66,9 +66,7 @@ impl Namespace {
         ensures memory { IfErr result (λ e. e ≡ Memory) }
     {
         let mut own = Vec::new(alloc);
-        for part in self.parts() {
-            own.push(part.clone()?)?;
-        }
+        own.extend_with_clones(self.parts())?;
         push_all(alloc, &mut own, parts)?;
         Ok(Namespace {
             created: self.created,

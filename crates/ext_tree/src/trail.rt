@@ -34,10 +34,7 @@ impl Trail {
     {
         let mut segments = Vec::new(alloc);
         for i in 0..count {
-            let (kind, value) = id.segment(i);
-            let kind = Text::copied(alloc, kind)?;
-            let value = Text::copied(alloc, value)?;
-            segments.push((kind, value))?;
+            push_copied(alloc, &mut segments, id, i)?;
         }
         Ok(Trail { segments })
     }
@@ -48,12 +45,26 @@ impl Trail {
         requires next { self.old ≡ take i id.now }
         ensures { OnOk result (self.new ≡ take (i + 1) id.now) }
     {
-        let (kind, value) = id.segment(i);
-        let kind = Text::copied(alloc, kind)?;
-        let value = Text::copied(alloc, value)?;
-        self.segments.push((kind, value))?;
-        Ok(())
+        push_copied(alloc, &mut self.segments, id, i)
     }
+}
+
+/// Puts a copy of the id's segment `i` behind those before it.
+fn push_copied(
+    alloc: Global,
+    segments: &mut Vec<(Text, Text)>,
+    id: &UniqueId,
+    i: usize,
+) -> Result<(), AllocError>
+    requires within { i < length id.now }
+    requires next { segments.old.items ≡ take i id.now }
+    ensures { OnOk result (segments.new.items ≡ take (i + 1) id.now) }
+{
+    let (kind, value) = id.segment(i);
+    let kind = Text::copied(alloc, kind)?;
+    let value = Text::copied(alloc, value)?;
+    segments.push((kind, value))?;
+    Ok(())
 }
 
 impl PartialEq for Trail {

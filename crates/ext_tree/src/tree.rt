@@ -110,14 +110,7 @@ impl Tree {
     {
         let lists = children_lists(alloc, ids, parents)?;
         let paths = paths_of(alloc, ids, parents)?;
-        let mut own = Vec::new(alloc);
-        for id in ids {
-            own.push(id.clone()?)?;
-        }
-        Ok(Tree {
-            ids: own,
-            paths,
-            lists,
-        })
+        let ids = ids.to_vec(alloc)?;
+        Ok(Tree { ids, paths, lists })
     }
 }

@@ -31,13 +31,15 @@ judge-requires-clause-parent c = parent_judged c.args.ids.now c.args.at c.requir
     (subst (λ keys. IsPlace keys c.in_ok-trail.trail c.get_index_of-parent.result) c.requires.table
     (place_of (pointwise pair_eq) ids_Decides (lists_equiv pair_eq_equiv) c.args.table.now.keys c.in_ok-trail.trail c.get_index_of-parent.result c.get_index_of-parent.ensures.index c.get_index_of-parent.ensures.found))
 
-pub returns-clause-table : goal.returns-clause-table
-returns-clause-table c =
+pub returns : goal.returns
+returns c =
     let id = read_id c.args.ids.now c.args.at c.index-ids-at.result c.requires.within.1 c.index-ids-at.is in
     let i = c.len-above.ensures.id in
     let trail : c.push.new.self ≡ id_at c.args.ids.now c.args.at =
     c.in_ok-push.ensures ∙ ap (λ n. take (n - 1 + 1) c.index-ids-at.result) c.len-above.ensures.count ∙ whole c.index-ids-at.result i.some ∙ id in
     let f = c.in_ok-parent.ensures in
-    let fresh = f.may in
-    c.in_ok-insert.ensures.keys ∙ ap (λ keys. insert_key (pointwise pair_eq) keys c.push.new.self) c.requires.table
-    ∙ entered c.args.ids.now c.args.at c.requires.within.1 c.push.new.self trail fresh.fresh
+    let fresh = f.may in (
+      f,
+      c.in_ok-insert.ensures.keys ∙ ap (λ keys. insert_key (pointwise pair_eq) keys c.push.new.self) c.requires.table
+          ∙ entered c.args.ids.now c.args.at c.requires.within.1 c.push.new.self trail fresh.fresh,
+    )

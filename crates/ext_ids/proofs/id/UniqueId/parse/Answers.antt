@@ -1,27 +1,37 @@
-use Rattle.std.proofs.Common.{◌≡◌, ℕ, List, Result, Ok, Err, IsOk, ap, sym, refl, ◌∙◌}
+use Rattle.std.proofs.Common.{◌≡◌, ℕ, List, [], Result, Ok, Err, IsOk, is_ok, ap, sym, refl, ◌∙◌}
 use Rattle.ext_ids.specs.Grammar.{Pair, IsIdText}
 use Rattle.ext_ids.proofs.Firsts.{id_first}
-use Rattle.std.proofs.lemmas.Bool.{false≢true}
+use Rattle.std.proofs.lemmas.Bool.{false≢true, true≢false}
 use Rattle.std.proofs.lemmas.Result.{err_from_is_err_and}
 use Rattle.ext_ids.specs.declared.fault.IdFault.{IdFault}
+use Rattle.ext_ids.specs.declared.fault.IdFault.TheVariants.{Memory}
 use Rattle.ext_ids.proofs.Refusals.{id_refused}
 use Rattle.ext_ids.specs.Reading.{read_id}
 use Rattle.ext_ids.proofs.IdsRead.{id_read}
 use Rattle.ext_ids.proofs.IdsFound.{id_found}
 use Rattle.ext_ids.proofs.id.UniqueId.parse.Goals as goal
 
+-- a text reads as one list of pairs, or has one fault
+not_both : (read : Result (List Pair) IdFault) (pairs : List Pair) (e : IdFault) → read ≡ Ok pairs → read ≡ Err e → ⊥
+not_both read pairs e ok err = true≢false (ap is_ok (sym ok ∙ err))
+
+abbrev pairs_of : Result (List Pair) IdFault → List Pair
+pairs_of (Ok pairs) = pairs
+pairs_of (Err e) = []
+
+abbrev fault_of : Result (List Pair) IdFault → IdFault
+fault_of (Ok pairs) = Memory
+fault_of (Err e) = e
+
 pub returns-in_err-check-clause-only : goal.returns-in_err-check-clause-only
-returns-in_err-check-clause-only c = λ pairs h. absurd (
-    let read = ap read_id c.as_bytes.ensures.value ∙ id_read c.args.text.now pairs h in
-    let fault = c.in_err-check.ensures.fault in cc)
+returns-in_err-check-clause-only c = λ pairs h. absurd
+    (not_both _ pairs _ (ap read_id c.as_bytes.ensures.value ∙ id_read c.args.text.now pairs h) c.in_err-check.ensures.fault)
 
 pub returns-clause-found : goal.returns-clause-found
 returns-clause-found c = id_found c.args.text.now _ c.in_ok-segments.ensures
 
 pub returns-clause-only : goal.returns-clause-only
-returns-clause-only c = λ pairs h.
-    let read = id_read c.args.text.now pairs h in
-    let found = c.in_ok-segments.ensures in cc
+returns-clause-only c = λ pairs h. ap pairs_of (sym c.in_ok-segments.ensures ∙ id_read c.args.text.now pairs h)
 
 pub returns-in_err-check-clause-fault : goal.returns-in_err-check-clause-fault
 returns-in_err-check-clause-fault c =
@@ -31,14 +41,10 @@ returns-in_err-check-clause-fault c =
 pub returns-in_err-check-clause-first : goal.returns-in_err-check-clause-first
 returns-in_err-check-clause-first c = λ what h.
     let p = err_from_is_err_and c.from_residual.result c.from_residual.ensures.1 in
-    let read = ap read_id c.as_bytes.ensures.value ∙ id_first c.args.text.now what h in
-    let fault = c.in_err-check.ensures.fault in
-    rw (p.1, p.2) (cc)
+    rw (p.1, p.2) (ap Err (ap fault_of (sym c.in_err-check.ensures.fault ∙ ap read_id c.as_bytes.ensures.value ∙ id_first c.args.text.now what h)))
 
 pub returns-clause-first : goal.returns-clause-first
-returns-clause-first c = λ what h.
-    let read = id_first c.args.text.now what h in
-    let found = c.in_ok-segments.ensures in absurd cc
+returns-clause-first c = λ what h. absurd (not_both _ _ what c.in_ok-segments.ensures (id_first c.args.text.now what h))
 
 pub invariant_of-result : goal.invariant_of-result
 invariant_of-result c = let h = id_found c.args.text.now _ c.in_ok-segments.ensures in h.id

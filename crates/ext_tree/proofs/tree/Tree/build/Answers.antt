@@ -12,18 +12,18 @@ returns-in_err-check_root-clause-first c = λ e h.
     rw (p.1, p.2) (ap Err (one_fault c.args.ids.now c.in_err-check_root.field-0.0 e c.in_err-check_root.ensures.err h))
 
 pub of-requires-clause-tree : goal.of-requires-clause-tree
-of-requires-clause-tree c = tree_by_parents c.args.ids.now c.in-Ok.parents.items c.in_ok-check_root.ensures.ok c.in-Ok.ensures.ok
+of-requires-clause-tree c = tree_by_parents c.args.ids.now c.in-Ok.parents.items c.in_ok-check_root.ensures.ok c.in-Ok.ensures
 
 pub returns-in_err-of-in-Ok-clause-first : goal.returns-in_err-of-in-Ok-clause-first
 returns-in_err-of-in-Ok-clause-first c = λ e h. absurd (has_no_fault c.args.ids.now e
-    (tree_by_parents c.args.ids.now c.in-Ok.parents.items c.in_ok-check_root.ensures.ok c.in-Ok.ensures.ok) h)
+    (tree_by_parents c.args.ids.now c.in-Ok.parents.items c.in_ok-check_root.ensures.ok c.in-Ok.ensures) h)
 
 pub returns-in_err-of-in-Ok-clause-memory : goal.returns-in_err-of-in-Ok-clause-memory
-returns-in_err-of-in-Ok-clause-memory c = λ _. tree_by_parents c.args.ids.now c.in-Ok.parents.items c.in_ok-check_root.ensures.ok c.in-Ok.ensures.ok
+returns-in_err-of-in-Ok-clause-memory c = λ _. tree_by_parents c.args.ids.now c.in-Ok.parents.items c.in_ok-check_root.ensures.ok c.in-Ok.ensures
 
 pub returns-in_ok-of-in-Ok-clause-first : goal.returns-in_ok-of-in-Ok-clause-first
 returns-in_ok-of-in-Ok-clause-first c = λ e h. absurd (has_no_fault c.args.ids.now e
-    (tree_by_parents c.args.ids.now c.in-Ok.parents.items c.in_ok-check_root.ensures.ok c.in-Ok.ensures.ok) h)
+    (tree_by_parents c.args.ids.now c.in-Ok.parents.items c.in_ok-check_root.ensures.ok c.in-Ok.ensures) h)
 
 pub returns-in-Err-clause-only : goal.returns-in-Err-clause-only
 returns-in-Err-clause-only c = λ tree. elim (memory_or_not c.refusal.result) [
