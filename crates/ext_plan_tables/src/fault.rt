@@ -45,48 +45,36 @@ impl fmt::Display for Place {
 #[derive(Clone, Copy, Debug, PartialEq, Eq, Error)]
 pub enum PlanFault {
     /// P1: the bytes are no text in UTF-8. It is for callers that hold bytes: `read_plan` takes text and never answers it.
-    #[error("plan: P1")]
     NotUtf8,
     /// P2: the text is no TOML document.
-    #[error("plan: P2")]
     NotToml,
     /// P3: a field other than `key` and `node` at the top, `label`, `name` and `namespace` in a key, `id`, `test`, `mode`,
     /// `isolated`, `locks`, `before_all`, `after_all`, `before_each` and `after_each` in a node.
-    #[error("plan: P3{0}")]
     UnknownField(Place),
     /// P4: `key` or `node` is no array of tables; `label` or `id` is missing or no text; `name` or `mode` is no text;
     /// `namespace`, `test` or `locks` is no array of texts; `isolated` is neither true nor false; `before_all`, `after_all`,
     /// `before_each` or `after_each` is no array of arrays of texts.
-    #[error("plan: P4{0}")]
     BadField(Place),
     /// P5: a key's label is empty, has a space or is that of a key before, or its namespace is an empty array.
-    #[error("plan: P5 key {0}")]
     BadLabel(usize),
     /// P6: the id of a node is no unique id, or has more than 16 segments.
-    #[error("plan: P6 node {0}")]
     BadId(usize),
     /// P7: the ids are those of no tree: there is none or more than 256, the first has more than one segment, or a
     /// further one stands twice, has one segment or has no parent before it.
-    #[error("plan: P7")]
     BadTree,
     /// P8: a text in the `test` or in a callback of a node is no step, names no label of the plan, or goes up past the root
     /// from a test or container in which it will run; or a test or a callback has 2^32 steps or more, or a node more than
     /// 1,048,576 callbacks of a kind, which takes a text of over 12 GB or 3 MB.
-    #[error("plan: P8 node {0}")]
     BadStep(usize),
     /// P9: a text in the `locks` of a node is not `READ NAME` or `READ_WRITE NAME`, with one space and one word NAME, or its
     /// `mode` is another text than `same_thread` and `concurrent`.
-    #[error("plan: P9 node {0}")]
     BadLock(usize),
     /// P10: a node is a test and has children, or has `before_all` or `after_all`, be it an empty array.
-    #[error("plan: P10 node {0}")]
     BadTest(usize),
     /// P11: there are more than 64 different keys, or more than 4,096 cells, of which each node has one for each
     /// different key, or more than 63 different names of locks.
-    #[error("plan: P11")]
     TooMany,
     /// P12: memory was wanted and refused.
-    #[error("plan: P12")]
     Memory,
 }
 
@@ -108,6 +96,30 @@ impl PlanFault {
             | PlanFault::TooMany
             | PlanFault::Memory => Place::Whole,
         }
+    }
+
+    /// The number behind the `P` of the fault's text.
+    fn code(self) -> u8 {
+        match self {
+            PlanFault::NotUtf8 => 1,
+            PlanFault::NotToml => 2,
+            PlanFault::UnknownField(_) => 3,
+            PlanFault::BadField(_) => 4,
+            PlanFault::BadLabel(_) => 5,
+            PlanFault::BadId(_) => 6,
+            PlanFault::BadTree => 7,
+            PlanFault::BadStep(_) => 8,
+            PlanFault::BadLock(_) => 9,
+            PlanFault::BadTest(_) => 10,
+            PlanFault::TooMany => 11,
+            PlanFault::Memory => 12,
+        }
+    }
+}
+
+impl fmt::Display for PlanFault {
+    fn fmt<W: fmt::Write>(&self, f: &mut fmt::Formatter<W>) -> fmt::Result {
+        write!(f, "plan: P{}{}", self.code(), self.place())
     }
 }
 

@@ -1,5 +1,5 @@
 //! The fields of a TOML table.
-ghost use Rattle.std.specs.Prelude.{◌≡◌, [], false, map, option_map, IfSome};
+ghost use Rattle.std.specs.Prelude.{◌≡◌, [], false, not, is_some, map, option_map, IfSome};
 ghost use Rattle.std.specs.Str.{bytes_eq};
 ghost use Rattle.std.specs.List.{list_any};
 ghost use Rattle.toml.specs.View.{view, table_view, items_view};
@@ -19,17 +19,16 @@ pub const TOP_FIELDS: [&str; 2] = ["key", "node"];
 pub fn has_only(names: &[&str], table: &Table) -> bool
     ensures { result ≡ has_only (map (λ n. n.now) names.now) (table_view table.now) }
 {
-    for name in table.keys() {
-        if !is_among(names, name.as_str()) {
-            return false;
-        }
+    match first_other(names, table) {
+        None => true,
+        Some(_) => false,
     }
-    true
 }
 
 /// The name of the first field of a table that is none of the names.
 pub fn first_other<'a>(names: &[&str], table: &'a Table) -> Option<&'a str>
-    ensures { IfSome result (λ name. list_any (λ n. bytes_eq n.now name.now) names.now ≡ false) }
+    ensures other { IfSome result (λ name. list_any (λ n. bytes_eq n.now name.now) names.now ≡ false) }
+    ensures none { not (is_some result) ≡ has_only (map (λ n. n.now) names.now) (table_view table.now) }
 {
     for name in table.keys() {
         if !is_among(names, name.as_str()) {

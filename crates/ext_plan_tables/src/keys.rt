@@ -91,14 +91,14 @@ fn copy_of(
 }
 
 /// Tests whether a text is a word: at least one character, and no space.
-fn is_word(text: &str) -> bool
+pub fn is_word(text: &str) -> bool
     ensures { result ≡ is_word text.now }
 {
     !text.is_empty() && !text.as_bytes().contains(&b' ')
 }
 
 /// Tests whether a namespace has a part, if one is given.
-fn has_parts(namespace: &Option<Vec<&str>>) -> bool
+pub fn has_parts(namespace: &Option<Vec<&str>>) -> bool
     ensures { result ≡ has_parts (option_map (λ v. map (λ t. t.now) v.items) namespace.now) }
 {
     match namespace {

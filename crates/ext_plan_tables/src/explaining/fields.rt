@@ -1,11 +1,12 @@
 //! What is meant by a fault of fields.
+use crate::explaining::words::{quoted, said};
 use crate::fault::{Place, PlanFault};
 use crate::fields::{
     TOP_FIELDS, first_other, tables_at, text_at, text_if_given, text_lists_at, texts_at, truth_at,
 };
-use crate::keys::KEY_FIELDS;
+use crate::keys::{KEY_FIELDS, has_parts, is_word};
 use crate::nodes::NODE_FIELDS;
-use std::alloc::{AllocError, Global};
+use std::alloc::Global;
 use toml::Table;
 
 /// What a field has to be.
@@ -76,7 +77,7 @@ pub fn unknown_field(
     };
     match other {
         None => Ok(None),
-        Some(name) => Ok(Some(format!(in alloc; "it may not have a field {name:?}")?)),
+        Some(name) => quoted(alloc, "it may not have a field ", name, ""),
     }
 }
 
@@ -100,8 +101,7 @@ fn first_bad(
 ) -> Result<Option<String>, PlanFault> {
     for (name, kind) in fields {
         if !is_right(alloc, table, name, *kind)? {
-            let what = what_is_wrong(*kind);
-            return Ok(Some(format!(in alloc; "its field {name:?} is {what}")?));
+            return quoted(alloc, "its field ", name, what_is_wrong(*kind));
         }
     }
     Ok(None)
@@ -132,45 +132,55 @@ fn was_read<T: Drop>(read: Result<T, PlanFault>) -> Result<bool, PlanFault> {
 /// What a field of another type is.
 fn what_is_wrong(kind: FieldType) -> &'static str {
     match kind {
-        FieldType::Text => "missing, or no text",
-        FieldType::TextIfGiven => "no text",
-        FieldType::TruthIfGiven => "neither true nor false",
-        FieldType::TextsIfGiven => "no array of texts",
-        FieldType::TextListsIfGiven => "no array of arrays of texts",
-        FieldType::TablesIfGiven => "no array of tables",
+        FieldType::Text => " is missing, or no text",
+        FieldType::TextIfGiven => " is no text",
+        FieldType::TruthIfGiven => " is neither true nor false",
+        FieldType::TextsIfGiven => " is no array of texts",
+        FieldType::TextListsIfGiven => " is no array of arrays of texts",
+        FieldType::TablesIfGiven => " is no array of tables",
     }
 }
 
 /// What is wrong with the label of a key, or with its namespace.
 pub fn bad_label(alloc: Global, top: &Table, key: usize) -> Result<Option<String>, PlanFault> {
-    let fault = PlanFault::BadField(Place::Whole);
-    let tables = tables_at(alloc, top, "key", fault)?;
+    let tables = tables_at(alloc, top, "key", PlanFault::BadField(Place::Whole))?;
+    bad_label_among(alloc, tables.as_slice(), key)
+}
+
+/// The same, among the tables of all keys.
+fn bad_label_among(
+    alloc: Global,
+    tables: &[&Table],
+    key: usize,
+) -> Result<Option<String>, PlanFault> {
     let Some(table) = tables.get(key) else {
         return Ok(None);
     };
     let Some(label) = text_at(table, "label") else {
         return Ok(None);
     };
-    if let Some(meaning) = no_word(alloc, label)? {
-        return Ok(Some(meaning));
+    if !is_word(label) {
+        return no_word(alloc, label);
     }
-    if let Some(parts) = texts_at(alloc, table, "namespace", fault)?
-        && parts.is_empty()
-    {
-        return Ok(Some(format!(in alloc; "its namespace has no part")?));
+    if !has_own_parts(alloc, table)? {
+        return said(alloc, "its namespace has no part");
     }
-    same_label(alloc, tables.as_slice(), key, label)
+    same_label(alloc, tables, key, label)
 }
 
 /// Why a label is no word.
-fn no_word(alloc: Global, label: &str) -> Result<Option<String>, AllocError> {
+fn no_word(alloc: Global, label: &str) -> Result<Option<String>, PlanFault> {
     if label.is_empty() {
-        return Ok(Some(format!(in alloc; "its label is empty")?));
+        return said(alloc, "its label is empty");
     }
-    if label.contains(' ') {
-        return Ok(Some(format!(in alloc; "its label {label:?} has a space")?));
-    }
-    Ok(None)
+    quoted(alloc, "its label ", label, " has a space")
+}
+
+/// Tests whether the namespace of a key has a part, if one is given.
+fn has_own_parts(alloc: Global, table: &Table) -> Result<bool, PlanFault> {
+    let fault = PlanFault::BadField(Place::Whole);
+    let namespace = texts_at(alloc, table, "namespace", fault)?;
+    Ok(has_parts(&namespace))
 }
 
 /// The key before this one that has its label.

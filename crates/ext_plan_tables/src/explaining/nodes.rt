@@ -4,6 +4,7 @@ ghost use Rattle.ext_plan_model.specs.Plans.{keys_view};
 ghost use Rattle.ext_plan_model.specs.KeyNumbers.{HasParts};
 
 use crate::explaining::fields::table_of;
+use crate::explaining::words::{quoted, said};
 use crate::fault::{Place, PlanFault};
 use crate::fields::{tables_at, text_at};
 use crate::keys::{Keys, keys_of};
@@ -35,9 +36,14 @@ pub fn bad_id(alloc: Global, top: &Table, node: usize) -> Result<Option<String>,
     let Some(table) = table_of(alloc, top, Place::Node(node))? else {
         return Ok(None);
     };
-    let Some(text) = text_at(table, "id") else {
-        return Ok(None);
-    };
+    match text_at(table, "id") {
+        None => Ok(None),
+        Some(text) => no_id(alloc, text),
+    }
+}
+
+/// Why a text is no id.
+fn no_id(alloc: Global, text: &str) -> Result<Option<String>, PlanFault> {
     match UniqueId::parse(alloc, text) {
         Ok(_) => Ok(None),
         Err(IdFault::Memory) => Err(PlanFault::Memory),
@@ -45,57 +51,91 @@ pub fn bad_id(alloc: Global, top: &Table, node: usize) -> Result<Option<String>,
     }
 }
 
-/// The first node that is in the way of a tree, and why.
-pub fn bad_tree(alloc: Global, top: &Table) -> Result<Option<String>, PlanFault> {
+/// What is meant by a fault of the nodes after the first pass: of their ids, or of a node's mode, locks or test.
+pub fn bad_nodes(
+    alloc: Global,
+    top: &Table,
+    fault: PlanFault,
+) -> Result<Option<String>, PlanFault> {
     let sketches = sketches_in(alloc, top)?;
-    let ids = ids_of(alloc, sketches.as_slice())?;
-    match Tree::build(alloc, ids.as_slice()) {
-        Ok(_) => Ok(None),
-        Err(fault) => in_the_way(alloc, ids.as_slice(), fault),
+    match fault.place() {
+        Place::Node(node) => bad_node(alloc, sketches.as_slice(), node, fault),
+        _ => bad_tree(alloc, sketches.as_slice()),
     }
 }
 
-/// The node that a fault of these ids names, and why it is in the way of a tree.
+/// The same, of a node's mode, locks or test.
+fn bad_node(
+    alloc: Global,
+    sketches: &[NodeSketch<'_>],
+    node: usize,
+    fault: PlanFault,
+) -> Result<Option<String>, PlanFault> {
+    match sketches.get(node) {
+        None => Ok(None),
+        Some(sketch) => match fault {
+            PlanFault::BadTest(_) => said(alloc, unfit_for_test(sketch)),
+            _ => bad_lock(alloc, sketch, node),
+        },
+    }
+}
+
+/// The first node that is in the way of a tree, and why.
+fn bad_tree(alloc: Global, sketches: &[NodeSketch<'_>]) -> Result<Option<String>, PlanFault> {
+    match tree_fault(alloc, sketches)? {
+        None => Ok(None),
+        Some(fault) => in_the_way(alloc, sketches, fault),
+    }
+}
+
+/// Why the ids of the nodes are those of no tree.
+fn tree_fault(alloc: Global, sketches: &[NodeSketch<'_>]) -> Result<Option<TreeFault>, PlanFault> {
+    let ids = ids_of(alloc, sketches)?;
+    Ok(Tree::build(alloc, ids.as_slice()).err())
+}
+
+/// The node that a fault of the ids names, and why it is in the way of a tree.
 fn in_the_way(
     alloc: Global,
-    ids: &[UniqueId],
+    sketches: &[NodeSketch<'_>],
     fault: TreeFault,
 ) -> Result<Option<String>, PlanFault> {
     match fault {
         TreeFault::Memory => Err(PlanFault::Memory),
-        TreeFault::TooMany => Ok(Some(format!(in alloc; "it has more than 256 nodes")?)),
+        TreeFault::TooMany => said(alloc, "it has more than 256 nodes"),
         TreeFault::NoRoot => {
             let why = "has more than one segment, so that it is no root";
-            named(alloc, ids, 0, why)
+            named(alloc, sketches, 0, why)
         }
-        TreeFault::TwoRoots(node) => named(alloc, ids, node, "is a second root"),
-        TreeFault::NoParent(node) => named(alloc, ids, node, "has no parent before it"),
-        TreeFault::Twice(node) => named(alloc, ids, node, "stands before already"),
+        TreeFault::TwoRoots(node) => named(alloc, sketches, node, "is a second root"),
+        TreeFault::NoParent(node) => named(alloc, sketches, node, "has no parent before it"),
+        TreeFault::Twice(node) => named(alloc, sketches, node, "stands before already"),
     }
 }
 
 /// What is said of a node, behind its id.
 fn named(
     alloc: Global,
-    ids: &[UniqueId],
+    sketches: &[NodeSketch<'_>],
     node: usize,
     why: &str,
 ) -> Result<Option<String>, PlanFault> {
-    let Some(id) = ids.get(node) else {
-        return Ok(Some(format!(in alloc; "it has no node")?));
-    };
+    match sketches.get(node) {
+        None => said(alloc, "it has no node"),
+        Some(sketch) => named_by(alloc, &sketch.id, node, why),
+    }
+}
+
+/// What is said of the node of this id.
+fn named_by(
+    alloc: Global,
+    id: &UniqueId,
+    node: usize,
+    why: &str,
+) -> Result<Option<String>, PlanFault> {
     let mut text = String::new(alloc);
     id.write_to(&mut text)?;
     Ok(Some(format!(in alloc; "the id of node {node}, {:?}, {why}", text.as_str())?))
-}
-
-/// What a node has that no test may have.
-pub fn bad_test(alloc: Global, top: &Table, node: usize) -> Result<Option<String>, PlanFault> {
-    let sketches = sketches_in(alloc, top)?;
-    match sketches.get(node) {
-        None => Ok(None),
-        Some(sketch) => Ok(Some(String::from_str(alloc, unfit_for_test(sketch))?)),
-    }
 }
 
 /// What a node has that no test may have.
@@ -108,16 +148,7 @@ fn unfit_for_test(sketch: &NodeSketch<'_>) -> &'static str {
 }
 
 /// The mode of a node that is none, or its first lock that is none.
-pub fn bad_lock(alloc: Global, top: &Table, node: usize) -> Result<Option<String>, PlanFault> {
-    let sketches = sketches_in(alloc, top)?;
-    match sketches.get(node) {
-        None => Ok(None),
-        Some(sketch) => bad_lock_of(alloc, sketch, node),
-    }
-}
-
-/// The same, of a node after the first pass.
-fn bad_lock_of(
+fn bad_lock(
     alloc: Global,
     sketch: &NodeSketch<'_>,
     node: usize,
@@ -125,9 +156,12 @@ fn bad_lock_of(
     if let Some(mode) = sketch.mode
         && mode_at(node, Some(mode)).is_err()
     {
-        return Ok(Some(format!(in alloc;
-            "its mode {mode:?} is neither same_thread nor concurrent"
-        )?));
+        return quoted(
+            alloc,
+            "its mode ",
+            mode,
+            " is neither same_thread nor concurrent",
+        );
     }
     match &sketch.locks {
         None => Ok(None),
@@ -139,12 +173,15 @@ fn bad_lock_of(
 fn first_bad_lock(alloc: Global, node: usize, texts: &[&str]) -> Result<Option<String>, PlanFault> {
     for (i, text) in texts.iter().enumerate() {
         if !is_lock(alloc, node, text)? {
-            return Ok(Some(format!(in alloc;
-                "its lock {i}, {text:?}, is neither READ NAME nor READ_WRITE NAME"
-            )?));
+            return no_lock(alloc, i, text);
         }
     }
     Ok(None)
+}
+
+/// What a text is that is no lock.
+fn no_lock(alloc: Global, i: usize, text: &str) -> Result<Option<String>, PlanFault> {
+    Ok(Some(format!(in alloc; "its lock {i}, {text:?}, is neither READ NAME nor READ_WRITE NAME")?))
 }
 
 /// Tests whether a text of a node is a lock.
@@ -158,16 +195,20 @@ fn is_lock(alloc: Global, node: usize, text: &str) -> Result<bool, PlanFault> {
 
 /// What there are too many of.
 pub fn too_many(alloc: Global, top: &Table) -> Result<Option<String>, PlanFault> {
-    let Some(keys) = different_keys(alloc, top)? else {
-        return Ok(Some(format!(in alloc; "it has more than 64 different keys")?));
-    };
-    let nodes = node_count(alloc, top)?;
+    match different_keys(alloc, top)? {
+        None => said(alloc, "it has more than 64 different keys"),
+        Some(keys) => too_many_with(alloc, node_count(alloc, top)?, keys),
+    }
+}
+
+/// The same, where there are so many nodes, and so many different keys.
+fn too_many_with(alloc: Global, nodes: usize, keys: usize) -> Result<Option<String>, PlanFault> {
     if nodes.saturating_mul(keys) > 4096 {
         return Ok(Some(format!(in alloc;
             "{nodes} nodes times {keys} different keys are more than 4096 cells"
         )?));
     }
-    Ok(Some(format!(in alloc; "its locks have more than 63 different names")?))
+    said(alloc, "its locks have more than 63 different names")
 }
 
 /// How many nodes the document has.

@@ -31,13 +31,9 @@ fn bad_step_among(
     let own = sketch.id.len();
     let least = least_test_depth(sketches, &sketch.id);
     let lists = sketch.callbacks.in_order(own, least);
-    let found = bad_in_kinds(alloc, labels, node, &lists)?;
-    if found.is_some() {
-        return Ok(found);
-    }
-    match &sketch.test {
-        None => Ok(None),
-        Some(texts) => bad_in(alloc, labels, own, node, "test", texts.as_slice()),
+    match bad_in_kinds(alloc, labels, node, &lists)? {
+        Some(found) => Ok(Some(found)),
+        None => bad_in_test(alloc, labels, own, node, &sketch.test),
     }
 }
 
@@ -67,28 +63,51 @@ fn bad_in_callbacks(
     lists: &[Vec<&str>],
 ) -> Result<Option<String>, PlanFault> {
     for (i, texts) in lists.iter().enumerate() {
-        let place = format!(in alloc; "{name} {i}")?;
-        let found = bad_in(alloc, labels, depth, node, place.as_str(), texts.as_slice())?;
-        if found.is_some() {
-            return Ok(found);
+        if let Some(step) = first_bad(alloc, labels, depth, node, texts.as_slice())? {
+            return bad_in_callback(alloc, labels, name, i, step, texts[step]);
         }
     }
     Ok(None)
 }
 
-/// The first of a test's or a callback's texts that is no step there. `list` says which test or callback it is.
-fn bad_in(
+/// What is said of a text of the callback `i` of a kind that is no step.
+fn bad_in_callback(
+    alloc: Global,
+    labels: &Labels<'_>,
+    name: &str,
+    i: usize,
+    step: usize,
+    text: &str,
+) -> Result<Option<String>, PlanFault> {
+    let list = format!(in alloc; "{name} {i}")?;
+    no_step(alloc, labels, list.as_str(), step, text)
+}
+
+/// The first of a test's texts that is no step there.
+fn bad_in_test(
     alloc: Global,
     labels: &Labels<'_>,
     depth: usize,
     node: usize,
-    list: &str,
-    texts: &[&str],
+    texts: &Option<Vec<&str>>,
 ) -> Result<Option<String>, PlanFault> {
-    let Some(step) = first_bad(alloc, labels, depth, node, texts)? else {
+    let Some(texts) = texts else {
         return Ok(None);
     };
-    let text = texts[step];
+    match first_bad(alloc, labels, depth, node, texts.as_slice())? {
+        None => Ok(None),
+        Some(step) => no_step(alloc, labels, "test", step, texts[step]),
+    }
+}
+
+/// What is said of a text that is no step. `list` says of which test or callback it is.
+fn no_step(
+    alloc: Global,
+    labels: &Labels<'_>,
+    list: &str,
+    step: usize,
+    text: &str,
+) -> Result<Option<String>, PlanFault> {
     let why = reason(alloc, labels, text)?;
     Ok(Some(format!(in alloc; "step {step} of its {list}, {text:?}, {why}")?))
 }
@@ -116,27 +135,27 @@ fn first_bad(
 
 /// Why a text that the reader refuses is no step.
 fn reason(alloc: Global, labels: &Labels<'_>, text: &str) -> Result<&'static str, PlanFault> {
-    let words = words_of(alloc, text)?;
-    reason_among(alloc, labels, text, words.as_slice())
-}
-
-/// The same, of a text of these words.
-fn reason_among(
-    alloc: Global,
-    labels: &Labels<'_>,
-    text: &str,
-    words: &[&str],
-) -> Result<&'static str, PlanFault> {
-    if has_empty(words) {
-        return Ok("has a space too many");
-    }
-    if step_of(alloc, labels, text)?.is_some() {
+    if is_step(alloc, labels, text)? {
         return Ok("goes up past the root");
     }
-    Ok(match words {
+    let words = words_of(alloc, text)?;
+    Ok(reason_among(labels, words.as_slice()))
+}
+
+/// Tests whether a text is a step.
+fn is_step(alloc: Global, labels: &Labels<'_>, text: &str) -> Result<bool, PlanFault> {
+    Ok(step_of(alloc, labels, text)?.is_some())
+}
+
+/// Why the words of a text are no step.
+fn reason_among(labels: &Labels<'_>, words: &[&str]) -> &'static str {
+    if has_empty(words) {
+        return "has a space too many";
+    }
+    match words {
         [name, label, ..] => reason_of_words(labels, name, label),
         _ => "is none of the steps",
-    })
+    }
 }
 
 /// Why words of a text that begins with these two are no step.
