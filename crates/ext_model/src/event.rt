@@ -1,7 +1,4 @@
 //! Acts of lanes on the store, and the numbers that name contexts, keys, cells and lanes.
-ghost use Rattle.std.specs.Prelude.{◌≡◌};
-
-use std::alloc::AllocError;
 
 /// A context: its index, from 0, in the list of contexts that the store was opened with (own rule).
 pub type ContextNo = usize;
@@ -19,7 +16,7 @@ pub type LaneNo = usize;
 ///
 /// `Put` and `Remove` are those of `ExtensionContext.Store`, and `Claim` with `Fill` or `Abandon` are
 /// the parts of its `getOrComputeIfAbsent`. `Keep` and `Seal` are own rules.
-#[derive(Copy, Debug, PartialEq, Eq)]
+#[derive(Clone, Copy, Debug, PartialEq, Eq)]
 pub enum Act<P> {
     /// A value's number is drawn: the next one.
     Keep(u32),
@@ -38,27 +35,10 @@ pub enum Act<P> {
 }
 
 /// An act by a lane, which happened (own rule).
-#[derive(Copy, Debug, PartialEq, Eq)]
+#[derive(Clone, Copy, Debug, PartialEq, Eq)]
 pub struct Event<P> {
     /// Who did it.
     pub lane: LaneNo,
     /// What was done.
     pub act: Act<P>,
-}
-
-// Places are copied, and so acts and events are, in one piece.
-impl<P: Copy> Clone for Act<P> {
-    ghost is_clone = { λ act copy. copy ≡ act };
-
-    fn clone(&self) -> Result<Act<P>, AllocError> {
-        Ok(*self)
-    }
-}
-
-impl<P: Copy> Clone for Event<P> {
-    ghost is_clone = { λ event copy. copy ≡ event };
-
-    fn clone(&self) -> Result<Event<P>, AllocError> {
-        Ok(*self)
-    }
 }
