@@ -9,9 +9,7 @@ ghost use Rattle.ext_node_run.specs.Helpers.{ran_view};
 ghost use Rattle.ext_node_run.specs.Containers.{AreChildren, IsOpen, IsOpenBy, Opens, Ends};
 
 use crate::parts::{Parts, container_parts};
-use crate::{
-    Children, EngineFault, Item, NodeRunner, RanNode, Suite, call_afters, call_befores,
-};
+use crate::{Children, EngineFault, Item, NodeRunner, RanNode, Suite, call_afters, call_befores};
 use ext_lifecycle::{Call, Tally};
 use ext_model::ContextNo;
 use ext_store::{Closer, Lane, StoreValue};

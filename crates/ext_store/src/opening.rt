@@ -80,11 +80,7 @@ fn lanes_of<V: Drop>(
 }
 
 // A closer for each of so many contexts, in order.
-fn closers_of(
-    alloc: Global,
-    cells: &Cells,
-    contexts: ContextNo,
-) -> Result<Vec<Closer>, AllocError>
+fn closers_of(alloc: Global, cells: &Cells, contexts: ContextNo) -> Result<Vec<Closer>, AllocError>
     ensures { IfOk result (λ closers. closers.items ≡ closers_below cells.now.id contexts) }
 {
     let mut closers = Vec::with_capacity(alloc, contexts)?;

@@ -68,7 +68,7 @@ returns-clause-in_tree g c =
     let st = c.in_ok-store.store in
     let count : length st.tree ≡ length c.args.plan.now.nodes.items = ap length c.in_ok-store.ensures.store.tree ∙ length-map plan.nodes (λ n. n.id) ∙ length-map c.args.plan.now.nodes.items node_view in
     if_ok c.run_tree-ran.result (λ results ran.
-        subst (λ (n : ℕ). All (λ r. r.node < n) results.items) count (results_within (suite_of c.args.suite.now) (length st.tree) ran.0 results.items ran.2)) c.run_tree-ran.ensures.run
+    subst (λ (n : ℕ). All (λ r. r.node < n) results.items) count (results_within (suite_of c.args.suite.now) (length st.tree) ran.0 results.items ran.2)) c.run_tree-ran.ensures.run
 
 pub returns-clause-fault : goal.returns-clause-fault
 returns-clause-fault g c =
