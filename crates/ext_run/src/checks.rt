@@ -18,6 +18,7 @@ use std::io::{Read, Write};
 /// It reads as `run` does, and is refused as a plain run of the plan is: with `Read`, `TooLong`, `Plan` or `Memory`, with nothing written, or with `Write`.
 ///
 /// Takes memory for the input, the plan and the line, and gives all of it back. It waits where the reader and the writer do.
+#[tactic(auto, unfolding(crate::specs::Answers::plan_of_input))]
 pub fn check<I: Read, W: Write>(
     alloc: Global,
     reader: &mut I,
@@ -32,19 +33,9 @@ pub fn check<I: Read, W: Write>(
     ensures taken { (bytes : List ℕ) × (length bytes ≤ input_limit + 1)
         × Consumes (I.remaining reader.old) (I.remaining reader.new) bytes }
 {
-    let line = line_of_input(alloc, reader)?;
-    write_whole(writer, line.as_bytes())
-}
-
-/// Reads a plan, and gives its line.
-#[tactic(auto, unfolding(crate::specs::Answers::plan_of_input))]
-fn line_of_input<I: Read>(alloc: Global, reader: &mut I) -> Result<String, RunFault>
-    ensures answers { IfSome (I.remaining reader.old) (λ input. ChecksAs string_bytes result (plan_of_input input)) }
-    ensures taken { (bytes : List ℕ) × (length bytes ≤ input_limit + 1)
-        × Consumes (I.remaining reader.old) (I.remaining reader.new) bytes }
-{
     let input = read_input(alloc, reader)?;
-    line_of(alloc, input.as_slice())
+    let line = line_of(alloc, input.as_slice())?;
+    write_whole(writer, line.as_bytes())
 }
 
 /// The line of the plan that the bytes write.

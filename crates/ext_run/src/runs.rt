@@ -74,6 +74,7 @@ pub fn run<R: Threads + Wait + Sync, I: Read, W: Write>(
 /// Does what `run` does, by the same contract, and tells the listener of each node that has ended. Own rule.
 ///
 /// The listener is told from the threads that run the nodes, and has no effect on what is written.
+#[tactic(auto, unfolding(crate::specs::Answers::plan_of_input))]
 pub fn run_with_listener<R: Threads + Wait + Sync, I: Read, W: Write, L: RunListener + Sync>(
     rt: &R,
     alloc: Global,
@@ -92,7 +93,8 @@ pub fn run_with_listener<R: Threads + Wait + Sync, I: Read, W: Write, L: RunList
     ensures taken { (bytes : List ℕ) × (length bytes ≤ input_limit + 1)
         × Consumes (I.remaining reader.old) (I.remaining reader.new) bytes }
 {
-    let output = answer_input(rt, alloc, reader, options, listener)?;
+    let input = read_input(alloc, reader)?;
+    let output = answer(rt, alloc, input.as_slice(), options, listener)?;
     write_whole(writer, output.report.as_bytes())?;
     Ok(Summary {
         failed: output.failed,
@@ -119,24 +121,6 @@ pub(crate) fn write_whole<W: Write>(writer: &mut W, bytes: &[u8]) -> Result<(), 
         return Err(RunFault::Write);
     }
     Ok(())
-}
-
-/// Reads a plan, and answers its bytes.
-#[tactic(auto, unfolding(crate::specs::Answers::plan_of_input))]
-fn answer_input<R: Threads + Wait + Sync, I: Read, L: RunListener + Sync>(
-    rt: &R,
-    alloc: Global,
-    reader: &mut I,
-    options: Options,
-    listener: &L,
-) -> Result<Output, RunFault>
-    requires lanes { options.plain ≡ false → (1 ≤ options.lanes) × (options.lanes ≤ 16) }
-    ensures answers { IfSome (I.remaining reader.old) (λ input. AnswersAs options result (plan_of_input input)) }
-    ensures taken { (bytes : List ℕ) × (length bytes ≤ input_limit + 1)
-        × Consumes (I.remaining reader.old) (I.remaining reader.new) bytes }
-{
-    let input = read_input(alloc, reader)?;
-    answer(rt, alloc, input.as_slice(), options, listener)
 }
 
 /// The answer to the bytes of a plan.
