@@ -1,5 +1,5 @@
 //! Locks with names, and the lanes that take them.
-ghost use Rattle.std.specs.Prelude.{◌≡◌, ◌≤◌, ◌<◌, IfOk, length, replicate};
+ghost use Rattle.std.specs.Prelude.{◌≡◌, ◌≤◌, ◌<◌, IfOk, length, replicate, Some};
 ghost use Rattle.ext_locks.specs.Names.{texts_of, AreDifferent};
 ghost use Rattle.ext_locks.specs.Opening.{AreLimits, IsOpened, fresh_lanes};
 ghost use Rattle.ext_locks.specs.Rule.{founder};
@@ -272,7 +272,7 @@ fn zero_table(alloc: Global, counts: &LockCounts) -> Result<(LockTable, LaneSeat
     Table::of_words(alloc, zeros.as_slice(), counts)
 }
 
-/// A lane for each number, whose seat the dealer gives; takes memory.
+/// A lane for each number, whose seat the dealer gives, which has none left then; takes memory.
 fn deal_lanes(
     words: &LockWords,
     alloc: Global,
@@ -282,7 +282,8 @@ fn deal_lanes(
     requires table { (dealer.old.table_id ≡ words.now.table_id) × (0 < words.now.table_id.words) }
     requires dealer { dealer.old.me.0 ≡ founder lanes }
     requires lanes { (words.now.key.lanes ≡ lanes) × (lanes ≤ 16) }
-    ensures { IfOk result (λ made. made.items ≡ fresh_lanes words.now.table_id lanes lanes) }
+    ensures { IfOk result (λ made. (made.items ≡ fresh_lanes words.now.table_id lanes lanes) × (dealer.new.table_id ≡ words.now.table_id)
+        × (dealer.new.me.0.next ≡ Some lanes) × (dealer.new.me.0.lanes ≡ lanes)) }
 {
     let mut made = Vec::with_capacity(alloc, lanes)?;
     for number in 0..lanes {

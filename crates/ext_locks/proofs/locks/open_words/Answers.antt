@@ -19,7 +19,7 @@ returns c =
       sorted = sorted_texts c.in_ok-names.names.items c.in_ok-names.ensures.sorted;
       same_lanes = ap (λ x. x.lanes) c.in_ok-table.ensures.1;
       same_tries = refl;
-      lanes_made = c.in_ok-made.ensures;
+      lanes_made = c.in_ok-made.ensures.0;
     }
 
 pub invariant_of-result : goal.invariant_of-result
