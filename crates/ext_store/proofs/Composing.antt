@@ -1,9 +1,8 @@
 -- What a whole compute says, from what the claim of a missing value and the part after it say.
-use Rattle.std.proofs.Common.{◌≡◌, ◌≢◌, ◌∙◌, ℕ, List, [], ◌∷◌, sym, refl, ap, subst, inl, inr}
+use Rattle.std.proofs.Common.{◌≡◌, ◌≢◌, ◌∙◌, ℕ, List, [], ◌∷◌, sym, ap, subst}
 use Rattle.std.specs.Prelude.{Some, Result, Ok, Err, All}
 use Rattle.ext_model.specs.declared.event.Act.{Act}
 use Rattle.ext_model.specs.declared.event.Act.TheVariants.{Keep, Claim, Fill, Abandon}
-use Rattle.ext_model.specs.declared.look.Look.{Look}
 use Rattle.ext_model.specs.declared.look.Look.TheVariants as look
 use Rattle.ext_model.specs.Events as events
 use Rattle.ext_model.specs.History.{Limits, reply_after}
@@ -12,20 +11,20 @@ use Rattle.ext_model.specs.Calls.{Calls}
 use Rattle.ext_history.proofs.Composed.{same_number}
 use Rattle.ext_history.proofs.Crowded.{crowded_by_second}
 use Rattle.ext_model.proofs.Composed.{calls_compose, point_of_second}
-use Rattle.ext_store.specs.declared.fault.Refusal.TheVariants as refusal
 use Rattle.ext_store.specs.declared.fault.KeepFault.{KeepFault}
 use Rattle.ext_store.specs.declared.fault.KeepFault.TheVariants as fault
-use Rattle.ext_store.specs.declared.computed.Unused.{Unused}
-use Rattle.ext_store.specs.declared.computed.Unused.TheVariants.{Found, Refused}
+use Rattle.ext_shared.specs.declared.claim.Unused.{Unused}
+use Rattle.ext_shared.specs.declared.claim.Unused.TheVariants.{Found, Refused}
 use Rattle.ext_store.specs.declared.computed.Compute.{Compute}
 use Rattle.ext_tree.specs.Paths.{IsPathOf}
 use Rattle.ext_cells.specs.Lanes.{CellsId, Lane}
 use Rattle.ext_store.specs.Stores.{StoreId, StoreView, StoreLane, IsKeptBy, IsLaneOf, cell_in}
 use Rattle.ext_store.specs.Frames.{Frame}
-use Rattle.ext_store.specs.Computing.{ClaimsAndLooks, given_up_events, Meets, IsRefused, Fills, IsUnkept, ComputesFrom, Computes, without_factory}
-use Rattle.ext_store.specs.Claiming.{with_factory, ClaimsFrom, ClaimsMissing}
-use Rattle.ext_store.proofs.Parts.{happens_second, claims_first}
-use Rattle.ext_store.proofs.Filling.{StoresNone, none_stored, nor_this, storing_none, filled_keeps}
+use Rattle.ext_store.specs.Computing.{ClaimsAndLooks, given_up_events, Fills, IsUnkept, ComputesFrom, Computes, without_factory, with_factory}
+use Rattle.ext_shared.specs.Claiming.{ClaimsFrom, ClaimsMissing}
+use Rattle.ext_shared.proofs.Parts.{happens_second, claims_first}
+use Rattle.ext_shared.proofs.Claimed.{StoresNone, claim_acts}
+use Rattle.ext_store.proofs.Filling.{storing_none, filled_keeps}
 use Rattle.ext_store.proofs.Frames.{frame_of, but_frame, frame_spares, frame_lane, frames_compose}
 
 -- the factory is handed back
@@ -98,48 +97,22 @@ module _ (store : StoreView) (context : ℕ) (ancestors : List ℕ) (key claim :
 
 -- ---- the frame of a claim
 
--- the events of a claim, or of one that was given up, or of none
-abbrev pub StoringNone : Limits → LaneView → LaneView → Type 0
-StoringNone limits a b = (acts : List (Act ℕ)) × All StoresNone acts × Calls limits a b acts
-
-module _ (store : StoreView) (context : ℕ) (ancestors : List ℕ) (key : ℕ) (a b : LaneView) where
-  quiet_acts : Calls store.id.cells.limits a b [] → StoringNone store.id.cells.limits a b
-  quiet_acts one = ([], none_stored, one)
-
-  given_up_acts : Calls store.id.cells.limits a b (given_up_events store context key) → StoringNone store.id.cells.limits a b
-  given_up_acts one = (given_up_events store context key, nor_this (Claim (cell_in store key context)) (Abandon (cell_in store key context) ∷ []) refl (nor_this (Abandon (cell_in store key context)) [] refl none_stored), one)
-
-  meets_acts : (met : Look) → Meets store.id.cells.limits store context ancestors key a b met → StoringNone store.id.cells.limits a b
-  unfolding Meets
-  meets_acts met m = elim m [
-    | inl h ↦ quiet_acts h.calls
-    | inr k ↦ given_up_acts k.0
-  ]
-
-  pub claim_acts : (r : Result ℕ Unused) → ClaimsFrom store context ancestors key a b r → StoringNone store.id.cells.limits a b
-  unfolding IsRefused
-  claim_acts (Ok claim) m = (Claim (cell_in store key context) ∷ [], nor_this (Claim (cell_in store key context)) [] refl none_stored, m.2)
-  claim_acts (Err (Found at number)) m = meets_acts (look.Found at number) m
-  claim_acts (Err (Refused (refusal.Busy at))) m = meets_acts (look.Busy at) m
-  claim_acts (Err (Refused (refusal.Closed at))) m = meets_acts (look.Closed at) m
-  claim_acts (Err (Refused refusal.Contended)) m = elim m [
-    | inl over ↦ quiet_acts over.calls
-    | inr k ↦ given_up_acts k.0
-  ]
-  claim_acts (Err (Refused refusal.UnknownKey)) m = absurd m
-  claim_acts (Err (Refused refusal.Exhausted)) m = quiet_acts m.0.calls
-
-module _ {V : Type 0} (store : StoreView) (inside a b : StoreLane V) (is : inside ≡ a) (mine : IsLaneOf store.id a) (cells : b.cells.cells ≡ inside.cells.cells) (same : b.known ≡ inside.known) where
+module _ {V : Type 0} (id : StoreId) (inside a b : StoreLane V) (is : inside ≡ a) (mine : IsLaneOf id a) (cells : b.cells.cells ≡ inside.cells.cells) (same : b.known ≡ inside.known) where
   -- of calls that store nothing,
-  pub storing_frame : (acts : List (Act ℕ)) → All StoresNone acts → Calls inside.cells.cells.limits inside.cells.view b.cells.view acts → Frame store.id [] a b
-  storing_frame acts none calls = frame_of store.id inside a b is mine cells same acts calls (storing_none inside.cells.cells.limits inside b acts none calls same)
+  pub storing_frame : (acts : List (Act ℕ)) → All StoresNone acts → Calls inside.cells.cells.limits inside.cells.view b.cells.view acts → Frame id [] a b
+  storing_frame acts none calls = frame_of id inside a b is mine cells same acts calls (storing_none inside.cells.cells.limits inside b acts none calls same)
+
+  -- by the limits of the store's cells,
+  pub storing_there : (store : StoreView) → store.id ≡ id → (acts : List (Act ℕ)) → All StoresNone acts → Calls store.id.cells.limits inside.cells.view b.cells.view acts → Frame id [] a b
+  storing_there store own acts none calls =
+      let ours : store.id.cells ≡ inside.cells.cells = ap (λ (i : StoreId). i.cells) own ∙ (sym mine.cells ∙ ap (λ (l : StoreLane V). l.cells.cells) (sym is)) in
+      storing_frame acts none (subst (λ (z : CellsId). Calls z.limits inside.cells.view b.cells.view acts) ours calls)
 
   -- as of the claim of a missing value
-  pub claim_frame : (context key : ℕ) (r : Result ℕ Unused) → ClaimsMissing store context key inside.cells.view b.cells.view r → Frame store.id [] a b
-  claim_frame context key r m =
+  pub claim_frame : (store : StoreView) → store.id ≡ id → (context key : ℕ) (r : Result ℕ Unused) → ClaimsMissing store context key inside.cells.view b.cells.view r → Frame id [] a b
+  claim_frame store own context key r m =
       let made = claim_acts store context m.0 key inside.cells.view b.cells.view r m.2 in
-      let ours : inside.cells.cells ≡ store.id.cells = ap (λ (l : StoreLane V). l.cells.cells) is ∙ mine.cells in
-      storing_frame made.0 made.1 (subst (λ (z : CellsId). Calls z.limits inside.cells.view b.cells.view made.0) (sym ours) made.2)
+      storing_there store own made.0 made.1 made.2
 
 -- A value was kept, which has a frame, and then its number was stored in a claimed cell: it is none that was kept before
 pub fill_frame : {V : Type 0} (id : StoreId) (a inside b c : StoreLane V) → inside ≡ b → Frame id [] a b → c.cells.cells ≡ inside.cells.cells → c.known ≡ inside.known

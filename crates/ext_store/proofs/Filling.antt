@@ -20,18 +20,9 @@ use Rattle.ext_store.specs.Stores.{StoreView, StoreLane, IsKeptBy, StillKeeps}
 use Rattle.ext_store.specs.Calls as calls
 use Rattle.ext_store.specs.Calls.{KeepFails}
 use Rattle.ext_store.specs.Computing.{Fills, IsUnkept}
+use Rattle.ext_shared.proofs.Claimed.{StoresNone}
 use Rattle.ext_store.proofs.Keeping.{one_kept}
-use Rattle.ext_store.proofs.Parts.{happens_first, happens_alone}
-
--- acts that store no number
-abbrev pub StoresNone : Act ℕ → Type 0
-StoresNone act = stored_number act ≡ None
-
-pub none_stored : All StoresNone []
-none_stored = All-nil StoresNone
-
-pub nor_this : (act : Act ℕ) (acts : List (Act ℕ)) → StoresNone act → All StoresNone acts → All StoresNone (act ∷ acts)
-nor_this act acts = All-cons StoresNone act acts
+use Rattle.ext_shared.proofs.Parts.{happens_first, happens_alone}
 
 -- what a lane keeps it keeps on, while its calls store nothing,
 module _ {V : Type 0} (limits : Limits) (before after : StoreLane V) where

@@ -15,7 +15,7 @@ use Rattle.ext_history.proofs.Composed.{calls_none}
 use Rattle.ext_model.proofs.Composed.{calls_compose}
 use Rattle.ext_values.specs.Known.{KeepsKnown, Learns, known_at, places_of}
 use Rattle.ext_cells.specs.Lanes.{CellsId, Lane}
-use Rattle.ext_store.specs.declared.fault.Refusal.{Refusal}
+use Rattle.ext_shared.specs.declared.fault.Refusal.{Refusal}
 use Rattle.ext_store.specs.Stores.{StoreId, StoreView, StoreLane, IsKeptBy, IsLaneOf, StillKeeps, StillKeepsBut, cell_in}
 use Rattle.ext_store.specs.Calls.{put_acts, remove_acts}
 use Rattle.ext_store.specs.Frames.{Frame, Makes, stored_by}

@@ -5,7 +5,6 @@ use Rattle.std.proofs.lemmas.List.Elements.{All-nil, All-cons}
 use Rattle.std.proofs.lemmas.Bool.Decides.{nat_tests}
 use Rattle.ext_model.specs.declared.event.Act.{Act}
 use Rattle.ext_model.specs.declared.event.Act.TheVariants.{Keep, Put, Remove}
-use Rattle.ext_model.specs.declared.look.Look.{Look}
 use Rattle.ext_model.specs.Events as events
 use Rattle.ext_model.specs.History.{Limits, state_after, stored_number}
 use Rattle.ext_model.specs.Plain.{number_drawn}
@@ -18,13 +17,11 @@ use Rattle.ext_cells.specs.declared.refusal.CellRefusal.TheVariants as cell
 use Rattle.ext_cells.specs.Lanes.{Lane}
 use Rattle.ext_cells.specs.Calls as cells
 use Rattle.ext_cells.proofs.Storable.{stays_storable}
-use Rattle.ext_store.specs.declared.fault.Refusal.{Refusal}
-use Rattle.ext_store.specs.declared.fault.Refusal.TheVariants as refusal
+use Rattle.ext_shared.specs.declared.fault.Refusal.{Refusal}
 use Rattle.ext_store.specs.Stores.{StoreView, StoreLane, IsKeptBy, StillKeeps, StillKeepsBut, cell_in}
-use Rattle.ext_store.specs.Refusals.{keep_fault}
-use Rattle.ext_store.specs.Looking.{Looks}
-use Rattle.ext_store.proofs.Replies.{other_why}
-use Rattle.ext_store.specs.Calls.{HoldsAtPoint, reply_to, steps_of, put_acts, remove_acts, KeepFails, Puts, Removes}
+use Rattle.ext_store.specs.Keeping.{keep_fault}
+use Rattle.ext_store.specs.Calls.{HoldsAtPoint, reply_to, steps_of, with_kept, put_acts, remove_acts, KeepFails}
+use Rattle.ext_store.specs.Waiting.{IsDecided}
 
 -- where two are there, they are one
 pub one_number : (a b : ℕ) → (let x : Option ℕ = Some a in let y : Option ℕ = Some b in x ≡ y) → a ≡ b
@@ -82,42 +79,27 @@ module _ {V : Type 0} (limits : Limits) (before after : StoreLane V) where
       one_kept (Keep drawn ∷ []) number calls (All-cons (StoresNot number) (Keep drawn) [] (λ e. cc e) (All-nil (StoresNot number)))
       (learns.others number (λ same. not_both _ kept.value (ap (λ m. known_at before.known m) (sym same) ∙ kept.known) free)) kept)
 
--- the steps of two calls, one after the other
-pub steps_add : (a b c : Lane) → steps_of a c ≤ steps_of a b + steps_of b c
-steps_add a b c = omega (arith, length-drop (length a.view.fronts) c.view.fronts, length-drop (length a.view.fronts) b.view.fronts, length-drop (length b.view.fronts) c.view.fronts)
-
 -- none where there was no call
 pub no_steps : (lane : Lane) (most : ℕ) → steps_of lane lane ≤ most
 no_steps lane most = omega (arith, length-drop (length lane.view.fronts) lane.view.fronts)
 
--- ---- look-ups, puts and removes
+-- ---- puts and removes
 
-pub looks_quiet : (store : StoreView) (path : List ℕ) (key : ℕ) (before after : Lane) (r : Result Look Refusal) → Looks store path key before after r → Calls before.cells.limits before.view after.view []
-looks_quiet store path key before after (Ok look) l = l.calls
-looks_quiet store path key before after (Err why) l = l.1.calls
+-- a put that was refused hands its number back,
+pub handed_back : (number : ℕ) (said : Result (Option ℕ) Refusal) (r : Result (Option ℕ) (ℕ × Refusal)) → r ≡ with_kept number said → IfErr r (λ e. e.0 ≡ number)
+handed_back number said r is = subst (λ x. IfErr x (λ e. e.0 ≡ number)) (sym is) (back said)
+  where
+    back : (s : Result (Option ℕ) Refusal) → IfErr (with_kept number s) (λ e. e.0 ≡ number)
+    back (Ok stood) = tt
+    back (Err why) = refl
 
-module _ {V : Type 0} (store : StoreView) (context key : ℕ) (before after : StoreLane V) where
-  -- the events of a put and of a remove, by their results
-  pub put_calls : (number : ℕ) (r : Result (Option ℕ) (ℕ × Refusal)) → Puts store context key number before.cells after.cells r → IfErr r (λ e. e.0 ≡ number)
-      → Calls before.cells.cells.limits before.cells.view after.cells.view (put_acts (cell_in store key context) number r)
-  unfolding Puts
-  put_calls number (Ok stood) a back = (a.replied (λ e. cc e)).calls
-  put_calls number (Err (k, refusal.Contended)) a back = (a.overtaken (ap (λ n. Err (n, refusal.Contended)) back)).calls
-  put_calls number (Err (k, refusal.Busy at)) a back = (a.replied (other_why k number (refusal.Busy at) refusal.Contended (λ e. cc e))).calls
-  put_calls number (Err (k, refusal.Closed at)) a back = (a.replied (other_why k number (refusal.Closed at) refusal.Contended (λ e. cc e))).calls
-  put_calls number (Err (k, refusal.UnknownKey)) a back = (a.replied (other_why k number refusal.UnknownKey refusal.Contended (λ e. cc e))).calls
-  put_calls number (Err (k, refusal.Exhausted)) a back = (a.replied (other_why k number refusal.Exhausted refusal.Contended (λ e. cc e))).calls
-
-  pub remove_calls : (r : Result (Option ℕ) Refusal) → Removes store context key before.cells after.cells r
-      → Calls before.cells.cells.limits before.cells.view after.cells.view (remove_acts (cell_in store key context) r)
-  unfolding Removes
-  remove_calls (Ok None) a = (a.replied (λ e. cc e)).calls
-  remove_calls (Ok (Some number)) a = (a.replied (λ e. cc e)).calls
-  remove_calls (Err refusal.Contended) a = (a.overtaken refl).calls
-  remove_calls (Err (refusal.Busy at)) a = (a.replied (λ e. cc e)).calls
-  remove_calls (Err (refusal.Closed at)) a = (a.replied (λ e. cc e)).calls
-  remove_calls (Err refusal.UnknownKey) a = (a.replied (λ e. cc e)).calls
-  remove_calls (Err refusal.Exhausted) a = (a.replied (λ e. cc e)).calls
+-- and says what the cells said
+pub decided_back : (number : ℕ) (said : Result (Option ℕ) Refusal) (r : Result (Option ℕ) (ℕ × Refusal)) → r ≡ with_kept number said → IfErr said IsDecided → IfErr r (λ e. IsDecided e.1)
+decided_back number said r is decided = subst (λ x. IfErr x (λ e. IsDecided e.1)) (sym is) (decides said decided)
+  where
+    decides : (s : Result (Option ℕ) Refusal) → IfErr s IsDecided → IfErr (with_kept number s) (λ e. IsDecided e.1)
+    decides (Ok stood) d = tt
+    decides (Err why) d = d
 
 module _ {V : Type 0} (store : StoreView) (context key : ℕ) (before after : StoreLane V) (same : after.known ≡ before.known) where
   pub put_keeps : (number : ℕ) (r : Result (Option ℕ) (ℕ × Refusal)) → Calls before.cells.cells.limits before.cells.view after.cells.view (put_acts (cell_in store key context) number r)
@@ -168,12 +150,3 @@ module _ (store : StoreView) (tries : ℕ) (before after : Lane) (same : tries �
   drew_none cell.Exhausted a = let e : cell.Exhausted ≡ cell.NumbersFull = none_drawn cell.Exhausted (λ e. cc e) a in absurd (cc e)
   drew_none cell.Memory a = let e : cell.Memory ≡ cell.NumbersFull = none_drawn cell.Memory (λ e. cc e) a in absurd (cc e)
   drew_none cell.BadLimit a = let e : cell.BadLimit ≡ cell.NumbersFull = none_drawn cell.BadLimit (λ e. cc e) a in absurd (cc e)
-
-  pub drew_quiet : (why : CellRefusal) → cells.Answers tries before after cells.number_acts (cells.number_reply before) (Err why) → Calls before.cells.limits before.view after.view []
-  drew_quiet cell.NumbersFull a = (a.replied (λ e. cc e)).calls
-  drew_quiet cell.Contended a = (a.overtaken refl).calls
-  drew_quiet cell.Busy a = (a.replied (λ e. cc e)).calls
-  drew_quiet cell.Closed a = (a.replied (λ e. cc e)).calls
-  drew_quiet cell.Exhausted a = (a.replied (λ e. cc e)).calls
-  drew_quiet cell.Memory a = (a.replied (λ e. cc e)).calls
-  drew_quiet cell.BadLimit a = (a.replied (λ e. cc e)).calls

@@ -1,6 +1,3 @@
-pub mod Trails
-pub mod LookUps
-pub mod Replies
 pub mod Keeping
 pub mod Fresh
 pub mod Opened
@@ -8,9 +5,6 @@ pub mod Refused
 pub mod Frames
 pub mod Placing
 pub mod SealsKeep
-pub mod Standing
-pub mod Parts
-pub mod Missing
 pub mod Unused
 pub mod Filling
 pub mod Composing

@@ -15,10 +15,10 @@ use Rattle.ext_store.specs.declared.fault.KeepFault.TheVariants.{Memory, Unplace
 use Rattle.ext_store.specs.Stores.{StoreView, StoreLane, IsKeptBy, IsLaneOf, StillKeeps}
 use Rattle.ext_store.specs.Frames.{Frame}
 use Rattle.ext_store.specs.Calls.{KeepFails, KeepsAs, KeepsNothing}
-use Rattle.ext_store.specs.Refusals.{IsOfCount, keep_fault}
 use Rattle.ext_store.specs.Waiting.{IsDecidedFault}
-use Rattle.ext_store.specs.Keeping.{IsPlaced, PlacesDrawn}
-use Rattle.ext_store.proofs.Keeping.{quiet_keeps, unplaced_keeps, learnt_keeps, drew, drew_number, drew_none, drew_quiet, not_both}
+use Rattle.ext_store.specs.Keeping.{IsOfCount, keep_fault, IsPlaced, PlacesDrawn}
+use Rattle.ext_store.proofs.Keeping.{quiet_keeps, unplaced_keeps, learnt_keeps, drew, drew_number, drew_none, not_both}
+use Rattle.ext_shared.proofs.Events.{drew_quiet}
 use Rattle.ext_store.proofs.Frames.{framed, no_frame}
 use Rattle.ext_store.proofs.Refused.{draw_refusal}
 
@@ -85,7 +85,7 @@ module _ {V : Type 0} (store : StoreView) (tries : ℕ) (same : tries ≡ store.
 
     undrawn : (why : CellRefusal) → cells.Answers tries a.cells after cells.number_acts (cells.number_reply a.cells) (Err why) → KeepParts store value a b (Err (back, keep_fault why))
     undrawn why answers =
-        let quiet = drew_quiet store tries a.cells after same why answers in
+        let quiet = drew_quiet tries a.cells after why answers in
         nothing [] quiet (quiet_keeps a.cells.cells.limits a b quiet still) (keep_fault why) (drew_none store tries a.cells after same why answers)
 
   by_drawn : (drawn : Result ℕ CellRefusal) → cells.Answers tries a.cells after cells.number_acts (cells.number_reply a.cells) drawn → IfOk drawn (MayStoreNow after.view)

@@ -3,11 +3,10 @@ use Rattle.std.proofs.Common.{◌≡◌, ℕ, List, refl, sym, subst}
 use Rattle.std.specs.Prelude.{Result}
 use Rattle.ext_model.specs.declared.look.Fault.{Fault}
 use Rattle.ext_values.specs.Known.{Known}
-use Rattle.ext_store.specs.declared.computed.Unused.{Unused}
-use Rattle.ext_store.specs.declared.computed.Unused.TheVariants.{Found, Refused}
+use Rattle.ext_shared.specs.declared.claim.Unused.{Unused}
+use Rattle.ext_shared.specs.declared.claim.Unused.TheVariants.{Found, Refused}
 use Rattle.ext_store.specs.declared.computed.Compute.{Compute}
-use Rattle.ext_store.specs.Computing.{HandsBack, IfComputed, Uses, without_factory}
-use Rattle.ext_store.specs.Claiming.{with_factory}
+use Rattle.ext_store.specs.Computing.{HandsBack, IfComputed, Uses, without_factory, with_factory}
 use Rattle.ext_store.specs.Waiting.{IsDecidedCompute, IsDecidedUnused}
 
 module _ {V F : Type 0} (factory : F) (why : Unused) (result : Compute V F) (is : result ≡ with_factory factory why) where

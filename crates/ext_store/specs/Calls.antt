@@ -1,94 +1,16 @@
 -- What the contract of each call says of its result.
--- Javadoc `ExtensionContext.Store`: `get`, `put` and `remove`; numbers, refusals and points are own rules. `Calls` of ext_model has the words: the events that a
--- call made, its fronts, and the points at which its answer may be that of one thread.
-use Rattle.std.specs.Prelude.{ℕ, ◌≡◌, List, [], ◌∷◌, length, Option, None, Some, Result, Ok, Err}
-use Rattle.ext_model.specs.declared.event.Act.{Act}
-use Rattle.ext_model.specs.declared.event.Act.TheVariants.{Keep, Put, Remove}
-use Rattle.ext_model.specs.declared.look.Look.{Look}
+-- Javadoc `ExtensionContext.Store`: `get`, `put` and `remove`, which `Calls` of ext_shared has; numbers are own rules.
+use Rattle.std.specs.Prelude.{ℕ, ◌≡◌, [], ◌∷◌, Some}
+use Rattle.ext_model.specs.declared.event.Act.TheVariants.{Keep}
 use Rattle.ext_model.specs.Events as events
-use Rattle.ext_model.specs.History.{History, reply_after}
-use Rattle.ext_history.specs.Views.{call_fronts}
-use Rattle.ext_model.specs.SecondLook.{look_after}
 use Rattle.ext_model.specs.Calls as model
-use Rattle.ext_tree.specs.Paths.{IsPathOf}
 use Rattle.ext_values.specs.Known.{Learns}
 use Rattle.ext_cells.specs.Lanes.{Lane}
-use Rattle.ext_store.specs.declared.fault.Refusal.{Refusal}
-use Rattle.ext_store.specs.declared.fault.Refusal.TheVariants.{Contended, Busy, Closed, Exhausted}
 use Rattle.ext_store.specs.declared.fault.KeepFault.{KeepFault}
 use Rattle.ext_store.specs.declared.fault.KeepFault.TheVariants as fault
-use Rattle.ext_store.specs.Stores.{StoreView, StoreLane, IsKeptBy, cell_in}
-
--- The result is the reply at a point of the call, and the lane's events are those that it means. Or it is `contended`, and at least `tries` events of
--- other lanes came past the call's first front
-abbrev pub Answers : {A : Type 0} → StoreView → A → Lane → Lane → (A → List (Act ℕ)) → (History → A) → A → Type 0
-Answers store contended before after acts_of reply_at result = model.Answers before.cells.limits store.tries contended before.view after.view acts_of reply_at result
-
--- the call made these events, and a fact holds at the point of its answer
-abbrev pub HoldsAtPoint : Lane → Lane → List (Act ℕ) → (History → Type 0) → Type 0
-HoldsAtPoint before after acts Fact = model.HoldsAtPoint before.cells.limits before.view after.view acts Fact
-
--- what one thread replies to an act of the lane, directly after a history
-abbrev pub reply_to : Lane → Act ℕ → History → events.Reply
-reply_to lane act h = reply_after lane.cells.limits h lane.view.number act
-
--- how many steps the lane made on the cells: each adds a front
-abbrev pub steps_of : Lane → Lane → ℕ
-steps_of before after = length (call_fronts before.view after.view)
-
--- ---- get
-
--- a look-up makes no event
-abbrev pub look_acts : Result Look Refusal → List (Act ℕ)
-look_acts result = []
-
--- the result is the look-up from the context through its ancestors, the nearest first, at ONE point of the call
-unfoldable pub Gets : StoreView → ℕ → ℕ → Lane → Lane → Result Look Refusal → Type 0
-Gets store context key before after result =
-    (path : List ℕ) × IsPathOf store.tree context path × Answers store (Err Contended) before after look_acts (λ p. Ok (look_after (cell_in store key) path p)) result
-
--- ---- put and remove
-
--- The result of a change in the context whose reply is this.
--- `Contended` stands for the replies that no put and no remove has, as it is the one result that is never the reply of one thread
-abbrev pub result_at : ℕ → events.Reply → Result (Option ℕ) Refusal
-result_at context (events.Happens answer) = Ok answer
-result_at context (events.Answers answer) = Ok answer
-result_at context (events.Refuses events.NumbersFull) = Err Contended
-result_at context (events.Refuses events.Busy) = Err (Busy context)
-result_at context (events.Refuses events.Closed) = Err (Closed context)
-result_at context (events.Refuses events.Exhausted) = Err Exhausted
-result_at context (events.Refuses (events.Standing number)) = Err Contended
-result_at context (events.Refuses events.Barred) = Err Contended
-
--- a refused put hands the kept number back
-abbrev pub with_kept : ℕ → Result (Option ℕ) Refusal → Result (Option ℕ) (ℕ × Refusal)
-with_kept number (Ok stood) = Ok stood
-with_kept number (Err why) = Err (number, why)
-
--- a put that is not refused stores its number
-abbrev pub put_acts : ℕ → ℕ → Result (Option ℕ) (ℕ × Refusal) → List (Act ℕ)
-put_acts cell number (Ok stood) = Put cell number ∷ []
-put_acts cell number (Err refused) = []
-
--- the number is stored in the context, and the number that stood there is answered
-unfoldable pub Puts : StoreView → ℕ → ℕ → ℕ → Lane → Lane → Result (Option ℕ) (ℕ × Refusal) → Type 0
-Puts store context key number before after result =
-    Answers store (Err (number, Contended)) before after (put_acts (cell_in store key context) number)
-    (λ p. with_kept number (result_at context (reply_to before (Put (cell_in store key context) number) p))) result
-
--- a remove takes what stood, and is no event where nothing stood
-abbrev pub remove_acts : ℕ → Result (Option ℕ) Refusal → List (Act ℕ)
-remove_acts cell (Ok None) = []
-remove_acts cell (Ok (Some number)) = Remove cell ∷ []
-remove_acts cell (Err why) = []
-
--- what stands in the context alone is taken out, and answered
-unfoldable pub Removes : StoreView → ℕ → ℕ → Lane → Lane → Result (Option ℕ) Refusal → Type 0
-Removes store context key before after result =
-    Answers store (Err Contended) before after (remove_acts (cell_in store key context)) (λ p. result_at context (reply_to before (Remove (cell_in store key context)) p)) result
-
--- ---- keep
+use Rattle.ext_store.specs.Stores.{StoreView, StoreLane, IsKeptBy}
+pub use Rattle.ext_shared.specs.Calls.{HoldsAtPoint, reply_to, steps_of, result_at, with_kept, put_acts, remove_acts}
+unfoldable pub use Rattle.ext_shared.specs.Calls.{Gets, Puts, Removes}
 
 -- what each fault of a keep says of the lane's steps
 unfoldable pub KeepFails : StoreView → Lane → Lane → KeepFault → Type 0

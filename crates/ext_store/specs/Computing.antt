@@ -1,82 +1,29 @@
 -- What `compute` says of its result.
 -- Javadoc `ExtensionContext.Store`, `getOrComputeIfAbsent`: a value is computed where the context and its ancestors have none, and is stored in the context. That the
--- context's cell is claimed first and the ancestors are looked at again, and what is refused, are own rules. `SecondLook` and `Calls` of ext_model have the words.
+-- context's cell is claimed first and the ancestors are looked at again, and what is refused, are own rules. `Claiming` of ext_shared has the words for that.
 -- `before` and `after` are the lane before and after the call; `first` are the events that the call made before the part that a definition speaks of. `Computes` and
 -- `Uses` are for a result without its factory, so that they can be said where the factory's type is not known.
-use Rattle.std.specs.Prelude.{ℕ, ◌≡◌, ◌⊎◌, List, [], ◌∷◌, ◌++◌, Option, None, Some, Result, Ok, Err}
-use mathlib.Core.List.{IsPrefix}
+use Rattle.std.specs.Prelude.{ℕ, ◌≡◌, List, [], ◌∷◌, ◌++◌, Some, Result, Ok, Err}
 use Rattle.ext_model.specs.declared.event.Act.{Act}
 use Rattle.ext_model.specs.declared.event.Act.TheVariants.{Keep, Claim, Fill, Abandon}
-use Rattle.ext_model.specs.declared.look.Look.{Look}
 use Rattle.ext_model.specs.declared.look.Look.TheVariants as look
 use Rattle.ext_model.specs.declared.look.Fault.{Fault}
 use Rattle.ext_model.specs.Events as events
-use Rattle.ext_model.specs.History.{History, Limits, by, reply_after}
-use Rattle.ext_history.specs.Views.{first_front}
+use Rattle.ext_model.specs.History.{History, Limits, reply_after}
 use Rattle.ext_model.specs.Views.{LaneView, IsPointAfter}
-use Rattle.ext_model.specs.Calls.{Calls, HoldsAtPoint, IsOvertaken, IsCrowded}
-use Rattle.ext_model.specs.SecondLook.{look_after, LooksAgain}
+use Rattle.ext_model.specs.Calls.{Calls, IsCrowded}
 use Rattle.ext_tree.specs.Paths.{IsPathOf}
 use Rattle.ext_values.specs.Known.{Known, Learns}
 use Rattle.ext_cells.specs.Lanes.{Lane}
-use Rattle.ext_store.specs.declared.fault.Refusal.{Refusal}
-use Rattle.ext_store.specs.declared.fault.Refusal.TheVariants as refusal
+use Rattle.ext_shared.specs.declared.claim.Unused.{Unused}
+use Rattle.ext_shared.specs.declared.claim.Unused.TheVariants as unused
 use Rattle.ext_store.specs.declared.fault.KeepFault.{KeepFault}
 use Rattle.ext_store.specs.declared.fault.KeepFault.TheVariants as fault
 use Rattle.ext_store.specs.declared.computed.Compute.{Compute}
 use Rattle.ext_store.specs.declared.computed.Compute.TheVariants.{Computed, Found, Failed, Unkept, Refused}
 use Rattle.ext_store.specs.Stores.{StoreView, cell_in}
-
--- ---- one event of several
-
--- After the first events the lane makes this one, which one thread does directly there, with this answer
-pub record HappensAfter (limits : Limits) (first : List (Act ℕ)) (before after : LaneView) (act : Act ℕ) (answer : Option ℕ) : Type 0 where
-  pub at : History
-  pub point : IsPointAfter before after first at
-  pub made : IsPointAfter before after (first ++ act ∷ []) (at ++ by before.number act ∷ [])
-  pub replied : reply_after limits at before.number act ≡ events.Happens answer
-
--- ---- what stands, or is in the way
-
--- At a point of the call, not before its first step and before all of its events, the look-up on the path is absent
-pub record LooksFirst (cell_of : ℕ → ℕ) (path : List ℕ) (before after : LaneView) : Type 0 where
-  pub at : History
-  pub stepped : IsPrefix (first_front before after) at
-  pub point : IsPointAfter before after [] at
-  pub missing : look_after cell_of path at ≡ look.Absent
-
--- The look-up from the context is absent at a point of the call, and after that the lane claims the cell of the context
-pub record Claims (limits : Limits) (store : StoreView) (context : ℕ) (ancestors : List ℕ) (key : ℕ) (before after : LaneView) : Type 0 where
-  pub looked_first : LooksFirst (cell_in store key) (context ∷ ancestors) before after
-  pub claimed : HappensAfter limits [] before after (Claim (cell_in store key context)) None
-
--- so it claims, and at a point after that and before its next event the look-up along the ancestors is this
-pub record ClaimsAndLooks (limits : Limits) (store : StoreView) (context : ℕ) (ancestors : List ℕ) (key : ℕ) (before after : LaneView) (look : Look) : Type 0 where
-  pub claims : Claims limits store context ancestors key before after
-  pub looked : LooksAgain (cell_in store key) ancestors before after (Claim (cell_in store key context) ∷ []) look
-
--- the events of a claim that is given up
-abbrev pub given_up_events : StoreView → ℕ → ℕ → List (Act ℕ)
-given_up_events store context key = Claim (cell_in store key context) ∷ Abandon (cell_in store key context) ∷ []
-
--- The look-up from the context is this at a point of the call, which made no event. Or the look-up from its parent is this while the lane's claim stands, which
--- is then given up
-unfoldable pub Meets : Limits → StoreView → ℕ → List ℕ → ℕ → LaneView → LaneView → Look → Type 0
-Meets limits store context ancestors key before after met =
-    HoldsAtPoint limits before after [] (λ p. look_after (cell_in store key) (context ∷ ancestors) p ≡ met)
-    ⊎ (Calls limits before after (given_up_events store context key) × ClaimsAndLooks limits store context ancestors key before after met)
-
--- what each refusal says
-unfoldable pub IsRefused : Limits → StoreView → ℕ → List ℕ → ℕ → LaneView → LaneView → Refusal → Type 0
-IsRefused limits store context ancestors key before after (refusal.Busy at) = Meets limits store context ancestors key before after (look.Busy at)
-IsRefused limits store context ancestors key before after (refusal.Closed at) = Meets limits store context ancestors key before after (look.Closed at)
-IsRefused limits store context ancestors key before after refusal.Contended =
-    IsOvertaken limits store.tries before after
-    ⊎ (Calls limits before after (given_up_events store context key) × Claims limits store context ancestors key before after × IsCrowded store.tries before after)
-IsRefused limits store context ancestors key before after refusal.UnknownKey = ⊥
-IsRefused limits store context ancestors key before after refusal.Exhausted =
-    HoldsAtPoint limits before after [] (λ p. reply_after limits p before.number (Claim (cell_in store key context)) ≡ events.Refuses events.Exhausted)
-    × LooksFirst (cell_in store key) (context ∷ ancestors) before after
+pub use Rattle.ext_shared.specs.Claiming.{HappensAfter, LooksFirst, Claims, ClaimsAndLooks, given_up_events}
+unfoldable pub use Rattle.ext_shared.specs.Claiming.{Meets, IsRefused}
 
 -- ---- what comes of the factory's value
 
@@ -108,6 +55,11 @@ without_factory (Found at number unused) = Found at number tt
 without_factory (Failed why) = Failed why
 without_factory (Unkept value cause) = Unkept value cause
 without_factory (Refused why unused) = Refused why tt
+
+-- the result that hands the factory back
+abbrev pub with_factory : {V F : Type 0} → F → Unused → Compute V F
+with_factory factory (unused.Found at number) = Found at number factory
+with_factory factory (unused.Refused why) = Refused why factory
 
 -- the factory comes back as it was, where it was not called
 abbrev pub HandsBack : {V F : Type 0} → F → Compute V F → Type 0

@@ -3,10 +3,7 @@ pub mod Opening
 pub mod Frames
 pub mod FrameLaws
 pub mod Calls
-pub mod Looking
-pub mod Refusals
 pub mod Keeping
-pub mod Sealing
-pub mod Claiming
 pub mod Computing
 pub mod Waiting
+pub use Rattle.ext_shared.specs.Sealing

@@ -1,24 +1,10 @@
 -- What contracts see of a store, of its lanes and closers, and of kept numbers.
 -- Own rule. A lane is seen as its lane of the cells, whose words are those of `Views` of ext_model, and as what it knows of the values of numbers.
-use Rattle.std.specs.Prelude.{ℕ, zero, suc, ◌≡◌, ◌≢◌, ◌+◌, ◌*◌, ◌<◌, List, [], ◌∷◌, ◌++◌, length, Some}
-use Rattle.ext_model.specs.History.{Limits}
+use Rattle.std.specs.Prelude.{ℕ, zero, suc, ◌≡◌, ◌≢◌, ◌<◌, List, [], ◌∷◌, ◌++◌, length, Some}
 use Rattle.ext_model.specs.Calls.{MayStoreNow}
-use Rattle.ext_tree.specs.Trees.{Id}
-use Rattle.ext_tree.specs.Keys.{KeyValue}
 use Rattle.ext_values.specs.Known.{Known, AreNotesOf, known_at, nothing_known}
 use Rattle.ext_cells.specs.Lanes.{CellsId, Lane, AreLimits}
-
--- Which store it is: its cells, and the names of the places of its values, in the order of their numbers
-pub record StoreId : Type 0 where
-  pub cells : CellsId
-  pub places : List ℕ
-
--- A store: which it is, the ids of its contexts, its declared keys in the order of their numbers, and how many exchanges a call makes at most
-pub record StoreView : Type 0 where
-  pub id : StoreId
-  pub tree : List Id
-  pub keys : List KeyValue
-  pub tries : ℕ
+pub use Rattle.ext_shared.specs.Stores.{StoreId, StoreView, cell_in}
 
 -- A lane: its steps on the cells, and what it knows of the value of each number
 pub record StoreLane (V : Type 0) : Type 0 where
@@ -29,15 +15,6 @@ pub record StoreLane (V : Type 0) : Type 0 where
 pub record CloserView : Type 0 where
   pub cells : CellsId
   pub context : ℕ
-
--- there is a cell for each context and key, and a place for each number
-pub record IsWell (tree : List Id) (keys : List KeyValue) (limits : Limits) (places : List ℕ) : Type 0 where
-  pub cells : limits.cells ≡ length tree * length keys
-  pub numbers : limits.numbers ≡ length places
-
--- the cell of a context and a key, by their numbers
-abbrev pub cell_in : StoreView → ℕ → ℕ → ℕ
-cell_in store key context = context * length store.keys + key
 
 -- ---- what is of a store
 

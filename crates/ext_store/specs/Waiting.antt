@@ -1,49 +1,14 @@
 -- What the waiting forms say beside what their plain forms say: what they never answer, and what `compute_wait` may do before it answers.
 -- Own rule. JUnit waits for a running factory; that a compute claims its cell and gives it up before it waits is an own rule.
-use Rattle.std.specs.Prelude.{ℕ, zero, suc, List, [], ◌++◌, Result, Ok, Err}
-use Rattle.ext_model.specs.declared.event.Act.{Act}
-use Rattle.ext_model.specs.declared.look.Look.{Look}
-use Rattle.ext_model.specs.declared.look.Look.TheVariants as look
-use Rattle.ext_model.specs.History.{Limits}
-use Rattle.ext_model.specs.Views.{LaneView}
-use Rattle.ext_model.specs.Calls.{Calls}
+use Rattle.std.specs.Prelude.{ℕ}
 use Rattle.ext_cells.specs.Lanes.{Lane}
-use Rattle.ext_store.specs.declared.fault.Refusal.{Refusal}
-use Rattle.ext_store.specs.declared.fault.Refusal.TheVariants as refusal
 use Rattle.ext_store.specs.declared.fault.KeepFault.{KeepFault}
 use Rattle.ext_store.specs.declared.fault.KeepFault.TheVariants as fault
-use Rattle.ext_store.specs.declared.computed.Unused.{Unused}
-use Rattle.ext_store.specs.declared.computed.Unused.TheVariants as unused
 use Rattle.ext_store.specs.declared.computed.Compute.{Compute}
 use Rattle.ext_store.specs.declared.computed.Compute.TheVariants.{Computed, Found, Failed, Unkept, Refused}
 use Rattle.ext_store.specs.Stores.{StoreView}
-use Rattle.ext_store.specs.Computing.{given_up_events, Computes}
-use Rattle.ext_store.specs.Claiming.{ClaimsMissing}
-
--- ---- what is never answered
-
--- no running factory decides the look-up
-abbrev pub IsDecidedLook : Look → Type 0
-IsDecidedLook (look.Found at number) = Unit {0}
-IsDecidedLook look.Absent = Unit {0}
-IsDecidedLook (look.Busy at) = ⊥
-IsDecidedLook (look.Closed at) = Unit {0}
-
--- a look-up that a running factory decides is as one that is refused for it
-abbrev pub busy_refused : Result Look Refusal → Result Look Refusal
-busy_refused (Ok (look.Found at number)) = Ok (look.Found at number)
-busy_refused (Ok look.Absent) = Ok look.Absent
-busy_refused (Ok (look.Busy at)) = Err (refusal.Busy at)
-busy_refused (Ok (look.Closed at)) = Ok (look.Closed at)
-busy_refused (Err why) = Err why
-
--- the call is refused neither for a running factory nor because other lanes were in the way
-abbrev pub IsDecided : Refusal → Type 0
-IsDecided (refusal.Busy at) = ⊥
-IsDecided (refusal.Closed at) = Unit {0}
-IsDecided refusal.Contended = ⊥
-IsDecided refusal.UnknownKey = Unit {0}
-IsDecided refusal.Exhausted = Unit {0}
+use Rattle.ext_store.specs.Computing.{Computes}
+pub use Rattle.ext_shared.specs.Waiting.{IsDecidedLook, IsDecided, IsDecidedUnused, Waits, claims_given_up, ClaimsAfterWaits}
 
 -- a value is not kept for another reason than that other lanes were in the way
 abbrev pub IsDecidedFault : KeepFault → Type 0
@@ -52,10 +17,6 @@ IsDecidedFault fault.NumbersFull = Unit {0}
 IsDecidedFault fault.Contended = ⊥
 IsDecidedFault fault.Unplaced = Unit {0}
 
-abbrev pub IsDecidedUnused : Unused → Type 0
-IsDecidedUnused (unused.Found at number) = Unit {0}
-IsDecidedUnused (unused.Refused why) = IsDecided why
-
 abbrev pub IsDecidedCompute : {V F : Type 0} → Compute V F → Type 0
 IsDecidedCompute (Computed number) = Unit {0}
 IsDecidedCompute (Found at number unused) = Unit {0}
@@ -63,26 +24,8 @@ IsDecidedCompute (Failed why) = Unit {0}
 IsDecidedCompute (Unkept value cause) = IsDecidedFault cause
 IsDecidedCompute (Refused why unused) = IsDecided why
 
--- ---- what may come before the answer of `compute_wait`
-
--- so many claims of the context's cell, each given up
-abbrev pub claims_given_up : StoreView → ℕ → ℕ → ℕ → List (Act ℕ)
-claims_given_up store context key zero = []
-claims_given_up store context key (suc rounds) = claims_given_up store context key rounds ++ given_up_events store context key
-
--- First the call made these events and no others, and then what follows is said from there
-pub record Waits (limits : Limits) (store : StoreView) (context key : ℕ) (before : LaneView) (Then : LaneView → Type 0) : Type 0 where
-  pub rounds : ℕ
-  pub between : LaneView
-  pub waited : Calls limits before between (claims_given_up store context key rounds)
-  pub then_is : Then between
-
 -- Before the call's answer the lane may have claimed the context's cell and given it up several times. What comes after that is a compute, with
 -- its events and its points
 unfoldable pub ComputesAfterWaits : {V : Type 0} → StoreView → ℕ → ℕ → Lane → Lane → Compute V (Unit {0}) → Type 0
 ComputesAfterWaits store context key before after result =
     Waits before.cells.limits store context key before.view (λ between. Computes store context key (record { cells = before.cells; view = between }) after result)
-
--- the same of the claim alone
-abbrev pub ClaimsAfterWaits : StoreView → ℕ → ℕ → LaneView → LaneView → Result ℕ Unused → Type 0
-ClaimsAfterWaits store context key before after result = Waits store.id.cells.limits store context key before (λ between. ClaimsMissing store context key between after result)

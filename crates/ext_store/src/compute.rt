@@ -1,23 +1,19 @@
 //! Values that are computed where none is found.
 ghost use Rattle.std.specs.Prelude.{ℕ, ◌≡◌, ◌≢◌, ◌+◌, ◌*◌, ◌<◌, ◌≤◌, [], length, Contains, IfOk, MatchResult};
 ghost use Rattle.std.specs.Fn.{FnOnceReturnsAt};
-ghost use Rattle.ext_model.specs.Calls.{IsHeld, MayStoreNow};
-ghost use Rattle.ext_model.specs.declared.event.Act.TheVariants as act_is;
+ghost use Rattle.ext_model.specs.Calls.{IsHeld};
 ghost use Rattle.ext_tree.specs.Keys.{HasNumber, KeyValue};
 ghost use Rattle.ext_values.specs.Known.{KeepsKnown, Learns};
-ghost use Rattle.ext_cells.specs.Calls.{EndsClaim};
-ghost use Rattle.ext_store.specs.declared.fault.Refusal.TheVariants.{UnknownKey};
+ghost use Rattle.ext_shared.specs.declared.fault.Refusal.TheVariants.{UnknownKey};
 ghost use Rattle.ext_store.specs.declared.computed.Compute.TheVariants.{Refused};
 ghost use Rattle.ext_store.specs.Stores.{IsKeptBy, IsLaneOf, StillKeeps};
 ghost use Rattle.ext_store.specs.Frames.{Frame};
 ghost use Rattle.ext_store.specs.Calls.{steps_of};
-ghost use Rattle.ext_store.specs.Looking.{IsTrail};
 ghost use Rattle.ext_store.specs.Computing.{Computes, Fills, HandsBack, IfComputed, IsUnkept, Uses, without_factory};
-ghost use Rattle.ext_store.specs.Claiming.{ClaimsMissing, Stands};
 
-use crate::computed::Unused;
+use crate::computed::hand_back;
 use crate::{Compute, KeepFault, Lane, Refusal, Store, StoreValue};
-use ext_cells::{CellLane, Claim, Claimed};
+use ext_cells::Claim;
 use ext_model::{ContextNo, Fault, KeyNo};
 use ext_tree::Key;
 
@@ -65,7 +61,7 @@ impl<V: StoreValue + Drop> Store<V> {
         ensures frame { Frame self.now.id [] lane.old lane.new }
         ensures steps { steps_of lane.old.cells lane.new.cells ≤ 34 * (self.now.tries + 1) + 2 }
     {
-        let Some(number) = self.directory.number_of(key) else {
+        let Some(number) = self.directory().number_of(key) else {
             return Compute::Refused {
                 refusal: Refusal::UnknownKey,
                 unused: factory,
@@ -99,14 +95,14 @@ impl<V: StoreValue + Drop> Store<V> {
         ensures frame { Frame self.now.id [] lane.old lane.new }
         ensures steps { steps_of lane.old.cells lane.new.cells ≤ 34 * (self.now.tries + 1) + 2 }
     {
-        let claim = match self.claim_missing(&mut lane.cells, context, key) {
+        let claim = match self.shared.claim_missing(&mut lane.cells, context, key) {
             Ok(claim) => claim,
-            Err(why) => return why.hand_back(factory),
+            Err(why) => return hand_back(why, factory),
         };
-        let value = match factory(self.directory.key(key)) {
+        let value = match factory(self.directory().key(key)) {
             Ok(value) => value,
             Err(fault) => {
-                self.abandon(&mut lane.cells, claim);
+                self.shared.abandon(&mut lane.cells, claim);
                 return Compute::Failed(fault);
             }
         };
@@ -135,91 +131,13 @@ impl<V: StoreValue + Drop> Store<V> {
         match self.keep(lane, value) {
             Ok(kept) => {
                 let number = kept.number;
-                self.fill(&mut lane.cells, claim, number);
+                self.shared.fill(&mut lane.cells, claim, number);
                 Ok(number)
             }
             Err(unkept) => {
-                self.abandon(&mut lane.cells, claim);
+                self.shared.abandon(&mut lane.cells, claim);
                 Err(unkept)
             }
         }
-    }
-
-    // Claims the cell of the key in the context where a look-up from there finds nothing, so that a value can be
-    // computed.
-    pub(crate) fn claim_missing(
-        &self,
-        lane: &mut CellLane,
-        context: ContextNo,
-        key: KeyNo,
-    ) -> Result<Claim, Unused>
-        requires lane { lane.old.cells ≡ self.now.id.cells }
-        requires context { context < length self.now.tree }
-        requires key { key < length self.now.keys }
-        ensures lane { lane.new.cells ≡ lane.old.cells }
-        ensures claim { ClaimsMissing self.now context key lane.old.view lane.new.view result }
-        ensures steps { MatchResult result (λ _. steps_of lane.old lane.new ≤ 33 * (self.now.tries + 1)) (λ _. steps_of lane.old lane.new ≤ 33 * (self.now.tries + 1) + 2) }
-    {
-        let path = self.tree.path(context);
-        let path = path.as_slice();
-        if let Some(unused) = self.stands_along(lane, path, key) {
-            return Err(unused);
-        }
-        let claim = match self.cells.claim(lane, self.cell(context, key)) {
-            Ok(Claimed::Won(claim)) => claim,
-            Ok(Claimed::Standing(number)) => {
-                return Err(Unused::Found {
-                    at: context,
-                    number,
-                });
-            }
-            Err(why) => return Err(Unused::Refused(Refusal::at(context, why))),
-        };
-        // An ancestor may have got a value between the first look and the claim. The claim keeps every other lane off
-        // the context's own cell, so from here on only the ancestors matter.
-        match self.stands_along(lane, &path[1..], key) {
-            None => Ok(claim),
-            Some(unused) => {
-                self.abandon(lane, claim);
-                Err(unused)
-            }
-        }
-    }
-
-    // Stores the number in the claimed cell, which ends the claim, and then wakes the lanes that wait for that.
-    pub(crate) fn fill(&self, lane: &mut CellLane, claim: Claim, number: u32)
-        requires lane { lane.old.cells ≡ self.now.id.cells }
-        requires held { IsHeld lane.old.view claim }
-        requires number { MayStoreNow lane.old.view number }
-        ensures lane { lane.new.cells ≡ lane.old.cells }
-        ensures filled { EndsClaim lane.old lane.new (act_is.Fill claim number) }
-        ensures steps { steps_of lane.old lane.new ≡ 2 }
-    {
-        self.cells.fill(lane, claim, number);
-        self.waiters.wake_all();
-    }
-
-    // Gives the claim up, and then wakes the lanes that wait for that.
-    pub(crate) fn abandon(&self, lane: &mut CellLane, claim: Claim)
-        requires lane { lane.old.cells ≡ self.now.id.cells }
-        requires held { IsHeld lane.old.view claim }
-        ensures lane { lane.new.cells ≡ lane.old.cells }
-        ensures abandoned { EndsClaim lane.old lane.new (act_is.Abandon claim) }
-        ensures steps { steps_of lane.old lane.new ≡ 2 }
-    {
-        self.cells.abandon(lane, claim);
-        self.waiters.wake_all();
-    }
-
-    // What stands along the path, if anything does there, or why it can't be told.
-    fn stands_along(&self, lane: &mut CellLane, path: &[ContextNo], key: KeyNo) -> Option<Unused>
-        requires lane { lane.old.cells ≡ self.now.id.cells }
-        requires path { IsTrail self.now path.now }
-        requires key { key < length self.now.keys }
-        ensures lane { lane.new.cells ≡ lane.old.cells }
-        ensures stands { Stands self.now path.now key lane.old lane.new result }
-        ensures steps { steps_of lane.old lane.new ≤ 16 * (self.now.tries + 1) }
-    {
-        Unused::of(self.look_along(lane, path, key))
     }
 }

@@ -2,8 +2,7 @@
 ghost use Rattle.std.specs.Prelude.{MatchResult};
 ghost use Rattle.ext_values.specs.Known.{AreNotesOf};
 ghost use Rattle.ext_values.specs.Places.{IsNumber};
-ghost use Rattle.ext_store.specs.Refusals.{IsOfCount};
-ghost use Rattle.ext_store.specs.Keeping.{PlacesDrawn};
+ghost use Rattle.ext_store.specs.Keeping.{IsOfCount, PlacesDrawn};
 
 use crate::{KeepFault, Kept, Store, StoreValue};
 use ext_cells::CellRefusal;
@@ -25,7 +24,7 @@ impl<V: StoreValue + Drop> Store<V> {
             Ok(number) => number,
             Err(why) => return Err((Box::into_inner(boxed), KeepFault::of(why))),
         };
-        match notes.place(&self.values, number, boxed) {
+        match notes.place(self.shared.values(), number, boxed) {
             Ok(()) => Ok(Kept { number }),
             Err(back) => Err((Box::into_inner(back), KeepFault::Unplaced)),
         }

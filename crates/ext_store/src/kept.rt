@@ -1,6 +1,8 @@
 //! A number whose value is kept, and which can be stored.
 ghost use Rattle.std.specs.Prelude.{◌≡◌};
+ghost use Rattle.ext_store.specs.Calls.{with_kept};
 
+use crate::Refusal;
 use std::marker::Model;
 
 /// The number of a value that a lane has kept: it is stored by one `put` of this lane, and by no other. Where it is
@@ -24,5 +26,18 @@ impl Kept {
         ensures { result ≡ self.now }
     {
         self.number
+    }
+
+    // What a put answers of which the cells say this: a refused one hands the kept number back.
+    pub(crate) fn unless_stored(
+        self,
+        stored: Result<Option<u32>, Refusal>,
+    ) -> Result<Option<u32>, (Kept, Refusal)>
+        ensures { result ≡ with_kept self stored }
+    {
+        match stored {
+            Ok(stood) => Ok(stood),
+            Err(why) => Err((self, why)),
+        }
     }
 }

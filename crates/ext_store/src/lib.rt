@@ -5,7 +5,8 @@
 //! and `UnknownKey`, is that of one thread at a point of the call, and a compute is several such parts. A value is
 //! kept first, which gives it a number, and the number is then stored under a key in a context; or it is computed
 //! where none is found. `specs/Stores`, `specs/Calls`, `specs/Computing` and `specs/Frames` have the words of the
-//! contracts, and `specs/Waiting` those of the forms that wait.
+//! contracts, and `specs/Waiting` those of the forms that wait; what a call does to a lane of the cells alone is that of
+//! ext_shared.
 //!
 //! Each cell is a word of its own, and no call but the waiting forms (`get_wait` and the others) waits for another lane: where a
 //! factory is in the way of one of these, it sleeps until a claim has ended, and tries again.
@@ -19,7 +20,6 @@ mod compute;
 mod computed;
 mod drawn;
 mod fault;
-mod found;
 mod kept;
 mod lane;
 mod laws;
@@ -32,7 +32,8 @@ mod waiting;
 
 pub use closer::Closer;
 pub use computed::Compute;
-pub use fault::{KeepFault, Refusal};
+pub use ext_shared::Refusal;
+pub use fault::KeepFault;
 pub use kept::Kept;
 pub use lane::Lane;
 pub use laws::frame_laws;

@@ -4,7 +4,7 @@ ghost use Rattle.ext_values.specs.Known.{known_at};
 ghost use Rattle.ext_store.specs.Stores.{IsCloserOf, IsLaneOf, StillKeeps};
 ghost use Rattle.ext_store.specs.Frames.{Frame};
 ghost use Rattle.ext_store.specs.Calls.{steps_of};
-ghost use Rattle.ext_store.specs.Sealing.{SealsKey};
+ghost use Rattle.ext_shared.specs.Sealing.{SealsKey};
 
 use crate::{Closer, Lane, Refusal, Store};
 use ext_model::KeyNo;
@@ -32,11 +32,7 @@ impl<V> Store<V> {
         ensures frame { Frame self.now.id [] lane.old lane.new }
         ensures steps { steps_of lane.old.cells lane.new.cells ≤ self.now.tries + 1 }
     {
-        let cell = self.cell(closer.context, key);
-        match self.cells.seal(&mut lane.cells, cell) {
-            Ok(kept) => Ok(kept),
-            Err(why) => Err(Refusal::at(closer.context, why)),
-        }
+        self.shared.seal_at(&mut lane.cells, closer.context, key)
     }
 
     /// Whether the lane knows the number's value: whether it kept the value or was shown it. False for a number that

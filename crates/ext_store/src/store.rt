@@ -1,26 +1,22 @@
 //! The store and its calls.
-ghost use Rattle.std.specs.Prelude.{ℕ, ◌≡◌, ◌≢◌, ◌↔◌, ◌+◌, ◌*◌, ◌<◌, ◌≤◌, [], All, Contains, IfErr, IfNone, IfOk, IfSome, MatchResult, Ok, Err, length, map, take};
+ghost use Rattle.std.specs.Prelude.{ℕ, ◌≡◌, ◌≢◌, ◌↔◌, ◌+◌, ◌*◌, ◌<◌, ◌≤◌, [], All, Contains, IfErr, IfNone, IfOk, IfSome, MatchResult, Ok, Err, length, map};
 ghost use mathlib.Core.List.{IsPrefix};
-ghost use Rattle.ext_model.specs.Calls.{Calls, MayStoreNow};
+ghost use Rattle.ext_model.specs.Calls.{Calls};
 ghost use Rattle.ext_history.specs.Views.{seen_by};
 ghost use Rattle.ext_tree.specs.Keys.{HasNumber};
 ghost use Rattle.ext_values.specs.Known.{AllAgree, KeepsKnown, Learns, known_at};
 ghost use Rattle.ext_cells.specs.Lanes.{AreLimits, fresh_lanes};
 ghost use Rattle.ext_store.specs.declared.limits.StoreFault.TheVariants as store_fault;
-ghost use Rattle.ext_store.specs.declared.fault.Refusal.TheVariants as refusal;
-ghost use Rattle.ext_store.specs.Stores.{AreStoreLimits, IsCloserOf, IsKeptBy, IsLaneOf, StillKeeps, StillKeepsBut, cell_in, closers_below, fresh_store_lane};
+ghost use Rattle.ext_shared.specs.declared.fault.Refusal.TheVariants as refusal;
+ghost use Rattle.ext_store.specs.Stores.{AreStoreLimits, IsCloserOf, IsKeptBy, IsLaneOf, StillKeeps, StillKeepsBut, closers_below, fresh_store_lane};
 ghost use Rattle.ext_store.specs.Frames.{Frame, stored_by};
 ghost use Rattle.ext_store.specs.Calls.{Gets, KeepsAs, KeepsNothing, Puts, Removes, steps_of};
-ghost use Rattle.ext_store.specs.Looking.{IsTrail, Looks};
 
-use crate::found::found_at;
 use crate::opening::open_parts;
 use crate::{Closer, KeepFault, Kept, Lane, Limits, Refusal, StoreFault, StoreValue};
-use ext_cells::{CellLane, CellRefusal, Cells};
-use ext_model::{CellNo, ContextNo, KeyNo, Look};
+use ext_model::{ContextNo, KeyNo, Look};
+use ext_shared::Shared;
 use ext_tree::{Directory, Key, Tree};
-use ext_values::Values;
-use ext_waiters::Waiters;
 use std::alloc::Global;
 use std::marker::Model;
 
@@ -34,23 +30,16 @@ use std::marker::Model;
 /// claims, closers and refusals are own rules.
 #[derive(Drop)]
 pub struct Store<V> {
-    pub(crate) tree: Tree,
-    pub(crate) directory: Directory,
-    pub(crate) cells: Cells,
-    pub(crate) values: Values<V>,
-    // Who waits until a claim has ended. No contract speaks of them.
-    pub(crate) waiters: Waiters,
+    pub(crate) shared: Shared<V>,
     pub(crate) alloc: Global,
 }
 
 impl<V> Model for Store<V> {
-    ghost use Rattle.ext_store.specs.Stores.{StoreView, IsWell};
+    ghost use Rattle.ext_store.specs.Stores.{StoreView};
 
     ghost Value = { StoreView };
 
-    ghost view = { λ s. record { id = record { cells = s.cells.id; places = s.values }; tree = s.tree; keys = s.directory; tries = s.cells.tries } };
-
-    ghost invariant = { λ s. IsWell s.tree s.directory s.cells.id.limits s.values };
+    ghost view = { λ s. s.shared };
 }
 
 impl<V> Store<V> {
@@ -58,14 +47,14 @@ impl<V> Store<V> {
     pub fn tree(&self) -> &Tree
         ensures { result.now ≡ self.now.tree }
     {
-        &self.tree
+        self.shared.tree()
     }
 
     /// The declared keys. Takes no memory. Own rule.
     pub fn directory(&self) -> &Directory
         ensures { result.now ≡ self.now.keys }
     {
-        &self.directory
+        self.shared.directory()
     }
 
     /// How many exchanges a change makes at most, and how many passes after its first a look-up, from 1 to 64, before the
@@ -74,117 +63,7 @@ impl<V> Store<V> {
         ensures tries { result ≡ self.now.tries }
         ensures within { (1 ≤ self.now.tries) × (self.now.tries ≤ 64) }
     {
-        self.cells.tries()
-    }
-
-    // What the calls rest on.
-    pub(crate) fn recall(&self)
-        ensures cells { self.now.id.cells.limits.cells ≡ length self.now.tree * length self.now.keys }
-        ensures numbers { self.now.id.cells.limits.numbers ≡ length self.now.id.places }
-        ensures few { self.now.id.cells.limits.numbers ≤ 65535 }
-    {
-        let _capacity = self.values.capacity();
-    }
-
-    // The cell of the key in the context.
-    pub(crate) fn cell(&self, context: ContextNo, key: KeyNo) -> CellNo
-        requires context { context < length self.now.tree }
-        requires key { key < length self.now.keys }
-        ensures cell { result ≡ cell_in self.now key context }
-        ensures within { result < self.now.id.cells.limits.cells }
-    {
-        let _contexts = self.tree.len();
-        self.directory.cell(context, key)
-    }
-
-    // Writes down the cells of the key on the path, in its order.
-    fn cells_on(&self, path: &[ContextNo], key: KeyNo, cells: &mut [CellNo; 16])
-        requires path { IsTrail self.now path.now }
-        requires key { key < length self.now.keys }
-        ensures { take (length path.now) cells.new ≡ map (cell_in self.now key) path.now }
-    {
-        for (i, context) in path.iter().enumerate() {
-            cells[i] = self.cell(*context, key);
-        }
-    }
-
-    // The look-up of the key along the path.
-    pub(crate) fn look_along(
-        &self,
-        lane: &mut CellLane,
-        path: &[ContextNo],
-        key: KeyNo,
-    ) -> Result<Look, Refusal>
-        requires lane { lane.old.cells ≡ self.now.id.cells }
-        requires path { IsTrail self.now path.now }
-        requires key { key < length self.now.keys }
-        ensures lane { lane.new.cells ≡ lane.old.cells }
-        ensures look { Looks self.now path.now key lane.old lane.new result }
-        ensures steps { steps_of lane.old lane.new ≤ length path.now * (self.now.tries + 1) }
-    {
-        self.recall();
-        let mut cells = [0; 16];
-        self.cells_on(path, key, &mut cells);
-        match self.cells.nearest(lane, &cells[..path.len()]) {
-            Ok(Some(nearest)) => Ok(found_at(path[nearest.place], nearest.word)),
-            Ok(None) => Ok(Look::Absent),
-            Err(CellRefusal::Contended) => Err(Refusal::Contended),
-            Err(
-                CellRefusal::Busy
-                | CellRefusal::Closed
-                | CellRefusal::Exhausted
-                | CellRefusal::NumbersFull
-                | CellRefusal::Memory
-                | CellRefusal::BadLimit,
-            ) => unreachable!(),
-        }
-    }
-
-    // Stores the kept number under the key in the context.
-    #[tactic(auto, unfolding(crate::specs::Calls::Puts))]
-    pub(crate) fn put_at(
-        &self,
-        lane: &mut CellLane,
-        context: ContextNo,
-        key: KeyNo,
-        kept: Kept,
-    ) -> Result<Option<u32>, (Kept, Refusal)>
-        requires lane { lane.old.cells ≡ self.now.id.cells }
-        requires context { context < length self.now.tree }
-        requires key { key < length self.now.keys }
-        requires kept { MayStoreNow lane.old.view kept }
-        ensures lane { lane.new.cells ≡ lane.old.cells }
-        ensures answer { Puts self.now context key kept lane.old lane.new result }
-        ensures handed_back { IfErr result (λ e. e.0 ≡ kept) }
-        ensures steps { steps_of lane.old lane.new ≤ self.now.tries + 1 }
-    {
-        let cell = self.cell(context, key);
-        match self.cells.put(lane, cell, kept.number) {
-            Ok(stood) => Ok(stood),
-            Err(why) => Err((kept, Refusal::at(context, why))),
-        }
-    }
-
-    // Takes out what stands under the key in the context.
-    #[tactic(auto, unfolding(crate::specs::Calls::Removes))]
-    pub(crate) fn remove_at(
-        &self,
-        lane: &mut CellLane,
-        context: ContextNo,
-        key: KeyNo,
-    ) -> Result<Option<u32>, Refusal>
-        requires lane { lane.old.cells ≡ self.now.id.cells }
-        requires context { context < length self.now.tree }
-        requires key { key < length self.now.keys }
-        ensures lane { lane.new.cells ≡ lane.old.cells }
-        ensures answer { Removes self.now context key lane.old lane.new result }
-        ensures steps { steps_of lane.old lane.new ≤ self.now.tries + 1 }
-    {
-        let cell = self.cell(context, key);
-        match self.cells.remove(lane, cell) {
-            Ok(stood) => Ok(stood),
-            Err(why) => Err(Refusal::at(context, why)),
-        }
+        self.shared.tries()
     }
 }
 
@@ -223,15 +102,8 @@ impl<V: StoreValue + Drop> Store<V> {
         let contexts = tree.len();
         let count = contexts * directory.len();
         let (cells, values, lanes, closers) = open_parts(alloc, count, contexts, limits)?;
-        let store = Store {
-            tree,
-            directory,
-            cells,
-            values,
-            waiters: Waiters::new(),
-            alloc,
-        };
-        Ok((store, lanes, closers))
+        let shared = Shared::new(tree, directory, cells, values);
+        Ok((Store { shared, alloc }, lanes, closers))
     }
 
     /// Keeps a value: draws the next number for it, which the value has from then on. The first number is 1, each is
@@ -251,12 +123,12 @@ impl<V: StoreValue + Drop> Store<V> {
         ensures frame { Frame self.now.id [] lane.old lane.new }
         ensures steps { steps_of lane.old.cells lane.new.cells ≤ self.now.tries + 1 }
     {
-        self.recall();
+        self.shared.recall();
         let boxed = match Box::new(self.alloc, value) {
             Ok(boxed) => boxed,
             Err(failed) => return Err((failed.value, KeepFault::Memory)),
         };
-        let drawn = self.cells.next_number(&mut lane.cells);
+        let drawn = self.shared.cells().next_number(&mut lane.cells);
         self.place_drawn(&mut lane.notes, drawn, boxed)
     }
 
@@ -279,7 +151,7 @@ impl<V: StoreValue + Drop> Store<V> {
         ensures frame { Frame self.now.id [] lane.old lane.new }
         ensures steps { steps_of lane.old.cells lane.new.cells ≤ 16 * (self.now.tries + 1) }
     {
-        let Some(key) = self.directory.number_of(key) else {
+        let Some(key) = self.directory().number_of(key) else {
             return Err(Refusal::UnknownKey);
         };
         self.get_numbered(lane, context, key)
@@ -305,8 +177,7 @@ impl<V: StoreValue + Drop> Store<V> {
         ensures frame { Frame self.now.id [] lane.old lane.new }
         ensures steps { steps_of lane.old.cells lane.new.cells ≤ 16 * (self.now.tries + 1) }
     {
-        let path = self.tree.path(context);
-        self.look_along(&mut lane.cells, path.as_slice(), key)
+        self.shared.look_up(&mut lane.cells, context, key)
     }
 
     /// Stores the kept number under the key in the context itself, over one that stands there, and answers the number
@@ -338,7 +209,7 @@ impl<V: StoreValue + Drop> Store<V> {
         ensures frame { Frame self.now.id (stored_by kept result) lane.old lane.new }
         ensures steps { steps_of lane.old.cells lane.new.cells ≤ self.now.tries + 1 }
     {
-        let Some(key) = self.directory.number_of(key) else {
+        let Some(key) = self.directory().number_of(key) else {
             return Err((kept, Refusal::UnknownKey));
         };
         self.put_numbered(lane, context, key, kept)
@@ -367,7 +238,10 @@ impl<V: StoreValue + Drop> Store<V> {
         ensures frame { Frame self.now.id (stored_by kept result) lane.old lane.new }
         ensures steps { steps_of lane.old.cells lane.new.cells ≤ self.now.tries + 1 }
     {
-        self.put_at(&mut lane.cells, context, key, kept)
+        let stored = self
+            .shared
+            .put_at(&mut lane.cells, context, key, kept.number);
+        kept.unless_stored(stored)
     }
 
     /// Takes what stands under the key in the context itself, and in no other, and answers its number; where nothing
@@ -394,7 +268,7 @@ impl<V: StoreValue + Drop> Store<V> {
         ensures frame { Frame self.now.id [] lane.old lane.new }
         ensures steps { steps_of lane.old.cells lane.new.cells ≤ self.now.tries + 1 }
     {
-        let Some(key) = self.directory.number_of(key) else {
+        let Some(key) = self.directory().number_of(key) else {
             return Err(Refusal::UnknownKey);
         };
         self.remove_numbered(lane, context, key)
@@ -420,7 +294,7 @@ impl<V: StoreValue + Drop> Store<V> {
         ensures frame { Frame self.now.id [] lane.old lane.new }
         ensures steps { steps_of lane.old.cells lane.new.cells ≤ self.now.tries + 1 }
     {
-        self.remove_at(&mut lane.cells, context, key)
+        self.shared.remove_at(&mut lane.cells, context, key)
     }
 
     /// The value that the number has, which this lane knows from now on: always where the lane kept it or was shown
@@ -438,7 +312,7 @@ impl<V: StoreValue + Drop> Store<V> {
         ensures kept { StillKeeps lane.old lane.new }
         ensures frame { Frame self.now.id [] lane.old lane.new }
     {
-        lane.notes.get(&self.values, number)
+        lane.notes.get(self.shared.values(), number)
     }
 
     /// Afterwards what the first lane has seen is a prefix of what the second has seen: so both speak of one history.
@@ -459,7 +333,9 @@ impl<V: StoreValue + Drop> Store<V> {
         ensures first_frame { Frame self.now.id [] first.old first.new }
         ensures second_frame { Frame self.now.id [] second.old second.new }
     {
-        self.cells.meet(&mut first.cells, &mut second.cells);
+        self.shared
+            .cells()
+            .meet(&mut first.cells, &mut second.cells);
         first.notes.meet(&mut second.notes);
     }
 }

@@ -2,36 +2,23 @@
 //! were in the way of at once.
 ghost use Rattle.std.specs.Prelude.{ℕ, ◌≡◌, ◌≢◌, ◌<◌, [], length, Contains, Ok, Err, IfErr, IfOk, MatchResult};
 ghost use Rattle.std.specs.Fn.{FnOnceReturnsAt};
-ghost use Rattle.ext_model.specs.Calls.{IsHeld, MayStoreNow};
+ghost use Rattle.ext_model.specs.Calls.{IsHeld};
 ghost use Rattle.ext_tree.specs.Keys.{HasNumber, KeyValue};
 ghost use Rattle.ext_values.specs.Known.{KeepsKnown, Learns};
-ghost use Rattle.ext_cells.specs.declared.refusal.CellRefusal.TheVariants as cell_refusal;
-ghost use Rattle.ext_cells.specs.Calls as cells;
-ghost use Rattle.ext_store.specs.declared.fault.Refusal.TheVariants as refusal;
+ghost use Rattle.ext_shared.specs.declared.fault.Refusal.TheVariants as refusal;
 ghost use Rattle.ext_store.specs.declared.computed.Compute.TheVariants.{Refused};
 ghost use Rattle.ext_store.specs.Stores.{IsKeptBy, IsLaneOf, StillKeeps, StillKeepsBut};
 ghost use Rattle.ext_store.specs.Frames.{Frame, stored_by};
 ghost use Rattle.ext_store.specs.Calls.{Gets, KeepsAs, KeepsNothing, Puts, Removes};
-ghost use Rattle.ext_store.specs.Looking.{IsTrail, LooksAt};
 ghost use Rattle.ext_store.specs.Computing.{Fills, HandsBack, IfComputed, IsUnkept, Uses, without_factory};
-ghost use Rattle.ext_store.specs.Waiting.{ClaimsAfterWaits, ComputesAfterWaits, IsDecided, IsDecidedCompute, IsDecidedFault, IsDecidedLook, IsDecidedUnused};
+ghost use Rattle.ext_store.specs.Waiting.{ComputesAfterWaits, IsDecided, IsDecidedCompute, IsDecidedFault, IsDecidedLook};
 
-use crate::computed::Unused;
-use crate::found::unless_busy;
+use crate::computed::hand_back;
 use crate::{Compute, KeepFault, Kept, Lane, Refusal, Store, StoreValue};
-use ext_cells::{CellLane, CellRefusal, Claim};
+use ext_cells::Claim;
 use ext_model::{ContextNo, Fault, KeyNo, Look};
 use ext_tree::Key;
-use ext_waiters::Waiting;
 use std::sync::Wait;
-
-// What a lane does before it tries again: where it met a running factory it announces that it waits, or sleeps; where
-// other lanes were in the way, nothing.
-fn pause<R: Wait>(rt: &R, waiting: &mut Waiting<'_>, met: Refusal) {
-    if matches!(met, Refusal::Busy(_)) {
-        waiting.announce_or_sleep(rt);
-    }
-}
 
 impl<V: StoreValue + Drop> Store<V> {
     /// As `get`, but where a context that computes a value decides, it waits, parked, until a claim has ended, and looks
@@ -57,7 +44,7 @@ impl<V: StoreValue + Drop> Store<V> {
         ensures kept { StillKeeps lane.old lane.new }
         ensures frame { Frame self.now.id [] lane.old lane.new }
     {
-        let Some(key) = self.directory.number_of(key) else {
+        let Some(key) = self.directory().number_of(key) else {
             return Err(Refusal::UnknownKey);
         };
         Ok(self.get_wait_numbered(rt, lane, context, key))
@@ -84,8 +71,7 @@ impl<V: StoreValue + Drop> Store<V> {
         ensures kept { StillKeeps lane.old lane.new }
         ensures frame { Frame self.now.id [] lane.old lane.new }
     {
-        let path = self.tree.path(context);
-        self.wait_along(rt, &mut lane.cells, path.as_slice(), key)
+        self.shared.wait_to_look(rt, &mut lane.cells, context, key)
     }
 
     /// As `put`, but where a lane computes a value for the context it waits, parked, until a claim has ended, and tries
@@ -116,7 +102,7 @@ impl<V: StoreValue + Drop> Store<V> {
         ensures kept { MatchResult result (λ _. StillKeepsBut kept lane.old lane.new) (λ _. StillKeeps lane.old lane.new) }
         ensures frame { Frame self.now.id (stored_by kept result) lane.old lane.new }
     {
-        let Some(key) = self.directory.number_of(key) else {
+        let Some(key) = self.directory().number_of(key) else {
             return Err((kept, Refusal::UnknownKey));
         };
         self.put_wait_numbered(rt, lane, context, key, kept)
@@ -146,7 +132,10 @@ impl<V: StoreValue + Drop> Store<V> {
         ensures kept { MatchResult result (λ _. StillKeepsBut kept lane.old lane.new) (λ _. StillKeeps lane.old lane.new) }
         ensures frame { Frame self.now.id (stored_by kept result) lane.old lane.new }
     {
-        self.wait_to_put(rt, &mut lane.cells, context, key, kept)
+        let stored = self
+            .shared
+            .wait_to_put(rt, &mut lane.cells, context, key, kept.number);
+        kept.unless_stored(stored)
     }
 
     /// As `remove`, but where a lane computes a value for the context it waits, parked, until a claim has ended, and
@@ -173,7 +162,7 @@ impl<V: StoreValue + Drop> Store<V> {
         ensures kept { StillKeeps lane.old lane.new }
         ensures frame { Frame self.now.id [] lane.old lane.new }
     {
-        let Some(key) = self.directory.number_of(key) else {
+        let Some(key) = self.directory().number_of(key) else {
             return Err(Refusal::UnknownKey);
         };
         self.remove_wait_numbered(rt, lane, context, key)
@@ -200,7 +189,8 @@ impl<V: StoreValue + Drop> Store<V> {
         ensures kept { StillKeeps lane.old lane.new }
         ensures frame { Frame self.now.id [] lane.old lane.new }
     {
-        self.wait_to_remove(rt, &mut lane.cells, context, key)
+        self.shared
+            .wait_to_remove(rt, &mut lane.cells, context, key)
     }
 
     /// As `keep`, but where other lanes were in the way it draws again at once. So it is never refused as `Contended`,
@@ -222,12 +212,12 @@ impl<V: StoreValue + Drop> Store<V> {
         ensures apart { IfOk result (λ number. (m : ℕ) → IsKeptBy lane.old m → m ≢ number) }
         ensures frame { Frame self.now.id [] lane.old lane.new }
     {
-        self.recall();
+        self.shared.recall();
         let boxed = match Box::new(self.alloc, value) {
             Ok(boxed) => boxed,
             Err(failed) => return Err((failed.value, KeepFault::Memory)),
         };
-        let drawn = self.wait_to_draw(rt, &mut lane.cells);
+        let drawn = self.shared.wait_to_draw(rt, &mut lane.cells);
         self.place_drawn(&mut lane.notes, drawn, boxed)
     }
 
@@ -262,7 +252,7 @@ impl<V: StoreValue + Drop> Store<V> {
         ensures apart { IfComputed result (λ number. (m : ℕ) → IsKeptBy lane.old m → m ≢ number) }
         ensures frame { Frame self.now.id [] lane.old lane.new }
     {
-        let Some(number) = self.directory.number_of(key) else {
+        let Some(number) = self.directory().number_of(key) else {
             return Compute::Refused {
                 refusal: Refusal::UnknownKey,
                 unused: factory,
@@ -297,14 +287,14 @@ impl<V: StoreValue + Drop> Store<V> {
         ensures apart { IfComputed result (λ number. (m : ℕ) → IsKeptBy lane.old m → m ≢ number) }
         ensures frame { Frame self.now.id [] lane.old lane.new }
     {
-        let claim = match self.wait_to_claim(rt, &mut lane.cells, context, key) {
+        let claim = match self.shared.wait_to_claim(rt, &mut lane.cells, context, key) {
             Ok(claim) => claim,
-            Err(why) => return why.hand_back(factory),
+            Err(why) => return hand_back(why, factory),
         };
-        let value = match factory(self.directory.key(key)) {
+        let value = match factory(self.directory().key(key)) {
             Ok(value) => value,
             Err(fault) => {
-                self.abandon(&mut lane.cells, claim);
+                self.shared.abandon(&mut lane.cells, claim);
                 return Compute::Failed(fault);
             }
         };
@@ -334,154 +324,13 @@ impl<V: StoreValue + Drop> Store<V> {
         match self.keep_wait(rt, lane, value) {
             Ok(kept) => {
                 let number = kept.number;
-                self.fill(&mut lane.cells, claim, number);
+                self.shared.fill(&mut lane.cells, claim, number);
                 Ok(number)
             }
             Err(unkept) => {
-                self.abandon(&mut lane.cells, claim);
+                self.shared.abandon(&mut lane.cells, claim);
                 Err(unkept)
             }
         }
-    }
-
-    // Claims the cell of the key in the context where a look-up from there finds nothing, once no factory is in the
-    // way. What meets a factory in an ancestor has given its claim up before it waits.
-    fn wait_to_claim<R: Wait>(
-        &self,
-        rt: &R,
-        lane: &mut CellLane,
-        context: ContextNo,
-        key: KeyNo,
-    ) -> Result<Claim, Unused>
-        requires lane { lane.old.cells ≡ self.now.id.cells }
-        requires context { context < length self.now.tree }
-        requires key { key < length self.now.keys }
-        ensures lane { lane.new.cells ≡ lane.old.cells }
-        ensures claim { ClaimsAfterWaits self.now context key lane.old.view lane.new.view result }
-        ensures decided { IfErr result IsDecidedUnused }
-    {
-        let mut waiting = self.waiters.begin();
-        for _ in rt.forever() {
-            let met = match self.claim_missing(lane, context, key) {
-                Ok(claim) => return Ok(claim),
-                Err(Unused::Found { at, number }) => return Err(Unused::Found { at, number }),
-                Err(Unused::Refused(why)) => why,
-            };
-            if met.is_decided() {
-                return Err(Unused::Refused(met));
-            }
-            pause(rt, &mut waiting, met);
-        }
-        unreachable!()
-    }
-}
-
-impl<V> Store<V> {
-    // The look-up of the key along the path, once no factory decides it.
-    fn wait_along<R: Wait>(
-        &self,
-        rt: &R,
-        lane: &mut CellLane,
-        path: &[ContextNo],
-        key: KeyNo,
-    ) -> Look
-        requires lane { lane.old.cells ≡ self.now.id.cells }
-        requires path { IsTrail self.now path.now }
-        requires key { key < length self.now.keys }
-        ensures lane { lane.new.cells ≡ lane.old.cells }
-        ensures look { LooksAt self.now path.now key lane.old lane.new result }
-        ensures decided { IsDecidedLook result }
-    {
-        let mut waiting = self.waiters.begin();
-        for _ in rt.forever() {
-            match unless_busy(self.look_along(lane, path, key)) {
-                Ok(look) => return look,
-                Err(met) => pause(rt, &mut waiting, met),
-            }
-        }
-        unreachable!()
-    }
-
-    // Stores the kept number, once no factory is in the way.
-    fn wait_to_put<R: Wait>(
-        &self,
-        rt: &R,
-        lane: &mut CellLane,
-        context: ContextNo,
-        key: KeyNo,
-        kept: Kept,
-    ) -> Result<Option<u32>, (Kept, Refusal)>
-        requires lane { lane.old.cells ≡ self.now.id.cells }
-        requires context { context < length self.now.tree }
-        requires key { key < length self.now.keys }
-        requires kept { MayStoreNow lane.old.view kept }
-        ensures lane { lane.new.cells ≡ lane.old.cells }
-        ensures answer { Puts self.now context key kept lane.old lane.new result }
-        ensures decided { IfErr result (λ e. IsDecided e.1) }
-        ensures handed_back { IfErr result (λ e. e.0 ≡ kept) }
-    {
-        let mut kept = kept;
-        let mut waiting = self.waiters.begin();
-        for _ in rt.forever() {
-            let (back, met) = match self.put_at(lane, context, key, kept) {
-                Ok(stood) => return Ok(stood),
-                Err(refused) => refused,
-            };
-            if met.is_decided() {
-                return Err((back, met));
-            }
-            kept = back;
-            pause(rt, &mut waiting, met);
-        }
-        unreachable!()
-    }
-
-    // Takes out what stands, once no factory is in the way.
-    fn wait_to_remove<R: Wait>(
-        &self,
-        rt: &R,
-        lane: &mut CellLane,
-        context: ContextNo,
-        key: KeyNo,
-    ) -> Result<Option<u32>, Refusal>
-        requires lane { lane.old.cells ≡ self.now.id.cells }
-        requires context { context < length self.now.tree }
-        requires key { key < length self.now.keys }
-        ensures lane { lane.new.cells ≡ lane.old.cells }
-        ensures answer { Removes self.now context key lane.old lane.new result }
-        ensures decided { IfErr result IsDecided }
-    {
-        let mut waiting = self.waiters.begin();
-        for _ in rt.forever() {
-            let met = match self.remove_at(lane, context, key) {
-                Ok(stood) => return Ok(stood),
-                Err(why) => why,
-            };
-            if met.is_decided() {
-                return Err(met);
-            }
-            pause(rt, &mut waiting, met);
-        }
-        unreachable!()
-    }
-
-    // Draws the next number, however often other lanes are in the way.
-    fn wait_to_draw<R: Wait>(&self, rt: &R, lane: &mut CellLane) -> Result<u32, CellRefusal>
-        requires lane { lane.old.cells ≡ self.now.id.cells }
-        ensures lane { lane.new.cells ≡ lane.old.cells }
-        ensures reply { cells.Answers self.now.tries lane.old lane.new cells.number_acts (cells.number_reply lane.old) result }
-        ensures storable { IfOk result (MayStoreNow lane.new.view) }
-        ensures decided { result ≢ Err cell_refusal.Contended }
-    {
-        for _ in rt.forever() {
-            let why = match self.cells.next_number(lane) {
-                Ok(number) => return Ok(number),
-                Err(why) => why,
-            };
-            if why != CellRefusal::Contended {
-                return Err(why);
-            }
-        }
-        unreachable!()
     }
 }

@@ -6,8 +6,8 @@ use Rattle.ext_model.specs.declared.event.Act.TheVariants.{Put, Remove}
 use Rattle.ext_model.specs.Events as events
 use Rattle.ext_tree.specs.Keys.{KeyValue}
 use Rattle.ext_cells.specs.Lanes.{Lane}
-use Rattle.ext_store.specs.declared.fault.Refusal.{Refusal}
-use Rattle.ext_store.specs.declared.fault.Refusal.TheVariants as refusal
+use Rattle.ext_shared.specs.declared.fault.Refusal.{Refusal}
+use Rattle.ext_shared.specs.declared.fault.Refusal.TheVariants as refusal
 use Rattle.ext_store.specs.declared.computed.Compute.TheVariants as computes
 use Rattle.ext_store.specs.Stores.{StoreView, cell_in}
 use Rattle.ext_store.specs.Calls.{Gets, Puts, Removes, reply_to, result_at, with_kept}

@@ -10,8 +10,8 @@ use Rattle.ext_lifecycle.specs.FaultTexts.{VerdictText, verdict_text}
 use Rattle.ext_steps.specs.declared.reason.Reason.{Reason}
 use Rattle.ext_steps.specs.declared.reason.Reason.TheVariants as reasons
 use Rattle.ext_steps.specs.Verdicts.{refused}
-use Rattle.ext_store.specs.declared.fault.Refusal.{Refusal}
-use Rattle.ext_store.specs.declared.fault.Refusal.TheVariants as refusal
+use Rattle.ext_shared.specs.declared.fault.Refusal.{Refusal}
+use Rattle.ext_shared.specs.declared.fault.Refusal.TheVariants as refusal
 use Rattle.ext_store.specs.declared.fault.KeepFault.{KeepFault}
 use Rattle.ext_store.specs.declared.fault.KeepFault.TheVariants as keep_fault
 

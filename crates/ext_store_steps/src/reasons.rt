@@ -1,6 +1,6 @@
 //! How steps end whose call of the store was refused.
 ghost use Rattle.std.specs.Prelude.{◌≡◌, ◌≢◌, IfOk, IfErr};
-ghost use Rattle.ext_store.specs.declared.fault.Refusal.TheVariants as refusal;
+ghost use Rattle.ext_shared.specs.declared.fault.Refusal.TheVariants as refusal;
 ghost use Rattle.ext_store.specs.Waiting.{IsDecided, IsDecidedFault};
 ghost use Rattle.ext_steps.specs.Calls.{call_view};
 ghost use Rattle.ext_steps.specs.Verdicts.{refused};

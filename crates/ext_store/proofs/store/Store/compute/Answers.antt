@@ -2,7 +2,6 @@ use Rattle.std.proofs.Common.{◌≡◌, subst, sym, ap, refl}
 use Rattle.std.specs.Prelude.{Contains}
 use Rattle.ext_tree.specs.Keys.{HasNumber}
 use Rattle.ext_store.specs.Computing.{Computes, without_factory}
-use Rattle.ext_store.specs.Stores.{StoreView}
 use Rattle.ext_store.proofs.Keeping.{no_number, is_number, one_number, no_steps}
 use Rattle.ext_store.proofs.Frames.{no_frame}
 use Rattle.ext_store.proofs.store.Store.compute.Goals as goal
@@ -11,7 +10,7 @@ pub returns-in_default-clause-unknown : goal.returns-in_default-clause-unknown
 returns-in_default-clause-unknown g c absent = (refl, refl)
 
 pub returns-in_default-clause-answer : goal.returns-in_default-clause-answer
-returns-in_default-clause-answer g c number has = absurd (no_number number (c.in_default.ensures.found number (subst (λ keys. HasNumber keys c.args.key.now number) (sym (ap (λ (s : StoreView). s.keys) c.self.view_is)) has)))
+returns-in_default-clause-answer g c number has = absurd (no_number number (c.in_default.ensures.found number (subst (λ keys. HasNumber keys c.args.key.now number) (sym c.directory.ensures) has)))
 
 pub returns-in_default-clause-lane : goal.returns-in_default-clause-lane
 returns-in_default-clause-lane g c = c.requires.lane
@@ -38,11 +37,11 @@ pub returns-in_default-clause-factory : goal.returns-in_default-clause-factory
 returns-in_default-clause-factory g c = refl
 
 pub returns-clause-unknown : goal.returns-clause-unknown
-returns-clause-unknown g c absent = absurd (is_number c.in-Some.number (c.in-Some.ensures.absent.1 (subst (λ keys. ¬ Contains keys c.args.key.now) (sym (ap (λ (s : StoreView). s.keys) c.self.view_is)) absent)))
+returns-clause-unknown g c absent = absurd (is_number c.in-Some.number (c.in-Some.ensures.absent.1 (subst (λ keys. ¬ Contains keys c.args.key.now) (sym c.directory.ensures) absent)))
 
 pub returns-clause-answer : goal.returns-clause-answer
 returns-clause-answer g c number has =
-    let same : c.in-Some.number ≡ number = one_number c.in-Some.number number (c.in-Some.ensures.found number (subst (λ keys. HasNumber keys c.args.key.now number) (sym (ap (λ (s : StoreView). s.keys) c.self.view_is)) has)) in
+    let same : c.in-Some.number ≡ number = one_number c.in-Some.number number (c.in-Some.ensures.found number (subst (λ keys. HasNumber keys c.args.key.now number) (sym c.directory.ensures) has)) in
     subst (λ k. Computes c.args.self.now c.args.context k c.args.lane.now.cells c.compute_numbered.new.lane.cells (without_factory c.compute_numbered.result)) same c.compute_numbered.ensures.answer
 
 pub returns-clause-known : goal.returns-clause-known

@@ -7,8 +7,8 @@ use Rattle.ext_cells.specs.Lanes.{CellsId, Lane}
 use Rattle.ext_values.specs.Known.{Learns}
 use Rattle.ext_store.specs.Stores.{StoreLane, StoreView}
 use Rattle.ext_store.specs.Computing.{ComputesFrom, Computes, without_factory}
-use Rattle.ext_store.specs.Claiming.{ClaimsMissing}
-use Rattle.ext_store.proofs.Filling.{none_stored, nor_this}
+use Rattle.ext_shared.specs.Claiming.{ClaimsMissing}
+use Rattle.ext_shared.proofs.Claimed.{none_stored, nor_this}
 use Rattle.ext_store.proofs.Frames.{frame_keeps, frame_known, frame_lane, frames_compose}
 use Rattle.ext_store.proofs.Composing.{unused_computes, for_path, fails, computes, keeps_not, claim_frame, storing_frame}
 use Rattle.ext_store.proofs.Keeping.{one_key}
@@ -22,14 +22,14 @@ returns-in-Err-clause-answer g c =
     let a = c.args.lane.now.cells in
     let b = c.claim_missing.new.lane in
     let m : ClaimsMissing s c.args.context c.args.key a.view b.view (Err c.in-Err.why) =
-    subst (λ (l : Lane). ClaimsMissing s c.args.context c.args.key l.view b.view (Err c.in-Err.why)) lane c.in-Err.ensures.claim in
+    subst (λ (z : StoreView × Lane). ClaimsMissing z.0 c.args.context c.args.key z.1.view b.view (Err c.in-Err.why)) (λ i. (c.self.view_is i, lane i)) c.in-Err.ensures.claim in
     subst (λ r. Computes s c.args.context c.args.key a b (without_factory r)) (sym c.hand_back.ensures)
     (for_path s c.args.context m.0 c.args.key a b _ c.requires.lane.cells m.1 (unused_computes g.row.V.Denot s c.args.context m.0 c.args.key a.view b.view c.args.factory c.in-Err.why m.2))
 
 pub returns-in-Err-clause-frame : goal.returns-in-Err-clause-frame
 returns-in-Err-clause-frame g c =
-    claim_frame c.args.self.now (record { cells = c.lane.inside.cells; known = c.lane.inside.notes }) c.args.lane.now (record { cells = c.claim_missing.new.lane; known = c.lane.inside.notes }) c.lane.view_is c.requires.lane c.claim_missing.ensures.lane refl
-    c.args.context c.args.key (Err c.in-Err.why) c.in-Err.ensures.claim
+    claim_frame c.args.self.now.id (record { cells = c.lane.inside.cells; known = c.lane.inside.notes }) c.args.lane.now (record { cells = c.claim_missing.new.lane; known = c.lane.inside.notes }) c.lane.view_is c.requires.lane c.claim_missing.ensures.lane refl
+    c.self.inside.shared (ap (λ (s : StoreView). s.id) c.self.view_is) c.args.context c.args.key (Err c.in-Err.why) c.in-Err.ensures.claim
 
 pub returns-in-Err-clause-kept : goal.returns-in-Err-clause-kept
 returns-in-Err-clause-kept g c = frame_keeps c.args.self.now.id c.args.lane.now (record { cells = c.claim_missing.new.lane; known = c.lane.inside.notes }) (returns-in-Err-clause-frame g c)
@@ -42,7 +42,7 @@ returns-in-Err-factory-clause-answer g c =
     let a = c.args.lane.now.cells in
     let b = c.claim_missing.new.lane in
     let m : ClaimsMissing s c.args.context c.args.key a.view b.view (Ok c.in-Ok.claim) =
-    subst (λ (l : Lane). ClaimsMissing s c.args.context c.args.key l.view b.view (Ok c.in-Ok.claim)) lane c.in-Ok.ensures.claim in
+    subst (λ (z : StoreView × Lane). ClaimsMissing z.0 c.args.context c.args.key z.1.view b.view (Ok c.in-Ok.claim)) (λ i. (c.self.view_is i, lane i)) c.in-Ok.ensures.claim in
     let there : b.cells ≡ s.id.cells = c.claim_missing.ensures.lane ∙ (ap (λ (l : Lane). l.cells) lane ∙ c.requires.lane.cells) in
     let two : Calls s.id.cells.limits b.view c.abandon.new.lane.view (Abandon c.in-Ok.claim ∷ []) = subst (λ (z : CellsId). Calls z.limits b.view c.abandon.new.lane.view (Abandon c.in-Ok.claim ∷ [])) there c.abandon.ensures.abandoned.calls in
     for_path s c.args.context m.0 c.args.key a c.abandon.new.lane _ c.requires.lane.cells m.1 (fails s c.args.context m.0 c.args.key c.in-Ok.claim a.view b.view c.abandon.new.lane.view m.2 two)
@@ -53,9 +53,9 @@ returns-in-Err-factory-clause-frame g c =
     let inside : StoreLane g.row.V.Denot = record { cells = c.lane.inside.cells; known = c.lane.inside.notes } in
     let claimed : StoreLane g.row.V.Denot = record { cells = c.claim_missing.new.lane; known = c.lane.inside.notes } in
     let ended : StoreLane g.row.V.Denot = record { cells = c.abandon.new.lane; known = c.lane.inside.notes } in
-    let first = claim_frame s inside c.args.lane.now claimed c.lane.view_is c.requires.lane c.claim_missing.ensures.lane refl c.args.context c.args.key (Ok c.in-Ok.claim) c.in-Ok.ensures.claim in
+    let first = claim_frame s.id inside c.args.lane.now claimed c.lane.view_is c.requires.lane c.claim_missing.ensures.lane refl c.self.inside.shared (ap (λ (s : StoreView). s.id) c.self.view_is) c.args.context c.args.key (Ok c.in-Ok.claim) c.in-Ok.ensures.claim in
     frames_compose s.id [] [] c.args.lane.now claimed ended first
-    (storing_frame s claimed claimed ended refl (frame_lane s.id [] c.args.lane.now claimed first) c.abandon.ensures.lane refl (Abandon c.in-Ok.claim ∷ []) (nor_this (Abandon c.in-Ok.claim) [] refl none_stored) c.abandon.ensures.abandoned.calls)
+    (storing_frame s.id claimed claimed ended refl (frame_lane s.id [] c.args.lane.now claimed first) c.abandon.ensures.lane refl (Abandon c.in-Ok.claim ∷ []) (nor_this (Abandon c.in-Ok.claim) [] refl none_stored) c.abandon.ensures.abandoned.calls)
 
 pub returns-in-Err-factory-clause-kept : goal.returns-in-Err-factory-clause-kept
 returns-in-Err-factory-clause-kept g c = frame_keeps c.args.self.now.id c.args.lane.now (record { cells = c.abandon.new.lane; known = c.lane.inside.notes }) (returns-in-Err-factory-clause-frame g c)
@@ -68,7 +68,7 @@ returns-in-Ok-keep_and_fill-clause-answer g c =
     let a = c.args.lane.now.cells in
     let b = c.claim_missing.new.lane in
     let m : ClaimsMissing s c.args.context c.args.key a.view b.view (Ok c.in-Ok.claim) =
-    subst (λ (l : Lane). ClaimsMissing s c.args.context c.args.key l.view b.view (Ok c.in-Ok.claim)) lane c.in-Ok.ensures.claim in
+    subst (λ (z : StoreView × Lane). ClaimsMissing z.0 c.args.context c.args.key z.1.view b.view (Ok c.in-Ok.claim)) (λ i. (c.self.view_is i, lane i)) c.in-Ok.ensures.claim in
     for_path s c.args.context m.0 c.args.key a c.keep_and_fill.new.lane.cells _ c.requires.lane.cells m.1
     (computes s c.args.context m.0 c.args.key c.in-Ok.claim a.view b.view c.keep_and_fill.new.lane.cells.view m.2 c.in-Ok-keep_and_fill.number c.in-Ok-keep_and_fill.ensures.events)
 
@@ -80,7 +80,7 @@ returns-in-Err-keep_and_fill-clause-answer g c =
     let a = c.args.lane.now.cells in
     let b = c.claim_missing.new.lane in
     let m : ClaimsMissing s c.args.context c.args.key a.view b.view (Ok c.in-Ok.claim) =
-    subst (λ (l : Lane). ClaimsMissing s c.args.context c.args.key l.view b.view (Ok c.in-Ok.claim)) lane c.in-Ok.ensures.claim in
+    subst (λ (z : StoreView × Lane). ClaimsMissing z.0 c.args.context c.args.key z.1.view b.view (Ok c.in-Ok.claim)) (λ i. (c.self.view_is i, lane i)) c.in-Ok.ensures.claim in
     for_path s c.args.context m.0 c.args.key a c.keep_and_fill.new.lane.cells _ c.requires.lane.cells m.1
     (keeps_not s c.args.context m.0 c.args.key c.in-Ok.claim a.view b.view c.keep_and_fill.new.lane.cells.view m.2 c.in-Err-keep_and_fill.cause c.in-Err-keep_and_fill.ensures.events)
 
@@ -90,7 +90,7 @@ returns-in-Ok-keep_and_fill-clause-frame g c =
     let inside : StoreLane g.row.V.Denot = record { cells = c.lane.inside.cells; known = c.lane.inside.notes } in
     let claimed : StoreLane g.row.V.Denot = record { cells = c.claim_missing.new.lane; known = c.lane.inside.notes } in
     frames_compose s.id [] [] c.args.lane.now claimed c.keep_and_fill.new.lane
-    (claim_frame s inside c.args.lane.now claimed c.lane.view_is c.requires.lane c.claim_missing.ensures.lane refl c.args.context c.args.key (Ok c.in-Ok.claim) c.in-Ok.ensures.claim) c.keep_and_fill.ensures.frame
+    (claim_frame s.id inside c.args.lane.now claimed c.lane.view_is c.requires.lane c.claim_missing.ensures.lane refl c.self.inside.shared (ap (λ (s : StoreView). s.id) c.self.view_is) c.args.context c.args.key (Ok c.in-Ok.claim) c.in-Ok.ensures.claim) c.keep_and_fill.ensures.frame
 
 pub returns-in-Ok-keep_and_fill-clause-kept : goal.returns-in-Ok-keep_and_fill-clause-kept
 returns-in-Ok-keep_and_fill-clause-kept g c = frame_keeps c.args.self.now.id c.args.lane.now c.keep_and_fill.new.lane (returns-in-Ok-keep_and_fill-clause-frame g c)
@@ -101,7 +101,7 @@ returns-in-Err-keep_and_fill-clause-frame g c =
     let inside : StoreLane g.row.V.Denot = record { cells = c.lane.inside.cells; known = c.lane.inside.notes } in
     let claimed : StoreLane g.row.V.Denot = record { cells = c.claim_missing.new.lane; known = c.lane.inside.notes } in
     frames_compose s.id [] [] c.args.lane.now claimed c.keep_and_fill.new.lane
-    (claim_frame s inside c.args.lane.now claimed c.lane.view_is c.requires.lane c.claim_missing.ensures.lane refl c.args.context c.args.key (Ok c.in-Ok.claim) c.in-Ok.ensures.claim) c.keep_and_fill.ensures.frame
+    (claim_frame s.id inside c.args.lane.now claimed c.lane.view_is c.requires.lane c.claim_missing.ensures.lane refl c.self.inside.shared (ap (λ (s : StoreView). s.id) c.self.view_is) c.args.context c.args.key (Ok c.in-Ok.claim) c.in-Ok.ensures.claim) c.keep_and_fill.ensures.frame
 
 pub returns-in-Err-keep_and_fill-clause-kept : goal.returns-in-Err-keep_and_fill-clause-kept
 returns-in-Err-keep_and_fill-clause-kept g c = frame_keeps c.args.self.now.id c.args.lane.now c.keep_and_fill.new.lane (returns-in-Err-keep_and_fill-clause-frame g c)
@@ -114,24 +114,24 @@ returns-in-Ok-keep_and_fill-clause-apart g c m kept =
     let claimed : StoreLane g.row.V.Denot = record { cells = c.claim_missing.new.lane; known = c.lane.inside.notes } in
     c.in-Ok-keep_and_fill.ensures.apart m
     (frame_keeps s.id c.args.lane.now claimed
-    (claim_frame s inside c.args.lane.now claimed c.lane.view_is c.requires.lane c.claim_missing.ensures.lane refl c.args.context c.args.key (Ok c.in-Ok.claim) c.in-Ok.ensures.claim) m kept)
+    (claim_frame s.id inside c.args.lane.now claimed c.lane.view_is c.requires.lane c.claim_missing.ensures.lane refl c.self.inside.shared (ap (λ (s : StoreView). s.id) c.self.view_is) c.args.context c.args.key (Ok c.in-Ok.claim) c.in-Ok.ensures.claim) m kept)
 
 -- what the factory answered it answered for the key of the number
 
 pub returns-in-Err-factory-clause-factory : goal.returns-in-Err-factory-clause-factory
 returns-in-Err-factory-clause-factory g c name has =
-    let same = one_key c.self.inside.directory c.args.self.now.keys c.args.key c.key.result.now name (ap (λ (s : StoreView). s.keys) c.self.view_is) c.key.ensures.key has in
+    let same = one_key c.directory.result.now c.args.self.now.keys c.args.key c.key.result.now name c.directory.ensures c.key.ensures.key has in
     ((c.key.result, c.in-Err-factory.ensures, same), ap (λ (l : StoreLane g.row.V.Denot). l.known) c.lane.view_is)
 
 pub returns-in-Ok-keep_and_fill-clause-factory : goal.returns-in-Ok-keep_and_fill-clause-factory
 returns-in-Ok-keep_and_fill-clause-factory g c name has =
-    let same = one_key c.self.inside.directory c.args.self.now.keys c.args.key c.key.result.now name (ap (λ (s : StoreView). s.keys) c.self.view_is) c.key.ensures.key has in
+    let same = one_key c.directory.result.now c.args.self.now.keys c.args.key c.key.result.now name c.directory.ensures c.key.ensures.key has in
     let learnt = subst (λ (l : StoreLane g.row.V.Denot). Learns l.known c.keep_and_fill.new.lane.known c.in-Ok-keep_and_fill.number c.in-Ok-factory.value) c.lane.view_is c.in-Ok-keep_and_fill.ensures.known in
     (c.in-Ok-factory.value, (c.key.result, c.in-Ok-factory.ensures, same), learnt)
 
 pub returns-in-Err-keep_and_fill-clause-factory : goal.returns-in-Err-keep_and_fill-clause-factory
 returns-in-Err-keep_and_fill-clause-factory g c name has =
-    let same = one_key c.self.inside.directory c.args.self.now.keys c.args.key c.key.result.now name (ap (λ (s : StoreView). s.keys) c.self.view_is) c.key.ensures.key has in
+    let same = one_key c.directory.result.now c.args.self.now.keys c.args.key c.key.result.now name c.directory.ensures c.key.ensures.key has in
     let kept = c.in-Err-keep_and_fill.ensures.known in
     let returned = subst (λ value. FnOnceReturns g.F.FnOnce c.args.factory (c.key.result, tt {0}) (Ok value)) (sym kept.0) c.in-Ok-factory.ensures in
     ((c.key.result, returned, same), kept.1 ∙ ap (λ (l : StoreLane g.row.V.Denot). l.known) c.lane.view_is)

@@ -8,7 +8,7 @@ use Rattle.ext_values.specs.Known.{Learns}
 use Rattle.ext_store.specs.Stores.{StoreLane, StoreView}
 use Rattle.ext_store.specs.Computing.{ComputesFrom, without_factory}
 use Rattle.ext_store.specs.Waiting.{ClaimsAfterWaits, ComputesAfterWaits}
-use Rattle.ext_store.proofs.Filling.{none_stored, nor_this}
+use Rattle.ext_shared.proofs.Claimed.{none_stored, nor_this}
 use Rattle.ext_store.proofs.Frames.{frame_keeps, frame_known, frame_lane, frames_compose}
 use Rattle.ext_store.proofs.Composing.{unused_computes, fails, computes, keeps_not, storing_frame}
 use Rattle.ext_store.proofs.Waited.{computes_later, waits_frame}
@@ -23,14 +23,14 @@ returns-in-Err-clause-answer g c =
     let a = c.args.lane.now.cells in
     let b = c.wait_to_claim.new.lane in
     let w : ClaimsAfterWaits s c.args.context c.args.key a.view b.view (Err c.in-Err.why) =
-    subst (λ (l : Lane). ClaimsAfterWaits s c.args.context c.args.key l.view b.view (Err c.in-Err.why)) lane c.in-Err.ensures.claim in
+    subst (λ (z : StoreView × Lane). ClaimsAfterWaits z.0 c.args.context c.args.key z.1.view b.view (Err c.in-Err.why)) (λ i. (c.self.view_is i, lane i)) c.in-Err.ensures.claim in
     subst (λ r. ComputesAfterWaits s c.args.context c.args.key a b (without_factory r)) (sym c.hand_back.ensures)
     (computes_later s c.args.context c.args.key a b b.view (Err c.in-Err.why) w _ c.requires.lane.cells (unused_computes g.row.V.Denot s c.args.context w.then_is.0 c.args.key w.between b.view c.args.factory c.in-Err.why w.then_is.2))
 
 pub returns-in-Err-clause-frame : goal.returns-in-Err-clause-frame
 returns-in-Err-clause-frame g c =
-    waits_frame c.args.self.now (record { cells = c.lane.inside.cells; known = c.lane.inside.notes }) c.args.lane.now (record { cells = c.wait_to_claim.new.lane; known = c.lane.inside.notes }) c.lane.view_is c.requires.lane c.wait_to_claim.ensures.lane refl
-    c.args.context c.args.key (Err c.in-Err.why) c.in-Err.ensures.claim
+    waits_frame c.args.self.now.id (record { cells = c.lane.inside.cells; known = c.lane.inside.notes }) c.args.lane.now (record { cells = c.wait_to_claim.new.lane; known = c.lane.inside.notes }) c.lane.view_is c.requires.lane c.wait_to_claim.ensures.lane refl
+    c.self.inside.shared (ap (λ (s : StoreView). s.id) c.self.view_is) c.args.context c.args.key (Err c.in-Err.why) c.in-Err.ensures.claim
 
 pub returns-in-Err-clause-kept : goal.returns-in-Err-clause-kept
 returns-in-Err-clause-kept g c = frame_keeps c.args.self.now.id c.args.lane.now (record { cells = c.wait_to_claim.new.lane; known = c.lane.inside.notes }) (returns-in-Err-clause-frame g c)
@@ -43,7 +43,7 @@ returns-in-Err-factory-clause-answer g c =
     let a = c.args.lane.now.cells in
     let b = c.wait_to_claim.new.lane in
     let w : ClaimsAfterWaits s c.args.context c.args.key a.view b.view (Ok c.in-Ok.claim) =
-    subst (λ (l : Lane). ClaimsAfterWaits s c.args.context c.args.key l.view b.view (Ok c.in-Ok.claim)) lane c.in-Ok.ensures.claim in
+    subst (λ (z : StoreView × Lane). ClaimsAfterWaits z.0 c.args.context c.args.key z.1.view b.view (Ok c.in-Ok.claim)) (λ i. (c.self.view_is i, lane i)) c.in-Ok.ensures.claim in
     let there : b.cells ≡ s.id.cells = c.wait_to_claim.ensures.lane ∙ (ap (λ (l : Lane). l.cells) lane ∙ c.requires.lane.cells) in
     let two : Calls s.id.cells.limits b.view c.abandon.new.lane.view (Abandon c.in-Ok.claim ∷ []) = subst (λ (z : CellsId). Calls z.limits b.view c.abandon.new.lane.view (Abandon c.in-Ok.claim ∷ [])) there c.abandon.ensures.abandoned.calls in
     computes_later s c.args.context c.args.key a c.abandon.new.lane b.view (Ok c.in-Ok.claim) w _ c.requires.lane.cells
@@ -55,9 +55,9 @@ returns-in-Err-factory-clause-frame g c =
     let inside : StoreLane g.row.V.Denot = record { cells = c.lane.inside.cells; known = c.lane.inside.notes } in
     let claimed : StoreLane g.row.V.Denot = record { cells = c.wait_to_claim.new.lane; known = c.lane.inside.notes } in
     let ended : StoreLane g.row.V.Denot = record { cells = c.abandon.new.lane; known = c.lane.inside.notes } in
-    let first = waits_frame s inside c.args.lane.now claimed c.lane.view_is c.requires.lane c.wait_to_claim.ensures.lane refl c.args.context c.args.key (Ok c.in-Ok.claim) c.in-Ok.ensures.claim in
+    let first = waits_frame s.id inside c.args.lane.now claimed c.lane.view_is c.requires.lane c.wait_to_claim.ensures.lane refl c.self.inside.shared (ap (λ (s : StoreView). s.id) c.self.view_is) c.args.context c.args.key (Ok c.in-Ok.claim) c.in-Ok.ensures.claim in
     frames_compose s.id [] [] c.args.lane.now claimed ended first
-    (storing_frame s claimed claimed ended refl (frame_lane s.id [] c.args.lane.now claimed first) c.abandon.ensures.lane refl (Abandon c.in-Ok.claim ∷ []) (nor_this (Abandon c.in-Ok.claim) [] refl none_stored) c.abandon.ensures.abandoned.calls)
+    (storing_frame s.id claimed claimed ended refl (frame_lane s.id [] c.args.lane.now claimed first) c.abandon.ensures.lane refl (Abandon c.in-Ok.claim ∷ []) (nor_this (Abandon c.in-Ok.claim) [] refl none_stored) c.abandon.ensures.abandoned.calls)
 
 pub returns-in-Err-factory-clause-kept : goal.returns-in-Err-factory-clause-kept
 returns-in-Err-factory-clause-kept g c = frame_keeps c.args.self.now.id c.args.lane.now (record { cells = c.abandon.new.lane; known = c.lane.inside.notes }) (returns-in-Err-factory-clause-frame g c)
@@ -70,7 +70,7 @@ returns-in-Ok-wait_to_fill-clause-answer g c =
     let a = c.args.lane.now.cells in
     let b = c.wait_to_claim.new.lane in
     let w : ClaimsAfterWaits s c.args.context c.args.key a.view b.view (Ok c.in-Ok.claim) =
-    subst (λ (l : Lane). ClaimsAfterWaits s c.args.context c.args.key l.view b.view (Ok c.in-Ok.claim)) lane c.in-Ok.ensures.claim in
+    subst (λ (z : StoreView × Lane). ClaimsAfterWaits z.0 c.args.context c.args.key z.1.view b.view (Ok c.in-Ok.claim)) (λ i. (c.self.view_is i, lane i)) c.in-Ok.ensures.claim in
     computes_later s c.args.context c.args.key a c.wait_to_fill.new.lane.cells b.view (Ok c.in-Ok.claim) w _ c.requires.lane.cells
     (computes s c.args.context w.then_is.0 c.args.key c.in-Ok.claim w.between b.view c.wait_to_fill.new.lane.cells.view w.then_is.2 c.in-Ok-wait_to_fill.number c.in-Ok-wait_to_fill.ensures.events)
 
@@ -82,7 +82,7 @@ returns-in-Err-wait_to_fill-clause-answer g c =
     let a = c.args.lane.now.cells in
     let b = c.wait_to_claim.new.lane in
     let w : ClaimsAfterWaits s c.args.context c.args.key a.view b.view (Ok c.in-Ok.claim) =
-    subst (λ (l : Lane). ClaimsAfterWaits s c.args.context c.args.key l.view b.view (Ok c.in-Ok.claim)) lane c.in-Ok.ensures.claim in
+    subst (λ (z : StoreView × Lane). ClaimsAfterWaits z.0 c.args.context c.args.key z.1.view b.view (Ok c.in-Ok.claim)) (λ i. (c.self.view_is i, lane i)) c.in-Ok.ensures.claim in
     computes_later s c.args.context c.args.key a c.wait_to_fill.new.lane.cells b.view (Ok c.in-Ok.claim) w _ c.requires.lane.cells
     (keeps_not s c.args.context w.then_is.0 c.args.key c.in-Ok.claim w.between b.view c.wait_to_fill.new.lane.cells.view w.then_is.2 c.in-Err-wait_to_fill.cause c.in-Err-wait_to_fill.ensures.events)
 
@@ -92,7 +92,7 @@ returns-in-Ok-wait_to_fill-clause-frame g c =
     let inside : StoreLane g.row.V.Denot = record { cells = c.lane.inside.cells; known = c.lane.inside.notes } in
     let claimed : StoreLane g.row.V.Denot = record { cells = c.wait_to_claim.new.lane; known = c.lane.inside.notes } in
     frames_compose s.id [] [] c.args.lane.now claimed c.wait_to_fill.new.lane
-    (waits_frame s inside c.args.lane.now claimed c.lane.view_is c.requires.lane c.wait_to_claim.ensures.lane refl c.args.context c.args.key (Ok c.in-Ok.claim) c.in-Ok.ensures.claim) c.wait_to_fill.ensures.frame
+    (waits_frame s.id inside c.args.lane.now claimed c.lane.view_is c.requires.lane c.wait_to_claim.ensures.lane refl c.self.inside.shared (ap (λ (s : StoreView). s.id) c.self.view_is) c.args.context c.args.key (Ok c.in-Ok.claim) c.in-Ok.ensures.claim) c.wait_to_fill.ensures.frame
 
 pub returns-in-Ok-wait_to_fill-clause-kept : goal.returns-in-Ok-wait_to_fill-clause-kept
 returns-in-Ok-wait_to_fill-clause-kept g c = frame_keeps c.args.self.now.id c.args.lane.now c.wait_to_fill.new.lane (returns-in-Ok-wait_to_fill-clause-frame g c)
@@ -103,7 +103,7 @@ returns-in-Err-wait_to_fill-clause-frame g c =
     let inside : StoreLane g.row.V.Denot = record { cells = c.lane.inside.cells; known = c.lane.inside.notes } in
     let claimed : StoreLane g.row.V.Denot = record { cells = c.wait_to_claim.new.lane; known = c.lane.inside.notes } in
     frames_compose s.id [] [] c.args.lane.now claimed c.wait_to_fill.new.lane
-    (waits_frame s inside c.args.lane.now claimed c.lane.view_is c.requires.lane c.wait_to_claim.ensures.lane refl c.args.context c.args.key (Ok c.in-Ok.claim) c.in-Ok.ensures.claim) c.wait_to_fill.ensures.frame
+    (waits_frame s.id inside c.args.lane.now claimed c.lane.view_is c.requires.lane c.wait_to_claim.ensures.lane refl c.self.inside.shared (ap (λ (s : StoreView). s.id) c.self.view_is) c.args.context c.args.key (Ok c.in-Ok.claim) c.in-Ok.ensures.claim) c.wait_to_fill.ensures.frame
 
 pub returns-in-Err-wait_to_fill-clause-kept : goal.returns-in-Err-wait_to_fill-clause-kept
 returns-in-Err-wait_to_fill-clause-kept g c = frame_keeps c.args.self.now.id c.args.lane.now c.wait_to_fill.new.lane (returns-in-Err-wait_to_fill-clause-frame g c)
@@ -116,24 +116,24 @@ returns-in-Ok-wait_to_fill-clause-apart g c m kept =
     let claimed : StoreLane g.row.V.Denot = record { cells = c.wait_to_claim.new.lane; known = c.lane.inside.notes } in
     c.in-Ok-wait_to_fill.ensures.apart m
     (frame_keeps s.id c.args.lane.now claimed
-    (waits_frame s inside c.args.lane.now claimed c.lane.view_is c.requires.lane c.wait_to_claim.ensures.lane refl c.args.context c.args.key (Ok c.in-Ok.claim) c.in-Ok.ensures.claim) m kept)
+    (waits_frame s.id inside c.args.lane.now claimed c.lane.view_is c.requires.lane c.wait_to_claim.ensures.lane refl c.self.inside.shared (ap (λ (s : StoreView). s.id) c.self.view_is) c.args.context c.args.key (Ok c.in-Ok.claim) c.in-Ok.ensures.claim) m kept)
 
 -- what the factory answered it answered for the key of the number
 
 pub returns-in-Err-factory-clause-factory : goal.returns-in-Err-factory-clause-factory
 returns-in-Err-factory-clause-factory g c name has =
-    let same = one_key c.self.inside.directory c.args.self.now.keys c.args.key c.key.result.now name (ap (λ (s : StoreView). s.keys) c.self.view_is) c.key.ensures.key has in
+    let same = one_key c.directory.result.now c.args.self.now.keys c.args.key c.key.result.now name c.directory.ensures c.key.ensures.key has in
     ((c.key.result, c.in-Err-factory.ensures, same), ap (λ (l : StoreLane g.row.V.Denot). l.known) c.lane.view_is)
 
 pub returns-in-Ok-wait_to_fill-clause-factory : goal.returns-in-Ok-wait_to_fill-clause-factory
 returns-in-Ok-wait_to_fill-clause-factory g c name has =
-    let same = one_key c.self.inside.directory c.args.self.now.keys c.args.key c.key.result.now name (ap (λ (s : StoreView). s.keys) c.self.view_is) c.key.ensures.key has in
+    let same = one_key c.directory.result.now c.args.self.now.keys c.args.key c.key.result.now name c.directory.ensures c.key.ensures.key has in
     let learnt = subst (λ (l : StoreLane g.row.V.Denot). Learns l.known c.wait_to_fill.new.lane.known c.in-Ok-wait_to_fill.number c.in-Ok-factory.value) c.lane.view_is c.in-Ok-wait_to_fill.ensures.known in
     (c.in-Ok-factory.value, (c.key.result, c.in-Ok-factory.ensures, same), learnt)
 
 pub returns-in-Err-wait_to_fill-clause-factory : goal.returns-in-Err-wait_to_fill-clause-factory
 returns-in-Err-wait_to_fill-clause-factory g c name has =
-    let same = one_key c.self.inside.directory c.args.self.now.keys c.args.key c.key.result.now name (ap (λ (s : StoreView). s.keys) c.self.view_is) c.key.ensures.key has in
+    let same = one_key c.directory.result.now c.args.self.now.keys c.args.key c.key.result.now name c.directory.ensures c.key.ensures.key has in
     let kept = c.in-Err-wait_to_fill.ensures.known in
     let returned = subst (λ value. FnOnceReturns g.F.FnOnce c.args.factory (c.key.result, tt {0}) (Ok value)) (sym kept.0) c.in-Ok-factory.ensures in
     ((c.key.result, returned, same), kept.1 ∙ ap (λ (l : StoreLane g.row.V.Denot). l.known) c.lane.view_is)

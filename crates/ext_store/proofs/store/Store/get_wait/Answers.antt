@@ -2,7 +2,6 @@ use Rattle.std.proofs.Common.{◌≡◌, subst, sym, ap, refl}
 use Rattle.ext_tree.specs.Keys.{HasNumber}
 use Rattle.std.specs.Prelude.{Contains, Ok}
 use Rattle.ext_store.specs.Calls.{Gets}
-use Rattle.ext_store.specs.Stores.{StoreView}
 use Rattle.ext_store.proofs.Keeping.{no_number, is_number, one_number}
 use Rattle.ext_store.proofs.Frames.{no_frame}
 use Rattle.ext_store.proofs.store.Store.get_wait.Goals as goal
@@ -11,7 +10,7 @@ pub returns-in_default-clause-unknown : goal.returns-in_default-clause-unknown
 returns-in_default-clause-unknown g c absent = (refl, refl)
 
 pub returns-in_default-clause-answer : goal.returns-in_default-clause-answer
-returns-in_default-clause-answer g c number has = absurd (no_number number (c.in_default.ensures.found number (subst (λ keys. HasNumber keys c.args.key.now number) (sym (ap (λ (s : StoreView). s.keys) c.self.view_is)) has)))
+returns-in_default-clause-answer g c number has = absurd (no_number number (c.in_default.ensures.found number (subst (λ keys. HasNumber keys c.args.key.now number) (sym c.directory.ensures) has)))
 
 pub returns-in_default-clause-lane : goal.returns-in_default-clause-lane
 returns-in_default-clause-lane g c = c.requires.lane
@@ -29,11 +28,11 @@ pub returns-in_default-clause-decided : goal.returns-in_default-clause-decided
 returns-in_default-clause-decided g c = tt
 
 pub returns-clause-unknown : goal.returns-clause-unknown
-returns-clause-unknown g c absent = absurd (is_number c.in-Some.key (c.in-Some.ensures.absent.1 (subst (λ keys. ¬ Contains keys c.args.key.now) (sym (ap (λ (s : StoreView). s.keys) c.self.view_is)) absent)))
+returns-clause-unknown g c absent = absurd (is_number c.in-Some.key (c.in-Some.ensures.absent.1 (subst (λ keys. ¬ Contains keys c.args.key.now) (sym c.directory.ensures) absent)))
 
 pub returns-clause-answer : goal.returns-clause-answer
 returns-clause-answer g c number has =
-    let same : c.in-Some.key ≡ number = one_number c.in-Some.key number (c.in-Some.ensures.found number (subst (λ keys. HasNumber keys c.args.key.now number) (sym (ap (λ (s : StoreView). s.keys) c.self.view_is)) has)) in
+    let same : c.in-Some.key ≡ number = one_number c.in-Some.key number (c.in-Some.ensures.found number (subst (λ keys. HasNumber keys c.args.key.now number) (sym c.directory.ensures) has)) in
     subst (λ k. Gets c.args.self.now c.args.context k c.args.lane.now.cells c.get_wait_numbered.new.lane.cells (Ok c.get_wait_numbered.result)) same c.get_wait_numbered.ensures.answer
 
 pub returns-clause-known : goal.returns-clause-known

@@ -1,21 +1,28 @@
-use Rattle.std.proofs.Common.{rules, refl, ◌≤◌, ap, subst, arith, length}
+use Rattle.std.proofs.Common.{[], refl, ap, subst}
 use Rattle.std.specs.Prelude.{Ok}
-use Rattle.ext_tree.specs.Paths.{IsPathOf}
-use Rattle.ext_store.specs.Stores.{StoreLane}
+use Rattle.ext_cells.specs.Lanes.{Lane}
+use Rattle.ext_store.specs.Stores.{StoreView, StoreLane}
 use Rattle.ext_store.specs.Calls.{Gets}
-use Rattle.ext_store.proofs.LookUps.{looks_answer}
-use Rattle.ext_store.proofs.Frames.{quiet_frame}
+use Rattle.ext_shared.proofs.Events.{gets_quiet}
+use Rattle.ext_store.proofs.Frames.{frame_keeps, frame_lane, quiet_frame}
 use Rattle.ext_store.proofs.store.Store.get_wait_numbered.Goals as goal
 
 pub returns-clause-answer : goal.returns-clause-answer
-unfolding Gets
-returns-clause-answer g c =
-    let some : 1 ≤ length c.as_slice.result.now = (let l = ap length c.as_slice.ensures.contexts in let s = c.path-path.ensures.some in omega (arith, l, s)) in
-    let answers = looks_answer c.args.self.now c.as_slice.result.now c.args.key c.lane.inside.cells c.wait_along.new.lane (Ok c.wait_along.result) some c.wait_along.ensures.look in
-    let path : IsPathOf c.args.self.now.tree c.args.context c.as_slice.result.now = search rules in
-    subst (λ l. Gets c.args.self.now c.args.context c.args.key l c.wait_along.new.lane (Ok c.wait_along.result)) (ap (λ (l : StoreLane g.row.V.Denot). l.cells) c.lane.view_is) (c.as_slice.result.now, path, answers)
+returns-clause-answer g c = subst (λ (z : StoreView × Lane). Gets z.0 c.args.context c.args.key z.1 c.wait_to_look.new.lane (Ok c.wait_to_look.result)) (λ i. (c.self.view_is i, (c.lane.view_is i).cells)) c.wait_to_look.ensures.answer
 
 pub returns-clause-frame : goal.returns-clause-frame
 returns-clause-frame g c =
-    quiet_frame c.args.self.now.id (record { cells = c.lane.inside.cells; known = c.lane.inside.notes }) c.args.lane.now (record { cells = c.wait_along.new.lane; known = c.lane.inside.notes }) c.lane.view_is c.requires.lane c.wait_along.ensures.lane refl
-    c.wait_along.ensures.look.calls
+    quiet_frame c.args.self.now.id (record { cells = c.lane.inside.cells; known = c.lane.inside.notes }) c.args.lane.now (record { cells = c.wait_to_look.new.lane; known = c.lane.inside.notes }) c.lane.view_is c.requires.lane c.wait_to_look.ensures.lane refl
+    (gets_quiet c.self.inside.shared c.args.context c.args.key c.lane.inside.cells c.wait_to_look.new.lane (Ok c.wait_to_look.result) c.wait_to_look.ensures.answer)
+
+pub returns-clause-known : goal.returns-clause-known
+returns-clause-known g c = ap (λ (l : StoreLane g.row.V.Denot). l.known) c.lane.view_is
+
+pub returns-clause-lane : goal.returns-clause-lane
+returns-clause-lane g c = frame_lane c.args.self.now.id [] c.args.lane.now (record { cells = c.wait_to_look.new.lane; known = c.lane.inside.notes }) (returns-clause-frame g c)
+
+pub returns-clause-kept : goal.returns-clause-kept
+returns-clause-kept g c = frame_keeps c.args.self.now.id c.args.lane.now (record { cells = c.wait_to_look.new.lane; known = c.lane.inside.notes }) (returns-clause-frame g c)
+
+pub returns-clause-decided : goal.returns-clause-decided
+returns-clause-decided g c = c.wait_to_look.ensures.decided

@@ -4,7 +4,8 @@ use Rattle.ext_model.specs.Calls.{Calls, IsHeld}
 use Rattle.ext_cells.specs.Lanes.{CellsId, Lane}
 use Rattle.ext_store.specs.Stores.{StoreLane}
 use Rattle.ext_store.specs.Computing.{Fills}
-use Rattle.ext_store.proofs.Filling.{none_stored, nor_this, kept_held, fails_held, fills, unkept}
+use Rattle.ext_store.proofs.Filling.{kept_held, fails_held, fills, unkept}
+use Rattle.ext_shared.proofs.Claimed.{none_stored, nor_this}
 use Rattle.ext_store.proofs.Frames.{frames_compose}
 use Rattle.ext_store.proofs.Composing.{storing_frame, fill_frame}
 use Rattle.ext_store.proofs.store.Store.keep_and_fill.Goals as goal
@@ -24,7 +25,7 @@ returns-in-Ok-clause-events g c =
     let b = c.keep.new.lane.cells in
     let number : c.kept.inside.number ≡ c.in-Ok.kept = c.kept.view_is in
     let two : Calls c.args.self.now.id.cells.limits b.view c.fill.new.lane.view (Fill c.args.claim c.in-Ok.kept ∷ []) =
-    subst (λ (z : CellsId × ℕ). Calls z.0.limits b.view c.fill.new.lane.view (Fill c.args.claim z.1 ∷ [])) (λ i. (c.keep.ensures.lane.cells i, number i))
+    subst (λ (z : CellsId × ℕ). Calls z.0.limits b.view c.fill.new.lane.view (Fill c.args.claim z.1 ∷ [])) {x = (b.cells, c.kept.inside.number)} (λ i. (c.keep.ensures.lane.cells i, number i))
     (subst (λ (z : Lane). Calls z.cells.limits z.view c.fill.new.lane.view (Fill c.args.claim c.kept.inside.number ∷ [])) (ap (λ (l : StoreLane g.row.V.Denot). l.cells) c.lane.view_is) c.fill.ensures.filled.calls) in
     subst (Fills c.args.self.now.id.cells.limits [] c.args.claim c.args.lane.now.cells.view c.fill.new.lane.view) (sym number)
     (fills c.args.self.now c.args.lane.now.cells b c.requires.lane.cells c.args.claim c.fill.new.lane c.in-Ok.kept c.in-Ok.ensures.answer.drawn two)
@@ -41,12 +42,12 @@ pub returns-in-Err-clause-events : goal.returns-in-Err-clause-events
 returns-in-Err-clause-events g c =
     let b = c.keep.new.lane.cells in
     let two : Calls c.args.self.now.id.cells.limits b.view c.abandon.new.lane.view (Abandon c.args.claim ∷ []) =
-    subst (λ (z : CellsId). Calls z.limits b.view c.abandon.new.lane.view (Abandon c.args.claim ∷ [])) c.keep.ensures.lane.cells
+    subst (λ (z : CellsId). Calls z.limits b.view c.abandon.new.lane.view (Abandon c.args.claim ∷ [])) {x = b.cells} c.keep.ensures.lane.cells
     (subst (λ (z : Lane). Calls z.cells.limits z.view c.abandon.new.lane.view (Abandon c.args.claim ∷ [])) (ap (λ (l : StoreLane g.row.V.Denot). l.cells) c.lane.view_is) c.abandon.ensures.abandoned.calls) in
     unkept c.args.self.now c.args.lane.now.cells b c.requires.lane.cells c.args.claim c.abandon.new.lane c.in-Err.unkept.1 c.in-Err.ensures.answer.fails two
 
 pub returns-in-Err-clause-frame : goal.returns-in-Err-clause-frame
 returns-in-Err-clause-frame g c =
     frames_compose c.args.self.now.id [] [] c.args.lane.now c.keep.new.lane (record { cells = c.abandon.new.lane; known = c.lane.inside.notes }) c.keep.ensures.frame
-    (storing_frame c.args.self.now (record { cells = c.lane.inside.cells; known = c.lane.inside.notes }) c.keep.new.lane (record { cells = c.abandon.new.lane; known = c.lane.inside.notes }) c.lane.view_is c.keep.ensures.lane c.abandon.ensures.lane refl
+    (storing_frame c.args.self.now.id (record { cells = c.lane.inside.cells; known = c.lane.inside.notes }) c.keep.new.lane (record { cells = c.abandon.new.lane; known = c.lane.inside.notes }) c.lane.view_is c.keep.ensures.lane c.abandon.ensures.lane refl
     (Abandon c.args.claim ∷ []) (nor_this (Abandon c.args.claim) [] refl none_stored) c.abandon.ensures.abandoned.calls)

@@ -2,7 +2,6 @@ use Rattle.std.proofs.Common.{◌≡◌, subst, sym, ap, refl}
 use Rattle.std.specs.Prelude.{Contains}
 use Rattle.ext_tree.specs.Keys.{HasNumber}
 use Rattle.ext_store.specs.Calls.{Puts}
-use Rattle.ext_store.specs.Stores.{StoreView}
 use Rattle.ext_store.proofs.Keeping.{no_number, is_number, one_number}
 use Rattle.ext_store.proofs.Frames.{no_frame}
 use Rattle.ext_store.proofs.store.Store.put_wait.Goals as goal
@@ -11,7 +10,7 @@ pub returns-in_default-clause-unknown : goal.returns-in_default-clause-unknown
 returns-in_default-clause-unknown g c absent = (refl, refl)
 
 pub returns-in_default-clause-answer : goal.returns-in_default-clause-answer
-returns-in_default-clause-answer g c number has = absurd (no_number number (c.in_default.ensures.found number (subst (λ keys. HasNumber keys c.args.key.now number) (sym (ap (λ (s : StoreView). s.keys) c.self.view_is)) has)))
+returns-in_default-clause-answer g c number has = absurd (no_number number (c.in_default.ensures.found number (subst (λ keys. HasNumber keys c.args.key.now number) (sym c.directory.ensures) has)))
 
 pub returns-in_default-clause-lane : goal.returns-in_default-clause-lane
 returns-in_default-clause-lane g c = c.requires.lane
@@ -32,11 +31,11 @@ pub returns-in_default-clause-handed_back : goal.returns-in_default-clause-hande
 returns-in_default-clause-handed_back g c = refl
 
 pub returns-clause-unknown : goal.returns-clause-unknown
-returns-clause-unknown g c absent = absurd (is_number c.in-Some.key (c.in-Some.ensures.absent.1 (subst (λ keys. ¬ Contains keys c.args.key.now) (sym (ap (λ (s : StoreView). s.keys) c.self.view_is)) absent)))
+returns-clause-unknown g c absent = absurd (is_number c.in-Some.key (c.in-Some.ensures.absent.1 (subst (λ keys. ¬ Contains keys c.args.key.now) (sym c.directory.ensures) absent)))
 
 pub returns-clause-answer : goal.returns-clause-answer
 returns-clause-answer g c number has =
-    let same : c.in-Some.key ≡ number = one_number c.in-Some.key number (c.in-Some.ensures.found number (subst (λ keys. HasNumber keys c.args.key.now number) (sym (ap (λ (s : StoreView). s.keys) c.self.view_is)) has)) in
+    let same : c.in-Some.key ≡ number = one_number c.in-Some.key number (c.in-Some.ensures.found number (subst (λ keys. HasNumber keys c.args.key.now number) (sym c.directory.ensures) has)) in
     subst (λ k. Puts c.args.self.now c.args.context k c.args.kept c.args.lane.now.cells c.put_wait_numbered.new.lane.cells c.put_wait_numbered.result) same c.put_wait_numbered.ensures.answer
 
 pub returns-clause-known : goal.returns-clause-known

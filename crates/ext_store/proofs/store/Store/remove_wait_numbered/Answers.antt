@@ -1,28 +1,27 @@
 use Rattle.std.proofs.Common.{[], refl, ap, subst}
-use Rattle.ext_store.specs.Stores.{StoreLane, StillKeeps}
-use Rattle.ext_store.proofs.Keeping.{remove_calls, remove_keeps}
-use Rattle.ext_store.proofs.Frames.{frame_lane, remove_frame}
+use Rattle.ext_cells.specs.Lanes.{Lane}
+use Rattle.ext_store.specs.Stores.{StoreView, StoreLane}
+use Rattle.ext_store.specs.Calls.{Removes}
+use Rattle.ext_shared.proofs.Events.{remove_calls}
+use Rattle.ext_store.proofs.Frames.{frame_keeps, frame_lane, remove_frame}
 use Rattle.ext_store.proofs.store.Store.remove_wait_numbered.Goals as goal
 
-pub returns-clause-kept : goal.returns-clause-kept
-returns-clause-kept g c =
-    let before : StoreLane g.row.V.Denot = record { cells = c.lane.inside.cells; known = c.lane.inside.notes } in
-    let after : StoreLane g.row.V.Denot = record { cells = c.wait_to_remove.new.lane; known = c.lane.inside.notes } in
-    subst (λ l. StillKeeps l after) c.lane.view_is
-    (remove_keeps c.args.self.now c.args.context c.args.key before after refl c.wait_to_remove.result (remove_calls c.args.self.now c.args.context c.args.key before after c.wait_to_remove.result c.wait_to_remove.ensures.answer))
+pub returns-clause-answer : goal.returns-clause-answer
+returns-clause-answer g c = subst (λ (z : StoreView × Lane). Removes z.0 c.args.context c.args.key z.1 c.wait_to_remove.new.lane c.wait_to_remove.result) (λ i. (c.self.view_is i, (c.lane.view_is i).cells)) c.wait_to_remove.ensures.answer
 
 pub returns-clause-frame : goal.returns-clause-frame
 returns-clause-frame g c =
-    let before : StoreLane g.row.V.Denot = record { cells = c.lane.inside.cells; known = c.lane.inside.notes } in
-    let after : StoreLane g.row.V.Denot = record { cells = c.wait_to_remove.new.lane; known = c.lane.inside.notes } in
-    remove_frame c.args.self.now.id before c.args.lane.now after c.lane.view_is c.requires.lane c.wait_to_remove.ensures.lane refl c.args.self.now c.args.context c.args.key c.wait_to_remove.result
-    (remove_calls c.args.self.now c.args.context c.args.key before after c.wait_to_remove.result c.wait_to_remove.ensures.answer)
+    remove_frame c.args.self.now.id (record { cells = c.lane.inside.cells; known = c.lane.inside.notes }) c.args.lane.now (record { cells = c.wait_to_remove.new.lane; known = c.lane.inside.notes }) c.lane.view_is c.requires.lane c.wait_to_remove.ensures.lane refl c.self.inside.shared c.args.context c.args.key c.wait_to_remove.result
+    (remove_calls c.self.inside.shared c.args.context c.args.key c.lane.inside.cells c.wait_to_remove.new.lane c.wait_to_remove.result c.wait_to_remove.ensures.answer)
 
 pub returns-clause-known : goal.returns-clause-known
 returns-clause-known g c = ap (λ (l : StoreLane g.row.V.Denot). l.known) c.lane.view_is
 
 pub returns-clause-lane : goal.returns-clause-lane
 returns-clause-lane g c = frame_lane c.args.self.now.id [] c.args.lane.now (record { cells = c.wait_to_remove.new.lane; known = c.lane.inside.notes }) (returns-clause-frame g c)
+
+pub returns-clause-kept : goal.returns-clause-kept
+returns-clause-kept g c = frame_keeps c.args.self.now.id c.args.lane.now (record { cells = c.wait_to_remove.new.lane; known = c.lane.inside.notes }) (returns-clause-frame g c)
 
 pub returns-clause-decided : goal.returns-clause-decided
 returns-clause-decided g c = c.wait_to_remove.ensures.decided

@@ -1,15 +1,24 @@
-use Rattle.std.proofs.Common.{refl}
-use Rattle.ext_store.proofs.SealsKeep.{seal_keeps, seal_frame}
-use Rattle.ext_store.proofs.Refused.{seal_refusal}
+use Rattle.std.proofs.Common.{[], refl, ap, subst}
+use Rattle.ext_cells.specs.Lanes.{Lane}
+use Rattle.ext_store.specs.Stores.{StoreView, StoreLane, CloserView}
+use Rattle.ext_shared.specs.Sealing.{SealsKey}
+use Rattle.ext_store.proofs.Frames.{frame_keeps, frame_lane}
+use Rattle.ext_store.proofs.SealsKeep.{seal_frame}
 use Rattle.ext_store.proofs.store.Store.seal.Goals as goal
 
-pub returns-clause-kept : goal.returns-clause-kept
-returns-clause-kept g c = rw (← c.lane.view_is) (seal_keeps c.self.inside.cells.tries c.lane.inside.notes c.lane.inside.cells c.seal.new.lane _ _ c.seal.ensures.reply)
+pub returns-clause-answer : goal.returns-clause-answer
+returns-clause-answer g c =
+    subst (λ (z : StoreView × Lane × CloserView). SealsKey z.0 z.2.context c.args.key z.1 c.seal_at.new.lane c.seal_at.result) (λ i. (c.self.view_is i, (c.lane.view_is i).cells, c.closer.view_is i)) c.seal_at.ensures.answer
 
 pub returns-clause-frame : goal.returns-clause-frame
 returns-clause-frame g c =
-    seal_frame c.args.self.now.id c.self.inside.cells.tries (record { cells = c.lane.inside.cells; known = c.lane.inside.notes }) c.args.lane.now (record { cells = c.seal.new.lane; known = c.lane.inside.notes }) c.lane.view_is c.requires.lane c.seal.ensures.lane refl
-    _ _ c.seal.ensures.reply
+    seal_frame c.args.self.now.id c.self.inside.shared (record { cells = c.lane.inside.cells; known = c.lane.inside.notes }) c.args.lane.now (record { cells = c.seal_at.new.lane; known = c.lane.inside.notes }) c.lane.view_is c.requires.lane c.seal_at.ensures.lane refl _ c.args.key c.seal_at.result c.seal_at.ensures.answer
 
-pub at-requires : goal.at-requires
-at-requires g c = seal_refusal c.self.inside.cells.tries c.lane.inside.cells c.seal.new.lane _ c.in-Err.why c.in-Err.ensures.reply
+pub returns-clause-known : goal.returns-clause-known
+returns-clause-known g c = ap (λ (l : StoreLane g.row.V.Denot). l.known) c.lane.view_is
+
+pub returns-clause-lane : goal.returns-clause-lane
+returns-clause-lane g c = frame_lane c.args.self.now.id [] c.args.lane.now (record { cells = c.seal_at.new.lane; known = c.lane.inside.notes }) (returns-clause-frame g c)
+
+pub returns-clause-kept : goal.returns-clause-kept
+returns-clause-kept g c = frame_keeps c.args.self.now.id c.args.lane.now (record { cells = c.seal_at.new.lane; known = c.lane.inside.notes }) (returns-clause-frame g c)

@@ -1,0 +1,10 @@
+pub mod Trails
+pub mod LookUps
+pub mod Replies
+pub mod Refused
+pub mod Events
+pub mod Standing
+pub mod Parts
+pub mod Missing
+pub mod Claimed
+pub mod Waited

@@ -1,0 +1,108 @@
+//! What the lanes of a store share.
+ghost use Rattle.std.specs.Prelude.{◌≡◌, ◌*◌, ◌<◌, ◌≤◌, length};
+ghost use Rattle.ext_shared.specs.Stores.{IsWell, cell_in};
+
+use ext_cells::Cells;
+use ext_model::{CellNo, ContextNo, KeyNo};
+use ext_tree::{Directory, Tree};
+use ext_values::Values;
+use ext_waiters::Waiters;
+use std::marker::Model;
+
+/// What the lanes of a store share by reference: its contexts, its declared keys, a cell for each context and key, the
+/// places of its values, and who waits until a claim has ended. Own rule.
+#[derive(Drop)]
+pub struct Shared<V> {
+    pub(crate) tree: Tree,
+    pub(crate) directory: Directory,
+    pub(crate) cells: Cells,
+    pub(crate) values: Values<V>,
+    // No contract speaks of them.
+    pub(crate) waiters: Waiters,
+}
+
+impl<V> Model for Shared<V> {
+    ghost use Rattle.ext_shared.specs.Stores.{StoreView, IsWell};
+
+    ghost Value = { StoreView };
+
+    ghost view = { λ s. record { id = record { cells = s.cells.id; places = s.values }; tree = s.tree; keys = s.directory; tries = s.cells.tries } };
+
+    ghost invariant = { λ s. IsWell s.tree s.directory s.cells.id.limits s.values };
+}
+
+impl<V> Shared<V> {
+    /// Puts together what the lanes of a store share, where there is a cell for each context and key and a place for each
+    /// number. Nobody waits. Takes no memory. Own rule.
+    pub fn new(tree: Tree, directory: Directory, cells: Cells, values: Values<V>) -> Shared<V>
+        requires { IsWell tree directory cells.id.limits values }
+        ensures { result ≡ record { id = record { cells = cells.id; places = values }; tree = tree; keys = directory; tries = cells.tries } }
+    {
+        Shared {
+            tree,
+            directory,
+            cells,
+            values,
+            waiters: Waiters::new(),
+        }
+    }
+
+    /// The contexts. Takes no memory. Own rule.
+    pub fn tree(&self) -> &Tree
+        ensures { result.now ≡ self.now.tree }
+    {
+        &self.tree
+    }
+
+    /// The declared keys. Takes no memory. Own rule.
+    pub fn directory(&self) -> &Directory
+        ensures { result.now ≡ self.now.keys }
+    {
+        &self.directory
+    }
+
+    /// The cells. Takes no memory. Own rule.
+    pub fn cells(&self) -> &Cells
+        ensures id { result.now.id ≡ self.now.id.cells }
+        ensures tries { result.now.tries ≡ self.now.tries }
+    {
+        &self.cells
+    }
+
+    /// The places of the values. Takes no memory. Own rule.
+    pub fn values(&self) -> &Values<V>
+        ensures { result.now ≡ self.now.id.places }
+    {
+        &self.values
+    }
+
+    /// How many exchanges a change makes at most, and how many passes after its first a look-up, from 1 to 64. Takes no
+    /// memory. Own rule.
+    pub fn tries(&self) -> u32
+        ensures tries { result ≡ self.now.tries }
+        ensures within { (1 ≤ self.now.tries) × (self.now.tries ≤ 64) }
+    {
+        self.cells.tries()
+    }
+
+    /// Tells a proof what is true of all that lanes share: there is a cell for each context and key, and a place for each
+    /// of at most 65,535 numbers. It does nothing when it runs. Own rule.
+    pub fn recall(&self)
+        ensures cells { self.now.id.cells.limits.cells ≡ length self.now.tree * length self.now.keys }
+        ensures numbers { self.now.id.cells.limits.numbers ≡ length self.now.id.places }
+        ensures few { self.now.id.cells.limits.numbers ≤ 65535 }
+    {
+        let _capacity = self.values.capacity();
+    }
+
+    // The cell of the key in the context.
+    pub(crate) fn cell(&self, context: ContextNo, key: KeyNo) -> CellNo
+        requires context { context < length self.now.tree }
+        requires key { key < length self.now.keys }
+        ensures cell { result ≡ cell_in self.now key context }
+        ensures within { result < self.now.id.cells.limits.cells }
+    {
+        let _contexts = self.tree.len();
+        self.directory.cell(context, key)
+    }
+}

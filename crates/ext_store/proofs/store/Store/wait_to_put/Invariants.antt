@@ -1,6 +1,0 @@
-use Rattle.std.proofs.Common.{◌≡◌}
-use Rattle.ext_store.proofs.Waited.{Waited}
-use Rattle.ext_store.proofs.store.Store.wait_to_put.Given as goal
-
-abbrev pub invariant-loop : goal.invariant-loop
-invariant-loop g l = Waited l.fn.lane l.lane × (l.kept ≡ l.fn.kept)
