@@ -10,7 +10,7 @@ use ext_model::{ContextNo, KeyNo};
 
 impl<V> Shared<V> {
     /// Stores the number under the key in the context itself, over one that stands there, and answers the number that
-    /// stood. Takes no memory.
+    /// stood. It is a condition that the lane drew the number and has not stored it. Takes no memory.
     ///
     /// Refused, in this order, as `Busy` where a lane computes a value for the context, as `Closed`, as `Exhausted`
     /// where there were more than 2^40 - 3 events there, and as `Contended`.

@@ -83,8 +83,9 @@ impl<V> Shared<V> {
         }
     }
 
-    /// Stores the number in the claimed cell, which ends the claim, and then wakes the lanes that wait for that. Never
-    /// refused, and takes no memory. Own rule.
+    /// Stores the number in the claimed cell, which ends the claim, and then wakes the lanes that wait for that. It is a
+    /// condition that the claim is the lane's, and that the lane drew the number and has not stored it. Never refused,
+    /// and takes no memory. Own rule.
     pub fn fill(&self, lane: &mut CellLane, claim: Claim, number: u32)
         requires lane { lane.old.cells ≡ self.now.id.cells }
         requires held { IsHeld lane.old.view claim }
@@ -97,7 +98,8 @@ impl<V> Shared<V> {
         self.waiters.wake_all();
     }
 
-    /// Gives the claim up, and then wakes the lanes that wait for that. Never refused, and takes no memory. Own rule.
+    /// Gives the claim up, and then wakes the lanes that wait for that. It is a condition that the claim is the lane's.
+    /// Never refused, and takes no memory. Own rule.
     pub fn abandon(&self, lane: &mut CellLane, claim: Claim)
         requires lane { lane.old.cells ≡ self.now.id.cells }
         requires held { IsHeld lane.old.view claim }

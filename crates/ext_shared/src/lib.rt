@@ -1,9 +1,10 @@
 //! What the lanes of a store share, and what each call of the store does to a lane of its cells.
 //!
 //! `Shared` has the contexts, the declared keys, a cell for each context and key, the places of the values, and who waits.
-//! Its calls are those of the store, by the number of the key and for the store's lane of the cells alone: what a lane knows
-//! of the values is the store's own matter. `specs/Stores`, `specs/Calls`, `specs/Claiming` and `specs/Sealing` have the
-//! words of the contracts, and `specs/Waiting` those of the forms that wait.
+//! Its calls are those of the store, by the number of a declared key, in a context of the store, and for the store's lane of
+//! the cells alone: these are conditions of each. What a lane knows of the values is the store's own matter.
+//! `specs/Stores`, `specs/Calls`, `specs/Claiming` and `specs/Sealing` have the words of the contracts, and
+//! `specs/Waiting` those of the forms that wait.
 //!
 //! Javadoc `ExtensionContext.Store`; JUnit 5 User Guide, section "Keeping State in Extensions". Numbers, lanes, claims,
 //! refusals and limits are own rules.
