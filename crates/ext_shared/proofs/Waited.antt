@@ -28,7 +28,7 @@ use Rattle.ext_shared.specs.Stores.{StoreView, cell_in}
 use Rattle.ext_shared.specs.Calls.{Puts, Removes, with_kept, result_at, put_acts, remove_acts}
 use Rattle.ext_shared.specs.Looking.{Looks, LooksAt}
 use Rattle.ext_shared.specs.Claiming.{given_up_events, Meets, IsRefused, ClaimsFrom, ClaimsMissing}
-use Rattle.ext_shared.specs.Waiting.{IsDecided, IsDecidedLook, busy_refused, claims_given_up, ClaimsAfterWaits}
+use Rattle.ext_shared.specs.Waiting.{IsDecided, IsDecidedLook, busy_refused, claims_given_up, TriedInVain, ClaimsAfterWaits}
 use Rattle.ext_shared.proofs.Claimed.{claim_acts}
 
 -- ---- a lane that made no event yet
@@ -126,8 +126,18 @@ draws_later tries a b c r waited ne x = answers_later tries (Err cell.Contended)
 -- ---- claims that were given up
 
 -- the lane is as it was, or it claimed the context's cell and gave it up so many times, and made no other event
-abbrev pub GaveUp : StoreView → ℕ → ℕ → LaneView → LaneView → Type 0
+abbrev GaveUp : StoreView → ℕ → ℕ → LaneView → LaneView → Type 0
 GaveUp store context key a b = (b ≡ a) ⊎ ((rounds : ℕ) × Calls store.id.cells.limits a b (claims_given_up store context key rounds))
+
+-- and it did so as the claim of a missing value that was tried in vain
+pub record Began (store : StoreView) (context key : ℕ) (a b : LaneView) : Type 0 where
+  pub tries : ℕ
+  pub tried : TriedInVain store context key tries a b
+  pub gave : GaveUp store context key a b
+
+-- before the first try
+pub not_begun : (store : StoreView) (context key : ℕ) (a : LaneView) → Began store context key a a
+not_begun store context key a = record { tries = 0; tried = refl; gave = inl refl }
 
 -- the events of one round
 abbrev Round : StoreView → ℕ → ℕ → LaneView → LaneView → Type 0
@@ -170,8 +180,12 @@ unclaimed store context ancestors key a b (Refused refusal.UnknownKey) m = absur
 unclaimed store context ancestors key a b (Refused refusal.Exhausted) m = inl m.0.calls
 
 -- so the round may be done again
-pub gave_up_round : (store : StoreView) (context key : ℕ) (a b c : LaneView) (why : Unused) → GaveUp store context key a b → ClaimsMissing store context key b c (Err why) → GaveUp store context key a c
-gave_up_round store context key a b c why gave m = gave_up_more store context key a b c gave (unclaimed store context m.0 key b c why m.2)
+pub tried_again : (store : StoreView) (context key : ℕ) (a b c : LaneView) (why : Refusal) → Began store context key a b → (IsDecided why → ⊥) → ClaimsMissing store context key b c (Err (Refused why)) → Began store context key a c
+tried_again store context key a b c why began undecided m = record {
+  tries = suc began.tries;
+  tried = (b, began.tried, record { why = why; undecided = undecided; refused = m });
+  gave = gave_up_more store context key a b c began.gave (unclaimed store context m.0 key b c (Refused why) m.2);
+}
 
 -- what the lane had seen is legal, as what it has seen after the call is
 begun_legal : (store : StoreView) (context key : ℕ) (a b : LaneView) (r : Result ℕ Unused) → ClaimsMissing store context key a b r → IsLegal store.id.cells.limits (seen_by a)
@@ -180,10 +194,15 @@ begun_legal store context key a b r m =
     legal_begun (seen_by a) (seen_by b) (seen_goes_on made.2) made.2.legal
 
 -- the last round, said of the whole call
-pub claimed_later : (store : StoreView) (context key : ℕ) (a b c : LaneView) (r : Result ℕ Unused) → GaveUp store context key a b → ClaimsMissing store context key b c r → ClaimsAfterWaits store context key a c r
-claimed_later store context key a b c r gave m = elim gave [
-  | inl e ↦
-      let here : ClaimsMissing store context key a c r = subst (λ x. ClaimsMissing store context key x c r) e m in
-      record { rounds = 0; between = a; waited = calls_none lane_of a (begun_legal store context key a c r here); then_is = here }
-  | inr o ↦ record { rounds = o.0; between = b; waited = o.1; then_is = m }
+pub claimed_later : (store : StoreView) (context key : ℕ) (a b c : LaneView) (r : Result ℕ Unused) → Began store context key a b → ClaimsMissing store context key b c r → ClaimsAfterWaits store context key a c r
+claimed_later store context key a b c r began m = elim began.gave [
+  | inl e ↦ record {
+    tries = began.tries;
+    rounds = 0;
+    between = b;
+    tried = began.tried;
+    waited = subst (λ x. Calls store.id.cells.limits x b []) e (calls_none lane_of b (begun_legal store context key b c r m));
+    then_is = m;
+  }
+  | inr o ↦ record { tries = began.tries; rounds = o.0; between = b; tried = began.tried; waited = o.1; then_is = m }
 ]

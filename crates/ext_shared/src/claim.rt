@@ -12,7 +12,7 @@ use ext_cells::{CellLane, Claim, Claimed};
 use ext_model::{ContextNo, KeyNo, Look};
 
 /// Why a factory is not called. Own rule.
-#[derive(Clone, Copy, Debug, Drop, PartialEq, Eq)]
+#[derive(Clone, Copy, Debug, PartialEq, Eq)]
 pub enum Unused {
     /// The context `at`, itself or the nearest of its ancestors where anything stands, has the value of this number.
     Found { at: ContextNo, number: u32 },

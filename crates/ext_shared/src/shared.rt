@@ -61,7 +61,8 @@ impl<V> Shared<V> {
         &self.directory
     }
 
-    /// The cells. Takes no memory. Own rule.
+    /// The cells. A claim is ended by `fill` or `abandon` of this store, not of the cells: these alone wake the lanes that wait
+    /// for its end. Takes no memory. Own rule.
     pub fn cells(&self) -> &Cells
         ensures id { result.now.id ≡ self.now.id.cells }
         ensures tries { result.now.tries ≡ self.now.tries }

@@ -21,8 +21,10 @@ pub computes_later : {V : Type 0} (store : StoreView) (context key : ℕ) (a c :
     → a.cells ≡ store.id.cells → ComputesFrom store.id.cells.limits store context w.then_is.0 key w.between c.view r → ComputesAfterWaits store context key a c r
 unfolding ComputesAfterWaits
 computes_later store context key a c b claimed w r is from = record {
+  tries = w.tries;
   rounds = w.rounds;
   between = w.between;
+  tried = w.tried;
   waited = subst (λ (z : CellsId). Calls z.limits a.view w.between (claims_given_up store context key w.rounds)) (sym is) w.waited;
   then_is = for_path store context w.then_is.0 key (record { cells = a.cells; view = w.between }) c r is w.then_is.1 from;
 }
