@@ -26,6 +26,6 @@ pub loop-preserved : goal.loop-preserved
 loop-preserved g c = (
   c.claim_missing.ensures.lane ∙ c.loop.invariant.0,
   tried_again c.args.self.now c.args.context c.args.key c.args.lane.now.view c.loop.lane.view c.claim_missing.new.lane.view c.in-Err-Refused.why c.loop.invariant.1
-  (λ decided. true≢false (sym (c.is_decided.ensures.1 decided) ∙ c.if-is_decided.false))
-  (subst (λ z. ClaimsMissing c.args.self.now c.args.context c.args.key c.loop.lane.view c.claim_missing.new.lane.view (Err z)) c.in-Err-Refused.field-0-is c.in-Err-Refused.ensures.claim),
+      (λ decided. true≢false (sym (c.is_decided.ensures.1 decided) ∙ c.if-is_decided.false))
+      (subst (λ z. ClaimsMissing c.args.self.now c.args.context c.args.key c.loop.lane.view c.claim_missing.new.lane.view (Err z)) c.in-Err-Refused.field-0-is c.in-Err-Refused.ensures.claim),
 )
