@@ -1,5 +1,5 @@
 -- What a lane does before a waiting form answers, and the answer, said of the whole call.
-use Rattle.std.proofs.Common.{◌≡◌, ◌≢◌, ℕ, suc, ◌⊎◌, inl, inr, List, [], sym, refl, ap, ◌∙◌, subst, append-nil}
+use Rattle.std.proofs.Common.{◌≡◌, ◌≢◌, ℕ, zero, suc, ◌⊎◌, inl, inr, List, [], ◌++◌, sym, refl, ap, ◌∙◌, subst, append-nil}
 use Rattle.std.specs.Prelude.{Option, Some, Result, Ok, Err}
 use Rattle.std.proofs.lemmas.List.Elements.{All-nil}
 use Rattle.ext_model.specs.declared.event.Act.{Act}
@@ -28,7 +28,7 @@ use Rattle.ext_shared.specs.Stores.{StoreView, cell_in}
 use Rattle.ext_shared.specs.Calls.{Puts, Removes, with_kept, result_at, put_acts, remove_acts}
 use Rattle.ext_shared.specs.Looking.{Looks, LooksAt}
 use Rattle.ext_shared.specs.Claiming.{given_up_events, Meets, IsRefused, ClaimsFrom, ClaimsMissing}
-use Rattle.ext_shared.specs.Waiting.{IsDecided, IsDecidedLook, busy_refused, claims_given_up, TriedInVain, ClaimsAfterWaits}
+use Rattle.ext_shared.specs.Waiting.{IsDecided, IsDecidedLook, busy_refused, VainAttempts}
 use Rattle.ext_shared.proofs.Claimed.{claim_acts}
 
 -- ---- a lane that made no event yet
@@ -125,19 +125,14 @@ draws_later tries a b c r waited ne x = answers_later tries (Err cell.Contended)
 
 -- ---- claims that were given up
 
--- the lane is as it was, or it claimed the context's cell and gave it up so many times, and made no other event
+-- so many claims of the context's cell, each given up
+abbrev pub claims_given_up : StoreView → ℕ → ℕ → ℕ → List (Act ℕ)
+claims_given_up store context key zero = []
+claims_given_up store context key (suc rounds) = claims_given_up store context key rounds ++ given_up_events store context key
+
+-- the lane claimed the context's cell and gave it up some times, and made no other event
 abbrev GaveUp : StoreView → ℕ → ℕ → LaneView → LaneView → Type 0
-GaveUp store context key a b = (b ≡ a) ⊎ ((rounds : ℕ) × Calls store.id.cells.limits a b (claims_given_up store context key rounds))
-
--- and it did so as the claim of a missing value that was tried in vain
-pub record Began (store : StoreView) (context key : ℕ) (a b : LaneView) : Type 0 where
-  pub tries : ℕ
-  pub tried : TriedInVain store context key tries a b
-  pub gave : GaveUp store context key a b
-
--- before the first try
-pub not_begun : (store : StoreView) (context key : ℕ) (a : LaneView) → Began store context key a a
-not_begun store context key a = record { tries = 0; tried = refl; gave = inl refl }
+GaveUp store context key a b = (rounds : ℕ) × Calls store.id.cells.limits a b (claims_given_up store context key rounds)
 
 -- the events of one round
 abbrev Round : StoreView → ℕ → ℕ → LaneView → LaneView → Type 0
@@ -145,18 +140,11 @@ Round store context key a b = Calls store.id.cells.limits a b [] ⊎ Calls store
 
 -- it claimed and gave up once more, or made no event
 gave_up_more : (store : StoreView) (context key : ℕ) (a b c : LaneView) → GaveUp store context key a b → Round store context key b c → GaveUp store context key a c
-gave_up_more store context key a b c gave more = elim gave [
-  | inl e ↦ subst (λ x. GaveUp store context key x c) e (first more)
-  | inr o ↦ elim more [
-    | inl two ↦ inr (o.0, subst (Calls store.id.cells.limits a c) (append-nil (claims_given_up store context key o.0)) (calls_compose store.id.cells.limits a b c (claims_given_up store context key o.0) [] o.1 two))
-    | inr two ↦ inr (suc o.0, calls_compose store.id.cells.limits a b c (claims_given_up store context key o.0) (given_up_events store context key) o.1 two)
-  ]
-]
-  where
-    first : Round store context key b c → GaveUp store context key b c
-    first m = elim m [
-      | inl two ↦ inr (0, two)
-      | inr two ↦ inr (1, two)
+gave_up_more store context key a b c gave more =
+    let first = claims_given_up store context key gave.0 in
+    elim more [
+      | inl two ↦ (gave.0, subst (Calls store.id.cells.limits a c) (append-nil first) (calls_compose store.id.cells.limits a b c first [] gave.1 two))
+      | inr two ↦ (suc gave.0, calls_compose store.id.cells.limits a b c first (given_up_events store context key) gave.1 two)
     ]
 
 met_calls : (store : StoreView) (context : ℕ) (ancestors : List ℕ) (key : ℕ) (a b : LaneView) (met : Look) → Meets store.id.cells.limits store context ancestors key a b met → Round store context key a b
@@ -179,30 +167,17 @@ unclaimed store context ancestors key a b (Refused refusal.Contended) m = elim m
 unclaimed store context ancestors key a b (Refused refusal.UnknownKey) m = absurd m
 unclaimed store context ancestors key a b (Refused refusal.Exhausted) m = inl m.0.calls
 
--- so the round may be done again
-pub tried_again : (store : StoreView) (context key : ℕ) (a b c : LaneView) (why : Refusal) → Began store context key a b → (IsDecided why → ⊥) → ClaimsMissing store context key b c (Err (Refused why)) → Began store context key a c
-tried_again store context key a b c why began undecided m = record {
-  tries = suc began.tries;
-  tried = (b, began.tried, record { why = why; undecided = undecided; refused = m });
-  gave = gave_up_more store context key a b c began.gave (unclaimed store context m.0 key b c (Refused why) m.2);
-}
-
 -- what the lane had seen is legal, as what it has seen after the call is
-begun_legal : (store : StoreView) (context key : ℕ) (a b : LaneView) (r : Result ℕ Unused) → ClaimsMissing store context key a b r → IsLegal store.id.cells.limits (seen_by a)
+pub begun_legal : (store : StoreView) (context key : ℕ) (a b : LaneView) (r : Result ℕ Unused) → ClaimsMissing store context key a b r → IsLegal store.id.cells.limits (seen_by a)
 begun_legal store context key a b r m =
     let made = claim_acts store context m.0 key a b r m.2 in
     legal_begun (seen_by a) (seen_by b) (seen_goes_on made.2) made.2.legal
 
--- the last round, said of the whole call
-pub claimed_later : (store : StoreView) (context key : ℕ) (a b c : LaneView) (r : Result ℕ Unused) → Began store context key a b → ClaimsMissing store context key b c r → ClaimsAfterWaits store context key a c r
-claimed_later store context key a b c r began m = elim began.gave [
-  | inl e ↦ record {
-    tries = began.tries;
-    rounds = 0;
-    between = b;
-    tried = began.tried;
-    waited = subst (λ x. Calls store.id.cells.limits x b []) e (calls_none lane_of b (begun_legal store context key b c r m));
-    then_is = m;
-  }
-  | inr o ↦ record { tries = began.tries; rounds = o.0; between = b; tried = began.tried; waited = o.1; then_is = m }
-]
+-- these are all events of attempts in vain
+pub gave_up : (store : StoreView) (context key attempts : ℕ) (a b : LaneView) → IsLegal store.id.cells.limits (seen_by b) → VainAttempts store context key attempts a b → GaveUp store context key a b
+gave_up store context key zero a b legal same = (0, subst (λ x. Calls store.id.cells.limits x b []) same (calls_none lane_of b legal))
+gave_up store context key (suc attempts) a b legal made =
+    let between = made.0 in
+    let last = made.2.refused in
+    gave_up_more store context key a between b (gave_up store context key attempts a between (begun_legal store context key between b (Err (Refused made.2.why)) last) made.1)
+    (unclaimed store context last.0 key between b (Refused made.2.why) last.2)

@@ -166,8 +166,8 @@ impl<V> Shared<V> {
     /// As `claim_missing`, but where a running factory decides a look-up or the claim it waits, parked, until a claim has
     /// ended, and begins anew; and where other lanes were in the way it begins anew at once. So it is never refused as
     /// `Busy` or `Contended`, and else as `claim_missing` is. What meets a factory in an ancestor has given its own claim
-    /// up before it waits, and no claim is given up but for that or for other lanes in the way. Takes no memory. It may
-    /// wait: it promises its clauses if it returns. Own rule.
+    /// up before it waits, and before its last attempt no claim is given up but for that or for other lanes in the way.
+    /// Takes no memory. It may wait: it promises its clauses if it returns. Own rule.
     pub fn wait_to_claim<R: Wait>(
         &self,
         rt: &R,

@@ -1,19 +1,19 @@
 -- What a compute says that waited, and its frame.
-use Rattle.std.proofs.Common.{◌≡◌, ℕ, zero, suc, List, [], ◌∷◌, ◌++◌, sym, refl, subst}
+use Rattle.std.proofs.Common.{◌≡◌, ℕ, zero, suc, List, [], ◌∷◌, ◌++◌, refl}
 use Rattle.std.specs.Prelude.{Result, All}
 use Rattle.std.proofs.lemmas.List.Elements.{All-append}
 use Rattle.ext_model.specs.declared.event.Act.TheVariants.{Claim, Abandon}
 use Rattle.ext_model.specs.Views.{LaneView}
-use Rattle.ext_model.specs.Calls.{Calls}
 use Rattle.ext_model.proofs.Composed.{calls_compose}
-use Rattle.ext_cells.specs.Lanes.{CellsId, Lane}
+use Rattle.ext_cells.specs.Lanes.{Lane}
 use Rattle.ext_shared.specs.declared.claim.Unused.{Unused}
 use Rattle.ext_shared.proofs.Claimed.{StoresNone, none_stored, nor_this, claim_acts}
+use Rattle.ext_shared.proofs.Waited.{claims_given_up, begun_legal, gave_up}
 use Rattle.ext_store.specs.declared.computed.Compute.{Compute}
 use Rattle.ext_store.specs.Stores.{StoreId, StoreView, StoreLane, IsLaneOf, cell_in}
 use Rattle.ext_store.specs.Frames.{Frame}
 use Rattle.ext_store.specs.Computing.{given_up_events, ComputesFrom}
-use Rattle.ext_store.specs.Waiting.{claims_given_up, ClaimsAfterWaits, ComputesAfterWaits}
+use Rattle.ext_store.specs.Waiting.{ClaimsAfterWaits, ComputesAfterWaits}
 use Rattle.ext_store.proofs.Composing.{storing_there, for_path}
 
 -- a compute, from where its claim was made
@@ -21,11 +21,9 @@ pub computes_later : {V : Type 0} (store : StoreView) (context key : ℕ) (a c :
     → a.cells ≡ store.id.cells → ComputesFrom store.id.cells.limits store context w.then_is.0 key w.between c.view r → ComputesAfterWaits store context key a c r
 unfolding ComputesAfterWaits
 computes_later store context key a c b claimed w r is from = record {
-  tries = w.tries;
-  rounds = w.rounds;
+  attempts = w.attempts;
   between = w.between;
-  tried = w.tried;
-  waited = subst (λ (z : CellsId). Calls z.limits a.view w.between (claims_given_up store context key w.rounds)) (sym is) w.waited;
+  in_vain = w.in_vain;
   then_is = for_path store context w.then_is.0 key (record { cells = a.cells; view = w.between }) c r is w.then_is.1 from;
 }
 
@@ -42,6 +40,7 @@ pub waits_frame : {V : Type 0} (id : StoreId) (inside a b : StoreLane V) → ins
 waits_frame id inside a b is mine cells same store own context key r w =
     let m = w.then_is in
     let made = claim_acts store context m.0 key w.between b.cells.view r m.2 in
-    let given = claims_given_up store context key w.rounds in
-    let all = calls_compose store.id.cells.limits inside.cells.view w.between b.cells.view given made.0 w.waited made.2 in
-    storing_there id inside a b is mine cells same store own (given ++ made.0) (All-append StoresNone given made.0 (giving_up_stores store context key w.rounds) made.1) all
+    let before = gave_up store context key w.attempts inside.cells.view w.between (begun_legal store context key w.between b.cells.view r m) w.in_vain in
+    let given = claims_given_up store context key before.0 in
+    let all = calls_compose store.id.cells.limits inside.cells.view w.between b.cells.view given made.0 before.1 made.2 in
+    storing_there id inside a b is mine cells same store own (given ++ made.0) (All-append StoresNone given made.0 (giving_up_stores store context key before.0) made.1) all

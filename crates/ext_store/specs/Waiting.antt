@@ -8,7 +8,7 @@ use Rattle.ext_store.specs.declared.computed.Compute.{Compute}
 use Rattle.ext_store.specs.declared.computed.Compute.TheVariants.{Computed, Found, Failed, Unkept, Refused}
 use Rattle.ext_store.specs.Stores.{StoreView}
 use Rattle.ext_store.specs.Computing.{Computes}
-pub use Rattle.ext_shared.specs.Waiting.{IsDecidedLook, IsDecided, IsDecidedUnused, TriesInVain, TriedInVain, Waits, claims_given_up, ClaimsAfterWaits}
+pub use Rattle.ext_shared.specs.Waiting.{IsDecidedLook, IsDecided, IsDecidedUnused, VainAttempt, VainAttempts, Waits, ClaimsAfterWaits}
 
 -- a value is not kept for another reason than that other lanes were in the way
 abbrev pub IsDecidedFault : KeepFault → Type 0
@@ -24,8 +24,8 @@ IsDecidedCompute (Failed why) = Unit {0}
 IsDecidedCompute (Unkept value cause) = IsDecidedFault cause
 IsDecidedCompute (Refused why unused) = IsDecided why
 
--- Before the call's answer the lane may have claimed the context's cell and given it up several times, each time as a compute does that is refused for a running
--- factory or because other lanes were in the way. What comes after that is a compute, with its events and its points
+-- Before its last attempt the lane may have claimed the context's cell and given it up several times, each time for a running factory or because other lanes were in
+-- the way. The last one is a compute, with its events and its points
 unfoldable pub ComputesAfterWaits : {V : Type 0} → StoreView → ℕ → ℕ → Lane → Lane → Compute V (Unit {0}) → Type 0
 ComputesAfterWaits store context key before after result =
-    Waits before.cells.limits store context key before.view (λ between. Computes store context key (record { cells = before.cells; view = between }) after result)
+    Waits store context key before.view (λ between. Computes store context key (record { cells = before.cells; view = between }) after result)

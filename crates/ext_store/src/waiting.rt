@@ -224,10 +224,10 @@ impl<V: StoreValue + Drop> Store<V> {
     /// As `compute`, but where a running factory decides a look-up or the claim it waits, parked, until a claim has ended,
     /// and begins anew; and where other lanes were in the way it begins anew at once, or draws again where its own
     /// factory has run. So it is never refused as `Busy` or `Contended`, nor is its value `Unkept` as `Contended`, and
-    /// else it answers as `compute` does. Before that it may claim the context's cell and give it up several times, each
-    /// time since a factory runs in an ancestor or other lanes were in the way; it holds no claim while it sleeps, so that
-    /// no two lanes wait for each other. The factory is called at most once. Takes memory for the value. It may wait: it
-    /// promises its clauses if it returns.
+    /// else it answers as `compute` does. Before its last attempt it may claim the context's cell and give it up several
+    /// times, each time since a factory runs in an ancestor or other lanes were in the way; it holds no claim while it
+    /// sleeps, so that no two lanes wait for each other. The factory is called at most once. Takes memory for the value.
+    /// It may wait: it promises its clauses if it returns.
     ///
     /// Javadoc `ExtensionContext.Store`, `getOrComputeIfAbsent`, which waits for a running factory too.
     #[tactic(auto, unfolding(crate::specs::Frames::Frame))]

@@ -1,6 +1,10 @@
-use Rattle.std.proofs.Common.{◌≡◌}
-use Rattle.ext_shared.proofs.Waited.{Began}
+use Rattle.std.proofs.Common.{ℕ, ◌≡◌}
+use Rattle.ext_shared.specs.Waiting.{VainAttempts}
 use Rattle.ext_shared.proofs.shared.Shared.wait_to_claim.Given as goal
 
 abbrev pub invariant-loop : goal.invariant-loop
-invariant-loop g l = (l.lane.cells ≡ l.fn.lane.cells) × Began l.self l.context l.key l.fn.lane.view l.lane.view
+invariant-loop g l = record {
+  cells : l.lane.cells ≡ l.fn.lane.cells;
+  attempts : ℕ;
+  in_vain : VainAttempts l.self l.context l.key attempts l.fn.lane.view l.lane.view;
+}
