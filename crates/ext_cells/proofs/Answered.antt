@@ -13,8 +13,10 @@ use Rattle.ext_history.proofs.Answered.{holds_too}
 use Rattle.ext_cells.specs.declared.refusal.CellRefusal.{CellRefusal}
 use Rattle.ext_cells.specs.declared.refusal.CellRefusal.TheVariants as refusal
 use Rattle.ext_cells.specs.Lanes.{Lane}
-use Rattle.ext_cells.specs.Calls.{result_of, change_reply, put_acts, remove_acts, Answers, SealAnswers}
-use Rattle.ext_cells.specs.Steps.{Changes}
+use Rattle.ext_cells.specs.Calls.{result_of, change_reply, put_acts, remove_acts, Answers, SealAnswers, ComesLast}
+use Rattle.ext_cells.specs.declared.stood.Stood.{Stood}
+use Rattle.ext_cells.specs.declared.stood.Stood.TheVariants.{Nothing, Value, Fault}
+use Rattle.ext_cells.specs.Steps.{Changes, number_of, value_of, number_result, value_result}
 
 -- two results of a call, one of them a refusal
 differ : {A : Type 0} (x : A) (why : CellRefusal) → (let r : Result A CellRefusal = Ok x in let s : Result A CellRefusal = Err why in r ≡ s) → ⊥
@@ -28,7 +30,9 @@ put_happens : (worn : Bool) (s : Option Slot) (answer : Option ℕ) → events.p
 put_happens true None answer e = cc e
 put_happens false None answer e = cc e
 put_happens true (Some (slot.Entry n)) answer e = cc e
+put_happens true (Some (slot.Fault n)) answer e = cc e
 put_happens false (Some (slot.Entry n)) answer e = cc e
+put_happens false (Some (slot.Fault n)) answer e = cc e
 put_happens worn (Some (slot.Claim lane)) answer e = cc e
 put_happens worn (Some (slot.Sealed kept)) answer e = cc e
 
@@ -36,7 +40,9 @@ put_happens worn (Some (slot.Sealed kept)) answer e = cc e
 removed_some : (worn : Bool) (s : Option Slot) → events.remove_reply worn s ≡ events.Happens None → ⊥
 removed_some worn None e = cc e
 removed_some true (Some (slot.Entry n)) e = cc e
+removed_some true (Some (slot.Fault n)) e = cc e
 removed_some false (Some (slot.Entry n)) e = cc e
+removed_some false (Some (slot.Fault n)) e = cc e
 removed_some worn (Some (slot.Claim lane)) e = cc e
 removed_some worn (Some (slot.Sealed kept)) e = cc e
 
@@ -44,7 +50,9 @@ removed_some worn (Some (slot.Sealed kept)) e = cc e
 removed_none : (worn : Bool) (s : Option Slot) (n : ℕ) → events.remove_reply worn s ≡ events.Answers (Some n) → ⊥
 removed_none worn None n e = cc e
 removed_none true (Some (slot.Entry m)) n e = cc e
+removed_none true (Some (slot.Fault m)) n e = cc e
 removed_none false (Some (slot.Entry m)) n e = cc e
+removed_none false (Some (slot.Fault m)) n e = cc e
 removed_none worn (Some (slot.Claim lane)) n e = cc e
 removed_none worn (Some (slot.Sealed kept)) n e = cc e
 
@@ -70,10 +78,10 @@ module _ (tries : ℕ) (before after : Lane) (act : Act ℕ) where
   }
 
 module _ (tries : ℕ) (before after : Lane) (cell number : ℕ) where
-  pub put_answers : (r : Result (Option ℕ) CellRefusal) → Changes tries before after (Put cell number) r → Answers tries before after (put_acts cell number) (change_reply before (Put cell number)) r
-  put_answers (Ok answer) ch = elim ch [
-    | inl h ↦ answered tries before after (Put cell number) (put_acts cell number) answer (events.Happens answer) refl h
-    | inr h ↦ absurd (put_happens _ _ answer h.point.2)
+  pub put_answers : (r : Result Stood CellRefusal) → Changes tries before after (Put cell number) r → Answers tries before after (put_acts cell number) (change_reply before (Put cell number)) (number_result r)
+  put_answers (Ok stood) ch = elim ch [
+    | inl h ↦ answered tries before after (Put cell number) (put_acts cell number) (number_of stood) (events.Happens (number_of stood)) refl h
+    | inr h ↦ absurd (put_happens _ _ (number_of stood) h.point.2)
   ]
   put_answers (Err refusal.Contended) ch = record { overtaken = λ e. ch; replied = λ ne. absurd (ne refl) }
   put_answers (Err refusal.Busy) ch = refused tries before after (Put cell number) (put_acts cell number) refusal.Busy (λ e. cc e) refl ch
@@ -84,12 +92,16 @@ module _ (tries : ℕ) (before after : Lane) (cell number : ℕ) where
   put_answers (Err refusal.BadLimit) ch = refused tries before after (Put cell number) (put_acts cell number) refusal.BadLimit (λ e. cc e) refl ch
 
 module _ (tries : ℕ) (before after : Lane) (cell : ℕ) where
-  pub remove_answers : (r : Result (Option ℕ) CellRefusal) → Changes tries before after (Remove cell) r → Answers tries before after (remove_acts cell) (change_reply before (Remove cell)) r
-  remove_answers (Ok None) ch = elim ch [
+  pub remove_answers : (r : Result Stood CellRefusal) → Changes tries before after (Remove cell) r → Answers tries before after (remove_acts cell) (change_reply before (Remove cell)) (number_result r)
+  remove_answers (Ok Nothing) ch = elim ch [
     | inl h ↦ absurd (removed_some _ _ h.point.2)
     | inr h ↦ answered tries before after (Remove cell) (remove_acts cell) None (events.Answers None) refl h
   ]
-  remove_answers (Ok (Some n)) ch = elim ch [
+  remove_answers (Ok (Value n)) ch = elim ch [
+    | inl h ↦ answered tries before after (Remove cell) (remove_acts cell) (Some n) (events.Happens (Some n)) refl h
+    | inr h ↦ absurd (removed_none _ _ n h.point.2)
+  ]
+  remove_answers (Ok (Fault n)) ch = elim ch [
     | inl h ↦ answered tries before after (Remove cell) (remove_acts cell) (Some n) (events.Happens (Some n)) refl h
     | inr h ↦ absurd (removed_none _ _ n h.point.2)
   ]
@@ -101,8 +113,8 @@ module _ (tries : ℕ) (before after : Lane) (cell : ℕ) where
   remove_answers (Err refusal.Memory) ch = refused tries before after (Remove cell) (remove_acts cell) refusal.Memory (λ e. cc e) refl ch
   remove_answers (Err refusal.BadLimit) ch = refused tries before after (Remove cell) (remove_acts cell) refusal.BadLimit (λ e. cc e) refl ch
 
-  pub seal_answers : (r : Result (Option ℕ) CellRefusal) → Changes tries before after (Seal cell) r → SealAnswers tries before after cell r
-  seal_answers (Ok kept) ch = ch
+  pub seal_answers : (r : Result Stood CellRefusal) → Changes tries before after (Seal cell) r → SealAnswers tries before after cell (value_result r)
+  seal_answers (Ok stood) ch = ch
   seal_answers (Err refusal.Contended) ch = ch
   seal_answers (Err refusal.Busy) ch = ch
   seal_answers (Err refusal.Closed) ch = ch
@@ -110,3 +122,16 @@ module _ (tries : ℕ) (before after : Lane) (cell : ℕ) where
   seal_answers (Err refusal.NumbersFull) ch = ch
   seal_answers (Err refusal.Memory) ch = ch
   seal_answers (Err refusal.BadLimit) ch = ch
+
+-- where the answer is made of what a change met, `Contended` still comes last
+module _ (before after : Lane) (act : Act ℕ) where
+  same_refusal : (why : CellRefusal) → (let x : Result (Option ℕ) CellRefusal = Err why in let y : Result (Option ℕ) CellRefusal = Err refusal.Contended in x ≡ y) → (let x : Result Stood CellRefusal = Err why in let y : Result Stood CellRefusal = Err refusal.Contended in x ≡ y)
+  same_refusal why e = cc e
+
+  pub number_last : (r : Result Stood CellRefusal) → ComesLast before after act r → ComesLast before after act (number_result r)
+  number_last (Ok stood) last e = absurd (cc e)
+  number_last (Err why) last e = last (same_refusal why e)
+
+  pub value_last : (r : Result Stood CellRefusal) → ComesLast before after act r → ComesLast before after act (value_result r)
+  value_last (Ok stood) last e = absurd (cc e)
+  value_last (Err why) last e = last (same_refusal why e)

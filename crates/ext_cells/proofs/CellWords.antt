@@ -6,11 +6,11 @@ use Rattle.std.proofs.lemmas.List.Elements.{Contains-push_cases}
 use mathlib.Core.Logic.{dite}
 use native.Mathlib.Decide.{ℕ_discrete}
 use Rattle.ext_model.specs.declared.event.Act.{Act}
-use Rattle.ext_model.specs.declared.event.Act.TheVariants.{Keep, Put, Remove, Claim, Fill, Abandon, Seal}
+use Rattle.ext_model.specs.declared.event.Act.TheVariants.{Keep, Put, Remove, Claim, Fill, Fail, Abandon, Seal}
 use Rattle.ext_model.specs.declared.event.Event.{Event}
 use Rattle.ext_model.specs.declared.slot.Slot.{Slot}
 use Rattle.ext_model.specs.declared.slot.Slot.TheVariants as slot
-use Rattle.ext_model.specs.State.{standing}
+use Rattle.ext_model.specs.State.{standing_value}
 use Rattle.ext_model.specs.Events.{slot_after, drawn_after, place_of, is_at, is_on}
 use Rattle.ext_model.specs.History.{History, Limits, by, state_after, version_of, IsAllowed, IsLegal}
 use Rattle.ext_model.specs.Words.{state_code, number_code, word, slot_word}
@@ -44,9 +44,10 @@ kept_least {limits} h legal = legal_induct (IsAllowed limits) Fact (λ lane numb
       | inr new ↦ now g e lane number allowed new
     ]
 
-sealed_numbered : (s : Option Slot) → IsNumbered s → IsNumbered (Some (slot.Sealed (standing s)))
+sealed_numbered : (s : Option Slot) → IsNumbered s → IsNumbered (Some (slot.Sealed (standing_value s)))
 sealed_numbered None is = tt
 sealed_numbered (Some (slot.Entry number)) is = is
+sealed_numbered (Some (slot.Fault number)) is = tt
 sealed_numbered (Some (slot.Claim lane)) is = tt
 sealed_numbered (Some (slot.Sealed kept)) is = tt
 
@@ -60,6 +61,7 @@ left_numbered h lane (Put at number) s legal a is = kept_least h legal lane numb
 left_numbered h lane (Remove at) s legal a is = tt
 left_numbered h lane (Claim at) s legal a is = tt
 left_numbered h lane (Fill at number) s legal a is = kept_least h legal lane number a.drew
+left_numbered h lane (Fail at number) s legal a is = kept_least h legal lane number a.drew
 left_numbered h lane (Abandon at) s legal a is = tt
 left_numbered h lane (Seal at) s legal a is = sealed_numbered s is
 
@@ -74,12 +76,14 @@ numbered {limits} h legal = legal_induct (IsAllowed limits) (λ g. (cell : ℕ) 
 code_is : (s : Option Slot) → state_code s ≡ code (state_of s)
 code_is None = refl
 code_is (Some (slot.Entry number)) = refl
+code_is (Some (slot.Fault number)) = refl
 code_is (Some (slot.Claim lane)) = refl
 code_is (Some (slot.Sealed kept)) = refl
 
 room : {limits : Limits} (h : History) (cell : ℕ) (s : Option Slot) → (state_after h).slots cell ≡ s → IsLegal limits h → (state_of s ≢ Sealed) → version_of h cell + 1 < 2 ^ 40
 room h cell None is legal ne = can_be_sealed h cell legal (rw is tt)
 room h cell (Some (slot.Entry number)) is legal ne = can_be_sealed h cell legal (rw is tt)
+room h cell (Some (slot.Fault number)) is legal ne = can_be_sealed h cell legal (rw is tt)
 room h cell (Some (slot.Claim lane)) is legal ne = let l = claim_can_end h lane cell legal is in omega (arith, l)
 room h cell (Some (slot.Sealed kept)) is legal ne = absurd (ne refl)
 
@@ -131,6 +135,7 @@ no_draw limits (Put at number) place drawn ne last = refl
 no_draw limits (Remove at) place drawn ne last = refl
 no_draw limits (Claim at) place drawn ne last = refl
 no_draw limits (Fill at number) place drawn ne last = refl
+no_draw limits (Fail at number) place drawn ne last = refl
 no_draw limits (Abandon at) place drawn ne last = refl
 no_draw limits (Seal at) place drawn ne last = refl
 

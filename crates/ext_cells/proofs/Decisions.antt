@@ -3,7 +3,7 @@ use Rattle.std.proofs.Common.{◌≡◌, ℕ, ◌≤◌, Bool, true, false, arit
 use Rattle.std.specs.Prelude.{Result, Ok, Err, if◌then◌else◌}
 use Rattle.std.proofs.lemmas.Bool.{ne_eqb}
 use Rattle.ext_model.specs.declared.event.Act.{Act}
-use Rattle.ext_model.specs.declared.event.Act.TheVariants.{Keep, Put, Remove, Claim, Fill, Abandon, Seal}
+use Rattle.ext_model.specs.declared.event.Act.TheVariants.{Keep, Put, Remove, Claim, Fill, Fail, Abandon, Seal}
 use Rattle.ext_model.specs.declared.slot.Slot.{Slot}
 use Rattle.ext_model.specs.declared.slot.Slot.TheVariants as slot
 use Rattle.ext_model.specs.Events as events
@@ -14,11 +14,13 @@ use Rattle.ext_cells.specs.declared.refusal.CellRefusal.TheVariants.{Exhausted}
 use Rattle.ext_cells.specs.declared.decision.Decision.TheVariants.{Change, Done}
 use Rattle.ext_cells.specs.Words.{exhausted_if, unless, after_word}
 use Rattle.ext_cells.specs.Calls.{result_of}
-use Rattle.ext_cells.specs.Steps.{idle_reply}
-use Rattle.ext_cells.specs.Deciding.{state_of, IsNumbered, number_in, is_settled, IsChange, reply_on, Decides}
+use Rattle.ext_cells.specs.declared.cell_state.CellState.TheVariants.{Sealed}
+use Rattle.ext_cells.specs.declared.stood.Stood.TheVariants.{Nothing, Value}
+use Rattle.ext_cells.specs.Steps.{value_of, idle_reply}
+use Rattle.ext_cells.specs.Deciding.{state_of, IsNumbered, stood_in, is_settled, IsChange, reply_on, Decides}
 
-some_number : (n : ℕ) → 1 ≤ n → number_in n ≡ Some n
-some_number n l = ap (λ b. if b then None else Some n) (ne_eqb n 0 (λ e. absurd (omega (arith, e, l))))
+some_stood : (n : ℕ) → 1 ≤ n → stood_in Sealed n ≡ Value n
+some_stood n l = ap (λ b. if b then Nothing else Value n) (ne_eqb n 0 (λ e. absurd (omega (arith, e, l))))
 
 same_ok : (a b : ℕ) → (let x : Result ℕ CellRefusal = Ok a in let y : Result ℕ CellRefusal = Ok b in x ≡ y) → a ≡ b
 same_ok a b e = cc e
@@ -45,44 +47,53 @@ exhausts false w why answer e = absurd (cc e)
 no_refusal : {A : Type 0} (next : ℕ) (why : CellRefusal) → (let x : Result ℕ CellRefusal = Ok next in let y : Result ℕ CellRefusal = Err why in x ≡ y) → A
 no_refusal next why e = absurd (cc e)
 
-pub settled : (act : Act ℕ) (s : Option Slot) (version : ℕ) → is_settled act (state_of s) ≡ true → IsNumbered s → reply_on act s version ≡ idle_reply act (number_in (number_code s))
+pub settled : (act : Act ℕ) (s : Option Slot) (version : ℕ) → is_settled act (state_of s) ≡ true → IsNumbered s → reply_on act s version ≡ idle_reply act (stood_in (state_of s) (number_code s))
 settled (Keep n) s v done is = absurd (cc done)
 settled (Put at n) s v done is = absurd (cc done)
 settled (Fill at n) s v done is = absurd (cc done)
+settled (Fail at n) s v done is = absurd (cc done)
 settled (Abandon at) s v done is = absurd (cc done)
 settled (Remove at) None v done is = refl
 settled (Remove at) (Some (slot.Entry n)) v done is = absurd (cc done)
+settled (Remove at) (Some (slot.Fault n)) v done is = absurd (cc done)
 settled (Remove at) (Some (slot.Claim lane)) v done is = absurd (cc done)
 settled (Remove at) (Some (slot.Sealed kept)) v done is = absurd (cc done)
 settled (Claim at) None v done is = absurd (cc done)
-settled (Claim at) (Some (slot.Entry n)) v done is = ap (idle_reply (Claim at)) (sym (some_number n is))
+settled (Claim at) (Some (slot.Entry n)) v done is = refl
+settled (Claim at) (Some (slot.Fault n)) v done is = refl
 settled (Claim at) (Some (slot.Claim lane)) v done is = absurd (cc done)
 settled (Claim at) (Some (slot.Sealed kept)) v done is = absurd (cc done)
 settled (Seal at) None v done is = absurd (cc done)
 settled (Seal at) (Some (slot.Entry n)) v done is = absurd (cc done)
+settled (Seal at) (Some (slot.Fault n)) v done is = absurd (cc done)
 settled (Seal at) (Some (slot.Claim lane)) v done is = absurd (cc done)
 settled (Seal at) (Some (slot.Sealed None)) v done is = refl
-settled (Seal at) (Some (slot.Sealed (Some n))) v done is = ap events.Answers (sym (some_number n is))
+settled (Seal at) (Some (slot.Sealed (Some n))) v done is = ap (λ k. events.Answers (value_of k)) (sym (some_stood n is))
 
 pub changes : (act : Act ℕ) (s : Option Slot) (version next : ℕ) → IsChange act → is_settled act (state_of s) ≡ false → IsNumbered s
-    → (let y : Result ℕ CellRefusal = Ok next in after_word act (state_of s) (number_code s) version ≡ y) → Decides act s version (Change next (number_in (number_code s)))
+    → (let y : Result ℕ CellRefusal = Ok next in after_word act (state_of s) (number_code s) version ≡ y) → Decides act s version (Change next (stood_in (state_of s) (number_code s)))
 changes (Keep n) s v next change idle is e = absurd change
 changes (Fill at n) s v next change idle is e = absurd change
+changes (Fail at n) s v next change idle is e = absurd change
 changes (Abandon at) s v next change idle is e = absurd change
 changes (Put at n) None v next change idle is e = let m = made _ _ next e in (ap (λ b. events.happens_unless b None) m.0, λ lane. m.1)
-changes (Put at n) (Some (slot.Entry m)) v next change idle is e = let p = made _ _ next e in (ap (λ b. events.happens_unless b (Some m)) p.0 ∙ ap events.Happens (sym (some_number m is)), λ lane. p.1)
+changes (Put at n) (Some (slot.Entry m)) v next change idle is e = let p = made _ _ next e in (ap (λ b. events.happens_unless b (Some m)) p.0, λ lane. p.1)
+changes (Put at n) (Some (slot.Fault m)) v next change idle is e = let p = made _ _ next e in (ap (λ b. events.happens_unless b (Some m)) p.0, λ lane. p.1)
 changes (Put at n) (Some (slot.Claim lane)) v next change idle is e = no_word _ next e
 changes (Put at n) (Some (slot.Sealed kept)) v next change idle is e = no_word _ next e
 changes (Remove at) None v next change idle is e = absurd (cc idle)
-changes (Remove at) (Some (slot.Entry m)) v next change idle is e = let p = made _ _ next e in (ap (λ b. events.happens_unless b (Some m)) p.0 ∙ ap events.Happens (sym (some_number m is)), λ lane. p.1)
+changes (Remove at) (Some (slot.Entry m)) v next change idle is e = let p = made _ _ next e in (ap (λ b. events.happens_unless b (Some m)) p.0, λ lane. p.1)
+changes (Remove at) (Some (slot.Fault m)) v next change idle is e = let p = made _ _ next e in (ap (λ b. events.happens_unless b (Some m)) p.0, λ lane. p.1)
 changes (Remove at) (Some (slot.Claim lane)) v next change idle is e = no_word _ next e
 changes (Remove at) (Some (slot.Sealed kept)) v next change idle is e = no_word _ next e
 changes (Claim at) None v next change idle is e = let m = made _ _ next e in (ap (λ b. events.happens_unless b None) m.0, λ lane. m.1)
 changes (Claim at) (Some (slot.Entry m)) v next change idle is e = absurd (cc idle)
+changes (Claim at) (Some (slot.Fault m)) v next change idle is e = absurd (cc idle)
 changes (Claim at) (Some (slot.Claim lane)) v next change idle is e = no_word _ next e
 changes (Claim at) (Some (slot.Sealed kept)) v next change idle is e = no_word _ next e
 changes (Seal at) None v next change idle is e = (refl, λ lane. sym (same_ok _ next e))
-changes (Seal at) (Some (slot.Entry m)) v next change idle is e = (ap events.Happens (sym (some_number m is)), λ lane. sym (same_ok _ next e))
+changes (Seal at) (Some (slot.Entry m)) v next change idle is e = (refl, λ lane. sym (same_ok _ next e))
+changes (Seal at) (Some (slot.Fault m)) v next change idle is e = (refl, λ lane. sym (same_ok _ next e))
 changes (Seal at) (Some (slot.Claim lane)) v next change idle is e = no_word _ next e
 changes (Seal at) (Some (slot.Sealed kept)) v next change idle is e = absurd (cc idle)
 
@@ -90,20 +101,25 @@ pub refuses : (act : Act ℕ) (s : Option Slot) (version : ℕ) (why : CellRefus
     → (let y : Result ℕ CellRefusal = Err why in after_word act (state_of s) (number_code s) version ≡ y) → Decides act s version (Done (Err why))
 refuses (Keep n) s v why change idle e = absurd change
 refuses (Fill at n) s v why change idle e = absurd change
+refuses (Fail at n) s v why change idle e = absurd change
 refuses (Abandon at) s v why change idle e = absurd change
 refuses (Put at n) None v why change idle e = exhausts _ _ why None e
 refuses (Put at n) (Some (slot.Entry m)) v why change idle e = exhausts _ _ why (Some m) e
+refuses (Put at n) (Some (slot.Fault m)) v why change idle e = exhausts _ _ why (Some m) e
 refuses (Put at n) (Some (slot.Claim lane)) v why change idle e = same_err _ why e
 refuses (Put at n) (Some (slot.Sealed kept)) v why change idle e = same_err _ why e
 refuses (Remove at) None v why change idle e = absurd (cc idle)
 refuses (Remove at) (Some (slot.Entry m)) v why change idle e = exhausts _ _ why (Some m) e
+refuses (Remove at) (Some (slot.Fault m)) v why change idle e = exhausts _ _ why (Some m) e
 refuses (Remove at) (Some (slot.Claim lane)) v why change idle e = same_err _ why e
 refuses (Remove at) (Some (slot.Sealed kept)) v why change idle e = same_err _ why e
 refuses (Claim at) None v why change idle e = exhausts _ _ why None e
 refuses (Claim at) (Some (slot.Entry m)) v why change idle e = absurd (cc idle)
+refuses (Claim at) (Some (slot.Fault m)) v why change idle e = absurd (cc idle)
 refuses (Claim at) (Some (slot.Claim lane)) v why change idle e = same_err _ why e
 refuses (Claim at) (Some (slot.Sealed kept)) v why change idle e = same_err _ why e
 refuses (Seal at) None v why change idle e = no_refusal _ why e
 refuses (Seal at) (Some (slot.Entry m)) v why change idle e = no_refusal _ why e
+refuses (Seal at) (Some (slot.Fault m)) v why change idle e = no_refusal _ why e
 refuses (Seal at) (Some (slot.Claim lane)) v why change idle e = same_err _ why e
 refuses (Seal at) (Some (slot.Sealed kept)) v why change idle e = absurd (cc idle)

@@ -52,7 +52,7 @@ module _ (before now : Lane) (word count : ℕ) (t : TriesOn before now before.c
         let counted = f.word_is.count refl in
         let few : (state_after h).drawn < before.cells.limits.numbers = omega (arith, less, counted) in
         record {
-          allowed = record { lane = f.below; within = tt; happens = (Some ((state_after h).drawn + 1), keeps before.cells.limits.numbers (state_after h).drawn few); next = is ∙ ap (λ k. k + 1) counted; drew = tt; fresh = tt };
+          allowed = record { lane = f.below; within = tt; happens = (Some ((state_after h).drawn + 1), keeps before.cells.limits.numbers (state_after h).drawn few); next = is ∙ ap (λ k. k + 1) counted; drew = tt; fresh = tt; keeps = tt };
           word_is = count_after before.cells.limits h now.view.number number word f.word_is;
         }
 

@@ -1,12 +1,12 @@
 -- The end of a claim by its lane: whatever other lanes did meanwhile, the claim stands, and an exchange that meets the words ends it.
 use Rattle.std.proofs.Common.{◌≡◌, ℕ, ◌+◌, ◌^◌, ◌<◌, false, [], ◌∷◌, ◌++◌, sym, refl, ap, ◌∙◌, subst, arith, None, Some, IfSome, nat_eq, eq-eqb}
-use Rattle.std.specs.Prelude.{if◌then◌else◌, Result, Ok, Err, All}
+use Rattle.std.specs.Prelude.{if◌then◌else◌, IsTrue, Result, Ok, Err, All}
 use Rattle.std.proofs.lemmas.List.Elements.{All-nil, All-cons}
 use Rattle.ext_model.specs.declared.event.Act.{Act}
-use Rattle.ext_model.specs.declared.event.Act.TheVariants.{Keep, Put, Remove, Claim, Fill, Abandon, Seal}
+use Rattle.ext_model.specs.declared.event.Act.TheVariants.{Keep, Put, Remove, Claim, Fill, Fail, Abandon, Seal}
 use Rattle.ext_model.specs.declared.slot.Slot.TheVariants as slot
 use Rattle.ext_model.specs.Events.{Happens, Refuses, Barred, slot_after, place_of, is_on, end_reply}
-use Rattle.ext_model.specs.History.{History, Limits, by, stored_number, state_after, version_of, reply_after, IsAllowed, IsLegal}
+use Rattle.ext_model.specs.History.{History, Limits, by, stored_number, fault_number, state_after, version_of, reply_after, IsAllowed, IsLegal}
 use Rattle.ext_model.specs.Words.{slot_word}
 use Rattle.ext_history.specs.Views.{seen_by, moved}
 use Rattle.ext_model.specs.Views.{LaneView}
@@ -14,7 +14,7 @@ use Rattle.ext_model.specs.Calls.{GoesOn, IsHeld, MayStoreNow}
 use Rattle.ext_model.proofs.Allowed.{may_happen}
 use Rattle.ext_history.proofs.Composed.{same_number}
 use Rattle.ext_model.proofs.Claims.{used_within}
-use Rattle.ext_model.proofs.Held.{claim_held, held_word, held_fill, held_abandon}
+use Rattle.ext_model.proofs.Held.{claim_held, held_word, held_fill, held_fail, held_abandon}
 use Rattle.ext_cells.specs.declared.cell_state.CellState.TheVariants.{Computing, Sealed}
 use Rattle.ext_cells.specs.declared.claim.Claimed.{Claimed}
 use Rattle.ext_cells.specs.declared.claim.Claimed.TheVariants.{Won}
@@ -36,16 +36,18 @@ place_is cell (Put at n) is = absurd is
 place_is cell (Remove at) is = absurd is
 place_is cell (Claim at) is = absurd is
 place_is cell (Fill at n) is = ap Some is
+place_is cell (Fail at n) is = ap Some is
 place_is cell (Abandon at) is = ap Some is
 place_is cell (Seal at) is = absurd is
 
 -- the word after it is that of what it leaves
-leaves : (cell version lane : ℕ) (act : Act ℕ) → IsEndOf cell act → next_word act 0 version ≡ slot_word (slot_after lane act (Some (slot.Claim lane))) (version + 1)
+leaves : (cell version lane : ℕ) (act : Act ℕ) → IsEndOf cell act → next_word act Computing 0 version ≡ slot_word (slot_after lane act (Some (slot.Claim lane))) (version + 1)
 leaves cell version lane (Keep n) is = absurd is
 leaves cell version lane (Put at n) is = absurd is
 leaves cell version lane (Remove at) is = absurd is
 leaves cell version lane (Claim at) is = absurd is
 leaves cell version lane (Fill at n) is = refl
+leaves cell version lane (Fail at n) is = refl
 leaves cell version lane (Abandon at) is = refl
 leaves cell version lane (Seal at) is = absurd is
 
@@ -62,6 +64,7 @@ happens limits h lane cell act is stands = go act is
     go (Remove at) same = absurd same
     go (Claim at) same = absurd same
     go (Fill at n) same = own_claim at same
+    go (Fail at n) same = own_claim at same
     go (Abandon at) same = own_claim at same
     go (Seal at) same = absurd same
 
@@ -69,14 +72,15 @@ module _ (limits : Limits) (lane : LaneView) (h : History) (cell : ℕ) (on : Go
   stands : (cell < limits.cells) × ((state_after h).slots cell ≡ Some (slot.Claim lane.number))
   stands = (may_happen limits h lane.number (Abandon cell) (held_abandon limits lane cell h on held)).1
 
-  may_end : (act : Act ℕ) → IsEndOf cell act → IfSome (stored_number act) (MayStoreNow lane) → IsAllowed limits h (by lane.number act)
-  may_end (Keep n) is store = absurd is
-  may_end (Put at n) is store = absurd is
-  may_end (Remove at) is store = absurd is
-  may_end (Claim at) is store = absurd is
-  may_end (Fill at n) is store = subst (λ k. IsAllowed limits h (by lane.number (Fill k n))) (sym is) (held_fill limits lane cell n h on held store)
-  may_end (Abandon at) is store = subst (λ k. IsAllowed limits h (by lane.number (Abandon k))) (sym is) (held_abandon limits lane cell h on held)
-  may_end (Seal at) is store = absurd is
+  may_end : (act : Act ℕ) → IsEndOf cell act → IfSome (stored_number act) (MayStoreNow lane) → IfSome (fault_number act) (λ number. IsTrue limits.keep_faults) → IsAllowed limits h (by lane.number act)
+  may_end (Keep n) is store keeps = absurd is
+  may_end (Put at n) is store keeps = absurd is
+  may_end (Remove at) is store keeps = absurd is
+  may_end (Claim at) is store keeps = absurd is
+  may_end (Fail at n) is store keeps = subst (λ k. IsAllowed limits h (by lane.number (Fail k n))) (sym is) (held_fail limits lane cell n h keeps on held store)
+  may_end (Fill at n) is store keeps = subst (λ k. IsAllowed limits h (by lane.number (Fill k n))) (sym is) (held_fill limits lane cell n h on held store)
+  may_end (Abandon at) is store keeps = subst (λ k. IsAllowed limits h (by lane.number (Abandon k))) (sym is) (held_abandon limits lane cell h on held)
+  may_end (Seal at) is store keeps = absurd is
 
   suits : (act : Act ℕ) (version : ℕ) → limits.numbers < 2 ^ 20 → IsEndOf cell act → IfSome (stored_number act) (MayStoreNow lane) → version + 1 < 2 ^ 40 → Suits act Computing version
   suits (Keep n) version few is store room = absurd is
@@ -84,6 +88,7 @@ module _ (limits : Limits) (lane : LaneView) (h : History) (cell : ℕ) (on : Go
   suits (Remove at) version few is store room = absurd is
   suits (Claim at) version few is store room = absurd is
   suits (Fill at n) version few is store room = (refl, fits_bits limits lane h n few on store, omega (arith, room))
+  suits (Fail at n) version few is store room = (refl, fits_bits limits lane h n few on store, omega (arith, room))
   suits (Abandon at) version few is store room = (refl, omega (arith, room))
   suits (Seal at) version few is store room = absurd is
 
@@ -121,7 +126,7 @@ module _ (before now : Lane) (word cell : ℕ) (act : Act ℕ) (small : before.c
       f'.word_is.cell less ∙ held_word before.cells.limits now.view cell h f'.on still ∙ sym (c.tries.word_is.cell less)
 
   -- the parts that were read are those of the word
-  module _ (next : ℕ) (read : (version : ℕ) → word ≡ word_with Computing 0 version → next ≡ next_word act 0 version) where
+  module _ (keeps : IfSome (fault_number act) (λ number. IsTrue before.cells.limits.keep_faults)) (next : ℕ) (read : (version : ℕ) → word ≡ word_with Computing 0 version → next ≡ next_word act Computing 0 version) where
     may_at : (h : History) → Finds before.cells.limits now.view cell word h → MayGoOn before.cells.limits now.view h cell next act
     may_at h f =
         let on = goes_on before.cells.limits before.view now.view cell word 0 c.tries h f.on in
@@ -131,7 +136,7 @@ module _ (before now : Lane) (word cell : ℕ) (act : Act ℕ) (small : before.c
         let slot : slot_word (slot_after before.view.number act (Some (slot.Claim before.view.number))) (version_of h cell + 1) ≡ slot_word (slot_after before.view.number act ((state_after h).slots cell)) (version_of h cell + 1) =
         ap (λ s. slot_word (slot_after before.view.number act s) (version_of h cell + 1)) (sym claim.1) in
         subst (λ (l : LaneView). MayGoOn before.cells.limits l h cell next act) (λ i. record { number = sym number i; fronts = now.view.fronts }) (record {
-          allowed = may_end before.cells.limits before.view h cell on held act is store;
+          allowed = may_end before.cells.limits before.view h cell on held act is store keeps;
           word_is = word_after before.cells.limits h before.view.number act cell next (place_is cell act is) claim.0 (read (version_of h cell) here.is ∙ leaves cell (version_of h cell) before.view.number act is ∙ slot);
         })
 

@@ -3,9 +3,9 @@ use Rattle.std.proofs.Common.{◌≡◌, ℕ, ◌+◌, ◌-◌, ◌^◌, ◌≤�
 use Rattle.std.specs.Prelude.{nat_lt}
 use Rattle.std.proofs.lemmas.Bool.Decides.{nat_tests}
 use Rattle.ext_model.specs.declared.event.Act.{Act}
-use Rattle.ext_model.specs.declared.event.Act.TheVariants.{Keep, Put, Remove, Claim, Fill, Abandon, Seal}
+use Rattle.ext_model.specs.declared.event.Act.TheVariants.{Keep, Put, Remove, Claim, Fill, Fail, Abandon, Seal}
 use Rattle.ext_cells.specs.declared.cell_state.CellState.{CellState}
-use Rattle.ext_cells.specs.declared.cell_state.CellState.TheVariants.{Empty, Computing, Present, Sealed}
+use Rattle.ext_cells.specs.declared.cell_state.CellState.TheVariants.{Empty, Computing, Present, Sealed, Failed}
 use Rattle.ext_cells.specs.Words.{exhausted_if, is_worn_by, refusal_in, Suits}
 
 pub not_less : (a b : ℕ) → nat_lt a b ≡ false → b ≤ a
@@ -26,6 +26,7 @@ module _ (state : CellState) (version : ℕ) where
       worn Computing e = absurd (cc e)
       worn Present e = fresh _ e
       worn Sealed e = absurd (cc e)
+      worn Failed e = fresh _ e
   version_left (Remove at) free suits = let l = not_less (2 ^ 40 - 3) version (worn state free) in omega (arith, l)
     where
       worn : (s : CellState) → refusal_in s version (Remove at) ≡ None → is_worn_by (Remove at) version ≡ false
@@ -33,6 +34,7 @@ module _ (state : CellState) (version : ℕ) where
       worn Computing e = absurd (cc e)
       worn Present e = fresh _ e
       worn Sealed e = absurd (cc e)
+      worn Failed e = fresh _ e
   version_left (Claim at) free suits = let l = not_less (2 ^ 40 - 4) version (worn state free) in omega (arith, l)
     where
       worn : (s : CellState) → refusal_in s version (Claim at) ≡ None → is_worn_by (Claim at) version ≡ false
@@ -40,6 +42,8 @@ module _ (state : CellState) (version : ℕ) where
       worn Computing e = absurd (cc e)
       worn Present e = fresh _ e
       worn Sealed e = absurd (cc e)
+      worn Failed e = fresh _ e
   version_left (Fill at number) free suits = let l = suits.2 in omega (arith, l)
+  version_left (Fail at number) free suits = let l = suits.2 in omega (arith, l)
   version_left (Abandon at) free suits = let l = suits.1 in omega (arith, l)
   version_left (Seal at) free suits = let l = suits.1 in omega (arith, l)

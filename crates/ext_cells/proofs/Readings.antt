@@ -25,13 +25,14 @@ use Rattle.ext_cells.proofs.Collecting.{AllBegin, AllGoOn, follow_begin, go_on_f
 
 -- ---- versions
 
-state_fits : (s : Option Slot) → state_code s < 4
+state_fits : (s : Option Slot) → state_code s < 5
 state_fits None = omega arith
 state_fits (Some (slot.Entry number)) = omega arith
+state_fits (Some (slot.Fault number)) = omega arith
 state_fits (Some (slot.Claim lane)) = omega arith
 state_fits (Some (slot.Sealed kept)) = omega arith
 
-version_read : (s n v : ℕ) → s < 4 → n < 2 ^ 20 → version_in (word s n v) ≡ v
+version_read : (s n v : ℕ) → s < 5 → n < 2 ^ 20 → version_in (word s n v) ≡ v
 version_read s n v small fits = omega (arith, small, fits)
 
 -- a word of a legal history tells its version
@@ -238,6 +239,7 @@ module _ (limits : Limits) (before between mid next : LaneView) (cs ds ws us vs 
 empty_slot : (s : Option Slot) (version : ℕ) → word (state_code s) (number_code s) version % 16 ≡ 0 → s ≡ None
 empty_slot None version e = refl
 empty_slot (Some (slot.Entry number)) version e = absurd (omega (arith, e))
+empty_slot (Some (slot.Fault number)) version e = absurd (omega (arith, e))
 empty_slot (Some (slot.Claim lane)) version e = absurd (omega (arith, e))
 empty_slot (Some (slot.Sealed kept)) version e = absurd (omega (arith, e))
 

@@ -12,7 +12,7 @@ use Rattle.ext_history.specs.Views.{seen_by, last_after, call_fronts, IsStepped}
 use Rattle.ext_model.specs.Views.{LaneView, IsAnswerPoint}
 use Rattle.ext_model.specs.Calls as model
 use Rattle.ext_cells.specs.declared.claim.Claimed.{Claimed}
-use Rattle.ext_cells.specs.declared.claim.Claimed.TheVariants.{Won, Standing}
+use Rattle.ext_cells.specs.declared.claim.Claimed.TheVariants.{Won, Standing, Fault}
 use Rattle.ext_cells.specs.declared.refusal.CellRefusal.{CellRefusal}
 use Rattle.ext_cells.specs.declared.refusal.CellRefusal.TheVariants.{Contended, Busy, Closed, Exhausted, NumbersFull}
 use Rattle.ext_cells.specs.declared.nearest.Nearest.{Nearest}
@@ -20,7 +20,8 @@ use Rattle.ext_cells.specs.Lanes.{Lane}
 
 -- ---- what one thread is answered
 
--- The result of a call whose reply is this; `value` makes the result's value of the number that the reply answers. To a claim a number that stands is an answer.
+-- The result of a call whose reply is this; `value` makes the result's value of the number that the reply answers. To a claim a number that stands is an answer, of
+-- a value or of a kept fault.
 -- The last is a reply to the ends of claims alone. `Contended` stands for it, as it is the one result that is never the reply of one thread
 abbrev pub result_of : {A : Type 0} → (Option ℕ → A) → events.Reply → Result A CellRefusal
 result_of value (events.Happens answer) = Ok (value answer)
@@ -30,19 +31,27 @@ result_of value (events.Refuses events.Busy) = Err Busy
 result_of value (events.Refuses events.Closed) = Err Closed
 result_of value (events.Refuses events.Exhausted) = Err Exhausted
 result_of value (events.Refuses (events.Standing number)) = Ok (value (Some number))
+result_of value (events.Refuses (events.FaultStanding number)) = Ok (value (Some number))
 result_of value (events.Refuses events.Barred) = Err Contended
 
 -- what one thread is answered by a change of a cell, directly after a history
 abbrev pub change_reply : Lane → Act ℕ → History → Result (Option ℕ) CellRefusal
 change_reply lane act h = result_of what_stood (reply_after lane.cells.limits h lane.view.number act)
 
--- by a claim, where a number that stands is the answer,
-abbrev pub claimed_or : ℕ → Option ℕ → Claimed
-claimed_or cell None = Won cell
-claimed_or cell (Some number) = Standing number
+-- by a claim, where a number that stands is the answer, and tells whether it is that of a value or of a fault,
+abbrev pub claim_result : ℕ → events.Reply → Result Claimed CellRefusal
+claim_result cell (events.Happens answer) = Ok (Won cell)
+claim_result cell (events.Answers answer) = Ok (Won cell)
+claim_result cell (events.Refuses events.NumbersFull) = Err NumbersFull
+claim_result cell (events.Refuses events.Busy) = Err Busy
+claim_result cell (events.Refuses events.Closed) = Err Closed
+claim_result cell (events.Refuses events.Exhausted) = Err Exhausted
+claim_result cell (events.Refuses (events.Standing number)) = Ok (Standing number)
+claim_result cell (events.Refuses (events.FaultStanding number)) = Ok (Fault number)
+claim_result cell (events.Refuses events.Barred) = Err Contended
 
 abbrev pub claim_reply : Lane → ℕ → History → Result Claimed CellRefusal
-claim_reply lane cell h = result_of (claimed_or cell) (reply_after lane.cells.limits h lane.view.number (Claim cell))
+claim_reply lane cell h = claim_result cell (reply_after lane.cells.limits h lane.view.number (Claim cell))
 
 -- and by the drawing of a number: a reply to a keep doesn't depend on the number that it is asked with
 abbrev pub number_reply : Lane → History → Result ℕ CellRefusal
@@ -70,6 +79,7 @@ remove_acts cell (Err why) = []
 abbrev pub claim_acts : ℕ → Result Claimed CellRefusal → List (Act ℕ)
 claim_acts cell (Ok (Won claim)) = Claim cell ∷ []
 claim_acts cell (Ok (Standing number)) = []
+claim_acts cell (Ok (Fault number)) = []
 claim_acts cell (Err why) = []
 
 -- ---- the results of calls
@@ -95,9 +105,10 @@ SealAnswers tries before after cell (Err why) = model.HoldsAtPoint before.cells.
 abbrev pub IfWon : Result Claimed CellRefusal → (ℕ → Type 0) → Type 0
 IfWon (Ok (Won claim)) Fact = Fact claim
 IfWon (Ok (Standing number)) Fact = Unit {0}
+IfWon (Ok (Fault number)) Fact = Unit {0}
 IfWon (Err why) Fact = Unit {0}
 
--- The call made this one event, a fill or an abandon, which one thread does at that point
+-- The call made this one event, a fill, a fail or an abandon, which one thread does at that point
 abbrev pub EndsClaim : Lane → Lane → Act ℕ → Type 0
 EndsClaim before after act = model.HoldsAtPoint before.cells.limits before.view after.view (act ∷ []) (λ p. reply_after before.cells.limits p before.view.number act ≡ events.Happens None)
 

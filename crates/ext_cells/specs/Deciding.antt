@@ -2,23 +2,26 @@
 -- Own rule, below the public contracts.
 use Rattle.std.specs.Prelude.{◌≡◌, ◌≢◌, ℕ, ◌+◌, ◌==◌, ◌≤◌, ◌^◌, ◌<◌, Bool, true, false, if◌then◌else◌, Option, Some, None, Ok, Err}
 use Rattle.ext_model.specs.declared.event.Act.{Act}
-use Rattle.ext_model.specs.declared.event.Act.TheVariants.{Keep, Put, Remove, Claim, Fill, Abandon, Seal}
+use Rattle.ext_model.specs.declared.event.Act.TheVariants.{Keep, Put, Remove, Claim, Fill, Fail, Abandon, Seal}
 use Rattle.ext_model.specs.declared.slot.Slot.{Slot}
 use Rattle.ext_model.specs.declared.slot.Slot.TheVariants as slot
 use Rattle.ext_model.specs.Events as events
 use Rattle.ext_model.specs.Plain.{what_stood}
 use Rattle.ext_model.specs.Words.{number_code, slot_word}
 use Rattle.ext_cells.specs.declared.cell_state.CellState.{CellState}
-use Rattle.ext_cells.specs.declared.cell_state.CellState.TheVariants.{Empty, Computing, Present, Sealed}
+use Rattle.ext_cells.specs.declared.cell_state.CellState.TheVariants.{Empty, Computing, Present, Sealed, Failed}
 use Rattle.ext_cells.specs.declared.decision.Decision.{Decision}
 use Rattle.ext_cells.specs.declared.decision.Decision.TheVariants.{Change, Done}
 use Rattle.ext_cells.specs.Words.{word_with}
 use Rattle.ext_cells.specs.Calls.{result_of}
-use Rattle.ext_cells.specs.Steps.{idle_reply}
+use Rattle.ext_cells.specs.declared.stood.Stood.{Stood}
+use Rattle.ext_cells.specs.declared.stood.Stood.TheVariants.{Nothing, Value, Fault}
+use Rattle.ext_cells.specs.Steps.{answer_to, idle_reply}
 
 abbrev pub state_of : Option Slot → CellState
 state_of None = Empty
 state_of (Some (slot.Entry number)) = Present
+state_of (Some (slot.Fault number)) = Failed
 state_of (Some (slot.Claim lane)) = Computing
 state_of (Some (slot.Sealed kept)) = Sealed
 
@@ -26,6 +29,7 @@ state_of (Some (slot.Sealed kept)) = Sealed
 abbrev pub IsNumbered : Option Slot → Type 0
 IsNumbered None = Unit {0}
 IsNumbered (Some (slot.Entry number)) = 1 ≤ number
+IsNumbered (Some (slot.Fault number)) = 1 ≤ number
 IsNumbered (Some (slot.Claim lane)) = Unit {0}
 IsNumbered (Some (slot.Sealed None)) = Unit {0}
 IsNumbered (Some (slot.Sealed (Some number))) = 1 ≤ number
@@ -37,14 +41,19 @@ pub record IsCellWord (stands : Option Slot) (version word : ℕ) : Type 0 where
   pub numbered : IsNumbered stands
   pub room : state_of stands ≢ Sealed → version + 1 < 2 ^ 40
 
--- the number in a word, of which 0 is none
-abbrev pub number_in : ℕ → Option ℕ
-number_in number = if number == 0 then None else Some number
+-- what stood at a cell, or what its seal keeps, by the state and the number in its word, where 0 is no number
+abbrev pub stood_in : CellState → ℕ → Stood
+stood_in Empty number = Nothing
+stood_in Computing number = Nothing
+stood_in Present number = Value number
+stood_in Sealed number = if number == 0 then Nothing else Value number
+stood_in Failed number = Fault number
 
 -- there is nothing to do for the act in this state: nothing to remove, a number where a claim was to be, or a seal that stands
 abbrev pub is_settled : Act ℕ → CellState → Bool
 is_settled (Remove at) Empty = true
 is_settled (Claim at) Present = true
+is_settled (Claim at) Failed = true
 is_settled (Seal at) Sealed = true
 is_settled act state = false
 
@@ -55,6 +64,7 @@ IsChange (Put at number) = number < 2 ^ 20
 IsChange (Remove at) = Unit {0}
 IsChange (Claim at) = Unit {0}
 IsChange (Fill at number) = ⊥
+IsChange (Fail at number) = ⊥
 IsChange (Abandon at) = ⊥
 IsChange (Seal at) = Unit {0}
 
@@ -64,6 +74,6 @@ reply_on act stands version = events.reply 0 (λ at. version) (record { slots = 
 
 -- the decision is to make the event, which leaves this word; or it is the answer, without an event
 abbrev pub Decides : Act ℕ → Option Slot → ℕ → Decision → Type 0
-Decides act stands version (Change next answer) = (reply_on act stands version ≡ events.Happens answer) × ((lane : ℕ) → next ≡ slot_word (events.slot_after lane act stands) (version + 1))
-Decides act stands version (Done (Ok answer)) = reply_on act stands version ≡ idle_reply act answer
+Decides act stands version (Change next stood) = (reply_on act stands version ≡ events.Happens (answer_to act stood)) × ((lane : ℕ) → next ≡ slot_word (events.slot_after lane act stands) (version + 1))
+Decides act stands version (Done (Ok stood)) = reply_on act stands version ≡ idle_reply act stood
 Decides act stands version (Done (Err why)) = (result_of what_stood (reply_on act stands version) ≡ Err why)

@@ -5,7 +5,7 @@ use Rattle.atomic_table.specs.Seated.{TableId}
 use Rattle.ext_model.specs.History.{Limits}
 use Rattle.ext_model.specs.Views.{LaneView}
 
--- Which cells they are: the table that they stand in, and how many cells, lanes and numbers there are
+-- Which cells they are: the table that they stand in, how many cells, lanes and numbers there are, and whether faults are kept
 pub record CellsId : Type 0 where
   pub table : TableId
   pub limits : Limits

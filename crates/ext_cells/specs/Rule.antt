@@ -1,7 +1,7 @@
 -- The rule of the shared words: there is one legal history, the words are those of it, and each lane has seen a part of it from its beginning.
 -- Own rule, below the public contracts: `Steps` says what a lane is told of it. The words of the cells stand first in the table, and the count of
 -- numbers drawn is the word behind them.
-use Rattle.std.specs.Prelude.{◌≡◌, ◌≢◌, ℕ, ◌+◌, ◌<◌, ◌≤◌, Option, Some, None, List, [], ◌∷◌, ◌++◌, length, slice_index, unwrap_or}
+use Rattle.std.specs.Prelude.{◌≡◌, ◌≢◌, ℕ, ◌+◌, ◌<◌, ◌≤◌, false, Option, Some, None, List, [], ◌∷◌, ◌++◌, length, slice_index, unwrap_or}
 use mathlib.Core.Option.{some}
 use mathlib.Core.List.{IsPrefix}
 use lib.ListN.{get_elem?}
@@ -32,7 +32,7 @@ place_in limits act = unwrap_or (place_of act) limits.cells
 -- ---- what seats know
 
 abbrev pub limits_of : CellLimits → Limits
-limits_of limits = record { cells = limits.cells; lanes = limits.lanes; numbers = limits.numbers }
+limits_of limits = record { cells = limits.cells; lanes = limits.lanes; numbers = limits.numbers; keep_faults = limits.keep_faults }
 
 -- the first lane, which gives out the numbers of lanes from 1 on
 abbrev pub first_lane : CellLimits → View
@@ -60,7 +60,7 @@ noted v w = record { limits = v.limits; lane = v.lane; given = v.given; fronts =
 
 -- what is left of a note that was joined
 abbrev pub spent : View
-spent = record { limits = record { cells = 0; lanes = 0; numbers = 0 }; lane = None; given = None; fronts = []; told = [] }
+spent = record { limits = record { cells = 0; lanes = 0; numbers = 0; keep_faults = false }; lane = None; given = None; fronts = []; told = [] }
 
 -- the view after a step that left this history
 abbrev pub shown : View → History → View

@@ -9,6 +9,8 @@ pub enum CellState {
     Computing,
     /// 2: the number of a value.
     Present,
-    /// 3: a seal, which keeps the number that stood, or 0.
+    /// 3: a seal, which keeps the number of the value that stood, or 0.
     Sealed,
+    /// 4: the number of a kept fault.
+    Failed,
 }

@@ -1,6 +1,6 @@
 //! A cell in one word of 64 bits: its state, the number that stands there, and how many events it has had.
 ghost use Rattle.std.specs.Prelude.{◌≡◌, ℕ, ◌+◌, ◌*◌, ◌-◌, ◌%◌, ◌^◌, ◌<◌};
-ghost use Rattle.ext_cells.specs.Words.{word_with, next_word as next_word_of, ends_claim as ends_claim_of, is_worn_by, refusal_in, after_word, Suits};
+ghost use Rattle.ext_cells.specs.Words.{word_with, sealed_number as sealed_number_of, next_word as next_word_of, ends_claim as ends_claim_of, is_worn_by, refusal_in, after_word, Suits};
 
 use crate::{CellRefusal, CellState};
 use ext_model::{Act, CellNo};
@@ -17,6 +17,7 @@ pub fn word(state: CellState, number: u32, version: u64) -> u64
         CellState::Computing => 1,
         CellState::Present => 2,
         CellState::Sealed => 3,
+        CellState::Failed => 4,
     };
     version * 16_777_216 + u64::from(number) * 16 + bits
 }
@@ -24,7 +25,7 @@ pub fn word(state: CellState, number: u32, version: u64) -> u64
 /// The state, the number and the version of a word: they are the only ones. Its bits 0 to 3 are those of a
 /// state. Takes no memory (own rule).
 pub fn parts(word: u64) -> (CellState, u32, u64)
-    requires { word % 16 < 4 }
+    requires { word % 16 < 5 }
     ensures parts { word_with result.0 result.1 result.2 ≡ word }
     ensures number { result.1 < 2 ^ 20 }
     ensures version { result.2 < 2 ^ 40 }
@@ -36,7 +37,8 @@ pub fn parts(word: u64) -> (CellState, u32, u64)
         0 => CellState::Empty,
         1 => CellState::Computing,
         2 => CellState::Present,
-        _ => CellState::Sealed,
+        3 => CellState::Sealed,
+        _ => CellState::Failed,
     };
     (state, number, version)
 }
@@ -52,21 +54,21 @@ fn is_worn(act: Act<CellNo>, version: u64) -> bool
     match act {
         Act::Put(_, _) | Act::Remove(_) => version > LAST_CHANGE,
         Act::Claim(_) => version > LAST_CLAIM,
-        Act::Keep(_) | Act::Fill(_, _) | Act::Abandon(_) | Act::Seal(_) => false,
+        Act::Keep(_) | Act::Fill(_, _) | Act::Fail(_, _) | Act::Abandon(_) | Act::Seal(_) => false,
     }
 }
 
 fn ends_claim(act: Act<CellNo>) -> bool
     ensures { result ≡ ends_claim_of act }
 {
-    matches!(act, Act::Fill(_, _) | Act::Abandon(_))
+    matches!(act, Act::Fill(_, _) | Act::Fail(_, _) | Act::Abandon(_))
 }
 
 fn refusal(state: CellState, version: u64, act: Act<CellNo>) -> Option<CellRefusal>
     ensures { result ≡ refusal_in state version act }
 {
     match state {
-        CellState::Empty | CellState::Present => {
+        CellState::Empty | CellState::Present | CellState::Failed => {
             if is_worn(act, version) {
                 Some(CellRefusal::Exhausted)
             } else {
@@ -84,32 +86,43 @@ fn refusal(state: CellState, version: u64, act: Act<CellNo>) -> Option<CellRefus
     }
 }
 
+// The number that a seal keeps, by what it found: a fault's number goes.
+fn sealed_number(state: CellState, number: u32) -> u32
+    ensures { result ≡ sealed_number_of state number }
+{
+    match state {
+        CellState::Failed => 0,
+        CellState::Empty | CellState::Computing | CellState::Present | CellState::Sealed => number,
+    }
+}
+
 // The word after an act that is not refused.
-pub(crate) fn next_word(act: Act<CellNo>, number: u32, version: u64) -> u64
+pub(crate) fn next_word(act: Act<CellNo>, state: CellState, number: u32, version: u64) -> u64
     requires number { number < 2 ^ 20 }
     requires version { version + 1 < 2 ^ 40 }
-    requires act { (state : _) × Suits act state version }
-    ensures { result ≡ next_word_of act number version }
+    requires act { Suits act state version }
+    ensures { result ≡ next_word_of act state number version }
 {
     match act {
         Act::Put(_, stored) | Act::Fill(_, stored) => word(CellState::Present, stored, version + 1),
+        Act::Fail(_, stored) => word(CellState::Failed, stored, version + 1),
         Act::Remove(_) | Act::Abandon(_) => word(CellState::Empty, 0, version + 1),
         Act::Claim(_) => word(CellState::Computing, 0, version + 1),
-        Act::Seal(_) => word(CellState::Sealed, number, version + 1),
+        Act::Seal(_) => word(CellState::Sealed, sealed_number(state, number), version + 1),
         Act::Keep(_) => unreachable!(),
     }
 }
 
 /// The word after an act, whose version is one more.
 ///
-/// Refused as `Busy` where a claim stands, save for a fill or an abandon; as `Closed` where the cell is sealed;
+/// Refused as `Busy` where a claim stands, save for a fill, a fail or an abandon; as `Closed` where the cell is sealed;
 /// as `Exhausted` where the version is above 2^40 - 3 for a put or a remove, and above 2^40 - 4 for a claim: so
-/// the end of a claim and one seal always have a version left. The act is no keep; a fill or an abandon is of a
+/// the end of a claim and one seal always have a version left. The act is no keep; a fill, a fail or an abandon is of a
 /// claimed cell; there is a number to remove, no seal to seal again, and no number where a claim is asked for;
-/// a number stored is below 2^20, and for a fill, an abandon or a seal the version is below 2^40 - 1. Takes
+/// a number stored is below 2^20, and for a fill, a fail, an abandon or a seal the version is below 2^40 - 1. Takes
 /// no memory (own rule).
 pub fn after(word: u64, act: Act<CellNo>) -> Result<u64, CellRefusal>
-    requires state { word % 16 < 4 }
+    requires state { word % 16 < 5 }
     requires act { (state : _) (number version : ℕ) → number < 2 ^ 20 → word ≡ word_with state number version → Suits act state version }
     ensures { (state : _) (number version : ℕ) → number < 2 ^ 20 → word ≡ word_with state number version → result ≡ after_word act state number version }
 {
@@ -117,5 +130,5 @@ pub fn after(word: u64, act: Act<CellNo>) -> Result<u64, CellRefusal>
     if let Some(refusal) = refusal(state, version, act) {
         return Err(refusal);
     }
-    Ok(next_word(act, number, version))
+    Ok(next_word(act, state, number, version))
 }

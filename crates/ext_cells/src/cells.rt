@@ -1,8 +1,8 @@
 //! The cells that lanes share, and all calls on them.
-ghost use Rattle.std.specs.Prelude.{◌≡◌, ◌≢◌, ◌≤◌, ◌<◌, ◌+◌, ◌*◌, ◌^◌, ◌↔◌, ℕ, nat_eq, [], ◌∷◌, ◌++◌, length, map, Some, All, IfOk, IfErr, IfSome, Err};
+ghost use Rattle.std.specs.Prelude.{◌≡◌, ◌≢◌, ◌≤◌, ◌<◌, ◌+◌, ◌*◌, ◌^◌, ◌↔◌, ℕ, nat_eq, [], ◌∷◌, ◌++◌, length, map, Some, All, IfOk, IfErr, IfSome, IsTrue, true, Err};
 ghost use Rattle.std.specs.List.{IsDistinct};
 ghost use mathlib.Core.List.{IsPrefix};
-ghost use Rattle.ext_model.specs.History.{History, by, stored_number, IsLegal};
+ghost use Rattle.ext_model.specs.History.{History, by, stored_number, fault_number, IsLegal};
 ghost use Rattle.ext_model.specs.Words.{word_of};
 ghost use Rattle.ext_history.specs.Views.{seen_by, call_fronts};
 ghost use Rattle.ext_model.specs.Calls.{Calls, IsHeld, MayStoreNow};
@@ -17,6 +17,7 @@ use crate::cell_word::{next_word, parts};
 use crate::decision::{Decision, decide};
 use crate::opening::{are_limits, give_out, open_words};
 use crate::rule::{CellLimits, CellTable, Exchange, LaneSeat, Load, Note};
+use crate::stood::{Stood, any_number, value_number};
 use crate::{CellLane, CellRefusal, Claim, Claimed, Words};
 use ext_model::{Act, CellNo};
 use std::alloc::Global;
@@ -59,6 +60,8 @@ impl Cells {
     /// these lanes makes an event: where none of them has made one, the history is empty (`no_lane` of
     /// `history_laws` in ext_model). Takes memory (own rule).
     ///
+    /// Faults may be kept in them: `open_for` opens cells in which none are.
+    ///
     /// Refused as `BadLimit` unless there are at most 4,096 cells, 1 to 16 lanes, 1 to 64 tries and 1 to 65,535
     /// numbers, and then as `Memory`.
     pub fn open(
@@ -69,7 +72,27 @@ impl Cells {
         numbers: u32,
     ) -> Result<(Cells, Vec<CellLane>), CellRefusal>
         ensures within { IfOk result (λ _. AreLimits cells lanes tries numbers) }
-        ensures limits { IfOk result (λ r. r.0.id.limits ≡ record { cells = cells; lanes = lanes; numbers = numbers }) }
+        ensures limits { IfOk result (λ r. r.0.id.limits ≡ record { cells = cells; lanes = lanes; numbers = numbers; keep_faults = true }) }
+        ensures tries { IfOk result (λ r. r.0.tries ≡ tries) }
+        ensures lanes { IfOk result (λ r. r.1.items ≡ fresh_lanes r.0.id 0 lanes) }
+        ensures bad_limit { (result ≡ Err CellRefusal.BadLimit) ↔ (¬ (AreLimits cells lanes tries numbers)) }
+        ensures refusal { IfErr result (λ why. AreLimits cells lanes tries numbers → why ≡ CellRefusal.Memory) }
+    {
+        Cells::open_for(alloc, cells, lanes, tries, numbers, true)
+    }
+
+    /// As `open`, for cells in which faults are kept or not. Where they are not, no lane makes a fail, and no cell ever has
+    /// a fault (`no_faults` of `history_laws` in ext_model). Takes memory (own rule).
+    pub fn open_for(
+        alloc: Global,
+        cells: usize,
+        lanes: usize,
+        tries: u32,
+        numbers: u32,
+        keep_faults: bool,
+    ) -> Result<(Cells, Vec<CellLane>), CellRefusal>
+        ensures within { IfOk result (λ _. AreLimits cells lanes tries numbers) }
+        ensures limits { IfOk result (λ r. r.0.id.limits ≡ record { cells = cells; lanes = lanes; numbers = numbers; keep_faults = keep_faults }) }
         ensures tries { IfOk result (λ r. r.0.tries ≡ tries) }
         ensures lanes { IfOk result (λ r. r.1.items ≡ fresh_lanes r.0.id 0 lanes) }
         ensures bad_limit { (result ≡ Err CellRefusal.BadLimit) ↔ (¬ (AreLimits cells lanes tries numbers)) }
@@ -82,6 +105,7 @@ impl Cells {
             cells,
             lanes,
             numbers,
+            keep_faults,
         };
         let (table, first) = open_words(alloc, &limits)?;
         let lanes = give_out(&table.shared, alloc, first, lanes)?;
@@ -107,6 +131,13 @@ impl Cells {
         ensures within { (1 ≤ self.now.tries) × (self.now.tries ≤ 64) }
     {
         self.tries
+    }
+
+    /// Whether faults may be kept in the cells, as `fail` requires. Takes no memory (own rule).
+    pub fn keeps_faults(&self) -> bool
+        ensures { result ≡ self.now.id.limits.keep_faults }
+    {
+        self.limits.keep_faults
     }
 
     /// The words of the cells as they stood together at one point of the call, in the order in which they are
@@ -170,8 +201,8 @@ impl Cells {
         Err(CellRefusal::Contended)
     }
 
-    /// Stores the number in the cell, over one that stands there, and answers the number that stood. The lane drew
-    /// the number, and has not stored it. Takes no memory.
+    /// Stores the number in the cell, over one that stands there, and answers the number that stood, of a value or of a
+    /// kept fault. The lane drew the number, and has not stored it. Takes no memory.
     ///
     /// Refused as `Busy` where a claim stands, as `Closed` where the cell is sealed, as `Exhausted` where the
     /// cell's version is above 2^40 - 3, and else as `Contended`; the number is then still to be stored.
@@ -192,10 +223,10 @@ impl Cells {
         ensures storable { IfErr result (λ _. MayStoreNow lane.new.view number) }
         ensures steps { length (call_fronts lane.old.view lane.new.view) ≤ self.now.tries + 1 }
     {
-        self.change(lane, cell, Act::Put(cell, number))
+        any_number(self.change(lane, cell, Act::Put(cell, number)))
     }
 
-    /// Takes the number out of the cell and answers it; where nothing stands the answer is `None`, and nothing
+    /// Takes the number out of the cell, of a value or of a kept fault, and answers it; where nothing stands the answer is `None`, and nothing
     /// happens. Takes no memory.
     ///
     /// Refused as `Busy` where a claim stands, as `Closed` where the cell is sealed, as `Exhausted` where a number
@@ -210,11 +241,11 @@ impl Cells {
         ensures contended { ComesLast lane.old lane.new (act_is.Remove cell) result }
         ensures steps { length (call_fronts lane.old.view lane.new.view) ≤ self.now.tries + 1 }
     {
-        self.change(lane, cell, Act::Remove(cell))
+        any_number(self.change(lane, cell, Act::Remove(cell)))
     }
 
-    /// Seals the cell for good, and answers the number that stood there, which the seal keeps. A sealed cell
-    /// answers what it kept, and nothing happens. Takes no memory (own rule).
+    /// Seals the cell for good, and answers the number of the value that stood there, which the seal keeps; a fault that
+    /// was kept goes. A sealed cell answers what it kept, and nothing happens. Takes no memory (own rule).
     ///
     /// Refused as `Busy` where a claim stands, and else as `Contended`; never as `Exhausted`.
     pub fn seal(&self, lane: &mut CellLane, cell: CellNo) -> Result<Option<u32>, CellRefusal>
@@ -225,12 +256,12 @@ impl Cells {
         ensures contended { ComesLast lane.old lane.new (act_is.Seal cell) result }
         ensures steps { length (call_fronts lane.old.view lane.new.view) ≤ self.now.tries + 1 }
     {
-        self.change(lane, cell, Act::Seal(cell))
+        value_number(self.change(lane, cell, Act::Seal(cell)))
     }
 
     /// Claims the cell for the lane where nothing stands there; until the lane ends the claim, each put, remove, seal
-    /// and claim of the cell, by whichever lane, is refused as `Busy`. Where a number stands the answer is that number,
-    /// and nothing happens. Takes no memory.
+    /// and claim of the cell, by whichever lane, is refused as `Busy`. Where the number of a value or of a kept fault
+    /// stands the answer is that number, and nothing happens. Takes no memory.
     ///
     /// Refused as `Busy` where a claim stands, the lane's own too, as `Closed` where the cell is sealed, as
     /// `Exhausted` where nothing stands at a version above 2^40 - 4, and else as `Contended`.
@@ -246,8 +277,9 @@ impl Cells {
         ensures steps { length (call_fronts lane.old.view lane.new.view) ≤ self.now.tries + 1 }
     {
         match self.change(lane, cell, Act::Claim(cell))? {
-            None => Ok(Claimed::Won(Claim { cell })),
-            Some(number) => Ok(Claimed::Standing(number)),
+            Stood::Nothing => Ok(Claimed::Won(Claim { cell })),
+            Stood::Value(number) => Ok(Claimed::Standing(number)),
+            Stood::Fault(number) => Ok(Claimed::Fault(number)),
         }
     }
 
@@ -266,6 +298,22 @@ impl Cells {
     {
         let Claim { cell } = claim;
         self.end_claim(lane, cell, Act::Fill(cell, number));
+    }
+
+    /// Ends the lane's claim by the number of a fault, which is kept in the cell then, until it is removed or replaced.
+    /// The cells are some in which faults are kept; the lane drew the number, and has not stored it. It is never refused,
+    /// and makes two steps, as `fill` and by the same law. Takes no memory (own rule).
+    pub fn fail(&self, lane: &mut CellLane, claim: Claim, number: u32)
+        requires lane { lane.old.cells ≡ self.now.id }
+        requires faults { IsTrue self.now.id.limits.keep_faults }
+        requires held { IsHeld lane.old.view claim }
+        requires number { MayStoreNow lane.old.view number }
+        ensures lane { lane.new.cells ≡ lane.old.cells }
+        ensures failed { EndsClaim lane.old lane.new (act_is.Fail claim number) }
+        ensures steps { length (call_fronts lane.old.view lane.new.view) ≡ 2 }
+    {
+        let Claim { cell } = claim;
+        self.end_claim(lane, cell, Act::Fail(cell, number));
     }
 
     /// Ends the lane's claim, and leaves the cell empty. It is never refused, and makes two steps, as `fill` and by the
@@ -299,13 +347,14 @@ impl Cells {
         self.load(&mut second.seat, 0);
     }
 
-    /// A put, a remove, a claim or a seal of the cell. A claim answers a number that stands, and `None` where it is won.
+    /// A put, a remove, a claim or a seal of the cell. It answers what stood there, or what the seal keeps that stands
+    /// there: a claim is won where that is nothing.
     fn change(
         &self,
         lane: &mut CellLane,
         cell: CellNo,
         act: Act<CellNo>,
-    ) -> Result<Option<u32>, CellRefusal>
+    ) -> Result<Stood, CellRefusal>
         requires lane { lane.old.cells ≡ self.now.id }
         requires cell { cell < self.now.id.limits.cells }
         requires act { IsChangeOf cell act }
@@ -317,12 +366,12 @@ impl Cells {
     {
         let mut word = self.read(lane, cell);
         for _ in 0..self.tries {
-            let (next, answer) = match decide(word, act) {
-                Decision::Change { next, answer } => (next, answer),
+            let (next, stood) = match decide(word, act) {
+                Decision::Change { next, stood } => (next, stood),
                 Decision::Done(reply) => return reply,
             };
             match self.exchange(lane, cell, word, next, act) {
-                Ok(()) => return Ok(answer),
+                Ok(()) => return Ok(stood),
                 Err(found) => word = found,
             }
         }
@@ -332,11 +381,12 @@ impl Cells {
         }
     }
 
-    /// A fill or an abandon of the cell, which the lane has claimed.
+    /// A fill, a fail or an abandon of the cell, which the lane has claimed.
     fn end_claim(&self, lane: &mut CellLane, cell: CellNo, act: Act<CellNo>)
         requires lane { lane.old.cells ≡ self.now.id }
         requires held { IsHeld lane.old.view cell }
         requires act { IsEndOf cell act }
+        requires faults { IfSome (fault_number act) (λ _. IsTrue lane.old.cells.limits.keep_faults) }
         requires number { IfSome (stored_number act) (MayStoreNow lane.old.view) }
         ensures lane { lane.new.cells ≡ lane.old.cells }
         ensures ended { EndsClaim lane.old lane.new act }
@@ -344,8 +394,8 @@ impl Cells {
     {
         lane.recall();
         let word = self.read(lane, cell);
-        let (_, number, version) = parts(word);
-        let next = next_word(act, number, version);
+        let (state, number, version) = parts(word);
+        let next = next_word(act, state, number, version);
         match self.exchange(lane, cell, word, next, act) {
             Ok(()) => {}
             Err(_) => unreachable!(),

@@ -3,8 +3,8 @@
 use ext_model::CellNo;
 use std::marker::Model;
 
-/// The claim of a cell by one lane. It is neither copied nor dropped: `Cells::fill` or `Cells::abandon` ends it,
-/// by a call on the lane that won it. In contracts it is the cell. Own rule (JUnit: a running factory holds its
+/// The claim of a cell by one lane. It is neither copied nor dropped: `Cells::fill`, `Cells::fail` or `Cells::abandon`
+/// ends it, by a call on the lane that won it. In contracts it is the cell. Own rule (JUnit: a running factory holds its
 /// key).
 pub struct Claim {
     pub(crate) cell: CellNo,
@@ -22,6 +22,8 @@ impl Model for Claim {
 pub enum Claimed {
     /// The cell is claimed for the lane.
     Won(Claim),
-    /// This number stands there, from 1 to 65,535.
+    /// The value of this number stands there, from 1 to 65,535.
     Standing(u32),
+    /// The fault of this number is kept there, from 1 to 65,535.
+    Fault(u32),
 }

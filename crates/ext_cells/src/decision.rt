@@ -1,19 +1,20 @@
 //! What a call does next, by the word that it found.
 ghost use Rattle.std.specs.Prelude.{◌≡◌, ℕ, ◌%◌, ◌<◌, Option};
 ghost use Rattle.ext_model.specs.declared.slot.Slot.{Slot};
-ghost use Rattle.ext_cells.specs.Deciding.{IsCellWord, IsChange, number_in as number_in_of, is_settled as is_settled_of, Decides};
+ghost use Rattle.ext_cells.specs.Deciding.{IsCellWord, IsChange, is_settled as is_settled_of, Decides};
 
 use crate::cell_word::{after, parts};
+use crate::stood::Stood;
 use crate::{CellRefusal, CellState};
 use ext_model::{Act, CellNo};
 
 // What a call does next.
 #[derive(Drop)]
 pub(crate) enum Decision {
-    // It exchanges the word for the next one, and then answers.
-    Change { next: u64, answer: Option<u32> },
-    // It answers, without an event.
-    Done(Result<Option<u32>, CellRefusal>),
+    // It exchanges the word for the next one, and then answers by what stood.
+    Change { next: u64, stood: Stood },
+    // It answers by what stands, or is refused, without an event.
+    Done(Result<Stood, CellRefusal>),
 }
 
 fn is_settled(act: Act<CellNo>, state: CellState) -> bool
@@ -21,16 +22,12 @@ fn is_settled(act: Act<CellNo>, state: CellState) -> bool
 {
     match act {
         Act::Remove(_) => matches!(state, CellState::Empty),
-        Act::Claim(_) => matches!(state, CellState::Present),
+        Act::Claim(_) => matches!(state, CellState::Present | CellState::Failed),
         Act::Seal(_) => matches!(state, CellState::Sealed),
-        Act::Keep(_) | Act::Put(_, _) | Act::Fill(_, _) | Act::Abandon(_) => false,
+        Act::Keep(_) | Act::Put(_, _) | Act::Fill(_, _) | Act::Fail(_, _) | Act::Abandon(_) => {
+            false
+        }
     }
-}
-
-fn number_in(number: u32) -> Option<u32>
-    ensures { result ≡ number_in_of number }
-{
-    if number == 0 { None } else { Some(number) }
 }
 
 // Decides on a put, a remove, a claim or a seal of the cell whose word this is.
@@ -40,12 +37,12 @@ pub(crate) fn decide(word: u64, act: Act<CellNo>) -> Decision
     ensures { (stands : Option Slot) (version : ℕ) → IsCellWord stands version word → Decides act stands version result }
 {
     let (state, number, _) = parts(word);
-    let answer = number_in(number);
+    let stood = Stood::of(state, number);
     if is_settled(act, state) {
-        return Decision::Done(Ok(answer));
+        return Decision::Done(Ok(stood));
     }
     match after(word, act) {
-        Ok(next) => Decision::Change { next, answer },
+        Ok(next) => Decision::Change { next, stood },
         Err(refusal) => Decision::Done(Err(refusal)),
     }
 }

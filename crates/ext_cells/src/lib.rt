@@ -19,6 +19,7 @@ mod nearest;
 mod opening;
 mod refusal;
 mod rule;
+mod stood;
 mod words;
 
 pub use cell_state::CellState;

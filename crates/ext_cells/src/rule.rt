@@ -14,12 +14,13 @@ pub(crate) type SharedWords = Shared<Act<CellNo>, View, CellLimits, OneHistory>;
 
 pub(crate) type LaneSeat = Seat<Act<CellNo>, View>;
 
-/// How many cells, lanes and numbers there are: what the rule reads.
+/// How many cells, lanes and numbers there are, and whether faults are kept: what the rule reads.
 #[derive(Clone, Copy, Drop)]
 pub(crate) struct CellLimits {
     pub(crate) cells: usize,
     pub(crate) lanes: LaneNo,
     pub(crate) numbers: u32,
+    pub(crate) keep_faults: bool,
 }
 
 /// What a seat knows. No value of it is made.

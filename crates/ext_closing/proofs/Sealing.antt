@@ -9,7 +9,7 @@ use Rattle.ext_model.specs.declared.event.Act.{Act}
 use Rattle.ext_model.specs.declared.event.Act.TheVariants.{Seal}
 use Rattle.ext_model.specs.declared.slot.Slot.{Slot}
 use Rattle.ext_model.specs.declared.slot.Slot.TheVariants as slot
-use Rattle.ext_model.specs.State.{standing}
+use Rattle.ext_model.specs.State.{standing_value}
 use Rattle.ext_model.specs.Events.{Happens, Answers, seal_reply, apply}
 use Rattle.ext_model.specs.History.{History, Limits, by, state_after, slots_in, IsLegal}
 use Rattle.ext_history.specs.Views.{seen_by}
@@ -32,23 +32,25 @@ use Rattle.ext_closing.specs.Steps.{SealsNext, SealedSoFar, SealingEnds}
 
 -- ---- one seal
 
-seal_happens : (x : Option Slot) (kept : Option ℕ) → seal_reply x ≡ Happens kept → Some (slot.Sealed (standing x)) ≡ Some (slot.Sealed kept)
+seal_happens : (x : Option Slot) (kept : Option ℕ) → seal_reply x ≡ Happens kept → Some (slot.Sealed (standing_value x)) ≡ Some (slot.Sealed kept)
 seal_happens None kept is = cc is
 seal_happens (Some (slot.Entry number)) kept is = cc is
+seal_happens (Some (slot.Fault number)) kept is = cc is
 seal_happens (Some (slot.Claim lane)) kept is = absurd (cc is)
 seal_happens (Some (slot.Sealed stood)) kept is = absurd (cc is)
 
 seal_answers : (x : Option Slot) (kept : Option ℕ) → seal_reply x ≡ Answers kept → x ≡ Some (slot.Sealed kept)
 seal_answers None kept is = absurd (cc is)
 seal_answers (Some (slot.Entry number)) kept is = absurd (cc is)
+seal_answers (Some (slot.Fault number)) kept is = absurd (cc is)
 seal_answers (Some (slot.Claim lane)) kept is = absurd (cc is)
 seal_answers (Some (slot.Sealed stood)) kept is = cc is
 
 sealed_now : (p : History) (lane cell : ℕ) (kept : Option ℕ) → seal_reply ((state_after p).slots cell) ≡ Happens kept → (state_after (p ++ by lane (Seal cell) ∷ [])).slots cell ≡ Some (slot.Sealed kept)
 sealed_now p lane cell kept is =
     let here : nat_eq cell cell ≡ true = grind (arith, nat_tests) in
-    let s : (apply nat_eq (state_after p) (by lane (Seal cell))).slots cell ≡ Some (slot.Sealed (standing ((state_after p).slots cell))) =
-    ap (λ b. if b then Some (slot.Sealed (standing ((state_after p).slots cell))) else (state_after p).slots cell) here in
+    let s : (apply nat_eq (state_after p) (by lane (Seal cell))).slots cell ≡ Some (slot.Sealed (standing_value ((state_after p).slots cell))) =
+    ap (λ b. if b then Some (slot.Sealed (standing_value ((state_after p).slots cell))) else (state_after p).slots cell) here in
     rw (after-push p (by lane (Seal cell))) (s ∙ seal_happens ((state_after p).slots cell) kept is)
 
 stays_sealed : {limits : Limits} (p g : History) (cell : ℕ) (kept : Option ℕ) → IsLegal limits g → IsPrefix p g → (state_after p).slots cell ≡ Some (slot.Sealed kept) → (state_after g).slots cell ≡ Some (slot.Sealed kept)

@@ -17,7 +17,7 @@ use ext_store::{Closer, Lane, Refusal, Store, StoreValue};
 
 /// Closes the closer's context: seals its keys, in their order, by the first of the lanes, and then closes those of
 /// its remaining values that are closeable, the one with the greatest number first, each by one call of the action. A
-/// value remains where it stood in the context when its key was sealed. A close that fails does not stop the others.
+/// value remains where it stood in the context when its key was sealed; a kept fault that stood there goes. A close that fails does not stop the others.
 /// Neither the parent nor the children of the context are closed. Afterwards nothing is stored or claimed in the
 /// context. Takes no memory of its own.
 ///
@@ -73,6 +73,7 @@ fn seal_all<V>(
     ensures numbers { IfOk result (λ numbers. numbers ≡ numbers_left store.now closer.now.context lane.new.cells) }
     ensures refusal { IfErr result IsOfKey }
     ensures known { lane.new.known ≡ lane.old.known }
+    ensures faults { lane.new.faults ≡ lane.old.faults }
     ensures lane { IsLaneOf store.now.id lane.new }
     ensures kept { StillKeeps lane.old lane.new }
 {
@@ -98,6 +99,7 @@ fn seal_key<V>(
     requires key { key < length store.now.keys }
     ensures answer { SealsNext store.now closer.now.context key lane.old.cells lane.new.cells result }
     ensures known { lane.new.known ≡ lane.old.known }
+    ensures faults { lane.new.faults ≡ lane.old.faults }
     ensures lane { IsLaneOf store.now.id lane.new }
     ensures kept { StillKeeps lane.old lane.new }
 {

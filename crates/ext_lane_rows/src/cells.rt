@@ -49,7 +49,7 @@ fn won(rt: &impl Abort, cells: &Cells, lane: &mut CellLane) -> Claim
 {
     match cells.claim(lane, 0) {
         Ok(Claimed::Won(claim)) => claim,
-        Ok(Claimed::Standing(_)) | Err(_) => panic!(rt; "no claim"),
+        Ok(Claimed::Standing(_) | Claimed::Fault(_)) | Err(_) => panic!(rt; "no claim"),
     }
 }
 

@@ -80,7 +80,7 @@ pub(crate) fn ask(
             cells.abandon(lane, claim);
             Ok(None)
         }
-        Claimed::Standing(number) => Ok(Some(number)),
+        Claimed::Standing(number) | Claimed::Fault(number) => Ok(Some(number)),
     }
 }
 

@@ -132,7 +132,7 @@ fn fill_once(cells: &Cells, lane: &mut CellLane) -> Result<Option<u32>, CellRefu
 {
     match cells.claim(lane, 0)? {
         Claimed::Won(claim) => Ok(Some(end_claim(cells, lane, claim)?)),
-        Claimed::Standing(_) => Ok(None),
+        Claimed::Standing(_) | Claimed::Fault(_) => Ok(None),
     }
 }
 

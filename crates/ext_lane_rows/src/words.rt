@@ -26,6 +26,22 @@ fn words_and_versions(rt: HostRuntime) {
 }
 
 #[test]
+fn failed_words(rt: HostRuntime) {
+    let failed = (CellState::Failed, 5, 3);
+    same(&rt, parts(50_331_732), failed, "a word");
+    same(&rt, word(CellState::Failed, 5, 3), 50_331_732, "its parts");
+    next(&rt, after(50_331_732, Act::Remove(0)), Ok(67_108_864));
+    next(&rt, after(50_331_732, Act::Seal(0)), Ok(67_108_867));
+    next(&rt, after(50_331_732, Act::Put(0, 7)), Ok(67_108_978));
+    let claimed = word(CellState::Computing, 0, 3);
+    next(
+        &rt,
+        after(claimed, Act::Fail(0, 5)),
+        Ok(word(CellState::Failed, 5, 4)),
+    );
+}
+
+#[test]
 fn versions_run_out(rt: HostRuntime) {
     let put = Ok(18_446_744_073_675_997_282);
     let removed = Ok(18_446_744_073_675_997_184);

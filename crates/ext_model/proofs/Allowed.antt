@@ -3,7 +3,7 @@ use Rattle.std.proofs.Common.{◌≡◌, ℕ, ◌+◌, ◌≤◌, ◌<◌, Bool,
 use Rattle.std.specs.Prelude.{nat_lt, if◌then◌else◌, ◌==◌, ◌↔◌}
 use Rattle.std.proofs.lemmas.Bool.{lt-ltb, le-ltb, ltb-true, ltb-false}
 use Rattle.ext_model.specs.declared.event.Act.{Act}
-use Rattle.ext_model.specs.declared.event.Act.TheVariants.{Keep, Put, Remove, Claim, Fill, Abandon, Seal}
+use Rattle.ext_model.specs.declared.event.Act.TheVariants.{Keep, Put, Remove, Claim, Fill, Fail, Abandon, Seal}
 use Rattle.ext_model.specs.declared.slot.Slot.{Slot}
 use Rattle.ext_model.specs.declared.slot.Slot.TheVariants as slot
 use Rattle.ext_model.specs.Events.{Happens, Refuses, NumbersFull, Barred, keep_reply, put_reply, remove_reply, claim_reply, end_reply, seal_reply}
@@ -20,14 +20,18 @@ put_says : (worn : Bool) (x : Option Slot) (answer : Option ℕ) → put_reply w
 put_says true None answer happens = absurd (cc happens)
 put_says false None answer happens = (tt, refl)
 put_says true (Some (slot.Entry number)) answer happens = absurd (cc happens)
+put_says true (Some (slot.Fault number)) answer happens = absurd (cc happens)
 put_says false (Some (slot.Entry number)) answer happens = (tt, refl)
+put_says false (Some (slot.Fault number)) answer happens = (tt, refl)
 put_says worn (Some (slot.Claim lane)) answer happens = absurd (cc happens)
 put_says worn (Some (slot.Sealed kept)) answer happens = absurd (cc happens)
 
 remove_says : (worn : Bool) (x : Option Slot) (answer : Option ℕ) → remove_reply worn x ≡ Happens answer → IsPresent x × (worn ≡ false)
 remove_says worn None answer happens = absurd (cc happens)
 remove_says true (Some (slot.Entry number)) answer happens = absurd (cc happens)
+remove_says true (Some (slot.Fault number)) answer happens = absurd (cc happens)
 remove_says false (Some (slot.Entry number)) answer happens = (tt, refl)
+remove_says false (Some (slot.Fault number)) answer happens = (tt, refl)
 remove_says worn (Some (slot.Claim lane)) answer happens = absurd (cc happens)
 remove_says worn (Some (slot.Sealed kept)) answer happens = absurd (cc happens)
 
@@ -35,6 +39,7 @@ claim_says : (worn : Bool) (x : Option Slot) (answer : Option ℕ) → claim_rep
 claim_says true None answer happens = absurd (cc happens)
 claim_says false None answer happens = (refl, refl)
 claim_says worn (Some (slot.Entry number)) answer happens = absurd (cc happens)
+claim_says worn (Some (slot.Fault number)) answer happens = absurd (cc happens)
 claim_says worn (Some (slot.Claim lane)) answer happens = absurd (cc happens)
 claim_says worn (Some (slot.Sealed kept)) answer happens = absurd (cc happens)
 
@@ -45,12 +50,14 @@ own_claim lane by false answer is happens = absurd (cc happens)
 end_says : (lane : ℕ) (x : Option Slot) (answer : Option ℕ) → end_reply lane x ≡ Happens answer → x ≡ Some (slot.Claim lane)
 end_says lane None answer happens = absurd (cc happens)
 end_says lane (Some (slot.Entry number)) answer happens = absurd (cc happens)
+end_says lane (Some (slot.Fault number)) answer happens = absurd (cc happens)
 end_says lane (Some (slot.Claim by)) answer happens = own_claim lane by _ answer refl happens
 end_says lane (Some (slot.Sealed kept)) answer happens = absurd (cc happens)
 
 seal_says : (x : Option Slot) (answer : Option ℕ) → seal_reply x ≡ Happens answer → IsOpen x
 seal_says None answer happens = tt
 seal_says (Some (slot.Entry number)) answer happens = tt
+seal_says (Some (slot.Fault number)) answer happens = tt
 seal_says (Some (slot.Claim lane)) answer happens = absurd (cc happens)
 seal_says (Some (slot.Sealed kept)) answer happens = absurd (cc happens)
 
@@ -63,6 +70,7 @@ put_does : (worn : Bool) (x : Option Slot) → worn ≡ false → IsOpen x → (
 put_does true x fresh open_there = absurd (cc fresh)
 put_does false None fresh open_there = (None, refl)
 put_does false (Some (slot.Entry number)) fresh open_there = (Some number, refl)
+put_does false (Some (slot.Fault number)) fresh open_there = (Some number, refl)
 put_does false (Some (slot.Claim lane)) fresh open_there = absurd open_there
 put_does false (Some (slot.Sealed kept)) fresh open_there = absurd open_there
 
@@ -70,6 +78,7 @@ remove_does : (worn : Bool) (x : Option Slot) → worn ≡ false → IsPresent x
 remove_does true x fresh present = absurd (cc fresh)
 remove_does false None fresh present = absurd present
 remove_does false (Some (slot.Entry number)) fresh present = (Some number, refl)
+remove_does false (Some (slot.Fault number)) fresh present = (Some number, refl)
 remove_does false (Some (slot.Claim lane)) fresh present = absurd present
 remove_does false (Some (slot.Sealed kept)) fresh present = absurd present
 
@@ -82,6 +91,7 @@ end_does lane x claimed = (None, ap (end_reply lane) claimed ∙ ap (λ b. if b 
 seal_does : (x : Option Slot) → IsOpen x → (answer : Option ℕ) × (seal_reply x ≡ Happens answer)
 seal_does None open_there = (None, refl)
 seal_does (Some (slot.Entry number)) open_there = (Some number, refl)
+seal_does (Some (slot.Fault number)) open_there = (None, refl)
 seal_does (Some (slot.Claim lane)) open_there = absurd open_there
 seal_does (Some (slot.Sealed kept)) open_there = absurd open_there
 
@@ -97,6 +107,7 @@ module _ (limits : Limits) (h : History) (lane : ℕ) where
   permitted (Remove at) a = let s = remove_says _ _ a.happens.0 a.happens.1 in (a.within, s.0, ltb-false _ _ s.1)
   permitted (Claim at) a = let s = claim_says _ _ a.happens.0 a.happens.1 in (a.within, s.0, ltb-false _ _ s.1)
   permitted (Fill at number) a = (a.within, end_says lane _ a.happens.0 a.happens.1, record { drew = a.drew; fresh = a.fresh })
+  permitted (Fail at number) a = (a.within, end_says lane _ a.happens.0 a.happens.1, record { drew = a.drew; fresh = a.fresh }, a.keeps)
   permitted (Abandon at) a = (a.within, end_says lane _ a.happens.0 a.happens.1)
   permitted (Seal at) a = (a.within, seal_says _ a.happens.0 a.happens.1)
 
@@ -107,13 +118,14 @@ module _ (limits : Limits) (h : History) (lane : ℕ) where
   may_be mine (Keep number) m =
       let next : number ≡ (state_after h).drawn + 1 = m.0 in
       let few : number ≤ limits.numbers = m.1 in
-      record { lane = mine; within = tt; happens = (Some ((state_after h).drawn + 1), keep_does limits.numbers (state_after h).drawn (omega (arith, next, few))); next = next; drew = tt; fresh = tt }
-  may_be mine (Put at number) m = record { lane = mine; within = m.0; happens = put_does _ _ (le-ltb _ _ m.2) m.1; next = tt; drew = m.3.drew; fresh = m.3.fresh }
-  may_be mine (Remove at) m = record { lane = mine; within = m.0; happens = remove_does _ _ (le-ltb _ _ m.2) m.1; next = tt; drew = tt; fresh = tt }
-  may_be mine (Claim at) m = record { lane = mine; within = m.0; happens = claim_does _ _ (le-ltb _ _ m.2) m.1; next = tt; drew = tt; fresh = tt }
-  may_be mine (Fill at number) m = record { lane = mine; within = m.0; happens = end_does lane _ m.1; next = tt; drew = m.2.drew; fresh = m.2.fresh }
-  may_be mine (Abandon at) m = record { lane = mine; within = m.0; happens = end_does lane _ m.1; next = tt; drew = tt; fresh = tt }
-  may_be mine (Seal at) m = record { lane = mine; within = m.0; happens = seal_does _ m.1; next = tt; drew = tt; fresh = tt }
+      record { lane = mine; within = tt; happens = (Some ((state_after h).drawn + 1), keep_does limits.numbers (state_after h).drawn (omega (arith, next, few))); next = next; drew = tt; fresh = tt; keeps = tt }
+  may_be mine (Put at number) m = record { lane = mine; within = m.0; happens = put_does _ _ (le-ltb _ _ m.2) m.1; next = tt; drew = m.3.drew; fresh = m.3.fresh; keeps = tt }
+  may_be mine (Remove at) m = record { lane = mine; within = m.0; happens = remove_does _ _ (le-ltb _ _ m.2) m.1; next = tt; drew = tt; fresh = tt; keeps = tt }
+  may_be mine (Claim at) m = record { lane = mine; within = m.0; happens = claim_does _ _ (le-ltb _ _ m.2) m.1; next = tt; drew = tt; fresh = tt; keeps = tt }
+  may_be mine (Fill at number) m = record { lane = mine; within = m.0; happens = end_does lane _ m.1; next = tt; drew = m.2.drew; fresh = m.2.fresh; keeps = tt }
+  may_be mine (Fail at number) m = record { lane = mine; within = m.0; happens = end_does lane _ m.1; next = tt; drew = m.2.drew; fresh = m.2.fresh; keeps = m.3 }
+  may_be mine (Abandon at) m = record { lane = mine; within = m.0; happens = end_does lane _ m.1; next = tt; drew = tt; fresh = tt; keeps = tt }
+  may_be mine (Seal at) m = record { lane = mine; within = m.0; happens = seal_does _ m.1; next = tt; drew = tt; fresh = tt; keeps = tt }
 
   pub allowed : (act : Act ℕ) → MayHappen limits h lane act → IsAllowed limits h (by lane act)
   allowed act m = may_be m.0 act m.1

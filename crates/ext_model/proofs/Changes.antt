@@ -7,7 +7,7 @@ use Rattle.std.specs.Ordering.{is_eq}
 use Rattle.ext_model.specs.declared.event.Act.TheVariants.{Seal}
 use Rattle.ext_model.specs.declared.slot.Slot.{Slot}
 use Rattle.ext_model.specs.declared.slot.Slot.TheVariants as slot
-use Rattle.ext_model.specs.State.{State, standing}
+use Rattle.ext_model.specs.State.{State, standing_value}
 use Rattle.ext_model.specs.Events.{Happens, seal_reply, apply}
 use Rattle.ext_model.specs.Plain.{Place, place_cmp, same_place, Plain, state_of, under, with_slot, state_by, any_lane, next_state}
 
@@ -32,20 +32,21 @@ either_same false x y is = refl
 pub slot_kept : (s : State Place) (at : Place) (slot : Option Slot) → s.slots at ≡ slot → s ≡ with_slot s at slot
 slot_kept s at slot is = same_state _ _ (λ q. either_same (same_place at q) slot (s.slots q) (λ here. subst (λ k. s.slots k ≡ slot) (same_place_is at q here) is)) refl
 
-either_sealed : (b : Bool) (x y : Option Slot) (stood : Option ℕ) → (b ≡ true → standing x ≡ stood) → (if b then Some (slot.Sealed stood) else y) ≡ (if b then Some (slot.Sealed (standing x)) else y)
+either_sealed : (b : Bool) (x y : Option Slot) (stood : Option ℕ) → (b ≡ true → standing_value x ≡ stood) → (if b then Some (slot.Sealed stood) else y) ≡ (if b then Some (slot.Sealed (standing_value x)) else y)
 either_sealed true x y stood is = ap (λ k. Some (slot.Sealed k)) (sym (is refl))
 either_sealed false x y stood is = refl
 
-sealed : (s : State Place) (place : Place) (stood : Option ℕ) → standing (s.slots place) ≡ stood → with_slot s place (Some (slot.Sealed stood)) ≡ apply same_place s (record { lane = any_lane; act = Seal place })
+sealed : (s : State Place) (place : Place) (stood : Option ℕ) → standing_value (s.slots place) ≡ stood → with_slot s place (Some (slot.Sealed stood)) ≡ apply same_place s (record { lane = any_lane; act = Seal place })
 sealed s place stood is =
     same_state _ _
-    (λ q. either_sealed (same_place place q) (s.slots q) (s.slots q) stood (λ here. subst (λ k. standing (s.slots k) ≡ stood) (same_place_is place q here) is))
+    (λ q. either_sealed (same_place place q) (s.slots q) (s.slots q) stood (λ here. subst (λ k. standing_value (s.slots k) ≡ stood) (same_place_is place q here) is))
     refl
 
 -- what a seal answers where it happens is what stands there
-seal_stands : (x : Option Slot) (kept : Option ℕ) → seal_reply x ≡ Happens kept → standing x ≡ kept
+seal_stands : (x : Option Slot) (kept : Option ℕ) → seal_reply x ≡ Happens kept → standing_value x ≡ kept
 seal_stands None kept happens = cc
 seal_stands (Some (slot.Entry number)) kept happens = cc
+seal_stands (Some (slot.Fault number)) kept happens = cc
 seal_stands (Some (slot.Claim lane)) kept happens = absurd (cc happens)
 seal_stands (Some (slot.Sealed stood)) kept happens = absurd (cc happens)
 

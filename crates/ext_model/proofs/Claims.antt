@@ -3,7 +3,7 @@ use Rattle.std.proofs.Common.{◌≡◌, ℕ, ◌+◌, ◌-◌, ◌^◌, ◌≤�
 use Rattle.std.specs.Prelude.{if◌then◌else◌, ◌==◌}
 use Rattle.std.proofs.lemmas.Bool.Decides.{nat_tests}
 use Rattle.ext_model.specs.declared.event.Act.{Act}
-use Rattle.ext_model.specs.declared.event.Act.TheVariants.{Keep, Put, Remove, Claim, Fill, Abandon, Seal}
+use Rattle.ext_model.specs.declared.event.Act.TheVariants.{Keep, Put, Remove, Claim, Fill, Fail, Abandon, Seal}
 use Rattle.ext_model.specs.declared.event.Event.{Event}
 use Rattle.ext_model.specs.declared.slot.Slot.{Slot}
 use Rattle.ext_model.specs.declared.slot.Slot.TheVariants as slot
@@ -39,6 +39,7 @@ module _ (limits : Limits) (h : History) (lane cell : ℕ) where
   claimer (Remove at) holder is on may = absurd (subst IsPresent (there at _ on is) may.1)
   claimer (Claim at) holder is on may = let e : None ≡ Some (slot.Claim holder) = sym may.1 ∙ there at _ on is in absurd (cc e)
   claimer (Fill at number) holder is on may = let e : Some (slot.Claim lane) ≡ Some (slot.Claim holder) = sym may.1 ∙ there at _ on is in cc e
+  claimer (Fail at number) holder is on may = let e : Some (slot.Claim lane) ≡ Some (slot.Claim holder) = sym may.1 ∙ there at _ on is in cc e
   claimer (Abandon at) holder is on may = let e : Some (slot.Claim lane) ≡ Some (slot.Claim holder) = sym may.1 ∙ there at _ on is in cc e
   claimer (Seal at) holder is on may = absurd (subst IsOpen (there at _ on is) may.1)
 
@@ -87,12 +88,14 @@ quiet_word = same_word
 abbrev pub most : Option Slot → ℕ
 most None = 2 ^ 40 - 2
 most (Some (slot.Entry number)) = 2 ^ 40 - 2
+most (Some (slot.Fault number)) = 2 ^ 40 - 2
 most (Some (slot.Claim lane)) = 2 ^ 40 - 3
 most (Some (slot.Sealed kept)) = 2 ^ 40 - 1
 
 open_most : (x : Option Slot) (v : ℕ) → IsOpen x → v ≤ most x → v ≤ 2 ^ 40 - 2
 open_most None v o room = room
 open_most (Some (slot.Entry number)) v o room = room
+open_most (Some (slot.Fault number)) v o room = room
 open_most (Some (slot.Claim lane)) v o room = absurd o
 open_most (Some (slot.Sealed kept)) v o room = absurd o
 
@@ -103,6 +106,7 @@ module _ (limits : Limits) (h : History) (lane cell : ℕ) where
   next_room (Remove at) on may room = let v : version_of h cell ≤ 2 ^ 40 - 3 = subst (λ k. version_of h k ≤ 2 ^ 40 - 3) (same_cell at cell on) may.2 in omega (arith, v)
   next_room (Claim at) on may room = let v : version_of h cell ≤ 2 ^ 40 - 4 = subst (λ k. version_of h k ≤ 2 ^ 40 - 4) (same_cell at cell on) may.2 in omega (arith, v)
   next_room (Fill at number) on may room = let v : version_of h cell ≤ 2 ^ 40 - 3 = subst (λ x. version_of h cell ≤ most x) (ap (state_after h).slots (sym (same_cell at cell on)) ∙ may.1) room in omega (arith, v)
+  next_room (Fail at number) on may room = let v : version_of h cell ≤ 2 ^ 40 - 3 = subst (λ x. version_of h cell ≤ most x) (ap (state_after h).slots (sym (same_cell at cell on)) ∙ may.1) room in omega (arith, v)
   next_room (Abandon at) on may room = let v : version_of h cell ≤ 2 ^ 40 - 3 = subst (λ x. version_of h cell ≤ most x) (ap (state_after h).slots (sym (same_cell at cell on)) ∙ may.1) room in omega (arith, v)
   next_room (Seal at) on may room = let v = open_most ((state_after h).slots cell) (version_of h cell) (subst (λ k. IsOpen ((state_after h).slots k)) (same_cell at cell on) may.1) room in omega (arith, v)
 
@@ -124,6 +128,7 @@ room_left {limits} h cell legal = legal_induct (IsAllowed limits) (λ g. version
 fits : (x : Option Slot) (v : ℕ) → v ≤ most x → v < 2 ^ 40
 fits None v room = omega (arith, room)
 fits (Some (slot.Entry number)) v room = omega (arith, room)
+fits (Some (slot.Fault number)) v room = omega (arith, room)
 fits (Some (slot.Claim lane)) v room = omega (arith, room)
 fits (Some (slot.Sealed kept)) v room = omega (arith, room)
 
@@ -148,6 +153,7 @@ act_within limits h lane cell (Put at number) a on = subst (λ k. k < limits.cel
 act_within limits h lane cell (Remove at) a on = subst (λ k. k < limits.cells) (same_cell at cell on) a.within
 act_within limits h lane cell (Claim at) a on = subst (λ k. k < limits.cells) (same_cell at cell on) a.within
 act_within limits h lane cell (Fill at number) a on = subst (λ k. k < limits.cells) (same_cell at cell on) a.within
+act_within limits h lane cell (Fail at number) a on = subst (λ k. k < limits.cells) (same_cell at cell on) a.within
 act_within limits h lane cell (Abandon at) a on = subst (λ k. k < limits.cells) (same_cell at cell on) a.within
 act_within limits h lane cell (Seal at) a on = subst (λ k. k < limits.cells) (same_cell at cell on) a.within
 
@@ -169,6 +175,7 @@ claimed_after true limits lane holder (Put at number) y few old is = absurd (cc 
 claimed_after true limits lane holder (Remove at) y few old is = absurd (cc is)
 claimed_after true limits lane holder (Claim at) y few old is = let e : lane ≡ holder = cc is in subst (λ n. n < limits.lanes) e few
 claimed_after true limits lane holder (Fill at number) y few old is = absurd (cc is)
+claimed_after true limits lane holder (Fail at number) y few old is = absurd (cc is)
 claimed_after true limits lane holder (Abandon at) y few old is = absurd (cc is)
 claimed_after true limits lane holder (Seal at) y few old is = absurd (cc is)
 

@@ -1,9 +1,9 @@
 -- A claim that a lane has seen as its own stands on while its calls make no event on the cell.
 use Rattle.std.proofs.Common.{◌≡◌, ℕ, false, cond, List, [], ◌∷◌, refl, ap, sym, subst, ◌∙◌, arith, Some, nat_eq}
-use Rattle.std.specs.Prelude.{All}
+use Rattle.std.specs.Prelude.{All, IsTrue}
 use Rattle.std.proofs.lemmas.List.Elements.{All-head, All-tail}
 use Rattle.ext_model.specs.declared.event.Act.{Act}
-use Rattle.ext_model.specs.declared.event.Act.TheVariants.{Fill, Abandon}
+use Rattle.ext_model.specs.declared.event.Act.TheVariants.{Fill, Fail, Abandon}
 use Rattle.ext_model.specs.declared.slot.Slot.TheVariants as slot
 use Rattle.ext_model.specs.Events.{is_on}
 use Rattle.ext_model.specs.History.{History, Limits, by, state_after, version_of, IsQuiet, IsAllowed, IsLegal}
@@ -60,6 +60,11 @@ pub held_fill : (limits : Limits) (lane : LaneView) (cell number : ℕ) (h : His
 held_fill limits lane cell number h on is may =
     let stands = still_held limits lane h on cell is in
     allowed limits h lane.number (Fill cell number) (holder_within h cell lane.number on.legal stands, (used_within h cell (slot.Claim lane.number) on.legal stands, stands, still_store limits lane h on number may))
+
+pub held_fail : (limits : Limits) (lane : LaneView) (cell number : ℕ) (h : History) → IsTrue limits.keep_faults → GoesOn limits lane h → IsHeld lane cell → MayStoreNow lane number → IsAllowed limits h (by lane.number (Fail cell number))
+held_fail limits lane cell number h keeps on is may =
+    let stands = still_held limits lane h on cell is in
+    allowed limits h lane.number (Fail cell number) (holder_within h cell lane.number on.legal stands, (used_within h cell (slot.Claim lane.number) on.legal stands, stands, still_store limits lane h on number may, keeps))
 
 pub held_abandon : (limits : Limits) (lane : LaneView) (cell : ℕ) (h : History) → GoesOn limits lane h → IsHeld lane cell → IsAllowed limits h (by lane.number (Abandon cell))
 held_abandon limits lane cell h on is =

@@ -13,5 +13,6 @@ pub mod Composed
 pub mod Held
 pub mod Looks
 pub mod Remaining
+pub mod Faults
 pub mod PutIn
 pub mod WorkedRows

@@ -4,11 +4,11 @@ use Rattle.std.specs.Prelude.{nat_eq, nat_lt, Contains, if◌then◌else◌}
 use Rattle.std.proofs.lemmas.List.Elements.{Contains-push_cases}
 use Rattle.std.proofs.lemmas.Bool.Decides.{nat_tests}
 use Rattle.ext_model.specs.declared.event.Act.{Act}
-use Rattle.ext_model.specs.declared.event.Act.TheVariants.{Keep, Put, Remove, Claim, Fill, Abandon, Seal}
+use Rattle.ext_model.specs.declared.event.Act.TheVariants.{Keep, Put, Remove, Claim, Fill, Fail, Abandon, Seal}
 use Rattle.ext_model.specs.declared.event.Event.{Event}
 use Rattle.ext_model.specs.declared.slot.Slot.{Slot}
 use Rattle.ext_model.specs.declared.slot.Slot.TheVariants as slot
-use Rattle.ext_model.specs.State.{standing}
+use Rattle.ext_model.specs.State.{standing_value}
 use Rattle.ext_model.specs.Events.{Happens, Refuses, NumbersFull, slot_after, drawn_after, is_on, apply}
 use Rattle.ext_model.specs.History.{History, Limits, state_after, by, IsAllowed, IsLegal}
 use Rattle.ext_model.specs.Words.{number_code}
@@ -31,6 +31,7 @@ drawn_rises (Put at number) drawn = omega arith
 drawn_rises (Remove at) drawn = omega arith
 drawn_rises (Claim at) drawn = omega arith
 drawn_rises (Fill at number) drawn = omega arith
+drawn_rises (Fail at number) drawn = omega arith
 drawn_rises (Abandon at) drawn = omega arith
 drawn_rises (Seal at) drawn = omega arith
 
@@ -38,9 +39,10 @@ either_bound : (b : Bool) (x y : Option Slot) (m : ℕ) → number_code x ≤ m 
 either_bound true x y m p q = p
 either_bound false x y m p q = q
 
-sealed_bound : (old : Option Slot) (m : ℕ) → number_code old ≤ m → number_code (Some (slot.Sealed (standing old))) ≤ m
+sealed_bound : (old : Option Slot) (m : ℕ) → number_code old ≤ m → number_code (Some (slot.Sealed (standing_value old))) ≤ m
 sealed_bound None m p = omega arith
 sealed_bound (Some (slot.Entry number)) m p = p
+sealed_bound (Some (slot.Fault number)) m p = omega arith
 sealed_bound (Some (slot.Claim lane)) m p = omega arith
 sealed_bound (Some (slot.Sealed kept)) m p = omega arith
 
@@ -51,6 +53,7 @@ module _ {limits : Limits} (before : History) (lane : ℕ) (b : IsBounded limits
   drawn_bound (Remove at) a = b.drawn
   drawn_bound (Claim at) a = b.drawn
   drawn_bound (Fill at number) a = b.drawn
+  drawn_bound (Fail at number) a = b.drawn
   drawn_bound (Abandon at) a = b.drawn
   drawn_bound (Seal at) a = b.drawn
 
@@ -60,6 +63,7 @@ module _ {limits : Limits} (before : History) (lane : ℕ) (b : IsBounded limits
   left_bound (Remove at) cell a = omega arith
   left_bound (Claim at) cell a = omega arith
   left_bound (Fill at number) cell a = let p = b.kept lane number a.drew in let q = b.drawn in omega arith
+  left_bound (Fail at number) cell a = let p = b.kept lane number a.drew in let q = b.drawn in omega arith
   left_bound (Abandon at) cell a = omega arith
   left_bound (Seal at) cell a = sealed_bound ((state_after before).slots cell) limits.numbers (b.slots cell)
 

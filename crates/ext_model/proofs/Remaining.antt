@@ -3,7 +3,7 @@ use Rattle.std.proofs.Common.{◌≡◌, ℕ, zero, suc, ◌≤◌, ◌<◌, ◌
 use Rattle.std.specs.Prelude.{nat_lt, if◌then◌else◌, ◌==◌}
 use Rattle.std.proofs.lemmas.Bool.Decides.{nat_tests}
 use Rattle.ext_model.specs.declared.slot.Slot.{Slot}
-use Rattle.ext_model.specs.declared.slot.Slot.TheVariants.{Entry, Claim, Sealed}
+use Rattle.ext_model.specs.declared.slot.Slot.TheVariants.{Entry, Fault, Claim, Sealed}
 use Rattle.ext_model.specs.History.{History, Limits, slots_in, IsQuiet, IsLegal}
 use Rattle.ext_model.specs.Closing.{IsClosed, kept_by, put_in, put_in_kept, remaining, IsKept, IsBelow, IsFalling, IsRemaining}
 use Rattle.ext_history.proofs.Lists.{bools, contains_none, contains_here, contains_later, contains_cons}
@@ -121,6 +121,7 @@ kept_new kept other xs is = subst (λ k. Contains (put_in_kept k xs) other) (sym
 sealed_with : (x : Option Slot) (number : ℕ) → kept_by x ≡ Some number → x ≡ Some (Sealed (Some number))
 sealed_with None number is = absurd (cc is)
 sealed_with (Some (Entry n)) number is = absurd (cc is)
+sealed_with (Some (Fault n)) number is = absurd (cc is)
 sealed_with (Some (Claim lane)) number is = absurd (cc is)
 sealed_with (Some (Sealed kept)) number is = ap (λ k. Some (Sealed k)) is
 

@@ -2,14 +2,14 @@
 use Rattle.std.proofs.Common.{◌≡◌, ◌≢◌, ℕ, true, false, refl, ap, sym, ◌∙◌, ne_eqb, eq-eqb, Option, None, Some}
 use Rattle.std.specs.Prelude.{if◌then◌else◌}
 use Rattle.ext_model.specs.declared.event.Act.{Act}
-use Rattle.ext_model.specs.declared.event.Act.TheVariants.{Keep, Put, Remove, Claim, Fill, Abandon, Seal}
+use Rattle.ext_model.specs.declared.event.Act.TheVariants.{Keep, Put, Remove, Claim, Fill, Fail, Abandon, Seal}
 use Rattle.ext_model.specs.declared.event.Event.{Event}
 use Rattle.ext_model.specs.declared.slot.Slot.{Slot}
 use Rattle.ext_model.specs.declared.slot.Slot.TheVariants as slot
-use Rattle.ext_model.specs.State.{State}
+use Rattle.ext_model.specs.State.{State, standing_value}
 use Rattle.ext_model.specs.Events.{Reply, Happens, Answers, Refuses, Barred, put_reply, remove_reply, claim_reply, end_reply, seal_reply, slot_after, is_on}
 use Rattle.ext_model.specs.Plain.{Place, same_place, with_slot, state_by, plain_reply, next_state}
-use Rattle.ext_model.proofs.Changes.{same_place_is, slot_set, set_and_cleared}
+use Rattle.ext_model.proofs.Changes.{same_place_is, here, slot_set, set_and_cleared}
 
 by_reply : (r : Reply) (s : State Place) (e : Event Place) (place : Place) → is_on same_place place e.act ≡ false → (state_by r s e).slots place ≡ s.slots place
 by_reply (Happens answer) s e place off = ap (λ b. if b then slot_after e.lane e.act (s.slots place) else s.slots place) off
@@ -30,8 +30,16 @@ nothing_sealed numbers s lane (Put at number) place kept on is = ap (λ x. state
 nothing_sealed numbers s lane (Remove at) place kept on is = ap (λ x. state_by (remove_reply false x) s (record { lane = lane; act = Remove at })) (at_same s at place _ on is)
 nothing_sealed numbers s lane (Claim at) place kept on is = ap (λ x. state_by (claim_reply false x) s (record { lane = lane; act = Claim at })) (at_same s at place _ on is)
 nothing_sealed numbers s lane (Fill at number) place kept on is = ap (λ x. state_by (end_reply lane x) s (record { lane = lane; act = Fill at number })) (at_same s at place _ on is)
+nothing_sealed numbers s lane (Fail at number) place kept on is = ap (λ x. state_by (end_reply lane x) s (record { lane = lane; act = Fail at number })) (at_same s at place _ on is)
 nothing_sealed numbers s lane (Abandon at) place kept on is = ap (λ x. state_by (end_reply lane x) s (record { lane = lane; act = Abandon at })) (at_same s at place _ on is)
 nothing_sealed numbers s lane (Seal at) place kept on is = ap (λ x. state_by (seal_reply x) s (record { lane = lane; act = Seal at })) (at_same s at place _ on is)
+
+-- a seal on a place where a fault is kept leaves no number
+pub seal_passes_fault : (numbers : ℕ) (s : State Place) (lane : ℕ) (place : Place) (number : ℕ) → s.slots place ≡ Some (slot.Fault number) → (next_state numbers s lane (Seal place)).slots place ≡ Some (slot.Sealed None)
+seal_passes_fault numbers s lane place number is =
+    let e : Event Place = record { lane = lane; act = Seal place } in
+    ap (λ x. (state_by (seal_reply x) s e).slots place) is
+    ∙ (ap (λ b. if b then Some (slot.Sealed (standing_value (s.slots place))) else s.slots place) (here place) ∙ ap (λ x. Some (slot.Sealed (standing_value x))) is)
 
 pub seals_stay : (numbers : ℕ) (s : State Place) (lane : ℕ) (act : Act Place) (place : Place) (kept : Option ℕ) → s.slots place ≡ Some (slot.Sealed kept) → (next_state numbers s lane act).slots place ≡ Some (slot.Sealed kept)
 seals_stay numbers s lane act place kept is =
@@ -51,6 +59,8 @@ nothing_claimed numbers s lane (Remove at) place by on is other = ap (λ x. stat
 nothing_claimed numbers s lane (Claim at) place by on is other = ap (λ x. state_by (claim_reply false x) s (record { lane = lane; act = Claim at })) (at_same s at place _ on is)
 nothing_claimed numbers s lane (Fill at number) place by on is other =
     ap (λ r. state_by r s (record { lane = lane; act = Fill at number })) (ap (end_reply lane) (at_same s at place _ on is) ∙ barred lane by other)
+nothing_claimed numbers s lane (Fail at number) place by on is other =
+    ap (λ r. state_by r s (record { lane = lane; act = Fail at number })) (ap (end_reply lane) (at_same s at place _ on is) ∙ barred lane by other)
 nothing_claimed numbers s lane (Abandon at) place by on is other =
     ap (λ r. state_by r s (record { lane = lane; act = Abandon at })) (ap (end_reply lane) (at_same s at place _ on is) ∙ barred lane by other)
 nothing_claimed numbers s lane (Seal at) place by on is other = ap (λ x. state_by (seal_reply x) s (record { lane = lane; act = Seal at })) (at_same s at place _ on is)

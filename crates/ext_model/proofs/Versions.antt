@@ -23,6 +23,7 @@ version-append h rest cell = sum_by-append _ h rest
 state_small : (x : Option Slot) → state_code x < 16
 state_small None = omega arith
 state_small (Some (slot.Entry number)) = omega arith
+state_small (Some (slot.Fault number)) = omega arith
 state_small (Some (slot.Claim lane)) = omega arith
 state_small (Some (slot.Sealed kept)) = omega arith
 

@@ -1,10 +1,10 @@
 -- The worked histories that are not computed alone.
 use Rattle.std.proofs.Common.{◌≡◌, ℕ, ◌≤◌, Contains, [], ◌∷◌, ◌++◌, length, inl, inr, refl, ap, sym, subst, arith, None, Some, append-nil}
-use Rattle.ext_model.specs.declared.event.Act.TheVariants.{Keep, Put, Remove, Claim, Fill, Abandon}
+use Rattle.ext_model.specs.declared.event.Act.TheVariants.{Keep, Put, Remove, Claim, Fill, Fail, Abandon}
 use Rattle.ext_model.specs.declared.event.Event.{Event}
 use Rattle.ext_model.specs.History.{History, by, lane_of, IsAllowed}
 use Rattle.ext_model.specs.Worked.{small, at_root}
-use Rattle.ext_model.specs.WorkedCalls.{AnsweredNow, NotFromMemory, EitherPoint, OvertakenByOne, NotOvertakenByTwo, NotOvertakenByLagging, NotCrowdedByItself, SixAreLegal, RemoveAnswered, PutAnswered, NoAnswerWithoutStep, meanwhile, SecondLookFinds, RootIsLegal, NotByAnotherLane, NotWithAnothersNumber, NotTwice, NotWithoutClaim}
+use Rattle.ext_model.specs.WorkedCalls.{AnsweredNow, NotFromMemory, EitherPoint, OvertakenByOne, NotOvertakenByTwo, NotOvertakenByLagging, NotCrowdedByItself, SixAreLegal, RemoveAnswered, PutAnswered, NoAnswerWithoutStep, meanwhile, SecondLookFinds, RootIsLegal, NotByAnotherLane, NotWithAnothersNumber, NotTwice, kept_fault, KeptFaultIsLegal, NotWithoutKeeping, NotWithoutClaim}
 use mathlib.Core.List.{append_cancel_left}
 use Rattle.ext_history.specs.Histories.{others}
 use Rattle.ext_history.proofs.Lists.{contains_none, contains_here, contains_cons}
@@ -22,8 +22,8 @@ not_from_memory at = let e : length (at_root ++ at.0.0) ≡ 1 = ap length at.0.1
 pub root_is_legal : RootIsLegal
 root_is_legal =
     legal_push (by 0 (Keep 1) ∷ []) (by 0 (Put 0 1))
-    (legal_push [] (by 0 (Keep 1)) (legal_empty (IsAllowed small)) (record { lane = omega arith; within = tt; happens = (Some 1, refl); next = refl; drew = tt; fresh = tt }))
-    (record { lane = omega arith; within = omega arith; happens = (None, refl); next = tt; drew = (0, omega arith, refl); fresh = λ there. contains_none 1 there })
+    (legal_push [] (by 0 (Keep 1)) (legal_empty (IsAllowed small)) (record { lane = omega arith; within = tt; happens = (Some 1, refl); next = refl; drew = tt; fresh = tt; keeps = tt }))
+    (record { lane = omega arith; within = omega arith; happens = (None, refl); next = tt; drew = (0, omega arith, refl); fresh = λ there. contains_none 1 there; keeps = tt })
 
 pub not_by_another_lane : NotByAnotherLane
 not_by_another_lane legal = let few = (legal.each [] (by 2 (Keep 1)) [] refl).lane in absurd (omega (arith, few))
@@ -39,6 +39,17 @@ not_with_anothers_number legal =
 pub not_twice : NotTwice
 not_twice legal =
     let a = legal.each at_root (by 0 (Put 1 1)) [] refl in a.fresh (contains_here 1 [])
+
+pub kept_fault_is_legal : KeptFaultIsLegal
+kept_fault_is_legal =
+    legal_push (by 0 (Claim 3) ∷ by 0 (Keep 1) ∷ []) (by 0 (Fail 3 1))
+    (legal_push (by 0 (Claim 3) ∷ []) (by 0 (Keep 1))
+    (legal_push [] (by 0 (Claim 3)) (legal_empty (IsAllowed small)) (record { lane = omega arith; within = omega arith; happens = (None, refl); next = tt; drew = tt; fresh = tt; keeps = tt }))
+    (record { lane = omega arith; within = tt; happens = (Some 1, refl); next = refl; drew = tt; fresh = tt; keeps = tt }))
+    (record { lane = omega arith; within = omega arith; happens = (None, refl); next = tt; drew = (1, omega arith, refl); fresh = λ there. contains_none 1 there; keeps = refl })
+
+pub not_without_keeping : NotWithoutKeeping
+not_without_keeping legal = let a = legal.each (by 0 (Claim 3) ∷ by 0 (Keep 1) ∷ []) (by 0 (Fail 3 1)) [] refl in absurd (cc a.keeps)
 
 pub not_without_claim : NotWithoutClaim
 not_without_claim legal =
@@ -106,7 +117,7 @@ six_are_legal =
     legal_push (at_root ++ by 1 (Keep 2) ∷ by 1 (Put 0 2) ∷ by 0 (Claim 3) ∷ []) (by 0 (Remove 0))
     (legal_push (at_root ++ by 1 (Keep 2) ∷ by 1 (Put 0 2) ∷ []) (by 0 (Claim 3))
     (legal_push (at_root ++ by 1 (Keep 2) ∷ []) (by 1 (Put 0 2))
-    (legal_push at_root (by 1 (Keep 2)) root_is_legal (record { lane = omega arith; within = tt; happens = (Some 2, refl); next = refl; drew = tt; fresh = tt }))
-    (record { lane = omega arith; within = omega arith; happens = (Some 1, refl); next = tt; drew = (2, omega arith, refl); fresh = not_two }))
-    (record { lane = omega arith; within = omega arith; happens = (None, refl); next = tt; drew = tt; fresh = tt }))
-    (record { lane = omega arith; within = omega arith; happens = (Some 2, refl); next = tt; drew = tt; fresh = tt })
+    (legal_push at_root (by 1 (Keep 2)) root_is_legal (record { lane = omega arith; within = tt; happens = (Some 2, refl); next = refl; drew = tt; fresh = tt; keeps = tt }))
+    (record { lane = omega arith; within = omega arith; happens = (Some 1, refl); next = tt; drew = (2, omega arith, refl); fresh = not_two; keeps = tt }))
+    (record { lane = omega arith; within = omega arith; happens = (None, refl); next = tt; drew = tt; fresh = tt; keeps = tt }))
+    (record { lane = omega arith; within = omega arith; happens = (Some 2, refl); next = tt; drew = tt; fresh = tt; keeps = tt })

@@ -1,8 +1,8 @@
 -- What has to stand in the store for each act to be an event: the same as `IsAllowed` of `History`, act by act, as a table.
 -- Own rule. `history_laws` proves that the two agree; steps of a lane are shown by this one.
-use Rattle.std.specs.Prelude.{ℕ, ◌≡◌, ◌+◌, ◌-◌, ◌^◌, ◌<◌, ◌≤◌, Contains, Option, None, Some}
+use Rattle.std.specs.Prelude.{ℕ, ◌≡◌, ◌+◌, ◌-◌, ◌^◌, ◌<◌, ◌≤◌, Contains, IsTrue, Option, None, Some}
 use Rattle.ext_model.specs.declared.event.Act.{Act}
-use Rattle.ext_model.specs.declared.event.Act.TheVariants.{Keep, Put, Remove, Claim, Fill, Abandon, Seal}
+use Rattle.ext_model.specs.declared.event.Act.TheVariants.{Keep, Put, Remove, Claim, Fill, Fail, Abandon, Seal}
 use Rattle.ext_model.specs.declared.slot.Slot.{Slot}
 use Rattle.ext_model.specs.declared.slot.Slot.TheVariants as slot
 use Rattle.ext_model.specs.History.{History, Limits, by, stored, state_after, version_of}
@@ -11,13 +11,15 @@ use Rattle.ext_model.specs.History.{History, Limits, by, stored, state_after, ve
 abbrev pub IsOpen : Option Slot → Type 0
 IsOpen None = Unit {0}
 IsOpen (Some (slot.Entry number)) = Unit {0}
+IsOpen (Some (slot.Fault number)) = Unit {0}
 IsOpen (Some (slot.Claim lane)) = ⊥
 IsOpen (Some (slot.Sealed kept)) = ⊥
 
--- a number stands there
+-- a number stands there, of a value or of a fault
 abbrev pub IsPresent : Option Slot → Type 0
 IsPresent None = ⊥
 IsPresent (Some (slot.Entry number)) = Unit {0}
+IsPresent (Some (slot.Fault number)) = Unit {0}
 IsPresent (Some (slot.Claim lane)) = ⊥
 IsPresent (Some (slot.Sealed kept)) = ⊥
 
@@ -40,6 +42,7 @@ Permits limits h lane (Put at number) = (at < limits.cells) × IsOpen ((state_af
 Permits limits h lane (Remove at) = (at < limits.cells) × IsPresent ((state_after h).slots at) × (version_of h at ≤ last_change)
 Permits limits h lane (Claim at) = (at < limits.cells) × ((state_after h).slots at ≡ None) × (version_of h at ≤ last_claim)
 Permits limits h lane (Fill at number) = (at < limits.cells) × ((state_after h).slots at ≡ Some (slot.Claim lane)) × MayStore lane number h
+Permits limits h lane (Fail at number) = (at < limits.cells) × ((state_after h).slots at ≡ Some (slot.Claim lane)) × MayStore lane number h × IsTrue limits.keep_faults
 Permits limits h lane (Abandon at) = (at < limits.cells) × ((state_after h).slots at ≡ Some (slot.Claim lane))
 Permits limits h lane (Seal at) = (at < limits.cells) × IsOpen ((state_after h).slots at)
 

@@ -1,9 +1,9 @@
 -- What is true of calls that follow one another on a lane, and of their points: sentences that a reader may judge.
 -- Own rule; each is proved, as `call_laws` says. In each, `a`, `b` and `c` are one lane at three moments.
-use Rattle.std.specs.Prelude.{ℕ, ◌≡◌, ◌⊎◌, List, [], ◌∷◌, ◌++◌, All, false, nat_eq}
+use Rattle.std.specs.Prelude.{ℕ, ◌≡◌, ◌⊎◌, List, [], ◌∷◌, ◌++◌, All, IsTrue, false, nat_eq}
 use mathlib.Core.List.{IsPrefix}
 use Rattle.ext_model.specs.declared.event.Act.{Act}
-use Rattle.ext_model.specs.declared.event.Act.TheVariants.{Fill, Abandon}
+use Rattle.ext_model.specs.declared.event.Act.TheVariants.{Fill, Fail, Abandon}
 use Rattle.ext_model.specs.Events.{is_on}
 use Rattle.ext_model.specs.History.{History, Limits, by, IsAllowed, IsLegal}
 use Rattle.ext_model.specs.Words.{word_of}
@@ -132,6 +132,12 @@ abbrev pub HeldCellsMayBeFilled : Type 0
 HeldCellsMayBeFilled =
     (limits : Limits) (lane : LaneView) (cell number : ℕ) (h : History)
     → GoesOn limits lane h → IsHeld lane cell → MayStoreNow lane number → IsAllowed limits h (by lane.number (Fill cell number))
+
+-- where faults are kept it may end its claim by one,
+abbrev pub HeldCellsMayBeFailed : Type 0
+HeldCellsMayBeFailed =
+    (limits : Limits) (lane : LaneView) (cell number : ℕ) (h : History)
+    → IsTrue limits.keep_faults → GoesOn limits lane h → IsHeld lane cell → MayStoreNow lane number → IsAllowed limits h (by lane.number (Fail cell number))
 
 -- and it may abandon it
 abbrev pub HeldCellsMayBeAbandoned : Type 0

@@ -5,7 +5,7 @@
 -- `slots` is what stands in the context under each key, and `keys` how many keys there are, from 0.
 use Rattle.std.specs.Prelude.{ℕ, zero, suc, ◌≡◌, ◌<◌, ◌==◌, nat_lt, if◌then◌else◌, List, [], ◌∷◌, Option, None, Some, Contains, ◌↔◌}
 use Rattle.ext_model.specs.declared.slot.Slot.{Slot}
-use Rattle.ext_model.specs.declared.slot.Slot.TheVariants.{Entry, Claim, Sealed}
+use Rattle.ext_model.specs.declared.slot.Slot.TheVariants.{Entry, Fault, Claim, Sealed}
 
 -- all places of the context are sealed
 abbrev pub IsClosed : (ℕ → Option Slot) → ℕ → Type 0
@@ -15,6 +15,7 @@ IsClosed slots keys = (key : ℕ) → key < keys → (kept : Option ℕ) × (slo
 abbrev pub kept_by : Option Slot → Option ℕ
 kept_by None = None
 kept_by (Some (Entry number)) = None
+kept_by (Some (Fault number)) = None
 kept_by (Some (Claim lane)) = None
 kept_by (Some (Sealed kept)) = kept
 

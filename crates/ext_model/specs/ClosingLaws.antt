@@ -1,11 +1,11 @@
 -- What is true of closed contexts and of second looks: sentences that a reader may judge.
 -- Own rule, for JUnit 5 User Guide, "Keeping State in Extensions", and Javadoc `ExtensionContext.Store.CloseableResource`; each is proved, as `closing_laws` says.
-use Rattle.std.specs.Prelude.{ℕ, ◌≡◌, ◌<◌, List, [], ◌∷◌, ◌++◌, Option}
+use Rattle.std.specs.Prelude.{ℕ, ◌≡◌, ◌<◌, List, [], ◌∷◌, ◌++◌, Contains, Option}
 use Rattle.ext_model.specs.declared.event.Act.{Act}
 use Rattle.ext_model.specs.declared.event.Act.TheVariants.{Claim}
 use Rattle.ext_model.specs.declared.look.Look.{Look}
 use Rattle.ext_model.specs.declared.slot.Slot.{Slot}
-use Rattle.ext_model.specs.History.{History, Limits, slots_in, IsQuiet, IsLegal}
+use Rattle.ext_model.specs.History.{History, Limits, slots_in, faults, IsQuiet, IsLegal}
 use Rattle.ext_history.specs.Views.{seen_by}
 use Rattle.ext_model.specs.Views.{LaneView}
 use Rattle.ext_model.specs.Closing.{IsClosed, remaining, IsRemaining}
@@ -36,6 +36,12 @@ abbrev pub RemainingStays : Type 0
 RemainingStays =
     (limits : Limits) (h rest : History) (cell_of : ℕ → ℕ) (keys : ℕ)
     → IsLegal limits (h ++ rest) → IsClosed (slots_in cell_of h) keys → remaining (slots_in cell_of (h ++ rest)) keys ≡ remaining (slots_in cell_of h) keys
+
+-- none of them is the number of a fault
+abbrev pub RemainingAreValues : Type 0
+RemainingAreValues =
+    (limits : Limits) (h : History) (cell_of : ℕ → ℕ) (keys number : ℕ)
+    → IsLegal limits h → Contains (remaining (slots_in cell_of h) keys) number → ¬ (Contains (faults h) number)
 
 -- a second look of a call stands in the history that the lane has seen: after its claim, and before its next event
 abbrev pub SecondLooksStand : Type 0

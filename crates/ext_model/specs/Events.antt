@@ -1,14 +1,14 @@
 -- What one thread answers to each act of a lane, and the state that an event leaves.
 -- JUnit 5 User Guide, "Keeping State in Extensions"; Javadoc `ExtensionContext.Store`, `put`, `remove` and `getOrComputeIfAbsent`, and `NamespacedHierarchicalStore`:
 -- put and remove act on the given context alone and answer what stood there, and a value that is computed is stored in the given context.
--- Own rules: numbers drawn beforehand, claims held while a factory runs, seals, and the refusals below.
+-- Own rules: numbers drawn beforehand, claims held while a factory runs, faults that are kept, seals, and the refusals below.
 use Rattle.std.specs.Prelude.{ℕ, ◌+◌, ◌-◌, ◌^◌, ◌==◌, nat_lt, Bool, true, false, if◌then◌else◌, Option, None, Some}
 use Rattle.ext_model.specs.declared.event.Act.{Act}
-use Rattle.ext_model.specs.declared.event.Act.TheVariants.{Keep, Put, Remove, Claim, Fill, Abandon, Seal}
+use Rattle.ext_model.specs.declared.event.Act.TheVariants.{Keep, Put, Remove, Claim, Fill, Fail, Abandon, Seal}
 use Rattle.ext_model.specs.declared.event.Event.{Event}
 use Rattle.ext_model.specs.declared.slot.Slot.{Slot}
 use Rattle.ext_model.specs.declared.slot.Slot.TheVariants as slot
-use Rattle.ext_model.specs.State.{State, standing}
+use Rattle.ext_model.specs.State.{State, standing_value}
 
 -- ---- what an act answers
 
@@ -20,8 +20,10 @@ pub data Refusal : Type 0 where
   Busy : Refusal
   -- the place is sealed
   Closed : Refusal
-  -- this number stands where a claim was to be
+  -- the number of a value stands where a claim was to be
   Standing : ℕ → Refusal
+  -- that of a kept fault does
+  FaultStanding : ℕ → Refusal
   -- the place has had too many events
   Exhausted : Refusal
   -- it is not the lane's claim that stands at the place
@@ -42,10 +44,11 @@ happens_unless false answer = Happens answer
 abbrev pub keep_reply : ℕ → ℕ → Reply
 keep_reply numbers drawn = if nat_lt drawn numbers then Happens (Some (drawn + 1)) else Refuses NumbersFull
 
--- a put answers the number that stood
+-- a put answers the number that stood, of a value or of a fault
 abbrev pub put_reply : Bool → Option Slot → Reply
 put_reply worn None = happens_unless worn None
 put_reply worn (Some (slot.Entry number)) = happens_unless worn (Some number)
+put_reply worn (Some (slot.Fault number)) = happens_unless worn (Some number)
 put_reply worn (Some (slot.Claim lane)) = Refuses Busy
 put_reply worn (Some (slot.Sealed kept)) = Refuses Closed
 
@@ -53,6 +56,7 @@ put_reply worn (Some (slot.Sealed kept)) = Refuses Closed
 abbrev pub remove_reply : Bool → Option Slot → Reply
 remove_reply worn None = Answers None
 remove_reply worn (Some (slot.Entry number)) = happens_unless worn (Some number)
+remove_reply worn (Some (slot.Fault number)) = happens_unless worn (Some number)
 remove_reply worn (Some (slot.Claim lane)) = Refuses Busy
 remove_reply worn (Some (slot.Sealed kept)) = Refuses Closed
 
@@ -60,20 +64,23 @@ remove_reply worn (Some (slot.Sealed kept)) = Refuses Closed
 abbrev pub claim_reply : Bool → Option Slot → Reply
 claim_reply worn None = happens_unless worn None
 claim_reply worn (Some (slot.Entry number)) = Refuses (Standing number)
+claim_reply worn (Some (slot.Fault number)) = Refuses (FaultStanding number)
 claim_reply worn (Some (slot.Claim lane)) = Refuses Busy
 claim_reply worn (Some (slot.Sealed kept)) = Refuses Closed
 
--- only the lane of the claim ends it, by a fill or an abandon
+-- only the lane of the claim ends it, by a fill, a fail or an abandon
 abbrev pub end_reply : ℕ → Option Slot → Reply
 end_reply lane None = Refuses Barred
 end_reply lane (Some (slot.Entry number)) = Refuses Barred
+end_reply lane (Some (slot.Fault number)) = Refuses Barred
 end_reply lane (Some (slot.Claim by)) = if by == lane then Happens None else Refuses Barred
 end_reply lane (Some (slot.Sealed kept)) = Refuses Barred
 
--- a seal answers the number that it keeps, and is no event where the place is sealed already
+-- a seal answers the number that it keeps, which is never that of a fault, and is no event where the place is sealed already
 abbrev pub seal_reply : Option Slot → Reply
 seal_reply None = Happens None
 seal_reply (Some (slot.Entry number)) = Happens (Some number)
+seal_reply (Some (slot.Fault number)) = Happens None
 seal_reply (Some (slot.Claim lane)) = Refuses Busy
 seal_reply (Some (slot.Sealed kept)) = Answers kept
 
@@ -81,7 +88,7 @@ seal_reply (Some (slot.Sealed kept)) = Answers kept
 abbrev pub is_worn : ℕ → Bool
 is_worn version = nat_lt (2 ^ 40 - 3) version
 
--- a claim leaves one more, for the fill or the abandon that ends it
+-- a claim leaves one more, for the fill, the fail or the abandon that ends it
 abbrev pub is_worn_for_claim : ℕ → Bool
 is_worn_for_claim version = nat_lt (2 ^ 40 - 4) version
 
@@ -94,6 +101,7 @@ module _ {P : Type 0} (numbers : ℕ) (version : P → ℕ) (s : State P) (lane 
   reply (Remove at) = remove_reply (is_worn (version at)) (s.slots at)
   reply (Claim at) = claim_reply (is_worn_for_claim (version at)) (s.slots at)
   reply (Fill at number) = end_reply lane (s.slots at)
+  reply (Fail at number) = end_reply lane (s.slots at)
   reply (Abandon at) = end_reply lane (s.slots at)
   reply (Seal at) = seal_reply (s.slots at)
 
@@ -106,6 +114,7 @@ place_of (Put at number) = Some at
 place_of (Remove at) = Some at
 place_of (Claim at) = Some at
 place_of (Fill at number) = Some at
+place_of (Fail at number) = Some at
 place_of (Abandon at) = Some at
 place_of (Seal at) = Some at
 
@@ -116,8 +125,9 @@ slot_after lane (Put at number) old = Some (slot.Entry number)
 slot_after lane (Remove at) old = None
 slot_after lane (Claim at) old = Some (slot.Claim lane)
 slot_after lane (Fill at number) old = Some (slot.Entry number)
+slot_after lane (Fail at number) old = Some (slot.Fault number)
 slot_after lane (Abandon at) old = None
-slot_after lane (Seal at) old = Some (slot.Sealed (standing old))
+slot_after lane (Seal at) old = Some (slot.Sealed (standing_value old))
 
 -- the count of numbers drawn
 abbrev pub drawn_after : {P : Type 0} → Act P → ℕ → ℕ
@@ -126,6 +136,7 @@ drawn_after (Put at number) drawn = drawn
 drawn_after (Remove at) drawn = drawn
 drawn_after (Claim at) drawn = drawn
 drawn_after (Fill at number) drawn = drawn
+drawn_after (Fail at number) drawn = drawn
 drawn_after (Abandon at) drawn = drawn
 drawn_after (Seal at) drawn = drawn
 

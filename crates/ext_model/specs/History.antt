@@ -1,10 +1,10 @@
 -- Histories: the lists of events that all lanes together made, what each of them leaves, and which of them are legal.
 -- Own rule. The events of all lanes are one list over cells, the oldest first, and a cell is a context and a key in one number. What a history is for
 -- events of any type, which of them are a lane's own, and when it is legal stands in `ext_history`.
-use Rattle.std.specs.Prelude.{ℕ, ◌≡◌, ◌+◌, ◌<◌, nat_eq, List, Option, None, Some, IfSome, Contains, fold, count_by, filter_map}
+use Rattle.std.specs.Prelude.{ℕ, ◌≡◌, ◌+◌, ◌<◌, nat_eq, List, Option, None, Some, IfSome, IsTrue, Bool, Contains, fold, count_by, filter_map}
 use Rattle.ext_history.specs.Histories as histories
 use Rattle.ext_model.specs.declared.event.Act.{Act}
-use Rattle.ext_model.specs.declared.event.Act.TheVariants.{Keep, Put, Remove, Claim, Fill, Abandon, Seal}
+use Rattle.ext_model.specs.declared.event.Act.TheVariants.{Keep, Put, Remove, Claim, Fill, Fail, Abandon, Seal}
 use Rattle.ext_model.specs.declared.event.Event.{Event}
 use Rattle.ext_model.specs.declared.slot.Slot.{Slot}
 use Rattle.ext_model.specs.State.{State, opening}
@@ -18,11 +18,12 @@ History = List (Event ℕ)
 abbrev pub by : ℕ → Act ℕ → Event ℕ
 by lane act = record { lane = lane; act = act }
 
--- how many cells, how many lanes and how many numbers a store has: cells and lanes are from 0, numbers from 1
+-- how many cells, how many lanes and how many numbers a store has, and whether it keeps faults: cells and lanes are from 0, numbers from 1
 pub record Limits : Type 0 where
   pub cells : ℕ
   pub lanes : ℕ
   pub numbers : ℕ
+  pub keep_faults : Bool
 
 -- ---- what a history leaves
 
@@ -59,22 +60,39 @@ drawn_number (Put at number) = None
 drawn_number (Remove at) = None
 drawn_number (Claim at) = None
 drawn_number (Fill at number) = None
+drawn_number (Fail at number) = None
 drawn_number (Abandon at) = None
 drawn_number (Seal at) = None
 
--- the number that an act stores, if it stores one
+-- the number that an act stores, as that of a value or of a fault, if it stores one
 abbrev pub stored_number : {P : Type 0} → Act P → Option ℕ
 stored_number (Keep number) = None
 stored_number (Put at number) = Some number
 stored_number (Remove at) = None
 stored_number (Claim at) = None
 stored_number (Fill at number) = Some number
+stored_number (Fail at number) = Some number
 stored_number (Abandon at) = None
 stored_number (Seal at) = None
 
 -- the numbers that the events stored, in order
 abbrev pub stored : History → List ℕ
 stored h = filter_map (λ e. stored_number e.act) h
+
+-- the number that an act stores as that of a fault, if it does
+abbrev pub fault_number : {P : Type 0} → Act P → Option ℕ
+fault_number (Keep number) = None
+fault_number (Put at number) = None
+fault_number (Remove at) = None
+fault_number (Claim at) = None
+fault_number (Fill at number) = None
+fault_number (Fail at number) = Some number
+fault_number (Abandon at) = None
+fault_number (Seal at) = None
+
+-- the numbers of the faults that the events kept, in order
+abbrev pub faults : History → List ℕ
+faults h = filter_map (λ e. fault_number e.act) h
 
 -- ---- legal histories
 
@@ -96,6 +114,8 @@ pub record IsAllowed (limits : Limits) (before : History) (e : Event ℕ) : Type
   pub drew : IfSome (stored_number e.act) (λ number. Contains before (by e.lane (Keep number)))
   -- and was never stored
   pub fresh : IfSome (stored_number e.act) (λ number. ¬ (Contains (stored before) number))
+  -- a fault is kept only in a store that keeps faults
+  pub keeps : IfSome (fault_number e.act) (λ number. IsTrue limits.keep_faults)
 
 -- A history is legal where each event is allowed directly after those before it: `ext_history` has it of events of any type
 abbrev pub IsLegal : Limits → History → Type 0

@@ -1,14 +1,14 @@
 -- What is true of all legal histories: sentences that a reader may judge, and that promises about several threads rest on.
 -- Own rule; each is proved, as `history_laws` says.
-use Rattle.std.specs.Prelude.{ℕ, ◌≡◌, ◌<◌, ◌↔◌, nat_eq, Bool, true, false, [], ◌∷◌, ◌++◌, Contains, Option, Some, IfSome}
+use Rattle.std.specs.Prelude.{ℕ, ◌≡◌, ◌<◌, ◌↔◌, nat_eq, Bool, true, false, [], ◌∷◌, ◌++◌, Contains, Option, None, Some, IfSome, IsFalse}
 use Rattle.std.specs.List.{IsDistinct}
 use Rattle.ext_model.specs.declared.event.Act.{Act}
-use Rattle.ext_model.specs.declared.event.Act.TheVariants.{Keep, Remove, Fill}
+use Rattle.ext_model.specs.declared.event.Act.TheVariants.{Keep, Remove, Claim, Fill, Fail}
 use Rattle.ext_model.specs.declared.event.Event.{Event}
 use Rattle.ext_model.specs.declared.slot.Slot.{Slot}
-use Rattle.ext_model.specs.declared.slot.Slot.TheVariants.{Claim, Sealed}
+use Rattle.ext_model.specs.declared.slot.Slot.TheVariants as slot
 use Rattle.ext_model.specs.Events.{is_on}
-use Rattle.ext_model.specs.History.{History, Limits, state_after, by, own, stored, stored_number, IsQuiet, IsAllowed, IsLegal}
+use Rattle.ext_model.specs.History.{History, Limits, state_after, by, own, stored, stored_number, faults, IsQuiet, IsAllowed, IsLegal}
 use Rattle.ext_model.specs.Allowed.{MayStore, MayHappen}
 
 -- ---- which histories are legal
@@ -60,17 +60,24 @@ RemoveBetweenFills =
     → IsLegal limits (before ++ by lane (Fill cell number) ∷ (between ++ by lane' (Fill cell number') ∷ later))
     → (remover : ℕ) × Contains between (by remover (Remove cell))
 
+-- and one between a fail of it and the next claim: while a fault is kept, no factory runs
+abbrev pub RemoveAfterFail : Type 0
+RemoveAfterFail =
+    (limits : Limits) (before between later : History) (lane cell number lane' : ℕ)
+    → IsLegal limits (before ++ by lane (Fail cell number) ∷ (between ++ by lane' (Claim cell) ∷ later))
+    → (remover : ℕ) × Contains between (by remover (Remove cell))
+
 -- no event follows on a sealed cell
 abbrev pub NothingFollowsSeal : Type 0
 NothingFollowsSeal =
     (limits : Limits) (h rest : History) (cell : ℕ) (kept : Option ℕ)
-    → IsLegal limits (h ++ rest) → (state_after h).slots cell ≡ Some (Sealed kept) → IsQuiet cell rest
+    → IsLegal limits (h ++ rest) → (state_after h).slots cell ≡ Some (slot.Sealed kept) → IsQuiet cell rest
 
 -- nor on a claimed one, while the lane of the claim makes none
 abbrev pub ClaimsStand : Type 0
 ClaimsStand =
     (limits : Limits) (h rest : History) (lane cell : ℕ)
-    → IsLegal limits (h ++ rest) → (state_after h).slots cell ≡ Some (Claim lane) → IsQuiet cell (own lane rest) → IsQuiet cell rest
+    → IsLegal limits (h ++ rest) → (state_after h).slots cell ≡ Some (slot.Claim lane) → IsQuiet cell (own lane rest) → IsQuiet cell rest
 
 -- only cells of the store are used
 abbrev pub UsedCellsAreWithin : Type 0
@@ -96,3 +103,21 @@ LanesStoreOwnNumbers =
 -- so a lane knows by its own events that it may store a number
 abbrev pub OwnPastSuffices : Type 0
 OwnPastSuffices = (limits : Limits) (h : History) (lane number : ℕ) → IsLegal limits h → MayStore lane number (own lane h) → MayStore lane number h
+
+-- ---- faults
+
+-- what stands as a fault was kept as one,
+abbrev pub FaultsWereKept : Type 0
+FaultsWereKept = (limits : Limits) (h : History) (cell number : ℕ) → IsLegal limits h → (state_after h).slots cell ≡ Some (slot.Fault number) → Contains (faults h) number
+
+-- and what stands as a value was not,
+abbrev pub ValuesAreNoFaults : Type 0
+ValuesAreNoFaults = (limits : Limits) (h : History) (cell number : ℕ) → IsLegal limits h → (state_after h).slots cell ≡ Some (slot.Entry number) → ¬ (Contains (faults h) number)
+
+-- nor was what a seal keeps
+abbrev pub SealsKeepNoFaults : Type 0
+SealsKeepNoFaults = (limits : Limits) (h : History) (cell number : ℕ) → IsLegal limits h → (state_after h).slots cell ≡ Some (slot.Sealed (Some number)) → ¬ (Contains (faults h) number)
+
+-- a store that keeps no faults never has one
+abbrev pub NoFaults : Type 0
+NoFaults = (limits : Limits) (h : History) → IsFalse limits.keep_faults → IsLegal limits h → faults h ≡ []

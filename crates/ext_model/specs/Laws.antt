@@ -1,9 +1,9 @@
 -- What is true of look-ups and of acts on every state: sentences by which a reader may judge the definitions.
 -- JUnit 5 User Guide, "Keeping State in Extensions"; Javadoc `ExtensionContext.Store`, `get` and `put`: a value of a context is seen
--- from its descendants, unless a nearer context has one of its own. What is said of claims and seals are own rules.
+-- from its descendants, unless a nearer context has one of its own. What is said of claims, kept faults and seals are own rules.
 use Rattle.std.specs.Prelude.{ℕ, ◌≡◌, ◌≢◌, ◌↔◌, true, false, List, ◌∷◌, ◌++◌, All, Option, None, Some}
 use Rattle.ext_model.specs.declared.event.Act.{Act}
-use Rattle.ext_model.specs.declared.event.Act.TheVariants.{Put, Claim, Abandon}
+use Rattle.ext_model.specs.declared.event.Act.TheVariants.{Put, Claim, Fail, Abandon, Seal}
 use Rattle.ext_model.specs.declared.look.Look.TheVariants as look
 use Rattle.ext_model.specs.declared.slot.Slot.{Slot}
 use Rattle.ext_model.specs.declared.slot.Slot.TheVariants as slot
@@ -22,12 +22,23 @@ NearestDecides =
 abbrev pub EmptyPathIsAbsent : Type 0
 EmptyPathIsAbsent = (slots : ℕ → Option Slot) (path : List ℕ) → All (λ c. slots c ≡ None) path → lookup slots path ≡ look.Absent
 
+-- a fault that a look-up meets stands in the context that it names
+abbrev pub MetFaultStands : Type 0
+MetFaultStands = (slots : ℕ → Option Slot) (path : List ℕ) (at number : ℕ) → lookup slots path ≡ look.Fault at number → slots at ≡ Some (slot.Fault number)
+
 -- a number that was put is found from each context that has nothing nearer
 abbrev pub PutIsFound : Type 0
 PutIsFound =
     (numbers : ℕ) (s : State Place) (lane context key number : ℕ) (stood : Option ℕ) (nearer farther : List ℕ)
     → All (λ c. s.slots (c, key) ≡ None) nearer → plain_reply numbers s lane (Put (context, key) number) ≡ Happens stood
     → lookup (under (next_state numbers s lane (Put (context, key) number)) key) (nearer ++ context ∷ farther) ≡ look.Found context number
+
+-- and so is a fault that was kept
+abbrev pub FaultIsMet : Type 0
+FaultIsMet =
+    (numbers : ℕ) (s : State Place) (lane context key number : ℕ) (answer : Option ℕ) (nearer farther : List ℕ)
+    → All (λ c. s.slots (c, key) ≡ None) nearer → plain_reply numbers s lane (Fail (context, key) number) ≡ Happens answer
+    → lookup (under (next_state numbers s lane (Fail (context, key) number)) key) (nearer ++ context ∷ farther) ≡ look.Fault context number
 
 -- two places are the same where they are one, and only there
 abbrev pub PlacesAreTold : Type 0
@@ -44,6 +55,12 @@ abbrev pub SealsStay : Type 0
 SealsStay =
     (numbers : ℕ) (s : State Place) (lane : ℕ) (act : Act Place) (place : Place) (kept : Option ℕ)
     → s.slots place ≡ Some (slot.Sealed kept) → (next_state numbers s lane act).slots place ≡ Some (slot.Sealed kept)
+
+-- a seal does not keep the number of a fault
+abbrev pub SealPassesFault : Type 0
+SealPassesFault =
+    (numbers : ℕ) (s : State Place) (lane : ℕ) (place : Place) (number : ℕ)
+    → s.slots place ≡ Some (slot.Fault number) → (next_state numbers s lane (Seal place)).slots place ≡ Some (slot.Sealed None)
 
 -- a claim stays, whatever other lanes do
 abbrev pub ClaimsStay : Type 0

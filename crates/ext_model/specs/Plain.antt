@@ -10,7 +10,7 @@ use Rattle.ext_model.specs.declared.slot.Slot.{Slot}
 use Rattle.ext_model.specs.declared.plain_fault.PlainFault.{PlainFault}
 use Rattle.ext_model.specs.declared.plain_fault.PlainFault.TheVariants as fault
 use Rattle.ext_model.specs.State.{State}
-use Rattle.ext_model.specs.Events.{NumbersFull, Busy, Closed, Standing, Exhausted, Barred, Reply, Happens, Answers, Refuses, reply, apply}
+use Rattle.ext_model.specs.Events.{NumbersFull, Busy, Closed, Standing, FaultStanding, Exhausted, Barred, Reply, Happens, Answers, Refuses, reply, apply}
 
 -- a context and a key
 abbrev pub Place : Type 0
@@ -73,7 +73,7 @@ IsStep lane act old new = state_of new ≡ next_state old.numbers (state_of old)
 -- ---- the results of calls
 
 -- The result of a call whose reply is this; `value` makes the result's value of what the reply answers.
--- No call has a result for the last two: there are no versions, and `fill` and `abandon` may be called by the lane of the claim alone
+-- No call has a result for the last two: there are no versions, and `fill`, `fail` and `abandon` may be called by the lane of the claim alone
 abbrev pub result_of : {A : Type 0} → (Option ℕ → A) → Reply → Option (Result A PlainFault)
 result_of value (Happens answer) = Some (Ok (value answer))
 result_of value (Answers answer) = Some (Ok (value answer))
@@ -81,6 +81,7 @@ result_of value (Refuses NumbersFull) = Some (Err fault.NumbersFull)
 result_of value (Refuses Busy) = Some (Err fault.Busy)
 result_of value (Refuses Closed) = Some (Err fault.Closed)
 result_of value (Refuses (Standing number)) = Some (Err (fault.Taken number))
+result_of value (Refuses (FaultStanding number)) = Some (Err (fault.FaultStands number))
 result_of value (Refuses Exhausted) = None
 result_of value (Refuses Barred) = None
 
@@ -96,7 +97,7 @@ number_drawn answer = unwrap_or answer 0
 abbrev pub what_stood : Option ℕ → Option ℕ
 what_stood answer = answer
 
--- a claim and a fill nothing more
+-- a claim, a fill and a fail nothing more
 abbrev pub done : Option ℕ → Unit {0}
 done answer = tt
 
@@ -106,5 +107,6 @@ UnlessMemory (Ok value) Fact = Fact
 UnlessMemory (Err fault.Busy) Fact = Fact
 UnlessMemory (Err fault.Closed) Fact = Fact
 UnlessMemory (Err (fault.Taken number)) Fact = Fact
+UnlessMemory (Err (fault.FaultStands number)) Fact = Fact
 UnlessMemory (Err fault.NumbersFull) Fact = Fact
 UnlessMemory (Err fault.Memory) Fact = Unit {0}

@@ -74,7 +74,7 @@ NumbersFit = (limits : Limits) (h : History) (cell : ℕ) → IsLegal limits h �
 abbrev pub VersionsFit : Type 0
 VersionsFit = (limits : Limits) (h : History) (cell : ℕ) → IsLegal limits h → version_of h cell < 2 ^ 40
 
--- a claimed cell has a version left for the fill or the abandon, and one more for a seal
+-- a claimed cell has a version left for the fill, the fail or the abandon, and one more for a seal
 abbrev pub ClaimsCanEnd : Type 0
 ClaimsCanEnd = (limits : Limits) (h : History) (lane cell : ℕ) → IsLegal limits h → (state_after h).slots cell ≡ Some (Claim lane) → version_of h cell + 2 < 2 ^ 40
 

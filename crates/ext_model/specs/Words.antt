@@ -1,9 +1,9 @@
 -- A cell in one word of 64 bits: what stands there, and how many events the cell has had.
--- Own rule. Bits 0 to 3 are the state: 0 empty, 1 being computed (a claim), 2 present (a number), 3 sealed. Bits 4 to 23 are the number that
--- stands or that a seal keeps, and 0 where there is none. Bits 24 to 63 are the version. A cell without events has word 0.
+-- Own rule. Bits 0 to 3 are the state: 0 empty, 1 being computed (a claim), 2 present (a value's number), 3 sealed, 4 failed (a kept
+-- fault's number). Bits 4 to 23 are the number that stands or that a seal keeps, and 0 where there is none. Bits 24 to 63 are the version. A cell without events has word 0.
 use Rattle.std.specs.Prelude.{ℕ, ◌+◌, ◌*◌, ◌^◌, Option, None, Some, unwrap_or}
 use Rattle.ext_model.specs.declared.slot.Slot.{Slot}
-use Rattle.ext_model.specs.declared.slot.Slot.TheVariants.{Entry, Claim, Sealed}
+use Rattle.ext_model.specs.declared.slot.Slot.TheVariants.{Entry, Fault, Claim, Sealed}
 use Rattle.ext_model.specs.History.{History, state_after, version_of}
 
 -- the state by what stands
@@ -11,6 +11,7 @@ abbrev pub state_code : Option Slot → ℕ
 state_code None = 0
 state_code (Some (Claim lane)) = 1
 state_code (Some (Entry number)) = 2
+state_code (Some (Fault number)) = 4
 state_code (Some (Sealed kept)) = 3
 
 -- the number by what stands
@@ -18,6 +19,7 @@ abbrev pub number_code : Option Slot → ℕ
 number_code None = 0
 number_code (Some (Claim lane)) = 0
 number_code (Some (Entry number)) = number
+number_code (Some (Fault number)) = number
 number_code (Some (Sealed kept)) = unwrap_or kept 0
 
 -- The word of a state, a number below 2 ^ 20 and a version below 2 ^ 40

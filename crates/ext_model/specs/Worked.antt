@@ -1,20 +1,20 @@
 -- Worked histories: what the definitions say of small lists of events. Each sentence is computed from the definitions, as `worked_histories` says.
 -- JUnit 5 User Guide, "Keeping State in Extensions", for values that are replaced, removed and found from descendants; the rest are own rules.
 -- Contexts 0, 1 and 2 stand below one another, the root first; keys are 0, 1 and 2; the cell of a context and a key is context * 3 + key.
-use Rattle.std.specs.Prelude.{ℕ, ◌≡◌, ◌+◌, ◌*◌, ◌-◌, ◌^◌, [], ◌∷◌, ◌++◌, None, Some}
+use Rattle.std.specs.Prelude.{ℕ, ◌≡◌, ◌+◌, ◌*◌, ◌-◌, ◌^◌, true, [], ◌∷◌, ◌++◌, None, Some}
 use Rattle.ext_model.specs.declared.event.Act.{Act}
-use Rattle.ext_model.specs.declared.event.Act.TheVariants.{Keep, Put, Remove, Claim, Fill, Abandon, Seal}
+use Rattle.ext_model.specs.declared.event.Act.TheVariants.{Keep, Put, Remove, Claim, Fill, Fail, Abandon, Seal}
 use Rattle.ext_model.specs.declared.look.Look.{Look}
 use Rattle.ext_model.specs.declared.look.Look.TheVariants as look
-use Rattle.ext_model.specs.declared.slot.Slot.TheVariants.{Entry}
-use Rattle.ext_model.specs.Events.{Reply, Happens, Answers, Refuses, NumbersFull, Busy, Closed, Standing, Exhausted, Barred, put_reply, claim_reply, is_worn, is_worn_for_claim}
+use Rattle.ext_model.specs.declared.slot.Slot.TheVariants.{Entry, Fault, Sealed}
+use Rattle.ext_model.specs.Events.{Reply, Happens, Answers, Refuses, NumbersFull, Busy, Closed, Standing, FaultStanding, Exhausted, Barred, put_reply, claim_reply, is_worn, is_worn_for_claim}
 use Rattle.ext_model.specs.History.{History, Limits, by, own, slots_in, reply_after}
 use Rattle.ext_model.specs.Words.{slot_word, word_of}
 use Rattle.ext_model.specs.Closing.{remaining}
 use Rattle.ext_model.specs.SecondLook.{look_after}
 
 abbrev pub small : Limits
-small = record { cells = 9; lanes = 2; numbers = 4 }
+small = record { cells = 9; lanes = 2; numbers = 4; keep_faults = true }
 
 abbrev pub answered : History → ℕ → Act ℕ → Reply
 answered h lane act = reply_after small h lane act
@@ -78,6 +78,33 @@ AbandonedIsEmpty = word_of (held ++ by 0 (Abandon 3) ∷ []) 3 ≡ 2 * 2 ^ 24
 abbrev pub OwnEvents : Type 0
 OwnEvents = own 0 filled ≡ by 0 (Claim 3) ∷ by 0 (Keep 2) ∷ by 0 (Fill 3 2) ∷ []
 
+-- ---- kept faults
+
+-- the factory of lane 0 failed, and its fault is kept as number 2
+abbrev pub failed : History
+failed = held ++ by 0 (Keep 2) ∷ by 0 (Fail 3 2) ∷ []
+
+abbrev pub FailedIsMet : Type 0
+FailedIsMet = looks failed ≡ look.Fault 1 2
+
+abbrev pub FailedStands : Type 0
+FailedStands = answered failed 1 (Claim 3) ≡ Refuses (FaultStanding 2)
+
+-- a put and a remove answer its number
+abbrev pub FailedIsReplaced : Type 0
+FailedIsReplaced = answered failed 1 (Put 3 1) ≡ Happens (Some 2)
+
+abbrev pub FailedIsRemoved : Type 0
+FailedIsRemoved = answered failed 1 (Remove 3) ≡ Happens (Some 2)
+
+-- and a seal keeps none
+abbrev pub FailedIsPassed : Type 0
+FailedIsPassed = answered failed 1 (Seal 3) ≡ Happens None
+
+-- a context that has a fault under key 0 and a value under key 1 keeps the value alone
+abbrev pub RemainingPassesFault : Type 0
+RemainingPassesFault = remaining (slots_in (λ key. 3 + key) (failed ++ by 1 (Put 4 1) ∷ by 1 (Seal 3) ∷ by 1 (Seal 4) ∷ by 1 (Seal 5) ∷ [])) 3 ≡ 1 ∷ []
+
 -- ---- seals: context 2 has values 1, 2 and 3 under its keys, 4 replaces 2, and all is sealed
 
 abbrev pub closed : History
@@ -104,6 +131,12 @@ NumbersRunOut = answered closed 0 (Keep 5) ≡ Refuses NumbersFull
 
 abbrev pub PresentWord : Type 0
 PresentWord = slot_word (Some (Entry 5)) 3 ≡ 50331730
+
+abbrev pub FailedWord : Type 0
+FailedWord = slot_word (Some (Fault 5)) 3 ≡ 50331732
+
+abbrev pub SealedWord : Type 0
+SealedWord = slot_word (Some (Sealed None)) 4 ≡ 67108867
 
 abbrev pub EmptyWord : Type 0
 EmptyWord = slot_word None 4 ≡ 67108864

@@ -1,10 +1,10 @@
 -- Worked histories: which of them are legal, and at which points a call may be answered. Each sentence follows from the definitions, as
 -- `worked_histories` says. Own rules. The store is that of `Worked`: 9 cells, 2 lanes and 4 numbers.
-use Rattle.std.specs.Prelude.{◌≡◌, ◌*◌, [], ◌∷◌, ◌++◌, None}
-use Rattle.ext_model.specs.declared.event.Act.TheVariants.{Keep, Put, Remove, Claim, Fill, Abandon}
+use Rattle.std.specs.Prelude.{◌≡◌, ◌*◌, false, [], ◌∷◌, ◌++◌, None}
+use Rattle.ext_model.specs.declared.event.Act.TheVariants.{Keep, Put, Remove, Claim, Fill, Fail, Abandon}
 use Rattle.ext_model.specs.declared.look.Look.TheVariants as look
 use Rattle.ext_model.specs.Events.{Happens, Answers}
-use Rattle.ext_model.specs.History.{History, by, reply_after, IsLegal}
+use Rattle.ext_model.specs.History.{History, Limits, by, reply_after, IsLegal}
 use Rattle.ext_history.specs.Views.{seen_by, call_fronts}
 use Rattle.ext_model.specs.Views.{LaneView, IsAnswerPoint}
 use Rattle.ext_model.specs.Calls.{HoldsAtPoint, IsOvertaken, IsCrowded}
@@ -105,6 +105,19 @@ NotWithAnothersNumber = ¬ (IsLegal small (by 0 (Keep 1) ∷ by 1 (Put 0 1) ∷ 
 -- a number stored twice
 abbrev pub NotTwice : Type 0
 NotTwice = ¬ (IsLegal small (at_root ++ by 0 (Put 1 1) ∷ []))
+
+-- a fault that is kept; in a store that keeps none it may not be
+abbrev pub kept_fault : History
+kept_fault = by 0 (Claim 3) ∷ by 0 (Keep 1) ∷ by 0 (Fail 3 1) ∷ []
+
+abbrev pub KeptFaultIsLegal : Type 0
+KeptFaultIsLegal = IsLegal small kept_fault
+
+abbrev pub without_faults : Limits
+without_faults = record { cells = 9; lanes = 2; numbers = 4; keep_faults = false }
+
+abbrev pub NotWithoutKeeping : Type 0
+NotWithoutKeeping = ¬ (IsLegal without_faults kept_fault)
 
 -- a fill without a claim
 abbrev pub NotWithoutClaim : Type 0

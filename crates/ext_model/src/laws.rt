@@ -1,20 +1,23 @@
 //! What is true of look-ups, of acts on every state and of all legal histories, as the contracts of functions that do nothing.
-ghost use Rattle.ext_model.specs.CallLaws.{StepsAreCalls, EventsAreCalls, CallsCompose, FrontsCompose, FirstStepDecides, FirstStepIsEarlier, SeenGoesOn, PointsAreLegal, AnswerPointsArePoints, LaterPointsServe, EarlierPointsServe, StepsStay, PointsOfSecond, PointsOfFirst, AnswersComeFirst, SeenIsPoint, OvertakenIsCrowded, QuietCrowdedIsOvertaken, CrowdedBySecond, CrowdedByFirst, ClaimsAreHeld, HeldWordsStay, HeldCellsMayBeFilled, HeldCellsMayBeAbandoned, OwnNumbersMayBeStored};
-ghost use Rattle.ext_model.specs.ClosingLaws.{RemainingIsSo, RemainingIsOne, NothingFollowsClose, ClosedStaysClosed, RemainingStays, SecondLooksStand};
-ghost use Rattle.ext_model.specs.HistoryLaws.{PrefixesAreLegal, AllowedEventsFollow, EmptyIsLegal, LegalInduction, AllowedByCases, QuietIsNoEvent, RemoveBetweenFills, NothingFollowsSeal, ClaimsStand, NumbersAreDrawnOnce, NumbersAreStoredOnce, LanesStoreOwnNumbers, OwnPastSuffices, UsedCellsAreWithin, EventsAreByLanes, NoLaneNoEvent};
+ghost use Rattle.ext_model.specs.CallLaws.{StepsAreCalls, EventsAreCalls, CallsCompose, FrontsCompose, FirstStepDecides, FirstStepIsEarlier, SeenGoesOn, PointsAreLegal, AnswerPointsArePoints, LaterPointsServe, EarlierPointsServe, StepsStay, PointsOfSecond, PointsOfFirst, AnswersComeFirst, SeenIsPoint, OvertakenIsCrowded, QuietCrowdedIsOvertaken, CrowdedBySecond, CrowdedByFirst, ClaimsAreHeld, HeldWordsStay, HeldCellsMayBeFilled, HeldCellsMayBeFailed, HeldCellsMayBeAbandoned, OwnNumbersMayBeStored};
+ghost use Rattle.ext_model.specs.ClosingLaws.{RemainingIsSo, RemainingIsOne, NothingFollowsClose, ClosedStaysClosed, RemainingStays, RemainingAreValues, SecondLooksStand};
+ghost use Rattle.ext_model.specs.HistoryLaws.{PrefixesAreLegal, AllowedEventsFollow, EmptyIsLegal, LegalInduction, AllowedByCases, QuietIsNoEvent, RemoveBetweenFills, RemoveAfterFail, NothingFollowsSeal, ClaimsStand, NumbersAreDrawnOnce, NumbersAreStoredOnce, LanesStoreOwnNumbers, OwnPastSuffices, UsedCellsAreWithin, EventsAreByLanes, NoLaneNoEvent, FaultsWereKept, ValuesAreNoFaults, SealsKeepNoFaults, NoFaults};
 ghost use Rattle.ext_model.specs.WordLaws.{EventChangesItsWord, OtherWordsStay, CountChangesByAct, QuietCellsKeepWords, QuietCellsStay, EqualWordsLeaveNoEvent, VersionsRiseWithEvents, UnequalWordsRaiseVersions, NumbersFit, VersionsFit, ClaimsCanEnd, CellsCanBeSealed, WordsBetweenAreEqual, WordsTellParts};
-ghost use Rattle.ext_model.specs.Laws.{NearestDecides, EmptyPathIsAbsent, PutIsFound, PlacesAreTold, OthersStay, SealsStay, ClaimsStay, AbandonUndoesClaim};
+ghost use Rattle.ext_model.specs.Laws.{NearestDecides, EmptyPathIsAbsent, MetFaultStands, PutIsFound, FaultIsMet, PlacesAreTold, OthersStay, SealsStay, SealPassesFault, ClaimsStay, AbandonUndoesClaim};
 
 /// Proves the laws of look-ups and of acts on one state. It does nothing when it runs.
 ///
-/// JUnit 5 User Guide, section "Keeping State in Extensions", for look-ups; claims and seals are own rules.
+/// JUnit 5 User Guide, section "Keeping State in Extensions", for look-ups; claims, kept faults and seals are own rules.
 pub fn store_laws()
     ensures nearest { NearestDecides }
     ensures absent { EmptyPathIsAbsent }
+    ensures fault_stands { MetFaultStands }
     ensures found { PutIsFound }
+    ensures fault_met { FaultIsMet }
     ensures places { PlacesAreTold }
     ensures others { OthersStay }
     ensures seals { SealsStay }
+    ensures seal_passes_fault { SealPassesFault }
     ensures claims { ClaimsStay }
     ensures abandoned { AbandonUndoesClaim }
 {}
@@ -30,6 +33,7 @@ pub fn history_laws()
     ensures by_lanes { EventsAreByLanes }
     ensures no_lane { NoLaneNoEvent }
     ensures fills { RemoveBetweenFills }
+    ensures fails { RemoveAfterFail }
     ensures seals { NothingFollowsSeal }
     ensures claims { ClaimsStand }
     ensures within { UsedCellsAreWithin }
@@ -37,6 +41,10 @@ pub fn history_laws()
     ensures stored_once { NumbersAreStoredOnce }
     ensures own_numbers { LanesStoreOwnNumbers }
     ensures own_past { OwnPastSuffices }
+    ensures faults { FaultsWereKept }
+    ensures values { ValuesAreNoFaults }
+    ensures sealed_values { SealsKeepNoFaults }
+    ensures no_faults { NoFaults }
 {}
 
 /// Proves the laws of words and versions. It does nothing when it runs (own rule).
@@ -82,6 +90,7 @@ pub fn call_laws()
     ensures held_claims { ClaimsAreHeld }
     ensures held_words { HeldWordsStay }
     ensures fills { HeldCellsMayBeFilled }
+    ensures fails { HeldCellsMayBeFailed }
     ensures abandons { HeldCellsMayBeAbandoned }
     ensures own_numbers { OwnNumbersMayBeStored }
 {}
@@ -93,5 +102,6 @@ pub fn closing_laws()
     ensures nothing_follows { NothingFollowsClose }
     ensures stays_closed { ClosedStaysClosed }
     ensures stays_remaining { RemainingStays }
+    ensures values_remain { RemainingAreValues }
     ensures second_look { SecondLooksStand }
 {}

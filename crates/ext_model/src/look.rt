@@ -6,11 +6,13 @@ use thiserror::Error;
 /// under the key decides.
 ///
 /// JUnit 5 User Guide, section "Keeping State in Extensions", and `ExtensionContext.Store`, `get`.
-/// `Busy` and `Closed` are own rules.
+/// `Fault`, `Busy` and `Closed` are own rules.
 #[derive(Clone, Copy, Debug, PartialEq, Eq)]
 pub enum Look {
     /// The context that decides is `at`, and has the value of this number, from 1.
     Found { at: ContextNo, number: u32 },
+    /// The context that decides is `at`: a factory for it failed, and its fault is kept under this number, from 1.
+    Fault { at: ContextNo, number: u32 },
     /// Nothing stands under the key in any of the contexts.
     Absent,
     /// A lane computes a value for the context that decides.

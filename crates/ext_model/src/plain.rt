@@ -1,8 +1,8 @@
-//! The store of one thread: numbers, claims and seals in one map.
+//! The store of one thread: numbers of values and of kept faults, claims and seals in one map.
 ghost use Rattle.std.specs.Prelude.{ℕ, ◌≡◌, ◌+◌, ◌≤◌, ◌↔◌, IsTrue, Some, None, Ok, Err, IfOk, IfErr, OnOk, OnErr};
 ghost use Rattle.ext_model.specs.declared.event.Act.TheVariants as act;
 ghost use Rattle.ext_model.specs.declared.slot.Slot.TheVariants as slot;
-ghost use Rattle.ext_model.specs.State.{opening, lookup, standing, IsClaimed, IsSealed};
+ghost use Rattle.ext_model.specs.State.{opening, lookup, standing, standing_value, IsClaimed, IsSealed};
 ghost use Rattle.ext_model.specs.Events.{Happens};
 ghost use Rattle.ext_model.specs.Plain.{any_lane, state_of, with_slot, under, plain_reply, IsStep, IsReply, number_drawn, what_stood, done, UnlessMemory};
 
@@ -11,9 +11,10 @@ use std::alloc::Global;
 use std::collections::BTreeMap;
 use std::marker::Model;
 
-/// The store of one thread. It holds the numbers of values: whoever draws a number keeps its value.
+/// The store of one thread. It holds the numbers of values and of kept faults: whoever draws a number keeps what it stands for.
 ///
-/// A place is a context and a key; any two numbers may be named. Only the lane of a claim may fill or abandon it.
+/// A place is a context and a key; any two numbers may be named. Only the lane of a claim may fill, fail or abandon it.
+/// Faults are kept where the caller keeps them, by `fail`: a caller that never does meets none.
 /// Callers are to store only numbers that they drew, each at most once: nothing here checks it or rests on it.
 /// A refusal leaves the store as it was, and no call waits.
 ///
@@ -89,6 +90,12 @@ impl PlainStore {
                         number,
                     };
                 }
+                Some(Slot::Fault(number)) => {
+                    return Look::Fault {
+                        at: *context,
+                        number,
+                    };
+                }
                 Some(Slot::Claim(_)) => return Look::Busy(*context),
                 Some(Slot::Sealed(_)) => return Look::Closed(*context),
             }
@@ -96,7 +103,7 @@ impl PlainStore {
         Look::Absent
     }
 
-    /// Stores the number at the place, and answers the number that stood there, which it replaces. Any number will do:
+    /// Stores the number at the place, and answers the number that stood there, of a value or of a fault, which it replaces. Any number will do:
     /// who wants each value stored once, as in JUnit's store, puts numbers that `keep` gave, each once.
     ///
     /// Refused, in this order, as `Busy` where a lane claims the place, `Closed` where it is sealed, and
@@ -118,6 +125,7 @@ impl PlainStore {
         let stood = match self.slot(at, key) {
             None => None,
             Some(Slot::Entry(number)) => Some(number),
+            Some(Slot::Fault(number)) => Some(number),
             Some(Slot::Claim(_)) => return Err(PlainFault::Busy),
             Some(Slot::Sealed(_)) => return Err(PlainFault::Closed),
         };
@@ -125,7 +133,7 @@ impl PlainStore {
         Ok(stood)
     }
 
-    /// Takes the number from the place, and answers it: `None` where nothing stood. A number that stands under
+    /// Takes the number from the place, of a value or of a fault, and answers it: `None` where nothing stood. A number that stands under
     /// the key in another context, such as an ancestor, is left alone. Takes no memory.
     ///
     /// Refused as `Busy` where a lane claims the place, and as `Closed` where it is sealed.
@@ -148,15 +156,20 @@ impl PlainStore {
                 self.clear(at, key);
                 Ok(Some(number))
             }
+            Some(Slot::Fault(number)) => {
+                self.clear(at, key);
+                Ok(Some(number))
+            }
             Some(Slot::Claim(_)) => Err(PlainFault::Busy),
             Some(Slot::Sealed(_)) => Err(PlainFault::Closed),
         }
     }
 
-    /// Claims the empty place for the lane, until it fills or abandons it.
+    /// Claims the empty place for the lane, until it fills, fails or abandons it.
     ///
     /// Refused, in this order, as `Busy` where a lane claims the place, this one or another, `Closed` where it is
-    /// sealed, `Taken` with the number that stands there, and `Memory`. The first part of `getOrComputeIfAbsent` of
+    /// sealed, `Taken` with the number of the value that stands there, `FaultStands` with that of the fault that is
+    /// kept there, and `Memory`. The first part of `getOrComputeIfAbsent` of
     /// `ExtensionContext.Store`.
     pub fn claim(&mut self, at: ContextNo, key: KeyNo, lane: LaneNo) -> Result<(), PlainFault>
         ensures reply { UnlessMemory result (IsReply done lane (act.Claim (at, key)) self.old result) }
@@ -173,10 +186,13 @@ impl PlainStore {
         ensures closed { (result ≡ Err PlainFault.Closed) ↔ IsSealed (under (state_of self.old) key at) }
         ensures taken { (number : ℕ) →
             (result ≡ Err (PlainFault.Taken number)) ↔ (under (state_of self.old) key at ≡ Some (slot.Entry number)) }
+        ensures fault_stands { (number : ℕ) →
+            (result ≡ Err (PlainFault.FaultStands number)) ↔ (under (state_of self.old) key at ≡ Some (slot.Fault number)) }
     {
         match self.slot(at, key) {
             None => self.set(at, key, Slot::Claim(lane)),
             Some(Slot::Entry(number)) => Err(PlainFault::Taken(number)),
+            Some(Slot::Fault(number)) => Err(PlainFault::FaultStands(number)),
             Some(Slot::Claim(_)) => Err(PlainFault::Busy),
             Some(Slot::Sealed(_)) => Err(PlainFault::Closed),
         }
@@ -205,10 +221,33 @@ impl PlainStore {
         self.set(at, key, Slot::Entry(number))
     }
 
+    /// Ends the lane's claim: the number is kept at the place as that of a fault, until it is removed or replaced. It
+    /// always answers `Ok`, and takes no memory, since the place is in use.
+    ///
+    /// Only the lane of the claim may call it, as `is_claimed_by` tells; any number will do, as for `put`. Own rule: what
+    /// becomes of a factory that failed, where its fault is kept.
+    pub fn fail(
+        &mut self,
+        at: ContextNo,
+        key: KeyNo,
+        lane: LaneNo,
+        number: u32,
+    ) -> Result<(), PlainFault>
+        requires { under (state_of self.old) key at ≡ Some (slot.Claim lane) }
+        ensures reply { IsReply done lane (act.Fail (at, key) number) self.old result }
+        ensures state { IsStep lane (act.Fail (at, key) number) self.old self.new }
+        ensures numbers { self.new.numbers ≡ self.old.numbers }
+        ensures ok { result ≡ Ok tt }
+        ensures failed { state_of self.new ≡ with_slot (state_of self.old) (at, key) (Some (slot.Fault number)) }
+        ensures stands { under (state_of self.new) key at ≡ Some (slot.Fault number) }
+    {
+        self.set(at, key, Slot::Fault(number))
+    }
+
     /// Ends the lane's claim: the place is empty. It never fails and takes no memory.
     ///
     /// Only the lane of the claim may call it, as `is_claimed_by` tells. Own rule: a factory that fails leaves its
-    /// place empty.
+    /// place empty, where its fault is not kept.
     pub fn abandon(&mut self, at: ContextNo, key: KeyNo, lane: LaneNo)
         requires { under (state_of self.old) key at ≡ Some (slot.Claim lane) }
         ensures reply { plain_reply self.old.numbers (state_of self.old) lane (act.Abandon (at, key)) ≡ Happens None }
@@ -221,8 +260,8 @@ impl PlainStore {
         self.clear(at, key);
     }
 
-    /// Closes the place for good, and answers the number that it keeps: the one that stood there, if one did.
-    /// A sealed place answers what it keeps, and stays as it is.
+    /// Closes the place for good, and answers the number that it keeps: that of the value that stood there, if one did. A
+    /// fault that is kept there goes. A sealed place answers what it keeps, and stays as it is.
     ///
     /// Refused, in this order, as `Busy` where a lane claims the place, and `Memory`, which can come only where
     /// nothing stood. Own rule: it is what closing a context does to each of its places.
@@ -237,11 +276,13 @@ impl PlainStore {
         ensures sealed { IfOk result (λ kept.
             state_of self.new ≡ with_slot (state_of self.old) (at, key) (Some (slot.Sealed kept))) }
         ensures stands { IfOk result (λ kept. under (state_of self.new) key at ≡ Some (slot.Sealed kept)) }
+        ensures kept { IfOk result (λ kept. ¬ (IsSealed (under (state_of self.old) key at)) → kept ≡ standing_value (under (state_of self.old) key at)) }
         ensures busy { (result ≡ Err PlainFault.Busy) ↔ IsClaimed (under (state_of self.old) key at) }
     {
         let kept = match self.slot(at, key) {
             None => None,
             Some(Slot::Entry(number)) => Some(number),
+            Some(Slot::Fault(_)) => None,
             Some(Slot::Claim(_)) => return Err(PlainFault::Busy),
             Some(Slot::Sealed(kept)) => return Ok(kept),
         };
@@ -249,13 +290,14 @@ impl PlainStore {
         Ok(kept)
     }
 
-    /// Whether the lane claims the place, as `fill` and `abandon` require. Takes no memory (own rule).
+    /// Whether the lane claims the place, as `fill`, `fail` and `abandon` require. Takes no memory (own rule).
     pub fn is_claimed_by(&self, at: ContextNo, key: KeyNo, lane: LaneNo) -> bool
         ensures { IsTrue result ↔ (under (state_of self.now) key at ≡ Some (slot.Claim lane)) }
     {
         match self.slot(at, key) {
             None => false,
             Some(Slot::Entry(_)) => false,
+            Some(Slot::Fault(_)) => false,
             Some(Slot::Claim(by)) => by == lane,
             Some(Slot::Sealed(_)) => false,
         }

@@ -2,7 +2,7 @@
 use thiserror::Error;
 
 /// Why a call of the plain store was refused. Where several apply, the first in the order `Busy`, `Closed`,
-/// `Taken`, `Memory` is answered. After any of them the store is as it was.
+/// `Taken`, `FaultStands`, `Memory` is answered. After any of them the store is as it was.
 ///
 /// Own rule: `NamespacedHierarchicalStore` waits for a value that is being computed, and throws after closing.
 #[derive(Clone, Copy, Debug, PartialEq, Eq, Error)]
@@ -16,6 +16,9 @@ pub enum PlainFault {
     /// This number stands at the place that was to be claimed. `claim` alone answers it.
     #[error("number {0} stands there")]
     Taken(u32),
+    /// A fault of this number is kept at the place that was to be claimed. `claim` alone answers it.
+    #[error("fault {0} stands there")]
+    FaultStands(u32),
     /// All numbers of the store were drawn. `keep` alone answers it.
     #[error("numbers full")]
     NumbersFull,

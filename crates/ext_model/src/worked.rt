@@ -1,8 +1,8 @@
 //! Worked histories, as the contract of a function that does nothing.
-ghost use Rattle.ext_model.specs.Worked.{FoundFromBelow, RemovedNothing, Replaced, ReplacedWord, RemovedWord, HeldHides, HeldIsBusy, HeldIsNotFilledByOthers, HeldIsNotSealed, FilledStands, AbandonedIsEmpty, OwnEvents, RemainingFalls, SealedIsClosed, SealedAgain, ClosedHides, NumbersRunOut, PresentWord, EmptyWord, LastPut, NoClaimAtLastPut, NoPutAfterLast};
-ghost use Rattle.ext_model.specs.WorkedCalls.{CallHasOneFront, AnsweredNow, NotFromMemory, RootIsLegal, NotWithAnothersNumber, NotTwice, NotWithoutClaim, RemoveAnswered, PutAnswered, NoAnswerWithoutStep, SecondLookFinds, TwoFronts, EitherPoint, OvertakenByOne, NotOvertakenByTwo, NotOvertakenByLagging, NotCrowdedByItself, SixAreLegal, NotByAnotherLane};
+ghost use Rattle.ext_model.specs.Worked.{FoundFromBelow, RemovedNothing, Replaced, ReplacedWord, RemovedWord, HeldHides, HeldIsBusy, HeldIsNotFilledByOthers, HeldIsNotSealed, FilledStands, AbandonedIsEmpty, OwnEvents, FailedIsMet, FailedStands, FailedIsReplaced, FailedIsRemoved, FailedIsPassed, RemainingPassesFault, RemainingFalls, SealedIsClosed, SealedAgain, ClosedHides, NumbersRunOut, PresentWord, FailedWord, SealedWord, EmptyWord, LastPut, NoClaimAtLastPut, NoPutAfterLast};
+ghost use Rattle.ext_model.specs.WorkedCalls.{CallHasOneFront, AnsweredNow, NotFromMemory, RootIsLegal, NotWithAnothersNumber, NotTwice, NotWithoutClaim, RemoveAnswered, PutAnswered, NoAnswerWithoutStep, SecondLookFinds, TwoFronts, EitherPoint, OvertakenByOne, NotOvertakenByTwo, NotOvertakenByLagging, NotCrowdedByItself, SixAreLegal, NotByAnotherLane, KeptFaultIsLegal, NotWithoutKeeping};
 
-/// Computes the definitions on small histories: values, claims, seals, words, versions at their limits, and fronts.
+/// Computes the definitions on small histories: values, claims, kept faults, seals, words, versions at their limits, and fronts.
 /// It does nothing when it runs (own rule).
 pub fn worked_histories()
     ensures found_from_below { FoundFromBelow }
@@ -17,12 +17,20 @@ pub fn worked_histories()
     ensures filled_stands { FilledStands }
     ensures abandoned_is_empty { AbandonedIsEmpty }
     ensures own_events { OwnEvents }
+    ensures failed_is_met { FailedIsMet }
+    ensures failed_stands { FailedStands }
+    ensures failed_is_replaced { FailedIsReplaced }
+    ensures failed_is_removed { FailedIsRemoved }
+    ensures failed_is_passed { FailedIsPassed }
+    ensures remaining_passes_fault { RemainingPassesFault }
     ensures remaining_falls { RemainingFalls }
     ensures sealed_is_closed { SealedIsClosed }
     ensures sealed_again { SealedAgain }
     ensures closed_hides { ClosedHides }
     ensures numbers_run_out { NumbersRunOut }
     ensures present_word { PresentWord }
+    ensures failed_word { FailedWord }
+    ensures sealed_word { SealedWord }
     ensures empty_word { EmptyWord }
     ensures last_put { LastPut }
     ensures no_claim_at_last_put { NoClaimAtLastPut }
@@ -45,5 +53,7 @@ pub fn worked_histories()
     ensures not_by_another_lane { NotByAnotherLane }
     ensures not_with_anothers_number { NotWithAnothersNumber }
     ensures not_twice { NotTwice }
+    ensures kept_fault_is_legal { KeptFaultIsLegal }
+    ensures not_without_keeping { NotWithoutKeeping }
     ensures not_without_claim { NotWithoutClaim }
 {}

@@ -24,7 +24,7 @@ run_tries = 64
 pub record IsStoreOf (plan : PlanText) (lanes : ℕ) (store : StoreView) : Type 0 where
   pub tree : store.tree ≡ ids_of_nodes plan.nodes
   pub keys : store.keys ≡ different_keys plan.keys
-  pub limits : store.id.cells.limits ≡ record { cells = length plan.nodes * length (different_keys plan.keys); lanes = lanes; numbers = run_numbers }
+  pub limits : store.id.cells.limits ≡ record { cells = length plan.nodes * length (different_keys plan.keys); lanes = lanes; numbers = run_numbers; keep_faults = plan.keep_faults }
   pub tries : store.tries ≡ run_tries
 
 -- locks of the names that the plan's nodes name, for so many lanes

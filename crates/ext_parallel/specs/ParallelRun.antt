@@ -47,7 +47,7 @@ pub record ParallelRun (plan : PlanText) (lanes : ℕ) (results : List (ResultOf
   pub locks_are : IsLocksOf plan lanes locks
   -- the lanes have seen nothing before the run
   pub first : Lanes StoredValue
-  pub fresh : first.first ≡ map (fresh_store_lane store.id.places) (fresh_lanes store.id.cells 0 lanes)
+  pub fresh : first.first ≡ map (fresh_store_lane store.id.places store.id.fault_places) (fresh_lanes store.id.cells 0 lanes)
   pub fresh_locks : first.second ≡ locking.fresh_lanes locks.table lanes lanes
   -- the run of the tree, and its results
   pub ran : List Ran

@@ -7,7 +7,7 @@ use Rattle.ext_model.specs.declared.event.Act.TheVariants.{Remove}
 use Rattle.ext_model.specs.declared.plain_fault.PlainFault.{PlainFault}
 use Rattle.ext_model.specs.declared.plain_fault.PlainFault.TheVariants as plain
 use Rattle.ext_steps.specs.declared.reason.Reason.TheVariants as reasons
-use Rattle.ext_model.specs.Events.{Reply, Happens, Answers, Refuses, NumbersFull, Busy, Closed, Standing, Exhausted, Barred}
+use Rattle.ext_model.specs.Events.{Reply, Happens, Answers, Refuses, NumbersFull, Busy, Closed, Standing, FaultStanding, Exhausted, Barred}
 use Rattle.ext_model.specs.State.{State, lookup}
 use Rattle.ext_model.specs.Plain.{Place, number_drawn, result_of, under}
 use Rattle.ext_plain.specs.ValueStates.{Memory, ValueState, refusal}
@@ -15,9 +15,9 @@ use Rattle.ext_plain.specs.Steps.{StepEnd, act_ends, compute_by, computefail_by,
 use Rattle.ext_steps.specs.Values.{ValueText, value_view}
 use Rattle.ext_steps.specs.Calls.{start_of, CallText}
 
-pub state_is : (a b : State Place) (v w : List ValueText) → a ≡ b → v ≡ w
-    → (let old : ValueState = record { store = a; values = v; memory = [] } in let new : ValueState = record { store = b; values = w; memory = [] } in old ≡ new)
-state_is a b v w e f = ap (λ s. record { store = s; values = v; memory = [] }) e ∙ ap (λ u. record { store = b; values = u; memory = [] }) f
+pub state_is : (keeps : Bool) (a b : State Place) (v w : List ValueText) → a ≡ b → v ≡ w
+    → (let old : ValueState = record { keep_faults = keeps; store = a; values = v; memory = [] } in let new : ValueState = record { keep_faults = keeps; store = b; values = w; memory = [] } in old ≡ new)
+state_is keeps a b v w e f = ap (λ s. record { keep_faults = keeps; store = s; values = v; memory = [] }) e ∙ ap (λ u. record { keep_faults = keeps; store = b; values = u; memory = [] }) f
 
 -- an answer that isn't a fault is none of the refusals
 pub reply_ok : {A : Type 0} (value : Option ℕ → A) (r : Reply) (x : A) → result_of value r ≡ Some (Ok x) → refusal r ≡ None
@@ -27,6 +27,7 @@ reply_ok value (Refuses NumbersFull) x h = absurd cc
 reply_ok value (Refuses Busy) x h = absurd cc
 reply_ok value (Refuses Closed) x h = absurd cc
 reply_ok value (Refuses (Standing number)) x h = absurd cc
+reply_ok value (Refuses (FaultStanding number)) x h = absurd cc
 reply_ok value (Refuses Exhausted) x h = absurd cc
 reply_ok value (Refuses Barred) x h = absurd cc
 
@@ -43,6 +44,7 @@ never_memory value (Refuses NumbersFull) is = cc
 never_memory value (Refuses Busy) is = cc
 never_memory value (Refuses Closed) is = cc
 never_memory value (Refuses (Standing number)) is = cc
+never_memory value (Refuses (FaultStanding number)) is = cc
 never_memory value (Refuses Exhausted) is = cc
 never_memory value (Refuses Barred) is = cc
 
@@ -69,8 +71,8 @@ puts_as found a b v w s e f = ap (λ call. puts_by found call v s) e ∙ ap (λ 
 abbrev pub removes_by : Memory → CallText → ValueState → StepEnd
 removes_by found call s = said_by found (act_ends call.name call.label (Remove (start_of call.path, call.key)) s)
 
-abbrev pub computefails_by : Memory → CallText → ValueState → StepEnd
-computefails_by found call s = computefail_by found call.name call.label (start_of call.path, call.key) s (lookup (under s.store call.key) call.path)
+abbrev pub computefails_by : Memory → CallText → List ℕ → ValueState → StepEnd
+computefails_by found call text s = computefail_by found call.name call.label (start_of call.path, call.key) text s (lookup (under s.store call.key) call.path)
 
 -- ---- the value that a step gives
 

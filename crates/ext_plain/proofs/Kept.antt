@@ -1,7 +1,7 @@
 -- What each act of a plain run keeps true of its store, the whole run keeps true.
 use Rattle.std.proofs.Common.{◌≡◌, ℕ, zero, suc, Bool, true, false, List, [], ◌∷◌, Option, Some, None, is_some, refl, sym, subst}
 use Rattle.std.specs.Prelude.{fold, drop, if◌then◌else◌}
-use Rattle.ext_model.specs.declared.event.Act.TheVariants.{Put, Remove, Claim, Fill, Abandon, Seal}
+use Rattle.ext_model.specs.declared.event.Act.TheVariants.{Put, Remove, Claim, Fill, Fail, Abandon, Seal}
 use Rattle.ext_model.specs.declared.look.Look.{Look}
 use Rattle.ext_model.specs.declared.look.Look.TheVariants as look
 use Rattle.ext_model.specs.declared.slot.Slot.{Slot}
@@ -37,6 +37,8 @@ pub record IsKept (P : ValueState → Type 0) : Type 0 where
   pub abandons : (place : Place) (s : ValueState) → why_refused (Claim place) s ≡ None → P s → P (after_act (Abandon place) (after_act (Claim place) s))
   pub fills : (place : Place) (value : ValueText) (s : ValueState) → why_refused (Claim place) s ≡ None → why_refused (next_number (after_act (Claim place) s)) (after_act (Claim place) s) ≡ None → P s
       → P (after_act (Fill place (keep_value value (after_act (Claim place) s)).store.drawn) (keep_value value (after_act (Claim place) s)))
+  pub fails : (place : Place) (value : ValueText) (s : ValueState) → why_refused (Claim place) s ≡ None → why_refused (next_number (after_act (Claim place) s)) (after_act (Claim place) s) ≡ None → P s
+      → P (after_act (Fail place (keep_value value (after_act (Claim place) s)).store.drawn) (keep_value value (after_act (Claim place) s)))
 
 or_refused-kept : (P : ValueState → Type 0) (name label : List ℕ) (why : Option Reason) (s : ValueState) (goes_on : StepEnd) → P s → (why ≡ None → P goes_on.state) → P (or_refused name label why s goes_on).state
 or_refused-kept P name label None s goes_on h go = go refl
@@ -60,6 +62,7 @@ module _ (P : ValueState → Type 0) (kept : IsKept P) where
 
   absent-kept : (found : Look) (absent other : StepEnd) → P absent.state → P other.state → P (if_absent found absent other).state
   absent-kept (look.Found at number) absent other p q = q
+  absent-kept (look.Fault at number) absent other p q = q
   absent-kept look.Absent absent other p q = p
   absent-kept (look.Busy at) absent other p q = q
   absent-kept (look.Closed at) absent other p q = q
@@ -75,6 +78,7 @@ module _ (P : ValueState → Type 0) (kept : IsKept P) where
 
   compute-kept : (name label : List ℕ) (place : Place) (value : ValueText) (s : ValueState) (found : Look) → P s → P (compute_looked name label place value s found).state
   compute-kept name label place value s (look.Found at number) h = h
+  compute-kept name label place value s (look.Fault at number) h = h
   compute-kept name label place value s look.Absent h =
       let claimed = after_act (Claim place) s in
       or_refused-kept P name label (why_refused (Claim place) s) s (factory_gave name label place value claimed) h
@@ -82,12 +86,27 @@ module _ (P : ValueState → Type 0) (kept : IsKept P) where
   compute-kept name label place value s (look.Busy at) h = h
   compute-kept name label place value s (look.Closed at) h = h
 
-  computefail-kept : (name label : List ℕ) (place : Place) (s : ValueState) (found : Look) → P s → P (computefail_looked name label place s found).state
-  computefail-kept name label place s (look.Found at number) h = h
-  computefail-kept name label place s look.Absent h =
-      or_refused-kept P name label (why_refused (Claim place) s) s (factory_failed place (after_act (Claim place) s)) h (λ won. kept.abandons place s won h)
-  computefail-kept name label place s (look.Busy at) h = h
-  computefail-kept name label place s (look.Closed at) h = h
+  either-kept : (b : Bool) (x y : StepEnd) → P x.state → P y.state → P (if b then x else y).state
+  either-kept true x y p q = p
+  either-kept false x y p q = q
+
+  failed-kept : (name label : List ℕ) (place : Place) (text : List ℕ) (s : ValueState) → why_refused (Claim place) s ≡ None → P s → P (factory_failed name label place text (after_act (Claim place) s)).state
+  failed-kept name label place text s won h =
+      let claimed = after_act (Claim place) s in
+      let value : ValueText = record { text = text; closeable = false } in
+      let stored = ended successful (after_act (Fail place (keep_value value claimed).store.drawn) (keep_value value claimed)) in
+      let gone = after_act (Abandon place) claimed in
+      either-kept claimed.keep_faults (or_refused name label (why_refused (next_number claimed) claimed) gone stored) (ended successful gone)
+      (or_refused-kept P name label (why_refused (next_number claimed) claimed) gone stored (kept.abandons place s won h) (λ room. kept.fails place value s won room h))
+      (kept.abandons place s won h)
+
+  computefail-kept : (name label : List ℕ) (place : Place) (text : List ℕ) (s : ValueState) (found : Look) → P s → P (computefail_looked name label place text s found).state
+  computefail-kept name label place text s (look.Found at number) h = h
+  computefail-kept name label place text s (look.Fault at number) h = h
+  computefail-kept name label place text s look.Absent h =
+      or_refused-kept P name label (why_refused (Claim place) s) s (factory_failed name label place text (after_act (Claim place) s)) h (λ won. failed-kept name label place text s won h)
+  computefail-kept name label place text s (look.Busy at) h = h
+  computefail-kept name label place text s (look.Closed at) h = h
 
   -- a place that is claimed where there is memory for it
   unplaced-kept : (name label : List ℕ) (place : Place) (s : ValueState) → P s → P (or_refused name label (why_refused (Claim place) s) s (ended no_memory s)).state
@@ -103,12 +122,19 @@ module _ (P : ValueState → Type 0) (kept : IsKept P) where
       absent-kept found (or_refused name label (why_refused (Claim place) s) s (ended no_memory s)) (compute_looked name label place value s found) (unplaced-kept name label place s h) (compute-kept name label place value s found h)
   compute_by-kept no_words name label place value s found h = compute-kept name label place value s found h
 
-  computefail_by-kept : (memory : Memory) (name label : List ℕ) (place : Place) (s : ValueState) (found : Look) → P s → P (computefail_by memory name label place s found).state
-  computefail_by-kept enough name label place s found h = computefail-kept name label place s found h
-  computefail_by-kept no_value name label place s found h = computefail-kept name label place s found h
-  computefail_by-kept no_place name label place s found h =
-      absent-kept found (or_refused name label (why_refused (Claim place) s) s (ended no_memory s)) (computefail_looked name label place s found) (unplaced-kept name label place s h) (computefail-kept name label place s found h)
-  computefail_by-kept no_words name label place s found h = computefail-kept name label place s found h
+  computefail_by-kept : (memory : Memory) (name label : List ℕ) (place : Place) (text : List ℕ) (s : ValueState) (found : Look) → P s → P (computefail_by memory name label place text s found).state
+  computefail_by-kept enough name label place text s found h = computefail-kept name label place text s found h
+  computefail_by-kept no_value name label place text s found h =
+      let whole = computefail_looked name label place text s found in
+      let lost = claim_and name label place (λ claimed. ended no_memory (after_act (Abandon place) claimed)) s in
+      either-kept s.keep_faults (if_absent found lost whole) whole
+      (absent-kept found lost whole
+      (or_refused-kept P name label (why_refused (Claim place) s) s (ended no_memory (after_act (Abandon place) (after_act (Claim place) s))) h (λ won. kept.abandons place s won h))
+      (computefail-kept name label place text s found h))
+      (computefail-kept name label place text s found h)
+  computefail_by-kept no_place name label place text s found h =
+      absent-kept found (or_refused name label (why_refused (Claim place) s) s (ended no_memory s)) (computefail_looked name label place text s found) (unplaced-kept name label place s h) (computefail-kept name label place text s found h)
+  computefail_by-kept no_words name label place text s found h = computefail-kept name label place text s found h
 
   step-kept : (keys : List KeyText) (found : Memory) (path : List ℕ) (step : StepText) (s : ValueState) → P s → P (step_by keys found path step s).state
   step-kept keys found path (put key text up) s h = put_by-kept found _ _ _ _ s h
@@ -118,7 +144,7 @@ module _ (P : ValueState → Type 0) (kept : IsKept P) where
   step-kept keys found path (remove key up) s h = said-kept found _ (kept.removes _ s h)
   step-kept keys found path (compute key text up) s h = compute_by-kept found _ _ _ _ s (found_along keys key (drop up path) s) h
   step-kept keys found path (compute_closeable key text up) s h = compute_by-kept found _ _ _ _ s (found_along keys key (drop up path) s) h
-  step-kept keys found path (compute_fail key text up) s h = computefail_by-kept found _ _ _ s (found_along keys key (drop up path) s) h
+  step-kept keys found path (compute_fail key text up) s h = computefail_by-kept found _ _ _ _ s (found_along keys key (drop up path) s) h
   step-kept keys found path (fail text) s h = said-kept found _ h
   step-kept keys found path (abort text) s h = said-kept found _ h
 

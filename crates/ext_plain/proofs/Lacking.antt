@@ -1,5 +1,6 @@
 -- A step that finds no memory does what it does where it finds enough, or says so.
-use Rattle.std.proofs.Common.{◌≡◌, ℕ, List, drop, Option, Some, None, refl, inl, inr, ◌⊎◌}
+use Rattle.std.proofs.Common.{◌≡◌, ℕ, Bool, true, false, List, drop, Option, Some, None, refl, inl, inr, ◌⊎◌}
+use Rattle.std.specs.Prelude.{if◌then◌else◌}
 use Rattle.ext_model.specs.declared.event.Act.TheVariants.{Abandon, Claim}
 use Rattle.ext_model.specs.declared.look.Look.{Look}
 use Rattle.ext_model.specs.declared.look.Look.TheVariants as look
@@ -11,7 +12,7 @@ use Rattle.ext_lifecycle.specs.FaultTexts.{VerdictText}
 use Rattle.ext_steps.specs.declared.reason.Reason.{Reason}
 use Rattle.ext_steps.specs.Values.{ValueText}
 use Rattle.ext_plain.specs.ValueStates.{Memory, enough, no_value, no_place, no_words, ValueState, after_act, why_refused, next_number, keep_value}
-use Rattle.ext_plain.specs.Steps.{StepEnd, ended, no_memory, without_words, said_by, or_refused, put_step, put_kept, put_by, factory_gave, factory_failed, if_empty, compute_looked, compute_by, computefail_looked, computefail_by, found_along, step_by, step_run}
+use Rattle.ext_plain.specs.Steps.{StepEnd, ended, no_memory, without_words, said_by, or_refused, put_step, put_kept, put_by, factory_gave, factory_failed, if_empty, if_absent, claim_and, compute_looked, compute_by, computefail_looked, computefail_by, found_along, step_by, step_run}
 
 abbrev Either : StepEnd → StepEnd → Type 0
 Either end whole = (end ≡ whole) ⊎ (end.verdict ≡ no_memory)
@@ -54,24 +55,42 @@ put-either no_words name label place value s = unsaid (put_step name label place
 compute-either : (memory : Memory) (name label : List ℕ) (place : Place) (value : ValueText) (s : ValueState) (found : Look) → Either (compute_by memory name label place value s found) (compute_looked name label place value s found)
 compute-either enough name label place value s found = inl refl
 compute-either no_value name label place value s (look.Found at number) = inl refl
+compute-either no_value name label place value s (look.Fault at number) = inl refl
 compute-either no_value name label place value s look.Absent =
     refused-or name label (why_refused (Claim place) s) s (ended no_memory (after_act (Abandon place) (after_act (Claim place) s))) (factory_gave name label place value (after_act (Claim place) s)) refl
 compute-either no_value name label place value s (look.Busy at) = inl refl
 compute-either no_value name label place value s (look.Closed at) = inl refl
 compute-either no_place name label place value s (look.Found at number) = inl refl
+compute-either no_place name label place value s (look.Fault at number) = inl refl
 compute-either no_place name label place value s look.Absent = refused-or name label (why_refused (Claim place) s) s (ended no_memory s) (factory_gave name label place value (after_act (Claim place) s)) refl
 compute-either no_place name label place value s (look.Busy at) = inl refl
 compute-either no_place name label place value s (look.Closed at) = inl refl
 compute-either no_words name label place value s found = unsaid (compute_looked name label place value s found)
 
-computefail-either : (memory : Memory) (name label : List ℕ) (place : Place) (s : ValueState) (found : Look) → Either (computefail_by memory name label place s found) (computefail_looked name label place s found)
-computefail-either enough name label place s found = inl refl
-computefail-either no_value name label place s found = inl refl
-computefail-either no_place name label place s (look.Found at number) = inl refl
-computefail-either no_place name label place s look.Absent = refused-or name label (why_refused (Claim place) s) s (ended no_memory s) (factory_failed place (after_act (Claim place) s)) refl
-computefail-either no_place name label place s (look.Busy at) = inl refl
-computefail-either no_place name label place s (look.Closed at) = inl refl
-computefail-either no_words name label place s found = unsaid (computefail_looked name label place s found)
+if-either : (b : Bool) (end whole : StepEnd) → Either end whole → Either (if b then end else whole) whole
+if-either true end whole is = is
+if-either false end whole is = inl refl
+
+fail-lacks : (name label : List ℕ) (place : Place) (text : List ℕ) (s : ValueState) (found : Look)
+    → Either (if_absent found (claim_and name label place (λ claimed. ended no_memory (after_act (Abandon place) claimed)) s) (computefail_looked name label place text s found)) (computefail_looked name label place text s found)
+fail-lacks name label place text s (look.Found at number) = inl refl
+fail-lacks name label place text s (look.Fault at number) = inl refl
+fail-lacks name label place text s look.Absent =
+    refused-or name label (why_refused (Claim place) s) s (ended no_memory (after_act (Abandon place) (after_act (Claim place) s))) (factory_failed name label place text (after_act (Claim place) s)) refl
+fail-lacks name label place text s (look.Busy at) = inl refl
+fail-lacks name label place text s (look.Closed at) = inl refl
+
+computefail-either : (memory : Memory) (name label : List ℕ) (place : Place) (text : List ℕ) (s : ValueState) (found : Look) → Either (computefail_by memory name label place text s found) (computefail_looked name label place text s found)
+computefail-either enough name label place text s found = inl refl
+computefail-either no_value name label place text s found =
+    let lost = claim_and name label place (λ claimed. ended no_memory (after_act (Abandon place) claimed)) s in
+    if-either s.keep_faults (if_absent found lost (computefail_looked name label place text s found)) (computefail_looked name label place text s found) (fail-lacks name label place text s found)
+computefail-either no_place name label place text s (look.Found at number) = inl refl
+computefail-either no_place name label place text s (look.Fault at number) = inl refl
+computefail-either no_place name label place text s look.Absent = refused-or name label (why_refused (Claim place) s) s (ended no_memory s) (factory_failed name label place text (after_act (Claim place) s)) refl
+computefail-either no_place name label place text s (look.Busy at) = inl refl
+computefail-either no_place name label place text s (look.Closed at) = inl refl
+computefail-either no_words name label place text s found = unsaid (computefail_looked name label place text s found)
 
 pub does_or_lacks : (keys : List KeyText) (found : Memory) (path : List ℕ) (step : StepText) (s : ValueState)
     → (step_by keys found path step s ≡ step_run keys path step s) ⊎ ((step_by keys found path step s).verdict ≡ no_memory)
@@ -82,6 +101,6 @@ does_or_lacks keys found path (nothing key up) s = said found _
 does_or_lacks keys found path (remove key up) s = said found _
 does_or_lacks keys found path (compute key text up) s = compute-either found _ _ _ _ s (found_along keys key (drop up path) s)
 does_or_lacks keys found path (compute_closeable key text up) s = compute-either found _ _ _ _ s (found_along keys key (drop up path) s)
-does_or_lacks keys found path (compute_fail key text up) s = computefail-either found _ _ _ s (found_along keys key (drop up path) s)
+does_or_lacks keys found path (compute_fail key text up) s = computefail-either found _ _ _ _ s (found_along keys key (drop up path) s)
 does_or_lacks keys found path (fail text) s = said found _
 does_or_lacks keys found path (abort text) s = said found _

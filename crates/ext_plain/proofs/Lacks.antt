@@ -1,9 +1,10 @@
 -- How a step ends that lacks memory.
-use Rattle.std.proofs.Common.{◌≡◌, ℕ, false, List, Result, Ok, Err, IfErr, Option, Some, None, refl, ap, sym, subst, ◌∙◌}
+use Rattle.std.proofs.Common.{◌≡◌, ℕ, Bool, true, false, List, Result, Ok, Err, IfErr, Option, Some, None, refl, ap, sym, subst, ◌∙◌}
+use Rattle.std.specs.Prelude.{if◌then◌else◌}
 use Rattle.std.specs.Result.{IsErrAnd}
 use Rattle.std.proofs.lemmas.Result.{err_from_is_err_and}
 use Rattle.ext_model.specs.declared.event.Act.{Act}
-use Rattle.ext_model.specs.declared.event.Act.TheVariants.{Abandon, Claim, Fill, Put}
+use Rattle.ext_model.specs.declared.event.Act.TheVariants.{Abandon, Claim, Fill, Fail, Put}
 use Rattle.ext_model.specs.declared.event.Event.{Event}
 use Rattle.ext_model.specs.Events.{Reply, Happens, Answers, Refuses}
 use Rattle.ext_model.specs.Plain.{Place, state_by}
@@ -17,8 +18,8 @@ use Rattle.ext_model.specs.declared.look.Look.TheVariants as look
 use Rattle.ext_plain.specs.declared.lack.Lack.{Lack}
 use Rattle.ext_plain.specs.declared.lack.Lack.TheVariants as lacks
 use Rattle.ext_plain.specs.ValueStates.{Memory, enough, no_value, no_place, no_words, ValueState, after_act, refusal, why_refused, next_number, keep_value}
-use Rattle.ext_plain.specs.Steps.{StepEnd, act_ends, compute_by, computefail_by, computefail_looked, factory_gave, ended, if_empty, no_memory, or_refused, put_kept, put_step, said_by, without_words}
-use Rattle.ext_plain.specs.Helpers.{Gives, IsKeptAs, LacksGiven, Says, answer_end, counted_found, lack_end, lacking, memory_of}
+use Rattle.ext_plain.specs.Steps.{StepEnd, act_ends, claim_and, compute_by, compute_looked, computefail_by, computefail_looked, factory_gave, factory_failed, ended, if_empty, no_memory, or_refused, put_kept, put_step, said_by, without_words}
+use Rattle.ext_plain.specs.Helpers.{Fails, Gives, IsKeptAs, LacksFailed, LacksGiven, Says, answer_end, counted_found, lack_end, lacking, memory_of, step_end}
 
 -- a call answers that it lacked this
 pub at_lack : (F : Memory → StepEnd) (r : Result Outcome Lack) (new : ValueState) (told lack : Lack) → IsErrAnd r (λ l. l ≡ told) → told ≡ lack → lack_end new lack ≡ F (lacking lack)
@@ -106,12 +107,100 @@ pub unplaced : (name label : List ℕ) (place : Place) (old new : ValueState) �
     → ended no_memory new ≡ or_refused name label (why_refused (Claim place) old) old (ended no_memory old)
 unplaced name label place old new won same = ap (ended no_memory) same ∙ ap (λ w. or_refused name label w old (ended no_memory old)) (sym won)
 
+-- ---- a step whose factory fails
+
+pub failed-by : (name label : List ℕ) (place : Place) (text : List ℕ) (old claimed new : ValueState) (r : Result Outcome Lack) → why_refused (Claim place) old ≡ None → claimed ≡ after_act (Claim place) old
+    → Fails name label place text claimed new r → answer_end new r ≡ computefail_by (memory_of r) name label place text old look.Absent
+failed-by name label place text old claimed new (Ok outcome) won is h =
+    h
+    ∙ ap (factory_failed name label place text) is
+    ∙ ap (λ w. or_refused name label w old (factory_failed name label place text (after_act (Claim place) old))) (sym won)
+failed-by name label place text old claimed new (Err lacks.Value) won is h =
+    let lost = claim_and name label place (λ claimed. ended no_memory (after_act (Abandon place) claimed)) old in
+    let keeps : old.keep_faults ≡ true = sym (ap (λ (s : ValueState). s.keep_faults) is) ∙ h.0 in
+    ap (ended no_memory) h.1
+    ∙ ap (λ s. ended no_memory (after_act (Abandon place) s)) is
+    ∙ ap (λ w. or_refused name label w old (ended no_memory (after_act (Abandon place) (after_act (Claim place) old)))) (sym won)
+    ∙ ap (λ b. if b then lost else computefail_looked name label place text old look.Absent) (sym keeps)
+failed-by name label place text old claimed new (Err lacks.Place) won is h = absurd h
+failed-by name label place text old claimed new (Err (lacks.Words found)) won is h =
+    h
+    ∙ ap (λ s. said_by no_words (factory_failed name label place text s)) is
+    ∙ ap (λ w. said_by no_words (or_refused name label w old (factory_failed name label place text (after_act (Claim place) old)))) (sym won)
+
+-- faults are kept, and no number was left: the claim goes
+pub refusal-fails : (name label : List ℕ) (place : Place) (text : List ℕ) (old new : ValueState) (why : Reason) (r : Result Outcome Lack) → Says (refused name label why) r → old.keep_faults ≡ true
+    → why_refused (next_number old) old ≡ Some why → new ≡ after_act (Abandon place) old → Fails name label place text old new r
+refusal-fails name label place text old new why (Ok outcome) says keeps is same =
+    let kept = keep_value (record { text = text; closeable = false }) old in
+    let stored : StepEnd = ended successful (after_act (Fail place kept.store.drawn) kept) in
+    let gone = after_act (Abandon place) old in
+    says new
+    ∙ ap (ended (refused name label why)) same
+    ∙ ap (λ w. or_refused name label w gone stored) (sym is)
+    ∙ ap (λ b. if b then or_refused name label (why_refused (next_number old) old) gone stored else ended successful gone) (sym keeps)
+refusal-fails name label place text old new why (Err lack) says keeps is same =
+    let kept = keep_value (record { text = text; closeable = false }) old in
+    let stored : StepEnd = ended successful (after_act (Fail place kept.store.drawn) kept) in
+    let gone = after_act (Abandon place) old in
+    let P : Lack → Type 0 = λ l. LacksFailed l name label place text old new in
+    subst P (sym says.0) (
+      ap (ended no_memory) same
+      ∙ ap (λ w. said_by no_words (or_refused name label w gone stored)) (sym is)
+      ∙ ap (λ b. said_by no_words (if b then or_refused name label (why_refused (next_number old) old) gone stored else ended successful gone)) (sym keeps),
+    )
+
+-- its fault is kept
+pub fault-kept : (name label : List ℕ) (place : Place) (text : List ℕ) (old mid new : ValueState) (number : ℕ) (outcome : Outcome) → old.keep_faults ≡ true → IsKeptAs (record { text = text; closeable = false }) old mid number
+    → new ≡ after_act (Fail place number) mid → step_end new outcome ≡ ended successful new → step_end new outcome ≡ factory_failed name label place text old
+fault-kept name label place text old mid new number outcome keeps is same passed =
+    let kept = keep_value (record { text = text; closeable = false }) old in
+    let stored : StepEnd = ended successful (after_act (Fail place kept.store.drawn) kept) in
+    let gone = after_act (Abandon place) old in
+    passed
+    ∙ ap (ended successful) same
+    ∙ ap (λ n. ended successful (after_act (Fail place n) mid)) is.drawn
+    ∙ ap (λ (m : ValueState). ended successful (after_act (Fail place m.store.drawn) m)) is.state
+    ∙ ap (λ w. or_refused name label w gone stored) (sym is.allowed)
+    ∙ ap (λ b. if b then or_refused name label (why_refused (next_number old) old) gone stored else ended successful gone) (sym keeps)
+
+-- its fault comes back
+pub fault-back : (name label : List ℕ) (place : Place) (text : List ℕ) (old new : ValueState) (outcome : Outcome) → old.keep_faults ≡ false
+    → new ≡ after_act (Abandon place) old → step_end new outcome ≡ ended successful new → step_end new outcome ≡ factory_failed name label place text old
+fault-back name label place text old new outcome keeps same passed =
+    let kept = keep_value (record { text = text; closeable = false }) old in
+    let stored : StepEnd = ended successful (after_act (Fail place kept.store.drawn) kept) in
+    let gone = after_act (Abandon place) old in
+    passed
+    ∙ ap (ended successful) same
+    ∙ ap (λ b. if b then or_refused name label (why_refused (next_number old) old) gone stored else ended successful gone) (sym keeps)
+
+same-if : (b : Bool) (end : StepEnd) → end ≡ (if b then end else end)
+same-if true end = refl
+same-if false end = refl
+
 -- a value that is found is shown, whatever the step finds of memory
-pub computefail-found : (found : Memory) (name label : List ℕ) (place : Place) (s : ValueState) (at number : ℕ) → said_by found (computefail_looked name label place s (look.Found at number)) ≡ computefail_by found name label place s (look.Found at number)
-computefail-found enough name label place s at number = refl
-computefail-found no_value name label place s at number = refl
-computefail-found no_place name label place s at number = refl
-computefail-found no_words name label place s at number = refl
+pub computefail-found : (found : Memory) (name label : List ℕ) (place : Place) (text : List ℕ) (s : ValueState) (at number : ℕ)
+    → said_by found (computefail_looked name label place text s (look.Found at number)) ≡ computefail_by found name label place text s (look.Found at number)
+computefail-found enough name label place text s at number = refl
+computefail-found no_value name label place text s at number = same-if s.keep_faults (computefail_looked name label place text s (look.Found at number))
+computefail-found no_place name label place text s at number = refl
+computefail-found no_words name label place text s at number = refl
+
+-- and so is a kept fault that is met
+pub computefail-met : (found : Memory) (name label : List ℕ) (place : Place) (text : List ℕ) (s : ValueState) (at number : ℕ)
+    → said_by found (computefail_looked name label place text s (look.Fault at number)) ≡ computefail_by found name label place text s (look.Fault at number)
+computefail-met enough name label place text s at number = refl
+computefail-met no_value name label place text s at number = same-if s.keep_faults (computefail_looked name label place text s (look.Fault at number))
+computefail-met no_place name label place text s at number = refl
+computefail-met no_words name label place text s at number = refl
+
+pub compute-met : (found : Memory) (name label : List ℕ) (place : Place) (value : ValueText) (s : ValueState) (at number : ℕ)
+    → said_by found (compute_looked name label place value s (look.Fault at number)) ≡ compute_by found name label place value s (look.Fault at number)
+compute-met enough name label place value s at number = refl
+compute-met no_value name label place value s at number = refl
+compute-met no_place name label place value s at number = refl
+compute-met no_words name label place value s at number = refl
 
 -- an act that is refused changes nothing
 pub refused-same : (r : Reply) (s : ValueState) (e : Event Place) (why : Reason) → refusal r ≡ Some why → (let new : ValueState = record s { store = state_by r s.store e } in new ≡ s)

@@ -1,12 +1,14 @@
 -- What the steps after it find of memory goes through each step of a plain run, and through the end of a context.
-use Rattle.std.proofs.Common.{◌≡◌, ℕ, zero, suc, List, ◌∷◌, drop, Option, Some, None, refl, ap, ◌∙◌}
+use Rattle.std.proofs.Common.{◌≡◌, ℕ, zero, suc, Bool, true, false, List, ◌∷◌, drop, Option, Some, None, refl, ap, ◌∙◌}
+use Rattle.std.specs.Prelude.{if◌then◌else◌}
 use Rattle.ext_model.specs.declared.event.Act.TheVariants.{Seal}
 use Rattle.ext_model.specs.declared.look.Look.{Look}
 use Rattle.ext_model.specs.declared.look.Look.TheVariants as look
 use Rattle.ext_model.specs.declared.slot.Slot.{Slot}
 use Rattle.ext_model.specs.Plain.{Place}
-use Rattle.ext_model.specs.declared.event.Act.TheVariants.{Abandon, Claim}
+use Rattle.ext_model.specs.declared.event.Act.TheVariants.{Abandon, Claim, Fail}
 use Rattle.ext_lifecycle.specs.declared.outcome.Outcome.{Outcome}
+use Rattle.ext_lifecycle.specs.Endings.{successful}
 use Rattle.ext_plan_model.specs.Plans.{KeyText, StepText, put, put_closeable, want, nothing, remove, compute, compute_closeable, compute_fail, fail, abort}
 use Rattle.ext_steps.specs.declared.reason.Reason.{Reason}
 use Rattle.ext_steps.specs.Values.{ValueText}
@@ -35,6 +37,7 @@ module _ (m : List Memory) where
 
   if_absent-with : (found : Look) (absent other : StepEnd) → end_with m (if_absent found absent other) ≡ if_absent found (end_with m absent) (end_with m other)
   if_absent-with (look.Found at number) absent other = refl
+  if_absent-with (look.Fault at number) absent other = refl
   if_absent-with look.Absent absent other = refl
   if_absent-with (look.Busy at) absent other = refl
   if_absent-with (look.Closed at) absent other = refl
@@ -63,6 +66,7 @@ module _ (m : List Memory) where
 
   compute_looked-with : (name label : List ℕ) (place : Place) (value : ValueText) (s : ValueState) (found : Look) → end_with m (compute_looked name label place value s found) ≡ compute_looked name label place value (with_memory m s) found
   compute_looked-with name label place value s (look.Found at number) = refl
+  compute_looked-with name label place value s (look.Fault at number) = refl
   compute_looked-with name label place value s look.Absent = claim_and-with name label place (factory_gave name label place value) s (factory_gave-with name label place value (after_act (Claim place) s))
   compute_looked-with name label place value s (look.Busy at) = refl
   compute_looked-with name label place value s (look.Closed at) = refl
@@ -81,21 +85,44 @@ module _ (m : List Memory) where
       ∙ ap (if_absent found (or_refused name label (why_refused (Claim place) s) (with_memory m s) (ended no_memory (with_memory m s)))) (compute_looked-with name label place value s found)
   compute_by-with no_words name label place value s found = said_by-with no_words (compute_looked name label place value s found) ∙ ap (said_by no_words) (compute_looked-with name label place value s found)
 
-  computefail_looked-with : (name label : List ℕ) (place : Place) (s : ValueState) (found : Look) → end_with m (computefail_looked name label place s found) ≡ computefail_looked name label place (with_memory m s) found
-  computefail_looked-with name label place s (look.Found at number) = refl
-  computefail_looked-with name label place s look.Absent = claim_and-with name label place (factory_failed place) s refl
-  computefail_looked-with name label place s (look.Busy at) = refl
-  computefail_looked-with name label place s (look.Closed at) = refl
+  if-with : (b : Bool) (x y : StepEnd) → end_with m (if b then x else y) ≡ (if b then end_with m x else end_with m y)
+  if-with true x y = refl
+  if-with false x y = refl
 
-  computefail_by-with : (memory : Memory) (name label : List ℕ) (place : Place) (s : ValueState) (found : Look)
-      → end_with m (computefail_by memory name label place s found) ≡ computefail_by memory name label place (with_memory m s) found
-  computefail_by-with enough name label place s found = computefail_looked-with name label place s found
-  computefail_by-with no_value name label place s found = computefail_looked-with name label place s found
-  computefail_by-with no_place name label place s found =
-      if_absent-with found (or_refused name label (why_refused (Claim place) s) s (ended no_memory s)) (computefail_looked name label place s found)
-      ∙ ap (λ e. if_absent found e (end_with m (computefail_looked name label place s found))) (or_refused-with name label (why_refused (Claim place) s) s (ended no_memory s))
-      ∙ ap (if_absent found (or_refused name label (why_refused (Claim place) s) (with_memory m s) (ended no_memory (with_memory m s)))) (computefail_looked-with name label place s found)
-  computefail_by-with no_words name label place s found = said_by-with no_words (computefail_looked name label place s found) ∙ ap (said_by no_words) (computefail_looked-with name label place s found)
+  factory_failed-with : (name label : List ℕ) (place : Place) (text : List ℕ) (s : ValueState) → end_with m (factory_failed name label place text s) ≡ factory_failed name label place text (with_memory m s)
+  factory_failed-with name label place text s =
+      let kept = keep_value (record { text = text; closeable = false }) s in
+      let stored : StepEnd = ended successful (after_act (Fail place kept.store.drawn) kept) in
+      let gone = after_act (Abandon place) s in
+      if-with s.keep_faults (or_refused name label (why_refused (next_number s) s) gone stored) (ended successful gone)
+      ∙ ap (λ e. if s.keep_faults then e else end_with m (ended successful gone)) (or_refused-with name label (why_refused (next_number s) s) gone stored)
+
+  computefail_looked-with : (name label : List ℕ) (place : Place) (text : List ℕ) (s : ValueState) (found : Look)
+      → end_with m (computefail_looked name label place text s found) ≡ computefail_looked name label place text (with_memory m s) found
+  computefail_looked-with name label place text s (look.Found at number) = refl
+  computefail_looked-with name label place text s (look.Fault at number) = refl
+  computefail_looked-with name label place text s look.Absent = claim_and-with name label place (factory_failed name label place text) s (factory_failed-with name label place text (after_act (Claim place) s))
+  computefail_looked-with name label place text s (look.Busy at) = refl
+  computefail_looked-with name label place text s (look.Closed at) = refl
+
+  computefail_by-with : (memory : Memory) (name label : List ℕ) (place : Place) (text : List ℕ) (s : ValueState) (found : Look)
+      → end_with m (computefail_by memory name label place text s found) ≡ computefail_by memory name label place text (with_memory m s) found
+  computefail_by-with enough name label place text s found = computefail_looked-with name label place text s found
+  computefail_by-with no_value name label place text s found =
+      let gone : ValueState → StepEnd = λ claimed. ended no_memory (after_act (Abandon place) claimed) in
+      let whole = computefail_looked name label place text s found in
+      let lost = if_absent found (claim_and name label place gone (with_memory m s)) (computefail_looked name label place text (with_memory m s) found) in
+      if-with s.keep_faults (if_absent found (claim_and name label place gone s) whole) whole
+      ∙ ap (λ e. if s.keep_faults then e else end_with m whole) (
+      if_absent-with found (claim_and name label place gone s) whole
+      ∙ ap (λ e. if_absent found e (end_with m whole)) (claim_and-with name label place gone s refl)
+      ∙ ap (if_absent found (claim_and name label place gone (with_memory m s))) (computefail_looked-with name label place text s found))
+      ∙ ap (λ e. if s.keep_faults then lost else e) (computefail_looked-with name label place text s found)
+  computefail_by-with no_place name label place text s found =
+      if_absent-with found (or_refused name label (why_refused (Claim place) s) s (ended no_memory s)) (computefail_looked name label place text s found)
+      ∙ ap (λ e. if_absent found e (end_with m (computefail_looked name label place text s found))) (or_refused-with name label (why_refused (Claim place) s) s (ended no_memory s))
+      ∙ ap (if_absent found (or_refused name label (why_refused (Claim place) s) (with_memory m s) (ended no_memory (with_memory m s)))) (computefail_looked-with name label place text s found)
+  computefail_by-with no_words name label place text s found = said_by-with no_words (computefail_looked name label place text s found) ∙ ap (said_by no_words) (computefail_looked-with name label place text s found)
 
   step_by-with : (keys : List KeyText) (found : Memory) (path : List ℕ) (step : StepText) (s : ValueState) → end_with m (step_by keys found path step s) ≡ step_by keys found path step (with_memory m s)
   step_by-with keys found path (put key text up) s = put_by-with found _ _ _ _ s
@@ -105,7 +132,7 @@ module _ (m : List Memory) where
   step_by-with keys found path (remove key up) s = said_by-with found _
   step_by-with keys found path (compute key text up) s = compute_by-with found _ _ _ _ s (found_along keys key (drop up path) s)
   step_by-with keys found path (compute_closeable key text up) s = compute_by-with found _ _ _ _ s (found_along keys key (drop up path) s)
-  step_by-with keys found path (compute_fail key text up) s = computefail_by-with found _ _ _ s (found_along keys key (drop up path) s)
+  step_by-with keys found path (compute_fail key text up) s = computefail_by-with found _ _ _ _ s (found_along keys key (drop up path) s)
   step_by-with keys found path (fail text) s = said_by-with found _
   step_by-with keys found path (abort text) s = said_by-with found _
 

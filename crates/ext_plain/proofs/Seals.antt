@@ -3,7 +3,7 @@ use Rattle.std.proofs.Common.{◌≡◌, ℕ, zero, suc, ◌+◌, ◌<◌, Bool,
 use Rattle.std.specs.Prelude.{if◌then◌else◌}
 use Rattle.std.proofs.lemmas.Bool.{cases_lt}
 use Rattle.ext_model.specs.declared.event.Act.{Act}
-use Rattle.ext_model.specs.declared.event.Act.TheVariants.{Put, Remove, Claim, Fill, Seal}
+use Rattle.ext_model.specs.declared.event.Act.TheVariants.{Put, Remove, Claim, Fill, Fail, Seal}
 use Rattle.ext_model.specs.declared.event.Event.{Event}
 use Rattle.ext_model.specs.declared.slot.Slot.{Slot}
 use Rattle.ext_model.specs.declared.slot.Slot.TheVariants as slot
@@ -44,6 +44,7 @@ act-free act s old new = λ place. by_reply (reply_to act s) s.store (record { l
 was_empty : (x : Option Slot) → refusal (claim_reply false x) ≡ None → x ≡ None
 was_empty None won = refl
 was_empty (Some (slot.Entry number)) won = absurd cc
+was_empty (Some (slot.Fault number)) won = absurd cc
 was_empty (Some (slot.Claim lane)) won = absurd cc
 was_empty (Some (slot.Sealed kept)) won = absurd cc
 
@@ -82,6 +83,37 @@ fill-free place value s won h p true same =
     subst (λ q. ¬ IsClaimed ((after_act (Fill place kept.store.drawn) kept).store.slots q)) (same_place_is place p same) entry
 fill-free place value s won h p false other = subst (λ x. ¬ IsClaimed x) (sym (filled_elsewhere place value s p other)) (h p)
 
+-- the same with a fail
+
+fail_stands : (s : State Place) (place : Place) (number : ℕ) → s.slots place ≡ Some (slot.Claim any_lane) → (next_state run_numbers s any_lane (Fail place number)).slots place ≡ Some (slot.Fault number)
+fail_stands s place number claimed =
+    ap (λ x. (state_by (end_reply any_lane x) s (record { lane = any_lane; act = Fail place number })).slots place) claimed
+    ∙ ap (λ b. if b then Some (slot.Fault number) else s.slots place) (here place)
+
+failed_here : (place : Place) (value : ValueText) (s : ValueState) → why_refused (Claim place) s ≡ None
+    → (let kept = keep_value value (after_act (Claim place) s) in (after_act (Fail place kept.store.drawn) kept).store.slots place ≡ Some (slot.Fault kept.store.drawn))
+failed_here place value s won =
+    let claimed = after_act (Claim place) s in
+    let kept = keep_value value claimed in
+    fail_stands kept.store place kept.store.drawn (others_stay run_numbers claimed.store any_lane (next_number claimed) place refl ∙ claim_stands s.store place (was_empty (s.store.slots place) won))
+
+failed_elsewhere : (place : Place) (value : ValueText) (s : ValueState) (p : Place) → same_place place p ≡ false
+    → (let kept = keep_value value (after_act (Claim place) s) in (after_act (Fail place kept.store.drawn) kept).store.slots p ≡ s.store.slots p)
+failed_elsewhere place value s p other =
+    let claimed = after_act (Claim place) s in
+    let kept = keep_value value claimed in
+    others_stay run_numbers kept.store any_lane (Fail place kept.store.drawn) p other
+    ∙ others_stay run_numbers claimed.store any_lane (next_number claimed) p refl
+    ∙ others_stay run_numbers s.store any_lane (Claim place) p other
+
+fail-free : (place : Place) (value : ValueText) (s : ValueState) → why_refused (Claim place) s ≡ None → HasNoClaims s → (p : Place) (b : Bool) → same_place place p ≡ b
+    → (let kept = keep_value value (after_act (Claim place) s) in ¬ IsClaimed ((after_act (Fail place kept.store.drawn) kept).store.slots p))
+fail-free place value s won h p true same =
+    let kept = keep_value value (after_act (Claim place) s) in
+    let fault : ¬ IsClaimed ((after_act (Fail place kept.store.drawn) kept).store.slots place) = subst (λ x. ¬ IsClaimed x) (sym (failed_here place value s won)) (λ claimed. claimed) in
+    subst (λ q. ¬ IsClaimed ((after_act (Fail place kept.store.drawn) kept).store.slots q)) (same_place_is place p same) fault
+fail-free place value s won h p false other = subst (λ x. ¬ IsClaimed x) (sym (failed_elsewhere place value s p other)) (h p)
+
 free : IsKept HasNoClaims
 free = record {
   finds = λ memory s h. h;
@@ -91,6 +123,7 @@ free = record {
   keeps = λ value s room h. act-free (next_number s) s h h;
   abandons = λ place s won h. subst (λ (t : State Place). (p : Place) → ¬ IsClaimed (t.slots p)) (sym (abandon_undoes_claim run_numbers s.store any_lane place (was_empty (s.store.slots place) won))) h;
   fills = λ place value s won room h. λ p. fill-free place value s won h p (same_place place p) refl;
+  fails = λ place value s won room h. λ p. fail-free place value s won h p (same_place place p) refl;
 }
 
 pub node-free : (plan : PlanText) (levels : ℕ) (path : List ℕ) (run : RunState) → HasNoClaims run.state → HasNoClaims (node_run plan levels path run).state
@@ -105,12 +138,14 @@ either-sealed false kept other is = absurd (cc is)
 sealed_by : (x : Option Slot) (s : State Place) (place : Place) → s.slots place ≡ x → ¬ IsClaimed x → IsSealed ((state_by (seal_reply x) s (record { lane = any_lane; act = Seal place })).slots place)
 sealed_by None s place is unclaimed = either-sealed (same_place place place) _ _ (here place)
 sealed_by (Some (slot.Entry number)) s place is unclaimed = either-sealed (same_place place place) _ _ (here place)
+sealed_by (Some (slot.Fault number)) s place is unclaimed = either-sealed (same_place place place) _ _ (here place)
 sealed_by (Some (slot.Claim lane)) s place is unclaimed = absurd (unclaimed tt)
 sealed_by (Some (slot.Sealed kept)) s place is unclaimed = subst IsSealed (sym is) tt
 
 stays_by : (x : Option Slot) (s : State Place) (act : Act Place) (place : Place) → s.slots place ≡ x → IsSealed x → IsSealed ((next_state run_numbers s any_lane act).slots place)
 stays_by None s act place is sealed = absurd sealed
 stays_by (Some (slot.Entry number)) s act place is sealed = absurd sealed
+stays_by (Some (slot.Fault number)) s act place is sealed = absurd sealed
 stays_by (Some (slot.Claim lane)) s act place is sealed = absurd sealed
 stays_by (Some (slot.Sealed kept)) s act place is sealed = subst IsSealed (sym (seals_stay run_numbers s any_lane act place kept is)) tt
 

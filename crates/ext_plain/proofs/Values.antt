@@ -3,7 +3,7 @@ use Rattle.std.proofs.Common.{◌≡◌, ℕ, suc, ◌+◌, Bool, true, false, L
 use Rattle.std.specs.Prelude.{codes, slice_get, nat_lt, if◌then◌else◌}
 use Rattle.std.proofs.lemmas.Cmp.{nat_list_eq_equiv}
 use Rattle.ext_model.specs.declared.event.Act.{Act}
-use Rattle.ext_model.specs.declared.event.Act.TheVariants.{Put, Remove, Claim, Fill, Abandon, Seal}
+use Rattle.ext_model.specs.declared.event.Act.TheVariants.{Put, Remove, Claim, Fill, Fail, Abandon, Seal}
 use Rattle.ext_model.specs.declared.look.Look.TheVariants as look
 use Rattle.ext_model.specs.declared.slot.Slot.{Slot}
 use Rattle.ext_model.specs.declared.slot.Slot.TheVariants as slot
@@ -63,6 +63,10 @@ valued = record {
       let claimed = after_act (Claim place) s in
       let kept = keep_value value claimed in
       act-values (Fill place kept.store.drawn) kept refl (keep-values value claimed room (act-values (Claim place) s refl h));
+  fails = λ place value s won room h.
+      let claimed = after_act (Claim place) s in
+      let kept = keep_value value claimed in
+      act-values (Fail place kept.store.drawn) kept refl (keep-values value claimed room (act-values (Claim place) s refl h));
 }
 
 pub node-values : (plan : PlanText) (levels : ℕ) (path : List ℕ) (run : RunState) → HasValues run.state → HasValues (node_run plan levels path run).state
@@ -80,6 +84,7 @@ wanted name label text closeable = ap (λ b. if b then successful else failed (o
 put-happens : (x : Option Slot) (name label : List ℕ) → unless_refused name label (refusal (put_reply false x)) ≡ successful → (stood : Option ℕ) × (put_reply false x ≡ Happens stood)
 put-happens None name label passed = (None, refl)
 put-happens (Some (slot.Entry number)) name label passed = (Some number, refl)
+put-happens (Some (slot.Fault number)) name label passed = (Some number, refl)
 put-happens (Some (slot.Claim lane)) name label passed = absurd cc
 put-happens (Some (slot.Sealed kept)) name label passed = absurd cc
 

@@ -4,7 +4,7 @@ use Rattle.ext_model.specs.declared.look.Fault.{Fault}
 use Rattle.ext_model.specs.declared.event.Act.TheVariants.{Abandon}
 use Rattle.ext_model.specs.declared.plain_fault.PlainFault.{PlainFault}
 use Rattle.ext_model.specs.declared.plain_fault.PlainFault.TheVariants as plain
-use Rattle.ext_model.specs.Events.{NumbersFull, Busy, Closed, Standing}
+use Rattle.ext_model.specs.Events.{NumbersFull, Busy, Closed, Standing, FaultStanding}
 use Rattle.ext_model.specs.Plain.{Place, state_of}
 use Rattle.ext_lifecycle.specs.declared.call.Call.{Call}
 use Rattle.ext_lifecycle.specs.declared.closes.Closes.{Closes}
@@ -29,19 +29,20 @@ use Rattle.ext_plain.specs.NodeCalls.{CallsEnd, call_run}
 use Rattle.ext_tree.specs.Trees.{IsTree}
 use Rattle.ext_tree.specs.Paths.{IsPathOf}
 use Rattle.ext_plain.specs.PlainRun.{RunState, key_count, node_end}
-use Rattle.ext_plain.specs.Steps.{StepEnd, ended, factory_gave, no_memory, said_by}
+use Rattle.ext_plain.specs.Steps.{StepEnd, ended, factory_gave, factory_failed, no_memory, said_by}
 use Rattle.ext_plain.specs.ValueStates.{Memory, enough, no_value, no_place, no_words, ValueState, after_act, reason, why_refused, next_number, keep_value, with_memory}
 
 -- ---- the store and its values
 
 abbrev pub state_view : ValueStore → ValueState
-state_view s = record { store = state_of s.store; values = map value_view s.values.items; memory = [] }
+state_view s = record { keep_faults = s.keep_faults; store = state_of s.store; values = map value_view s.values.items; memory = [] }
 
 -- why a call of the store was refused, where it was not for want of memory
 abbrev pub IsReasonOf : PlainFault → Reason → Type 0
 IsReasonOf plain.Busy why = why ≡ reason Busy
 IsReasonOf plain.Closed why = why ≡ reason Closed
 IsReasonOf (plain.Taken number) why = why ≡ reason (Standing number)
+IsReasonOf (plain.FaultStands number) why = why ≡ reason (FaultStanding number)
 IsReasonOf plain.NumbersFull why = why ≡ reason NumbersFull
 IsReasonOf plain.Memory why = ⊥
 
@@ -51,6 +52,7 @@ Told (Ok x) why = why ≡ None
 Told (Err plain.Busy) why = why ≡ Some (reason Busy)
 Told (Err plain.Closed) why = why ≡ Some (reason Closed)
 Told (Err (plain.Taken number)) why = why ≡ Some (reason (Standing number))
+Told (Err (plain.FaultStands number)) why = why ≡ Some (reason (FaultStanding number))
 Told (Err plain.NumbersFull) why = why ≡ Some (reason NumbersFull)
 Told (Err plain.Memory) why = ⊥
 
@@ -142,6 +144,16 @@ LacksGiven (lacks.Words found) name label place value old new = lack_end new (la
 abbrev pub Gives : List ℕ → List ℕ → Place → ValueText → ValueState → ValueState → Result Outcome Lack → Type 0
 Gives name label place value old new (Ok outcome) = step_end new outcome ≡ factory_gave name label place value old
 Gives name label place value old new (Err lack) = LacksGiven lack name label place value old new
+
+-- the same once a factory failed whose fault is to be kept
+abbrev pub LacksFailed : Lack → List ℕ → List ℕ → Place → List ℕ → ValueState → ValueState → Type 0
+LacksFailed lacks.Value name label place text old new = (old.keep_faults ≡ true) × (new ≡ after_act (Abandon place) old)
+LacksFailed lacks.Place name label place text old new = ⊥
+LacksFailed (lacks.Words found) name label place text old new = lack_end new (lacks.Words found) ≡ said_by no_words (factory_failed name label place text old)
+
+abbrev pub Fails : List ℕ → List ℕ → Place → List ℕ → ValueState → ValueState → Result Outcome Lack → Type 0
+Fails name label place text old new (Ok outcome) = step_end new outcome ≡ factory_failed name label place text old
+Fails name label place text old new (Err lack) = LacksFailed lack name label place text old new
 
 -- one step computes or finds one value at most
 pub record AreFew (o : Outcome) : Type 0 where

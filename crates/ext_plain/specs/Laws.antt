@@ -91,7 +91,7 @@ HasValues s = length s.values ≡ s.store.drawn
 
 -- both hold before the first node
 abbrev pub OpensClear : Type 0
-OpensClear = HasNoClaims value_opening × HasValues value_opening
+OpensClear = (keeps : Bool) → HasNoClaims (value_opening keeps) × HasValues (value_opening keeps)
 
 -- where there was no claim, there is none after a node
 abbrev pub MakesNoClaims : Type 0

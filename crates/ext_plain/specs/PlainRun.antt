@@ -82,7 +82,7 @@ skipped_from at (node ∷ more) = skipped_result at (is_some node.test) ∷ skip
 
 -- whose steps find this of memory, in the order in which they are made
 abbrev pub run_opening : List Memory → PlanText → RunState
-run_opening memory plan = record { state = with_memory memory value_opening; results = skipped_from 0 plan.nodes }
+run_opening memory plan = record { state = with_memory memory (value_opening plan.keep_faults); results = skipped_from 0 plan.nodes }
 
 -- The results of the nodes, in the order of the plan. The root is node 0, and no tree is deeper than it has nodes
 abbrev pub plain_run_by : List Memory → PlanText → List NodeOutcome

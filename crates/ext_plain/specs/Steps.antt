@@ -2,9 +2,9 @@
 --
 -- JUnit 5 User Guide, "Keeping State in Extensions", and Javadoc `ExtensionContext.Store`, `put`, `get`, `remove` and `getOrComputeIfAbsent`, by the definitions
 -- of the store's state. A step acts on the first context of the path that it is given, and looks up along it. The steps and their texts are an own rule.
-use Rattle.std.specs.Prelude.{ℕ, ◌+◌, codes, true, false, List, [], ◌∷◌, drop, Option, Some, None}
+use Rattle.std.specs.Prelude.{ℕ, ◌+◌, codes, true, false, if◌then◌else◌, List, [], ◌∷◌, drop, Option, Some, None}
 use Rattle.ext_model.specs.declared.event.Act.{Act}
-use Rattle.ext_model.specs.declared.event.Act.TheVariants.{Put, Remove, Claim, Fill, Abandon}
+use Rattle.ext_model.specs.declared.event.Act.TheVariants.{Put, Remove, Claim, Fill, Fail, Abandon}
 use Rattle.ext_model.specs.declared.look.Look.{Look}
 use Rattle.ext_model.specs.declared.look.Look.TheVariants as look
 use Rattle.ext_model.specs.declared.slot.Slot.{Slot}
@@ -17,7 +17,7 @@ use Rattle.ext_steps.specs.declared.reason.Reason.{Reason}
 use Rattle.ext_steps.specs.declared.reason.Reason.TheVariants as reasons
 use Rattle.ext_steps.specs.Calls.{key_number, label_of, start_of}
 use Rattle.ext_steps.specs.Values.{ValueText}
-use Rattle.ext_steps.specs.Verdicts.{SeenText, seen_value, seen_nothing, seen_refused, refused, unless_refused, want_verdict, none_verdict}
+use Rattle.ext_steps.specs.Verdicts.{SeenText, seen_value, seen_fault, seen_nothing, seen_refused, refused, unless_refused, want_verdict, none_verdict, fail_verdict}
 use Rattle.ext_plain.specs.ValueStates.{Memory, enough, no_value, no_place, no_words, ValueState, with_memory, next_found, found_later, after_act, why_refused, next_number, keep_value, value_of}
 
 -- what a step, a test or a callback leaves, how it ended, how many values it computed, and how many it found where it would have computed one
@@ -85,9 +85,15 @@ abbrev pub shown : Option ValueText → SeenText
 shown None = seen_refused reasons.NotShown
 shown (Some value) = seen_value value.text
 
+-- the kept fault of a number that a look-up met
+abbrev pub shown_fault : Option ValueText → SeenText
+shown_fault None = seen_refused reasons.NotShown
+shown_fault (Some value) = seen_fault value.text
+
 -- what a look-up shows
 abbrev pub seen_by : List ValueText → Look → SeenText
 seen_by values (look.Found at number) = shown (value_of values number)
+seen_by values (look.Fault at number) = shown_fault (value_of values number)
 seen_by values look.Absent = seen_nothing
 seen_by values (look.Busy at) = seen_refused reasons.Busy
 seen_by values (look.Closed at) = seen_refused reasons.Closed
@@ -101,9 +107,14 @@ factory_gave name label place value s =
     let computed : StepEnd = record { state = after_act (Fill place kept.store.drawn) kept; verdict = successful; computed = 1; found = 0 } in
     or_refused name label (why_refused (next_number s) s) (after_act (Abandon place) s) computed
 
--- The factory failed, and its own fault came back: the claim goes, and the step passes
-abbrev pub factory_failed : Place → ValueState → StepEnd
-factory_failed place s = ended successful (after_act (Abandon place) s)
+-- The factory failed. Where faults are not kept its own fault comes back: the claim goes, and the step passes. Where they are it is kept under the number that is drawn
+-- for it, in the place of the claim, and the step passes; where none is left, the claim goes
+abbrev pub factory_failed : List ℕ → List ℕ → Place → List ℕ → ValueState → StepEnd
+factory_failed name label place text s =
+    let kept = keep_value (record { text = text; closeable = false }) s in
+    if s.keep_faults
+    then or_refused name label (why_refused (next_number s) s) (after_act (Abandon place) s) (ended successful (after_act (Fail place kept.store.drawn) kept))
+    else ended successful (after_act (Abandon place) s)
 
 -- where nothing was found the place is claimed, and its factory runs
 abbrev pub claim_and : List ℕ → List ℕ → Place → (ValueState → StepEnd) → ValueState → StepEnd
@@ -112,6 +123,7 @@ claim_and name label place factory s = or_refused name label (why_refused (Claim
 -- by what the look-up answers
 abbrev pub compute_looked : List ℕ → List ℕ → Place → ValueText → ValueState → Look → StepEnd
 compute_looked name label place value s (look.Found at number) = record { state = s; verdict = successful; computed = 0; found = 1 }
+compute_looked name label place value s (look.Fault at number) = ended (none_verdict name label (shown_fault (value_of s.values number))) s
 compute_looked name label place value s look.Absent = claim_and name label place (factory_gave name label place value) s
 compute_looked name label place value s (look.Busy at) = ended (refused name label reasons.Busy) s
 compute_looked name label place value s (look.Closed at) = ended (refused name label reasons.Closed) s
@@ -119,6 +131,7 @@ compute_looked name label place value s (look.Closed at) = ended (refused name l
 -- what is done only where a look-up finds nothing, and what is done else
 abbrev pub if_absent : Look → StepEnd → StepEnd → StepEnd
 if_absent (look.Found at number) absent other = other
+if_absent (look.Fault at number) absent other = other
 if_absent look.Absent absent other = absent
 if_absent (look.Busy at) absent other = other
 if_absent (look.Closed at) absent other = other
@@ -131,18 +144,22 @@ compute_by no_value name label place value s found =
 compute_by no_place name label place value s found = if_absent found (or_refused name label (why_refused (Claim place) s) s (ended no_memory s)) (compute_looked name label place value s found)
 compute_by no_words name label place value s found = said_by no_words (compute_looked name label place value s found)
 
-abbrev pub computefail_looked : List ℕ → List ℕ → Place → ValueState → Look → StepEnd
-computefail_looked name label place s (look.Found at number) = record { state = s; verdict = none_verdict name label (shown (value_of s.values number)); computed = 0; found = 1 }
-computefail_looked name label place s look.Absent = claim_and name label place (factory_failed place) s
-computefail_looked name label place s (look.Busy at) = ended (refused name label reasons.Busy) s
-computefail_looked name label place s (look.Closed at) = ended (refused name label reasons.Closed) s
+abbrev pub computefail_looked : List ℕ → List ℕ → Place → List ℕ → ValueState → Look → StepEnd
+computefail_looked name label place text s (look.Found at number) = record { state = s; verdict = none_verdict name label (shown (value_of s.values number)); computed = 0; found = 1 }
+computefail_looked name label place text s (look.Fault at number) = ended (fail_verdict name label text (shown_fault (value_of s.values number))) s
+computefail_looked name label place text s look.Absent = claim_and name label place (factory_failed name label place text) s
+computefail_looked name label place text s (look.Busy at) = ended (refused name label reasons.Busy) s
+computefail_looked name label place text s (look.Closed at) = ended (refused name label reasons.Closed) s
 
--- It keeps no value
-abbrev pub computefail_by : Memory → List ℕ → List ℕ → Place → ValueState → Look → StepEnd
-computefail_by enough name label place s found = computefail_looked name label place s found
-computefail_by no_value name label place s found = computefail_looked name label place s found
-computefail_by no_place name label place s found = if_absent found (or_refused name label (why_refused (Claim place) s) s (ended no_memory s)) (computefail_looked name label place s found)
-computefail_by no_words name label place s found = said_by no_words (computefail_looked name label place s found)
+-- With no memory for a fault that is to be kept the claim goes. Where faults are not kept it keeps nothing
+abbrev pub computefail_by : Memory → List ℕ → List ℕ → Place → List ℕ → ValueState → Look → StepEnd
+computefail_by enough name label place text s found = computefail_looked name label place text s found
+computefail_by no_value name label place text s found =
+    if s.keep_faults
+    then if_absent found (claim_and name label place (λ claimed. ended no_memory (after_act (Abandon place) claimed)) s) (computefail_looked name label place text s found)
+    else computefail_looked name label place text s found
+computefail_by no_place name label place text s found = if_absent found (or_refused name label (why_refused (Claim place) s) s (ended no_memory s)) (computefail_looked name label place text s found)
+computefail_by no_words name label place text s found = said_by no_words (computefail_looked name label place text s found)
 
 -- ---- the steps of a test or of a callback
 
@@ -163,7 +180,7 @@ module _ (keys : List KeyText) where
   step_by found path (remove key up) s = said_by found (act_ends (codes "remove") (label_of keys key) (Remove (place_of key (drop up path))) s)
   step_by found path (compute key text up) s = compute_by found (codes "compute") (label_of keys key) (place_of key (drop up path)) (record { text = text; closeable = false }) s (found_along key (drop up path) s)
   step_by found path (compute_closeable key text up) s = compute_by found (codes "compute!") (label_of keys key) (place_of key (drop up path)) (record { text = text; closeable = true }) s (found_along key (drop up path) s)
-  step_by found path (compute_fail key text up) s = computefail_by found (codes "computefail") (label_of keys key) (place_of key (drop up path)) s (found_along key (drop up path) s)
+  step_by found path (compute_fail key text up) s = computefail_by found (codes "computefail") (label_of keys key) (place_of key (drop up path)) text s (found_along key (drop up path) s)
   step_by found path (fail text) s = said_by found (ended (failed text) s)
   step_by found path (abort text) s = said_by found (ended (aborted text) s)
 

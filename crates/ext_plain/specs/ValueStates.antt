@@ -1,10 +1,10 @@
 -- The store of a run and the values of its numbers, and what an act does to it. Javadoc `NamespacedHierarchicalStore`, for one thread, by the definitions of the
 -- store's state; that values are seen by numbers is an own rule.
-use Rattle.std.specs.Prelude.{ℕ, zero, suc, ◌+◌, List, [], ◌∷◌, ◌++◌, Option, Some, None, slice_get}
+use Rattle.std.specs.Prelude.{ℕ, Bool, zero, suc, ◌+◌, List, [], ◌∷◌, ◌++◌, Option, Some, None, slice_get}
 use Rattle.ext_model.specs.declared.event.Act.{Act}
 use Rattle.ext_model.specs.declared.event.Act.TheVariants.{Keep}
 use Rattle.ext_model.specs.State.{State, opening}
-use Rattle.ext_model.specs.Events.{Reply, Happens, Answers, Refuses, Refusal, NumbersFull, Busy, Closed, Standing, Exhausted, Barred}
+use Rattle.ext_model.specs.Events.{Reply, Happens, Answers, Refuses, Refusal, NumbersFull, Busy, Closed, Standing, FaultStanding, Exhausted, Barred}
 use Rattle.ext_model.specs.Plain.{Place, any_lane, plain_reply, next_state}
 use Rattle.ext_steps.specs.declared.reason.Reason.{Reason}
 use Rattle.ext_steps.specs.declared.reason.Reason.TheVariants as reasons
@@ -21,17 +21,18 @@ pub data Memory : Type 0 where
   no_place : Memory
   no_words : Memory
 
--- the store of a run: its state, the values that were kept, the first of which has number 1, and what the next steps find of memory, in the order in which they are
+-- the store of a run: whether it keeps faults, its state, the values that were kept, the first of which has number 1, a kept fault's text among them as a value that is not closeable, and what the next steps find of memory, in the order in which they are
 -- made; steps past the end of that list find enough
 pub record ValueState : Type 0 where
+  pub keep_faults : Bool
   pub store : State Place
   pub values : List ValueText
   pub memory : List Memory
 
 -- ---- an act on the store
 
-abbrev pub value_opening : ValueState
-value_opening = record { store = opening; values = []; memory = [] }
+abbrev pub value_opening : Bool → ValueState
+value_opening keeps = record { keep_faults = keeps; store = opening; values = []; memory = [] }
 
 -- the same, where the next steps find this of memory
 abbrev pub with_memory : List Memory → ValueState → ValueState
@@ -62,6 +63,7 @@ reason NumbersFull = reasons.NumbersFull
 reason Busy = reasons.Busy
 reason Closed = reasons.Closed
 reason (Standing number) = reasons.Busy
+reason (FaultStanding number) = reasons.Busy
 reason Exhausted = reasons.Exhausted
 reason Barred = reasons.Busy
 

@@ -7,7 +7,7 @@ ghost use Rattle.ext_model.specs.Plain.{any_lane, under};
 ghost use Rattle.ext_plain.specs.Steps.{compute_by, computefail_by};
 ghost use Rattle.ext_steps.specs.Calls.{call_view};
 ghost use Rattle.ext_steps.specs.Values.{value_view};
-ghost use Rattle.ext_plain.specs.Helpers.{answer_end, memory_of, place_of_call, state_view, Gives};
+ghost use Rattle.ext_plain.specs.Helpers.{answer_end, memory_of, place_of_call, state_view, Fails, Gives};
 
 use crate::lack::Lack;
 use crate::said::say_refused;
@@ -34,6 +34,7 @@ impl<'a> ValueStore<'a> {
                 computed: 0,
                 found: 1,
             }),
+            Look::Fault { number, .. } => self.fault_met(alloc, call, number),
             Look::Absent => self.compute_absent(alloc, call, value),
             Look::Busy(_) => say_refused(alloc, call, Reason::Busy),
             Look::Closed(_) => say_refused(alloc, call, Reason::Closed),
@@ -87,30 +88,69 @@ impl<'a> ValueStore<'a> {
         }
     }
 
-    /// A step `computefail`: looks up along the path. Where nothing is found the place is claimed, the factory fails, and
-    /// its own fault comes back, so that the claim goes and the step passes.
-    pub fn computefail(&mut self, alloc: Global, call: &StepCall<'_>) -> Result<Outcome, Lack>
+    /// A step `computefail`: looks up along the path. Where nothing is found the place is claimed, and the factory fails with
+    /// this text: its own fault comes back, so that the claim goes and the step passes; or it is kept.
+    pub fn computefail(
+        &mut self,
+        alloc: Global,
+        call: &StepCall<'_>,
+        text: &'a str,
+    ) -> Result<Outcome, Lack>
         ensures { answer_end (state_view self.new) result ≡ computefail_by (memory_of result) (call_view call.now).name (call_view call.now).label (place_of_call call.now)
-            (state_view self.old) (lookup (under (state_view self.old).store (call_view call.now).key) (call_view call.now).path) }
+            text.now (state_view self.old) (lookup (under (state_view self.old).store (call_view call.now).key) (call_view call.now).path) }
     {
         match self.look(call.path, call.key) {
             Look::Found { number, .. } => self.fail_found(alloc, call, number),
-            Look::Absent => self.fail_claimed(alloc, call),
+            Look::Fault { number, .. } => self.fault_met_failing(alloc, call, text, number),
+            Look::Absent => self.fail_claimed(alloc, call, text),
             Look::Busy(_) => say_refused(alloc, call, Reason::Busy),
             Look::Closed(_) => say_refused(alloc, call, Reason::Closed),
         }
     }
 
-    /// Where nothing was found: claims the place, and gives it back once the factory failed.
-    fn fail_claimed(&mut self, alloc: Global, call: &StepCall<'_>) -> Result<Outcome, Lack>
+    /// Where nothing was found: claims the place, and ends the claim once the factory failed.
+    fn fail_claimed(
+        &mut self,
+        alloc: Global,
+        call: &StepCall<'_>,
+        text: &'a str,
+    ) -> Result<Outcome, Lack>
         ensures { answer_end (state_view self.new) result ≡ computefail_by (memory_of result) (call_view call.now).name (call_view call.now).label (place_of_call call.now)
-            (state_view self.old) look.Absent }
+            text.now (state_view self.old) look.Absent }
     {
         match self.claim(call.at(), call.key)? {
             Some(why) => say_refused(alloc, call, why),
-            None => {
-                self.abandon(call.at(), call.key);
+            None => self.end_failed(alloc, call, text),
+        }
+    }
+
+    /// Ends the claim of a factory that failed with this text: keeps its fault where faults are kept, and else gives the place
+    /// back.
+    fn end_failed(
+        &mut self,
+        alloc: Global,
+        call: &StepCall<'_>,
+        text: &'a str,
+    ) -> Result<Outcome, Lack>
+        requires { (state_view self.old).store.slots (place_of_call call.now) ≡ Some (slot.Claim any_lane) }
+        ensures { Fails (call_view call.now).name (call_view call.now).label (place_of_call call.now) text.now (state_view self.old) (state_view self.new) result }
+    {
+        if !self.keeps_faults() {
+            self.abandon(call.at(), call.key);
+            return Ok(Outcome::of(Verdict::Successful));
+        }
+        match self.keep(PlanValue::not_closeable(text)) {
+            Ok(Ok(number)) => {
+                self.fail(call.at(), call.key, number);
                 Ok(Outcome::of(Verdict::Successful))
+            }
+            Ok(Err(why)) => {
+                self.abandon(call.at(), call.key);
+                say_refused(alloc, call, why)
+            }
+            Err(lack) => {
+                self.abandon(call.at(), call.key);
+                Err(lack)
             }
         }
     }

@@ -4,8 +4,8 @@ ghost use Rattle.ext_model.specs.State.{lookup};
 ghost use Rattle.ext_model.specs.Plain.{under};
 ghost use Rattle.ext_steps.specs.Calls.{call_view};
 ghost use Rattle.ext_steps.specs.Values.{value_view};
-ghost use Rattle.ext_steps.specs.Verdicts.{none_verdict, seen_view, want_verdict};
-ghost use Rattle.ext_plain.specs.Steps.{ended, said_by, seen_by, shown};
+ghost use Rattle.ext_steps.specs.Verdicts.{fail_verdict, none_verdict, seen_view, want_verdict};
+ghost use Rattle.ext_plain.specs.Steps.{ended, said_by, seen_by, shown, shown_fault};
 ghost use Rattle.ext_plain.specs.ValueStates.{value_of};
 ghost use Rattle.ext_plain.specs.Helpers.{answer_end, counted_found, memory_of, state_view};
 
@@ -14,7 +14,7 @@ use crate::said::said;
 use crate::value_store::ValueStore;
 use ext_lifecycle::Outcome;
 use ext_model::Look;
-use ext_steps::{PlanValue, Reason, Seen, StepCall, none_verdict, want_verdict};
+use ext_steps::{PlanValue, Reason, Seen, StepCall, fail_verdict, none_verdict, want_verdict};
 use std::alloc::Global;
 
 impl<'a> ValueStore<'a> {
@@ -54,12 +54,41 @@ impl<'a> ValueStore<'a> {
         }
     }
 
+    /// A step `compute` that meets the kept fault of this number: says which.
+    pub fn fault_met(
+        &self,
+        alloc: Global,
+        call: &StepCall<'_>,
+        number: u32,
+    ) -> Result<Outcome, Lack>
+        ensures { answer_end (state_view self.now) result ≡ said_by (memory_of result) (ended (none_verdict (call_view call.now).name (call_view call.now).label
+            (shown_fault (value_of (state_view self.now).values number))) (state_view self.now)) }
+    {
+        said(none_verdict(alloc, call, shown_fault(self.value_of(number))))
+    }
+
+    /// A step `computefail` of this text that meets the kept fault of this number: passes where it has the same text, and else
+    /// says which.
+    pub fn fault_met_failing(
+        &self,
+        alloc: Global,
+        call: &StepCall<'_>,
+        text: &str,
+        number: u32,
+    ) -> Result<Outcome, Lack>
+        ensures { answer_end (state_view self.now) result ≡ said_by (memory_of result) (ended (fail_verdict (call_view call.now).name (call_view call.now).label text.now
+            (shown_fault (value_of (state_view self.now).values number))) (state_view self.now)) }
+    {
+        said(fail_verdict(alloc, call, text, shown_fault(self.value_of(number))))
+    }
+
     /// What a look-up along the path shows.
     fn see(&self, call: &StepCall<'_>) -> Seen<'a>
         ensures { seen_view result ≡ seen_by (state_view self.now).values (lookup (under (state_view self.now).store (call_view call.now).key) (call_view call.now).path) }
     {
         match self.look(call.path, call.key) {
             Look::Found { number, .. } => shown(self.value_of(number)),
+            Look::Fault { number, .. } => shown_fault(self.value_of(number)),
             Look::Absent => Seen::Nothing,
             Look::Busy(_) => Seen::Refused(Reason::Busy),
             Look::Closed(_) => Seen::Refused(Reason::Closed),
@@ -73,6 +102,16 @@ pub fn shown<'a>(value: Option<PlanValue<'a>>) -> Seen<'a>
 {
     match value {
         Some(value) => Seen::Value(value.text),
+        None => Seen::Refused(Reason::NotShown),
+    }
+}
+
+/// What a look-up shows that met the number of this kept fault.
+pub fn shown_fault<'a>(fault: Option<PlanValue<'a>>) -> Seen<'a>
+    ensures { seen_view result ≡ shown_fault (option_map value_view fault.entry) }
+{
+    match fault {
+        Some(fault) => Seen::Fault(fault.text),
         None => Seen::Refused(Reason::NotShown),
     }
 }

@@ -56,7 +56,7 @@ pub fn run_plain<L: RunListener>(
     let caller = NodeCaller {
         alloc,
         setting: Setting::of(plan, keys, tree),
-        store: ValueStore::new(alloc),
+        store: ValueStore::new(alloc, plan.keep_faults),
         node: 0,
     };
     let mut runner = PlainRunner {

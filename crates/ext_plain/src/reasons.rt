@@ -21,6 +21,7 @@ pub fn told<T: Drop>(answer: Result<T, PlainFault>) -> Result<Option<Reason>, La
         // A place that is taken is never claimed: a claim follows a look-up that found nothing.
         Err(PlainFault::Busy) => Ok(Some(Reason::Busy)),
         Err(PlainFault::Taken(_)) => Ok(Some(Reason::Busy)),
+        Err(PlainFault::FaultStands(_)) => Ok(Some(Reason::Busy)),
         Err(PlainFault::Memory) => Err(Lack::Place),
     }
 }

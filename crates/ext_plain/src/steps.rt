@@ -95,7 +95,7 @@ impl<'a> ValueStore<'a> {
             Step::ComputeCloseable { text, .. } => {
                 self.compute(alloc, &call, PlanValue::closeable(text.as_str()))
             }
-            Step::ComputeFail { .. } => self.computefail(alloc, &call),
+            Step::ComputeFail { text, .. } => self.computefail(alloc, &call, text.as_str()),
             Step::Fail { text } => say_failed(text),
             Step::Abort { text } => say_aborted(text),
         }

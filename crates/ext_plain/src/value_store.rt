@@ -24,8 +24,10 @@ const LANE: LaneNo = 0;
 /// The store of a plain run. A call of a step that is refused answers why, and else that it lacks memory.
 #[derive(Drop)]
 pub struct ValueStore<'a> {
+    keep_faults: bool,
     store: PlainStore,
-    /// The values that were kept: the first has number 1.
+    /// The values that were kept: the first has number 1. A kept fault's text stands among them, as a value that is not
+    /// closeable.
     values: Vec<PlanValue<'a>>,
     ghost limit: { store.numbers ≡ 65535 },
 }
@@ -33,14 +35,22 @@ pub struct ValueStore<'a> {
 impl<'a> ValueStore<'a> {
     ghost use Rattle.ext_plain.specs.Helpers.{state_view, Keeps};
 
-    /// An empty store.
-    pub fn new(alloc: Global) -> ValueStore<'a>
-        ensures { state_view result ≡ value_opening }
+    /// An empty store, which keeps the faults of factories or not.
+    pub fn new(alloc: Global, keep_faults: bool) -> ValueStore<'a>
+        ensures { state_view result ≡ value_opening keep_faults }
     {
         ValueStore {
+            keep_faults,
             store: PlainStore::new(alloc, NUMBERS),
             values: Vec::new(alloc),
         }
+    }
+
+    /// Whether it keeps faults.
+    pub fn keeps_faults(&self) -> bool
+        ensures { result ≡ (state_view self.now).keep_faults }
+    {
+        self.keep_faults
     }
 
     /// Keeps a value, and answers the number that is drawn for it.
@@ -120,6 +130,15 @@ impl<'a> ValueStore<'a> {
     {
         // A fill is never refused: the place is in use already, so that it takes no memory.
         let _ = self.store.fill(at, key, LANE, number);
+    }
+
+    /// Stores the number of a kept fault in the place of the claim.
+    pub fn fail(&mut self, at: ContextNo, key: KeyNo, number: u32)
+        requires { under (state_view self.old).store key at ≡ Some (slot.Claim any_lane) }
+        ensures { state_view self.new ≡ after_act (act.Fail (at, key) number) (state_view self.old) }
+    {
+        // A fail is never refused, as a fill is not.
+        let _ = self.store.fail(at, key, LANE, number);
     }
 
     /// Ends the claim: the place is empty.

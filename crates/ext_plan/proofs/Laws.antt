@@ -24,7 +24,7 @@ use Rattle.ext_plan_tables.specs.declared.fault.PlanFault.TheVariants as faults
 use Rattle.ext_plan_tables.specs.declared.fault.Place.TheVariants as places
 use Rattle.ext_plan_tables.specs.Depths.{Outline, least_test_depth}
 use Rattle.ext_plan_tables.specs.Faults.{check, Gives}
-use Rattle.ext_plan_tables.specs.Fields.{has_only, tables_or_none}
+use Rattle.ext_plan_tables.specs.Fields.{has_only, tables_or_none, truth_or_false}
 use Rattle.ext_plan_tables.specs.Keys.{keys_after}
 use Rattle.ext_plan_tables.specs.Nodes.{Sketch, ids_of, outline_of, outlines_of, has_children, sketches_after, nodes_after, nodes_of_tables}
 use Rattle.ext_plan.specs.Reading.{top_fields, are_few, plan_of, plan_of_tables}
@@ -122,7 +122,8 @@ plan_laws : (top : Members) (plan : PlanText) → plan_of top ≡ Ok plan → Ar
 unfolding plan_of plan_of_tables nodes_of_tables
 plan_laws top plan h =
     let fields = both_gave (check (faults.UnknownField places.Whole) (has_only top_fields top)) _ _ h in
-    let key_tables = both_gave (tables_or_none (faults.BadField places.Whole) (get_member (codes "key") top)) _ _ fields.2 in
+    let keep_faults = both_gave (truth_or_false (faults.BadField places.Whole) (get_member (codes "keep_faults") top)) _ _ fields.2 in
+    let key_tables = both_gave (tables_or_none (faults.BadField places.Whole) (get_member (codes "key") top)) _ _ keep_faults.2 in
     let node_tables = both_gave (tables_or_none (faults.BadField places.Whole) (get_member (codes "node") top)) _ _ key_tables.2 in
     let keys = both_gave (keys_after [] key_tables.0) _ _ node_tables.2 in
     let nodes = both_gave (nodes_of_tables (labels_of keys.0) node_tables.0) _ _ keys.2 in
@@ -137,7 +138,7 @@ plan_laws top plan h =
     subst (λ outlines. All (FitsIn (length keys.0) outlines) nodes.0) (sym read.of_sketches) (subst (λ n. All (FitsIn n (outlines_of sketches.0)) nodes.0) count read.fit) in
     let ids : ids_of_nodes nodes.0 ≡ ids_of sketches.0 = sym (ids_in-nodes nodes.0) ∙ ap (map (λ o. o.0)) read.of_sketches ∙ ids_in-sketches sketches.0 in
     let limits = and_parts (nat_le (length (different_keys keys.0)) 64) (nat_le (length nodes.0 * length (different_keys keys.0)) 4096) (passed _ (are_few (length (different_keys keys.0)) (length nodes.0)) few.0 few.1) in
-    rw (← ok_value (record { keys = keys.0; nodes = nodes.0 }) plan _ refl few_locks.2) (record {
+    rw (← ok_value (record { keep_faults = keep_faults.0; keys = keys.0; nodes = nodes.0 }) plan _ refl few_locks.2) (record {
       tree = subst IsTree (sym ids) ((test_tells (ids_of sketches.0)).0 (passed _ (is_tree (ids_of sketches.0)) tree.0 tree.1));
       tests = λ k less d. in_test _ (λ _. IsAlone (has_children (ids_of sketches.0) k) (get_or nodes.0 k d)) (λ _. children_of (ids_of_nodes nodes.0) k ≡ []) (λ steps alone. subst (λ ids. children_of ids k ≡ []) (sym ids) (childless (ids_of sketches.0) k alone.childless)) (read.alone k less d);
       containers = λ k d less. in_test _ (λ _. IsAlone (has_children (ids_of sketches.0) k) (get_or nodes.0 k d)) (λ _. HasNoContainerCallbacks (get_or nodes.0 k d)) (λ steps alone. alone.callbacks) (read.alone k less d);
@@ -145,7 +146,7 @@ plan_laws top plan h =
       labels = record { words = own.words; different = own.different };
       namespaces = own.parts;
       keys = λ k d less. of_all_steps (All (NamesLabelBelow (length keys.0))) _ _ _ (fit k d less) (λ depth steps fits. fits.names);
-      up = stays_below_root (length keys.0) (record { keys = keys.0; nodes = nodes.0 }) fit;
+      up = stays_below_root (length keys.0) (record { keep_faults = keep_faults.0; keys = keys.0; nodes = nodes.0 }) fit;
       short = λ k d less. of_all_steps (λ steps. length steps ≤ step_limit) _ _ _ (fit k d less) (λ depth steps fits. fits.short);
       few = λ k d less kind. few_of_kind _ _ _ (fit k d less) kind;
       locks = leb-true _ _ (passed _ (nat_le (length (lock_names nodes.0)) lock_limit) few_locks.0 few_locks.1);

@@ -222,12 +222,13 @@ plan_other : (top : Members) → IsOther (plan_of top)
 unfolding plan_of plan_of_tables
 plan_other top =
     then_other (check (faults.UnknownField places.Whole) (has_only top_fields top)) _ (checked _ _ (λ h. absurd cc)) (λ _.
+    then_other (truth_or_false (faults.BadField places.Whole) (get_member (codes "keep_faults") top)) _ (truth_other (faults.BadField places.Whole) (get_member (codes "keep_faults") top) (λ h. absurd cc)) (λ keep_faults.
     then_other (tables_or_none (faults.BadField places.Whole) (get_member (codes "key") top)) _ (tables_other (get_member (codes "key") top)) (λ key_tables.
     then_other (tables_or_none (faults.BadField places.Whole) (get_member (codes "node") top)) _ (tables_other (get_member (codes "node") top)) (λ node_tables.
     then_other (keys_after [] key_tables) _ (keys_other [] key_tables) (λ keys.
     then_other (nodes_of_tables (labels_of keys) node_tables) _ (all_nodes_other _ node_tables) (λ nodes.
     then_other (check faults.TooMany (are_few (length (different_keys keys)) (length nodes))) _ (checked _ _ (λ h. absurd cc)) (λ _.
-    then_other (check faults.TooMany (nat_le (length (lock_names nodes)) lock_limit)) _ (checked _ _ (λ h. absurd cc)) (λ _. value _)))))))
+    then_other (check faults.TooMany (nat_le (length (lock_names nodes)) lock_limit)) _ (checked _ _ (λ h. absurd cc)) (λ _. value _))))))))
 
 -- what gives the plan of a document doesn't answer `NotUtf8`
 pub never_not_utf8 : (read : Result Plan PlanFault) (top : Members) → Gives plan_view read (plan_of top) → read ≢ Err faults.NotUtf8

@@ -10,33 +10,34 @@ use Rattle.ext_plan_tables.specs.declared.fault.PlanFault.{PlanFault}
 use Rattle.ext_plan_tables.specs.declared.fault.PlanFault.TheVariants as faults
 use Rattle.ext_plan_tables.specs.declared.fault.Place.TheVariants as places
 use Rattle.ext_plan_tables.specs.Faults.{some_or, check, ◌>>=◌}
-use Rattle.ext_plan_tables.specs.Fields.{has_only, tables_or_none}
+use Rattle.ext_plan_tables.specs.Fields.{has_only, tables_or_none, truth_or_false}
 use Rattle.ext_plan_tables.specs.Keys.{keys_after}
 use Rattle.ext_plan_tables.specs.Nodes.{nodes_of_tables}
 
 abbrev pub top_fields : List (List ℕ)
-top_fields = codes "key" ∷ codes "node" ∷ []
+top_fields = codes "keep_faults" ∷ codes "key" ∷ codes "node" ∷ []
 
 -- at most 64 different keys and 4,096 cells, of which each node has one for each different key
 abbrev pub are_few : ℕ → ℕ → Bool
 are_few keys nodes = nat_le keys 64 && nat_le (nodes * keys) 4096
 
--- the plan of the tables of its keys and its nodes
-unfoldable pub plan_of_tables : List Members → List Members → Result PlanText PlanFault
-plan_of_tables key_tables node_tables = do
+-- the plan of the tables of its keys and its nodes, whose store keeps faults or not
+unfoldable pub plan_of_tables : Bool → List Members → List Members → Result PlanText PlanFault
+plan_of_tables keep_faults key_tables node_tables = do
   keys ← keys_after [] key_tables
   nodes ← nodes_of_tables (labels_of keys) node_tables
   _ ← check faults.TooMany (are_few (length (different_keys keys)) (length nodes))
   _ ← check faults.TooMany (nat_le (length (lock_names nodes)) lock_limit)
-  Ok (record { keys = keys; nodes = nodes })
+  Ok (record { keep_faults = keep_faults; keys = keys; nodes = nodes })
 
 -- the plan of a document
 unfoldable pub plan_of : Members → Result PlanText PlanFault
 plan_of top = do
   _ ← check (faults.UnknownField places.Whole) (has_only top_fields top)
+  keep_faults ← truth_or_false (faults.BadField places.Whole) (get_member (codes "keep_faults") top)
   key_tables ← tables_or_none (faults.BadField places.Whole) (get_member (codes "key") top)
   node_tables ← tables_or_none (faults.BadField places.Whole) (get_member (codes "node") top)
-  plan_of_tables key_tables node_tables
+  plan_of_tables keep_faults key_tables node_tables
 
 -- the plan of a text
 unfoldable pub plan_of_text : List ℕ → Result PlanText PlanFault

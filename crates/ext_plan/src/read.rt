@@ -10,6 +10,7 @@ ghost use Rattle.ext_plan.specs.Reading.{are_few, plan_of, plan_of_tables, plan_
 use ext_plan_model::{KeyNumbers, Plan, PlanKey};
 use ext_plan_tables::{
     Place, PlanFault, TOP_FIELDS, has_only, keys_of, locks_are_few, nodes_of_tables, tables_at,
+    truth_at,
 };
 use ext_tree::TreeFault;
 use std::alloc::Global;
@@ -81,19 +82,26 @@ fn plan_of(alloc: Global, top: &Table) -> Result<Plan, PlanFault>
     if !has_only(&TOP_FIELDS, top) {
         return Err(PlanFault::UnknownField(Place::Whole));
     }
+    let keep_faults = truth_at(top, "keep_faults", PlanFault::BadField(Place::Whole))?;
     let key_tables = tables_at(alloc, top, "key", PlanFault::BadField(Place::Whole))?;
     let node_tables = tables_at(alloc, top, "node", PlanFault::BadField(Place::Whole))?;
-    plan_of_tables(alloc, key_tables.as_slice(), node_tables.as_slice())
+    plan_of_tables(
+        alloc,
+        keep_faults,
+        key_tables.as_slice(),
+        node_tables.as_slice(),
+    )
 }
 
-/// The plan of the tables of its keys and its nodes.
+/// The plan of the tables of its keys and its nodes, whose store keeps faults or not.
 #[tactic(auto, unfolding(crate::specs::Reading::plan_of_tables))]
 fn plan_of_tables(
     alloc: Global,
+    keep_faults: bool,
     key_tables: &[&Table],
     node_tables: &[&Table],
 ) -> Result<Plan, PlanFault>
-    ensures { Gives plan_view result (plan_of_tables (map (λ t. table_view t.now) key_tables.now) (map (λ t. table_view t.now) node_tables.now)) }
+    ensures { Gives plan_view result (plan_of_tables keep_faults (map (λ t. table_view t.now) key_tables.now) (map (λ t. table_view t.now) node_tables.now)) }
 {
     let keys = keys_of(alloc, key_tables)?;
     let nodes = nodes_of_tables(alloc, &keys.labels, node_tables)?;
@@ -104,6 +112,7 @@ fn plan_of_tables(
         return Err(PlanFault::TooMany);
     }
     Ok(Plan {
+        keep_faults,
         keys: keys.keys,
         nodes,
     })

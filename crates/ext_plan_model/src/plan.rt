@@ -10,10 +10,12 @@ use ext_model::ContextNo;
 /// The number of a label: the place of its key in `Plan::keys`, from 0. Two labels may name one key of the store. Own rule.
 pub type LabelNo = usize;
 
-/// What a run does: the keys that steps name, and the nodes of the tree with their callbacks and tests. There are at most 4,096 cells,
-/// of which each node has one for each different key. Own rule.
+/// What a run does: whether its store keeps the faults of factories, the keys that steps name, and the nodes of the tree with their
+/// callbacks and tests. There are at most 4,096 cells, of which each node has one for each different key. Own rule.
 #[derive(Debug, Drop)]
 pub struct Plan {
+    /// Whether the store keeps the faults of factories that fail.
+    pub keep_faults: bool,
     /// The keys by their labels, in the order of the plan. At most 64 of them are different.
     pub keys: Vec<PlanKey>,
     /// The nodes, in the order of the plan: 1 to 256, of which the first is the root, and each further one a child of

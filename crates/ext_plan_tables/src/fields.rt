@@ -13,7 +13,7 @@ use std::alloc::Global;
 use toml::{Table, Value};
 
 /// The names of the top fields.
-pub const TOP_FIELDS: [&str; 2] = ["key", "node"];
+pub const TOP_FIELDS: [&str; 3] = ["keep_faults", "key", "node"];
 
 /// Tests whether each field of a table has one of the names.
 pub fn has_only(names: &[&str], table: &Table) -> bool

@@ -17,7 +17,7 @@ mod steps;
 
 pub use explaining::explain;
 pub use fault::{Place, PlanFault};
-pub use fields::{TOP_FIELDS, has_only, tables_at};
+pub use fields::{TOP_FIELDS, has_only, tables_at, truth_at};
 pub use keys::{Keys, keys_of};
 pub use labels::Labels;
 pub use locks::locks_are_few;

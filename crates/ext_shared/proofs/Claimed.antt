@@ -11,7 +11,7 @@ use Rattle.ext_model.specs.Views.{LaneView}
 use Rattle.ext_model.specs.Calls.{Calls}
 use Rattle.ext_shared.specs.declared.fault.Refusal.TheVariants as refusal
 use Rattle.ext_shared.specs.declared.claim.Unused.{Unused}
-use Rattle.ext_shared.specs.declared.claim.Unused.TheVariants.{Found, Refused}
+use Rattle.ext_shared.specs.declared.claim.Unused.TheVariants.{Found, FaultStands, Refused}
 use Rattle.ext_shared.specs.Stores.{StoreView, cell_in}
 use Rattle.ext_shared.specs.Claiming.{given_up_events, Meets, IsRefused, ClaimsFrom}
 
@@ -47,6 +47,7 @@ module _ (store : StoreView) (context : ℕ) (ancestors : List ℕ) (key : ℕ) 
   unfolding IsRefused
   claim_acts (Ok claim) m = (Claim (cell_in store key context) ∷ [], nor_this (Claim (cell_in store key context)) [] refl none_stored, m.2)
   claim_acts (Err (Found at number)) m = meets_acts (look.Found at number) m
+  claim_acts (Err (FaultStands at number)) m = meets_acts (look.Fault at number) m
   claim_acts (Err (Refused (refusal.Busy at))) m = meets_acts (look.Busy at) m
   claim_acts (Err (Refused (refusal.Closed at))) m = meets_acts (look.Closed at) m
   claim_acts (Err (Refused refusal.Contended)) m = elim m [

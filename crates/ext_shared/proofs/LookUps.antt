@@ -4,7 +4,7 @@ use Rattle.std.specs.Prelude.{All, Result, Ok, Err}
 use Rattle.std.proofs.lemmas.List.{get_or-map, length-map, take-append-drop, take-map}
 use Rattle.ext_model.specs.declared.look.Look.{Look}
 use Rattle.ext_model.specs.declared.slot.Slot.{Slot}
-use Rattle.ext_model.specs.declared.slot.Slot.TheVariants.{Entry, Claim, Sealed}
+use Rattle.ext_model.specs.declared.slot.Slot.TheVariants.{Entry, Fault, Claim, Sealed}
 use Rattle.ext_model.specs.declared.look.Look.TheVariants.{Absent}
 use Rattle.ext_model.specs.State.{lookup, look_in}
 use Rattle.ext_model.specs.History.{History, Limits, slots_in, state_after, IsLegal}
@@ -25,17 +25,18 @@ use Rattle.ext_shared.specs.Looking.{AreSmall, LooksAt, Looks}
 pub small_numbers : (limits : Limits) (cell_of : ℕ → ℕ) (p : History) → limits.numbers ≤ 65535 → IsLegal limits p → AreSmall cell_of p
 small_numbers limits cell_of p few legal = record { each = λ context. let n = (bounded p legal).slots (cell_of context) in omega (arith, n, few) }
 
-state_small : (s : Option Slot) → state_code s < 4
+state_small : (s : Option Slot) → state_code s < 5
 state_small None = omega arith
 state_small (Some (Entry number)) = omega arith
+state_small (Some (Fault number)) = omega arith
 state_small (Some (Claim lane)) = omega arith
 state_small (Some (Sealed kept)) = omega arith
 
-word_state : (state number version : ℕ) → state < 4 → word state number version % 16 < 4
+word_state : (state number version : ℕ) → state < 5 → word state number version % 16 < 5
 word_state state number version small = omega (arith, small)
 
 -- the word of a cell has a state
-pub word_has_state : (p : History) (cell : ℕ) → word_of p cell % 16 < 4
+pub word_has_state : (p : History) (cell : ℕ) → word_of p cell % 16 < 5
 word_has_state p cell = word_state _ _ _ (state_small _)
 
 -- ---- the nearest cell

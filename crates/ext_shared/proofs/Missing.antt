@@ -17,7 +17,7 @@ use Rattle.ext_model.proofs.Held.{claim_held}
 use Rattle.ext_tree.specs.Trees.{Id}
 use Rattle.ext_tree.specs.Paths.{IsPathOf}
 use Rattle.ext_cells.specs.declared.claim.Claimed.{Claimed}
-use Rattle.ext_cells.specs.declared.claim.Claimed.TheVariants.{Won, Standing}
+use Rattle.ext_cells.specs.declared.claim.Claimed.TheVariants.{Won, Standing, Fault}
 use Rattle.ext_cells.specs.declared.refusal.CellRefusal.{CellRefusal}
 use Rattle.ext_cells.specs.declared.refusal.CellRefusal.TheVariants as cell
 use Rattle.ext_cells.specs.Lanes.{CellsId, Lane}
@@ -26,7 +26,7 @@ use Rattle.ext_cells.specs.Calls.{IfWon}
 use Rattle.ext_shared.specs.declared.fault.Refusal.{Refusal}
 use Rattle.ext_shared.specs.declared.fault.Refusal.TheVariants as refusal
 use Rattle.ext_shared.specs.declared.claim.Unused.{Unused}
-use Rattle.ext_shared.specs.declared.claim.Unused.TheVariants.{Found, Refused}
+use Rattle.ext_shared.specs.declared.claim.Unused.TheVariants.{Found, FaultStands, Refused}
 use Rattle.ext_shared.specs.Stores.{StoreView, cell_in}
 use Rattle.ext_shared.specs.Refusals.{refusal_at}
 use Rattle.ext_shared.specs.Looking.{IsTrail, Looks, LooksAt}
@@ -70,6 +70,7 @@ trail_rest store context rest trail = let few = trail.few in record {
 pub stands_by : (store : StoreView) (path : List ℕ) (key : ℕ) (a b : Lane) (looked : Result Look Refusal) → Looks store path key a b looked → Stands store path key a b (unused_of looked)
 stands_by store path key a b (Ok look.Absent) l = l
 stands_by store path key a b (Ok (look.Found at number)) l = l
+stands_by store path key a b (Ok (look.Fault at number)) l = l
 stands_by store path key a b (Ok (look.Busy at)) l = l
 stands_by store path key a b (Ok (look.Closed at)) l = l
 stands_by store path key a b (Err why) l = subst (λ w. Stands store path key a b (Some (Refused w))) (sym l.0) l.1
@@ -77,6 +78,7 @@ stands_by store path key a b (Err why) l = subst (λ w. Stands store path key a 
 pub stands_calls : (store : StoreView) (path : List ℕ) (key : ℕ) (a b : Lane) (r : Option Unused) → Stands store path key a b r → Calls a.cells.limits a.view b.view []
 stands_calls store path key a b None s = s.calls
 stands_calls store path key a b (Some (Found at number)) s = s.calls
+stands_calls store path key a b (Some (FaultStands at number)) s = s.calls
 stands_calls store path key a b (Some (Refused (refusal.Busy at))) s = s.calls
 stands_calls store path key a b (Some (Refused (refusal.Closed at))) s = s.calls
 stands_calls store path key a b (Some (Refused refusal.Contended)) s = s.calls
@@ -104,6 +106,7 @@ module _ (store : StoreView) (context key : ℕ) (rest : List ℕ) where
     pub first_look : (unused : Unused) → Stands store (context ∷ rest) key a b (Some unused) → ClaimsFrom store context rest key a.view b.view (Err unused)
     unfolding IsRefused
     first_look (Found at number) s = meets (look.Found at number) s
+    first_look (FaultStands at number) s = meets (look.Fault at number) s
     first_look (Refused (refusal.Busy at)) s = meets (look.Busy at) s
     first_look (Refused (refusal.Closed at)) s = meets (look.Closed at) s
     first_look (Refused refusal.Contended) s = inl (subst (λ (z : CellsId). IsOvertaken z.limits store.tries a.view b.view) is s)
@@ -124,8 +127,8 @@ module _ (store : StoreView) (context key : ℕ) (rest : List ℕ) where
     claim_holds : (r : Result Claimed CellRefusal) → (let s : Result Claimed CellRefusal = Err cell.Contended in r ≢ s)
         → cells.Answers tries b c (cells.claim_acts (cell_in store key context)) (cells.claim_reply b (cell_in store key context)) r
         → HoldsAtPoint store.id.cells.limits b.view c.view (cells.claim_acts (cell_in store key context) r)
-        (λ p. r ≡ cells.result_of (cells.claimed_or (cell_in store key context)) (reply_after store.id.cells.limits p b.view.number (Claim (cell_in store key context))))
-    claim_holds r ne all = subst (λ (z : CellsId). HoldsAtPoint z.limits b.view c.view (cells.claim_acts here r) (λ p. r ≡ cells.result_of (cells.claimed_or here) (reply_after z.limits p b.view.number (Claim here)))) is (all.replied ne)
+        (λ p. r ≡ cells.claim_result (cell_in store key context) (reply_after store.id.cells.limits p b.view.number (Claim (cell_in store key context))))
+    claim_holds r ne all = subst (λ (z : CellsId). HoldsAtPoint z.limits b.view c.view (cells.claim_acts here r) (λ p. r ≡ cells.claim_result here (reply_after z.limits p b.view.number (Claim here)))) is (all.replied ne)
 
     -- what a claim tells, said of the look-up and the claim together
     claim_told : (r : Result Claimed CellRefusal) → (let s : Result Claimed CellRefusal = Err cell.Contended in r ≢ s)
@@ -134,7 +137,7 @@ module _ (store : StoreView) (context key : ℕ) (rest : List ℕ) where
         (λ p. Told (slots_in (cell_in store key) p) context rest (reply_after store.id.cells.limits p b.view.number (Claim (cell_in store key context))) r)
     claim_told r ne all =
         let acts = cells.claim_acts here r in
-        let h : HoldsAtPoint limits b.view c.view acts (λ p. r ≡ cells.result_of (cells.claimed_or here) (reply_after limits p b.view.number (Claim here))) = claim_holds r ne all in
+        let h : HoldsAtPoint limits b.view c.view acts (λ p. r ≡ cells.claim_result here (reply_after limits p b.view.number (Claim here))) = claim_holds r ne all in
         later_answers limits a.view b.view c.view acts (λ p. Told (slots_in (cell_in store key) p) context rest (reply_after limits p b.view.number (Claim here)) r) one
         (record { calls = h.calls; stepped = h.stepped; point = (h.point.0, h.point.1, told limits b.view.number (cell_in store key) context rest h.point.0 r h.point.2) })
 
@@ -145,6 +148,10 @@ module _ (store : StoreView) (context key : ℕ) (rest : List ℕ) where
     pub standing : (number : ℕ) → cells.Answers tries b c (cells.claim_acts (cell_in store key context)) (cells.claim_reply b (cell_in store key context)) (Ok (Standing number)) → ClaimsFrom store context rest key a.view c.view (Err (Found context number))
     unfolding Meets
     standing number all = inl (claim_told (Ok (Standing number)) (λ e. cc e) all)
+
+    pub fault_standing : (number : ℕ) → cells.Answers tries b c (cells.claim_acts (cell_in store key context)) (cells.claim_reply b (cell_in store key context)) (Ok (Fault number)) → ClaimsFrom store context rest key a.view c.view (Err (FaultStands context number))
+    unfolding Meets
+    fault_standing number all = inl (claim_told (Ok (Fault number)) (λ e. cc e) all)
 
     overtaken : IsOvertaken store.id.cells.limits store.tries b.view c.view → ClaimsFrom store context rest key a.view c.view (Err (Refused refusal.Contended))
     unfolding IsRefused
@@ -214,6 +221,7 @@ module _ (store : StoreView) (context key : ℕ) (rest : List ℕ) where
       pub given_up_look : (unused : Unused) → Stands store rest key c d (Some unused) → ClaimsFrom store context rest key a.view e.view (Err unused)
       unfolding IsRefused
       given_up_look (Found at number) s = gives_up (look.Found at number) s
+      given_up_look (FaultStands at number) s = gives_up (look.Fault at number) s
       given_up_look (Refused (refusal.Busy at)) s = gives_up (look.Busy at) s
       given_up_look (Refused (refusal.Closed at)) s = gives_up (look.Closed at) s
       given_up_look (Refused refusal.Contended) s =
@@ -259,6 +267,10 @@ module _ (store : StoreView) (context key : ℕ) (tree : List Id) (told path : L
     pub standing_ends : (said : Claimed) (number : ℕ) → said ≡ Standing number → cells.Answers tries b c (cells.claim_acts cell) (cells.claim_reply b cell) (Ok said) → ClaimsMissing store context key a.view c.view (Err (Found context number))
     standing_ends said number is all =
         for_path a c (Err (Found context number)) (standing store context key rest a b c first second' tries same looked' number (here' (Ok (Standing number)) (subst (λ z. cells.Answers tries b c (cells.claim_acts cell) (cells.claim_reply b cell) (Ok z)) is all)))
+
+    pub fault_ends : (said : Claimed) (number : ℕ) → said ≡ Fault number → cells.Answers tries b c (cells.claim_acts cell) (cells.claim_reply b cell) (Ok said) → ClaimsMissing store context key a.view c.view (Err (FaultStands context number))
+    fault_ends said number is all =
+        for_path a c (Err (FaultStands context number)) (fault_standing store context key rest a b c first second' tries same looked' number (here' (Ok (Fault number)) (subst (λ z. cells.Answers tries b c (cells.claim_acts cell) (cells.claim_reply b cell) (Ok z)) is all)))
 
     pub refusal_ends : (why : CellRefusal) (told_why : Refusal) → told_why ≡ refusal_at context why → cells.Answers tries b c (cells.claim_acts cell) (cells.claim_reply b cell) (Err why) → ClaimsMissing store context key a.view c.view (Err (Refused told_why))
     refusal_ends why told_why is all =

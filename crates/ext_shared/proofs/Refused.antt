@@ -24,27 +24,33 @@ put_of : (worn : Bool) (s : Option Slot) → OfCell (cells.result_of what_stood 
 put_of true None = tt
 put_of false None = tt
 put_of true (Some (slot.Entry number)) = tt
+put_of true (Some (slot.Fault number)) = tt
 put_of false (Some (slot.Entry number)) = tt
+put_of false (Some (slot.Fault number)) = tt
 put_of worn (Some (slot.Claim lane)) = tt
 put_of worn (Some (slot.Sealed kept)) = tt
 
 remove_of : (worn : Bool) (s : Option Slot) → OfCell (cells.result_of what_stood (events.remove_reply worn s))
 remove_of worn None = tt
 remove_of true (Some (slot.Entry number)) = tt
+remove_of true (Some (slot.Fault number)) = tt
 remove_of false (Some (slot.Entry number)) = tt
+remove_of false (Some (slot.Fault number)) = tt
 remove_of worn (Some (slot.Claim lane)) = tt
 remove_of worn (Some (slot.Sealed kept)) = tt
 
-claim_of : (at : ℕ) (worn : Bool) (s : Option Slot) → OfCell (cells.result_of (cells.claimed_or at) (events.claim_reply worn s))
+claim_of : (at : ℕ) (worn : Bool) (s : Option Slot) → OfCell (cells.claim_result at (events.claim_reply worn s))
 claim_of at true None = tt
 claim_of at false None = tt
 claim_of at worn (Some (slot.Entry number)) = tt
+claim_of at worn (Some (slot.Fault number)) = tt
 claim_of at worn (Some (slot.Claim lane)) = tt
 claim_of at worn (Some (slot.Sealed kept)) = tt
 
 seal_of : (s : Option Slot) → OfCell (cells.result_of what_stood (events.seal_reply s))
 seal_of None = tt
 seal_of (Some (slot.Entry number)) = tt
+seal_of (Some (slot.Fault number)) = tt
 seal_of (Some (slot.Claim lane)) = tt
 seal_of (Some (slot.Sealed kept)) = tt
 

@@ -29,14 +29,18 @@ put_told : (context : ℕ) (worn : Bool) (s : Option Slot) → result_at context
 put_told context true None = refl
 put_told context false None = refl
 put_told context true (Some (slot.Entry number)) = refl
+put_told context true (Some (slot.Fault number)) = refl
 put_told context false (Some (slot.Entry number)) = refl
+put_told context false (Some (slot.Fault number)) = refl
 put_told context worn (Some (slot.Claim lane)) = refl
 put_told context worn (Some (slot.Sealed kept)) = refl
 
 remove_told : (context : ℕ) (worn : Bool) (s : Option Slot) → result_at context (events.remove_reply worn s) ≡ told_at context (cells.result_of what_stood (events.remove_reply worn s))
 remove_told context worn None = refl
 remove_told context true (Some (slot.Entry number)) = refl
+remove_told context true (Some (slot.Fault number)) = refl
 remove_told context false (Some (slot.Entry number)) = refl
+remove_told context false (Some (slot.Fault number)) = refl
 remove_told context worn (Some (slot.Claim lane)) = refl
 remove_told context worn (Some (slot.Sealed kept)) = refl
 
@@ -45,7 +49,9 @@ put_never : (context : ℕ) (worn : Bool) (s : Option Slot) → told_at context 
 put_never context true None e = cc e
 put_never context false None e = cc e
 put_never context true (Some (slot.Entry number)) e = cc e
+put_never context true (Some (slot.Fault number)) e = cc e
 put_never context false (Some (slot.Entry number)) e = cc e
+put_never context false (Some (slot.Fault number)) e = cc e
 put_never context worn (Some (slot.Claim lane)) e = cc e
 put_never context worn (Some (slot.Sealed kept)) e = cc e
 
@@ -53,7 +59,9 @@ put_never context worn (Some (slot.Sealed kept)) e = cc e
 remove_never : (context : ℕ) (worn : Bool) (s : Option Slot) → told_at context (cells.result_of what_stood (events.remove_reply worn s)) ≢ Err refusal.Contended
 remove_never context worn None e = cc e
 remove_never context true (Some (slot.Entry number)) e = cc e
+remove_never context true (Some (slot.Fault number)) e = cc e
 remove_never context false (Some (slot.Entry number)) e = cc e
+remove_never context false (Some (slot.Fault number)) e = cc e
 remove_never context worn (Some (slot.Claim lane)) e = cc e
 remove_never context worn (Some (slot.Sealed kept)) e = cc e
 

@@ -23,7 +23,7 @@ use Rattle.ext_cells.proofs.Storable.{stays_storable}
 use Rattle.ext_shared.specs.declared.fault.Refusal.{Refusal}
 use Rattle.ext_shared.specs.declared.fault.Refusal.TheVariants as refusal
 use Rattle.ext_shared.specs.declared.claim.Unused.{Unused}
-use Rattle.ext_shared.specs.declared.claim.Unused.TheVariants.{Found, Refused}
+use Rattle.ext_shared.specs.declared.claim.Unused.TheVariants.{Found, FaultStands, Refused}
 use Rattle.ext_shared.specs.Stores.{StoreView, cell_in}
 use Rattle.ext_shared.specs.Calls.{Puts, Removes, with_kept, result_at, put_acts, remove_acts}
 use Rattle.ext_shared.specs.Looking.{Looks, LooksAt}
@@ -74,6 +74,7 @@ pub decided_look : (store : StoreView) (path : List ℕ) (key : ℕ) (a b : Lane
     → LooksAt store path key a b found × IsDecidedLook found
 decided_look store path key a b (Ok look.Absent) found is l = let e : found ≡ look.Absent = cc is in subst (λ f. LooksAt store path key a b f × IsDecidedLook f) (sym e) (l, tt)
 decided_look store path key a b (Ok (look.Found at number)) found is l = let e : found ≡ look.Found at number = cc is in subst (λ f. LooksAt store path key a b f × IsDecidedLook f) (sym e) (l, tt)
+decided_look store path key a b (Ok (look.Fault at number)) found is l = let e : found ≡ look.Fault at number = cc is in subst (λ f. LooksAt store path key a b f × IsDecidedLook f) (sym e) (l, tt)
 decided_look store path key a b (Ok (look.Closed at)) found is l = let e : found ≡ look.Closed at = cc is in subst (λ f. LooksAt store path key a b f × IsDecidedLook f) (sym e) (l, tt)
 decided_look store path key a b (Ok (look.Busy at)) found is l = absurd (cc is)
 decided_look store path key a b (Err why) found is l = absurd (cc is)
@@ -158,6 +159,7 @@ met_calls store context ancestors key a b met m = elim m [
 unclaimed : (store : StoreView) (context : ℕ) (ancestors : List ℕ) (key : ℕ) (a b : LaneView) (why : Unused) → ClaimsFrom store context ancestors key a b (Err why) → Round store context key a b
 unfolding IsRefused
 unclaimed store context ancestors key a b (Found at number) m = met_calls store context ancestors key a b (look.Found at number) m
+unclaimed store context ancestors key a b (FaultStands at number) m = met_calls store context ancestors key a b (look.Fault at number) m
 unclaimed store context ancestors key a b (Refused (refusal.Busy at)) m = met_calls store context ancestors key a b (look.Busy at) m
 unclaimed store context ancestors key a b (Refused (refusal.Closed at)) m = met_calls store context ancestors key a b (look.Closed at) m
 unclaimed store context ancestors key a b (Refused refusal.Contended) m = elim m [

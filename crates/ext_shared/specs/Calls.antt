@@ -56,6 +56,7 @@ result_at context (events.Refuses events.Busy) = Err (Busy context)
 result_at context (events.Refuses events.Closed) = Err (Closed context)
 result_at context (events.Refuses events.Exhausted) = Err Exhausted
 result_at context (events.Refuses (events.Standing number)) = Err Contended
+result_at context (events.Refuses (events.FaultStanding number)) = Err Contended
 result_at context (events.Refuses events.Barred) = Err Contended
 
 -- a refused put hands the kept number back

@@ -18,7 +18,7 @@ use Rattle.ext_cells.specs.Lanes.{Lane}
 use Rattle.ext_shared.specs.declared.fault.Refusal.{Refusal}
 use Rattle.ext_shared.specs.declared.fault.Refusal.TheVariants as refusal
 use Rattle.ext_shared.specs.declared.claim.Unused.{Unused}
-use Rattle.ext_shared.specs.declared.claim.Unused.TheVariants.{Found, Refused}
+use Rattle.ext_shared.specs.declared.claim.Unused.TheVariants.{Found, FaultStands, Refused}
 use Rattle.ext_shared.specs.Stores.{StoreView, cell_in}
 use Rattle.ext_shared.specs.Looking.{LooksAt}
 
@@ -79,6 +79,7 @@ IsRefused limits store context ancestors key before after refusal.Exhausted =
 abbrev pub unused_of : Result Look Refusal → Option Unused
 unused_of (Ok look.Absent) = None
 unused_of (Ok (look.Found at number)) = Some (Found at number)
+unused_of (Ok (look.Fault at number)) = Some (FaultStands at number)
 unused_of (Ok (look.Busy at)) = Some (Refused (refusal.Busy at))
 unused_of (Ok (look.Closed at)) = Some (Refused (refusal.Closed at))
 unused_of (Err why) = Some (Refused why)
@@ -87,6 +88,7 @@ unused_of (Err why) = Some (Refused why)
 abbrev pub Stands : StoreView → List ℕ → ℕ → Lane → Lane → Option Unused → Type 0
 Stands store path key before after None = LooksAt store path key before after look.Absent
 Stands store path key before after (Some (Found at number)) = LooksAt store path key before after (look.Found at number)
+Stands store path key before after (Some (FaultStands at number)) = LooksAt store path key before after (look.Fault at number)
 Stands store path key before after (Some (Refused (refusal.Busy at))) = LooksAt store path key before after (look.Busy at)
 Stands store path key before after (Some (Refused (refusal.Closed at))) = LooksAt store path key before after (look.Closed at)
 Stands store path key before after (Some (Refused refusal.Contended)) = IsOvertaken before.cells.limits store.tries before.view after.view
@@ -100,6 +102,7 @@ ClaimsFrom store context ancestors key before after (Ok claim) =
     × Calls store.id.cells.limits before after (Claim (cell_in store key context) ∷ [])
     × ClaimsAndLooks store.id.cells.limits store context ancestors key before after look.Absent
 ClaimsFrom store context ancestors key before after (Err (Found at number)) = Meets store.id.cells.limits store context ancestors key before after (look.Found at number)
+ClaimsFrom store context ancestors key before after (Err (FaultStands at number)) = Meets store.id.cells.limits store context ancestors key before after (look.Fault at number)
 ClaimsFrom store context ancestors key before after (Err (Refused why)) = IsRefused store.id.cells.limits store context ancestors key before after why
 
 -- for the path of the context

@@ -1,15 +1,16 @@
 -- What contracts see of a store: its cells, contexts, keys and places.
 -- Own rule.
-use Rattle.std.specs.Prelude.{ℕ, ◌≡◌, ◌+◌, ◌*◌, List, length}
+use Rattle.std.specs.Prelude.{ℕ, ◌≡◌, ◌+◌, ◌*◌, IsTrue, List, length}
 use Rattle.ext_model.specs.History.{Limits}
 use Rattle.ext_tree.specs.Trees.{Id}
 use Rattle.ext_tree.specs.Keys.{KeyValue}
 use Rattle.ext_cells.specs.Lanes.{CellsId}
 
--- Which store it is: its cells, and the names of the places of its values, in the order of their numbers
+-- Which store it is: its cells, and the names of the places of its values and of its kept faults, both in the order of their numbers
 pub record StoreId : Type 0 where
   pub cells : CellsId
   pub places : List ℕ
+  pub fault_places : List ℕ
 
 -- A store: which it is, the ids of its contexts, its declared keys in the order of their numbers, and how many exchanges a call makes at most
 pub record StoreView : Type 0 where
@@ -18,10 +19,11 @@ pub record StoreView : Type 0 where
   pub keys : List KeyValue
   pub tries : ℕ
 
--- there is a cell for each context and key, and a place for each number
-pub record IsWell (tree : List Id) (keys : List KeyValue) (limits : Limits) (places : List ℕ) : Type 0 where
+-- there is a cell for each context and key, and a place for each number; where faults are kept, one for the fault of each number too
+pub record IsWell (tree : List Id) (keys : List KeyValue) (limits : Limits) (places fault_places : List ℕ) : Type 0 where
   pub cells : limits.cells ≡ length tree * length keys
   pub numbers : limits.numbers ≡ length places
+  pub faults : IsTrue limits.keep_faults → limits.numbers ≡ length fault_places
 
 -- the cell of a context and a key, by their numbers
 abbrev pub cell_in : StoreView → ℕ → ℕ → ℕ

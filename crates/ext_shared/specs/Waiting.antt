@@ -16,6 +16,7 @@ use Rattle.ext_shared.specs.Claiming.{ClaimsMissing}
 -- no running factory decides the look-up
 abbrev pub IsDecidedLook : Look → Type 0
 IsDecidedLook (look.Found at number) = Unit {0}
+IsDecidedLook (look.Fault at number) = Unit {0}
 IsDecidedLook look.Absent = Unit {0}
 IsDecidedLook (look.Busy at) = ⊥
 IsDecidedLook (look.Closed at) = Unit {0}
@@ -23,6 +24,7 @@ IsDecidedLook (look.Closed at) = Unit {0}
 -- a look-up that a running factory decides is as one that is refused for it
 abbrev pub busy_refused : Result Look Refusal → Result Look Refusal
 busy_refused (Ok (look.Found at number)) = Ok (look.Found at number)
+busy_refused (Ok (look.Fault at number)) = Ok (look.Fault at number)
 busy_refused (Ok look.Absent) = Ok look.Absent
 busy_refused (Ok (look.Busy at)) = Err (refusal.Busy at)
 busy_refused (Ok (look.Closed at)) = Ok (look.Closed at)
@@ -39,6 +41,7 @@ IsDecided refusal.Exhausted = Unit {0}
 -- a factory is not called for another reason than these
 abbrev pub IsDecidedUnused : Unused → Type 0
 IsDecidedUnused (unused.Found at number) = Unit {0}
+IsDecidedUnused (unused.FaultStands at number) = Unit {0}
 IsDecidedUnused (unused.Refused why) = IsDecided why
 
 -- ---- what may come before the answer of a claim that waits

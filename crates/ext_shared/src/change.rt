@@ -9,8 +9,8 @@ use ext_cells::CellLane;
 use ext_model::{ContextNo, KeyNo};
 
 impl<V> Shared<V> {
-    /// Stores the number under the key in the context itself, over one that stands there, and answers the number that
-    /// stood. It is a condition that the lane drew the number and has not stored it. Takes no memory.
+    /// Stores the number under the key in the context itself, over one that stands there, of a value or of a kept fault, and
+    /// answers the number that stood. It is a condition that the lane drew the number and has not stored it. Takes no memory.
     ///
     /// Refused, in this order, as `Busy` where a lane computes a value for the context, as `Closed`, as `Exhausted`
     /// where there were more than 2^40 - 3 events there, and as `Contended`.
@@ -67,8 +67,8 @@ impl<V> Shared<V> {
         }
     }
 
-    /// Seals the key in the context for good, and answers the number that stood there, which the seal keeps. A key that
-    /// is sealed already answers what its seal kept, and nothing happens. Takes no memory.
+    /// Seals the key in the context for good, and answers the number of the value that stood there, which the seal keeps; a
+    /// kept fault goes. A key that is sealed already answers what its seal kept, and nothing happens. Takes no memory.
     ///
     /// Refused as `Busy` with the context where a lane computes a value for it under this key, and else as `Contended`.
     /// Own rule.

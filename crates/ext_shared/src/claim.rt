@@ -1,5 +1,5 @@
 //! Claims, under which a missing value is computed.
-ghost use Rattle.std.specs.Prelude.{◌≡◌, ◌+◌, ◌*◌, ◌<◌, ◌≤◌, MatchResult, length};
+ghost use Rattle.std.specs.Prelude.{◌≡◌, ◌+◌, ◌*◌, ◌<◌, ◌≤◌, IsTrue, MatchResult, length};
 ghost use Rattle.ext_model.specs.Calls.{IsHeld, MayStoreNow};
 ghost use Rattle.ext_model.specs.declared.event.Act.TheVariants as act_is;
 ghost use Rattle.ext_cells.specs.Calls.{EndsClaim};
@@ -16,6 +16,9 @@ use ext_model::{ContextNo, KeyNo, Look};
 pub enum Unused {
     /// The context `at`, itself or the nearest of its ancestors where anything stands, has the value of this number.
     Found { at: ContextNo, number: u32 },
+    /// A factory failed for the context `at`, itself or the nearest of its ancestors where anything stands, and its fault is
+    /// kept there under this number.
+    FaultStands { at: ContextNo, number: u32 },
     /// The call was refused.
     Refused(Refusal),
 }
@@ -28,6 +31,7 @@ impl Unused {
         match looked {
             Ok(Look::Absent) => None,
             Ok(Look::Found { at, number }) => Some(Unused::Found { at, number }),
+            Ok(Look::Fault { at, number }) => Some(Unused::FaultStands { at, number }),
             Ok(Look::Busy(at)) => Some(Unused::Refused(Refusal::Busy(at))),
             Ok(Look::Closed(at)) => Some(Unused::Refused(Refusal::Closed(at))),
             Err(why) => Some(Unused::Refused(why)),
@@ -40,7 +44,8 @@ impl<V> Shared<V> {
     /// computed: after the claim the lane looks at the ancestors again. While the claim stands, calls of other lanes on
     /// the cell are refused as `Busy`. Takes no memory.
     ///
-    /// `Unused::Found` where a value stands in the context or in an ancestor, the nearest first. Refused at the first
+    /// `Unused::Found` where a value stands in the context or in an ancestor, and `Unused::FaultStands` where a kept fault
+    /// does, the nearest first. Refused at the first
     /// look-up as `Contended`, or as `Busy` or `Closed` where that decides it; at the claim also as `Exhausted`, where
     /// there were more than 2^40 - 4 events in the context under the key; and at the second look-up as at the first:
     /// then the lane has claimed the cell and given it up, two events there. Own rule.
@@ -70,6 +75,12 @@ impl<V> Shared<V> {
                     number,
                 });
             }
+            Ok(Claimed::Fault(number)) => {
+                return Err(Unused::FaultStands {
+                    at: context,
+                    number,
+                });
+            }
             Err(why) => return Err(Unused::Refused(Refusal::at(context, why))),
         };
         // An ancestor may have got a value between the first look and the claim. The claim keeps every other lane off
@@ -95,6 +106,22 @@ impl<V> Shared<V> {
         ensures steps { steps_of lane.old lane.new ≡ 2 }
     {
         self.cells.fill(lane, claim, number);
+        self.waiters.wake_all();
+    }
+
+    /// Keeps the number of a fault in the claimed cell, which ends the claim, and then wakes the lanes that wait for that. It
+    /// is a condition that the store keeps faults, that the claim is the lane's, and that the lane drew the number and has
+    /// not stored it. Never refused, and takes no memory. Own rule.
+    pub fn fail(&self, lane: &mut CellLane, claim: Claim, number: u32)
+        requires lane { lane.old.cells ≡ self.now.id.cells }
+        requires faults { IsTrue self.now.id.cells.limits.keep_faults }
+        requires held { IsHeld lane.old.view claim }
+        requires number { MayStoreNow lane.old.view number }
+        ensures lane { lane.new.cells ≡ lane.old.cells }
+        ensures failed { EndsClaim lane.old lane.new (act_is.Fail claim number) }
+        ensures steps { steps_of lane.old lane.new ≡ 2 }
+    {
+        self.cells.fail(lane, claim, number);
         self.waiters.wake_all();
     }
 

@@ -11,7 +11,7 @@ use ext_model::{ContextNo, Look};
 
 // What a look-up answers that is decided in the context whose cell has this word.
 pub(crate) fn found_at(context: ContextNo, word: u64) -> Look
-    requires { word % 16 < 4 }
+    requires { word % 16 < 5 }
     ensures { (slot : Option Slot) (version : ℕ) → number_code slot < 2 ^ 20 → word ≡ slot_word slot version → result ≡ look_in context slot }
 {
     let (state, number, _) = parts(word);
@@ -23,6 +23,10 @@ pub(crate) fn found_at(context: ContextNo, word: u64) -> Look
             number,
         },
         CellState::Sealed => Look::Closed(context),
+        CellState::Failed => Look::Fault {
+            at: context,
+            number,
+        },
     }
 }
 
@@ -33,6 +37,7 @@ pub(crate) fn unless_busy(looked: Result<Look, Refusal>) -> Result<Look, Refusal
     match looked {
         Ok(Look::Absent) => Ok(Look::Absent),
         Ok(Look::Found { at, number }) => Ok(Look::Found { at, number }),
+        Ok(Look::Fault { at, number }) => Ok(Look::Fault { at, number }),
         Ok(Look::Busy(at)) => Err(Refusal::Busy(at)),
         Ok(Look::Closed(at)) => Ok(Look::Closed(at)),
         Err(why) => Err(why),

@@ -1,22 +1,23 @@
 //! What the lanes of a store share.
-ghost use Rattle.std.specs.Prelude.{◌≡◌, ◌*◌, ◌<◌, ◌≤◌, length};
+ghost use Rattle.std.specs.Prelude.{◌≡◌, ◌*◌, ◌<◌, ◌≤◌, IsTrue, length};
 ghost use Rattle.ext_shared.specs.Stores.{IsWell, cell_in};
 
 use ext_cells::Cells;
-use ext_model::{CellNo, ContextNo, KeyNo};
+use ext_model::{CellNo, ContextNo, Fault, KeyNo};
 use ext_tree::{Directory, Tree};
 use ext_values::Values;
 use ext_waiters::Waiters;
 use std::marker::Model;
 
 /// What the lanes of a store share by reference: its contexts, its declared keys, a cell for each context and key, the
-/// places of its values, and who waits until a claim has ended. Own rule.
+/// places of its values and of its kept faults, and who waits until a claim has ended. Own rule.
 #[derive(Drop)]
 pub struct Shared<V> {
     pub(crate) tree: Tree,
     pub(crate) directory: Directory,
     pub(crate) cells: Cells,
     pub(crate) values: Values<V>,
+    pub(crate) faults: Values<Fault>,
     // No contract speaks of them.
     pub(crate) waiters: Waiters,
 }
@@ -26,23 +27,30 @@ impl<V> Model for Shared<V> {
 
     ghost Value = { StoreView };
 
-    ghost view = { λ s. record { id = record { cells = s.cells.id; places = s.values }; tree = s.tree; keys = s.directory; tries = s.cells.tries } };
+    ghost view = { λ s. record { id = record { cells = s.cells.id; places = s.values; fault_places = s.faults }; tree = s.tree; keys = s.directory; tries = s.cells.tries } };
 
-    ghost invariant = { λ s. IsWell s.tree s.directory s.cells.id.limits s.values };
+    ghost invariant = { λ s. IsWell s.tree s.directory s.cells.id.limits s.values s.faults };
 }
 
 impl<V> Shared<V> {
     /// Puts together what the lanes of a store share, where there is a cell for each context and key and a place for each
-    /// number. Nobody waits. Takes no memory. Own rule.
-    pub fn new(tree: Tree, directory: Directory, cells: Cells, values: Values<V>) -> Shared<V>
-        requires { IsWell tree directory cells.id.limits values }
-        ensures { result ≡ record { id = record { cells = cells.id; places = values }; tree = tree; keys = directory; tries = cells.tries } }
+    /// number, and where faults are kept one for the fault of each number. Nobody waits. Takes no memory. Own rule.
+    pub fn new(
+        tree: Tree,
+        directory: Directory,
+        cells: Cells,
+        values: Values<V>,
+        faults: Values<Fault>,
+    ) -> Shared<V>
+        requires { IsWell tree directory cells.id.limits values faults }
+        ensures { result ≡ record { id = record { cells = cells.id; places = values; fault_places = faults }; tree = tree; keys = directory; tries = cells.tries } }
     {
         Shared {
             tree,
             directory,
             cells,
             values,
+            faults,
             waiters: Waiters::new(),
         }
     }
@@ -61,7 +69,7 @@ impl<V> Shared<V> {
         &self.directory
     }
 
-    /// The cells. A claim is ended by `fill` or `abandon` of this store, not of the cells: these alone wake the lanes that wait
+    /// The cells. A claim is ended by `fill`, `fail` or `abandon` of this store, not of the cells: these alone wake the lanes that wait
     /// for its end. Takes no memory. Own rule.
     pub fn cells(&self) -> &Cells
         ensures id { result.now.id ≡ self.now.id.cells }
@@ -77,6 +85,20 @@ impl<V> Shared<V> {
         &self.values
     }
 
+    /// The places of the kept faults. Takes no memory. Own rule.
+    pub fn faults(&self) -> &Values<Fault>
+        ensures { result.now ≡ self.now.id.fault_places }
+    {
+        &self.faults
+    }
+
+    /// Whether faults are kept. Takes no memory. Own rule.
+    pub fn keeps_faults(&self) -> bool
+        ensures { result ≡ self.now.id.cells.limits.keep_faults }
+    {
+        self.cells.keeps_faults()
+    }
+
     /// How many exchanges a change makes at most, and how many passes after its first a look-up, from 1 to 64. Takes no
     /// memory. Own rule.
     pub fn tries(&self) -> u32
@@ -87,11 +109,12 @@ impl<V> Shared<V> {
     }
 
     /// Tells a proof what is true of all that lanes share: there is a cell for each context and key, and a place for each
-    /// of at most 65,535 numbers. It does nothing when it runs. Own rule.
+    /// of at most 65,535 numbers, where faults are kept one for its fault too. It does nothing when it runs. Own rule.
     pub fn recall(&self)
         ensures cells { self.now.id.cells.limits.cells ≡ length self.now.tree * length self.now.keys }
         ensures numbers { self.now.id.cells.limits.numbers ≡ length self.now.id.places }
         ensures few { self.now.id.cells.limits.numbers ≤ 65535 }
+        ensures faults { IsTrue self.now.id.cells.limits.keep_faults → self.now.id.cells.limits.numbers ≡ length self.now.id.fault_places }
     {
         let _capacity = self.values.capacity();
     }

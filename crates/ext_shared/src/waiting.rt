@@ -187,6 +187,9 @@ impl<V> Shared<V> {
             let met = match self.claim_missing(lane, context, key) {
                 Ok(claim) => return Ok(claim),
                 Err(Unused::Found { at, number }) => return Err(Unused::Found { at, number }),
+                Err(Unused::FaultStands { at, number }) => {
+                    return Err(Unused::FaultStands { at, number });
+                }
                 Err(Unused::Refused(why)) => why,
             };
             if met.is_decided() {

@@ -29,6 +29,14 @@ other_text label text other = codes "want " ++ label ++ codes " " ++ text ++ cod
 unfoldable pub got_text : List ℕ → List ℕ → List ℕ → List ℕ
 got_text name label other = name ++ codes " " ++ label ++ codes ": got " ++ other
 
+-- of a step `want` that met a kept fault: `want LABEL TEXT: fault OTHER`
+unfoldable pub other_fault_text : List ℕ → List ℕ → List ℕ → List ℕ
+other_fault_text label text other = codes "want " ++ label ++ codes " " ++ text ++ codes ": fault " ++ other
+
+-- of another step that met a kept fault: `NAME LABEL: fault OTHER`
+unfoldable pub met_fault_text : List ℕ → List ℕ → List ℕ → List ℕ
+met_fault_text name label other = name ++ codes " " ++ label ++ codes ": fault " ++ other
+
 -- of a value whose close failed: `close TEXT`
 unfoldable pub close_text : List ℕ → List ℕ
 close_text text = codes "close " ++ text

@@ -1,6 +1,6 @@
 //! What a step says that does not pass.
 ghost use Rattle.std.specs.Prelude.{◌≡◌, string_bytes, IfOk};
-ghost use Rattle.ext_steps.specs.StepTexts.{refused_text, missing_text, other_text, got_text, close_text};
+ghost use Rattle.ext_steps.specs.StepTexts.{refused_text, missing_text, other_text, got_text, other_fault_text, met_fault_text, close_text};
 
 use std::alloc::{AllocError, Global};
 
@@ -39,6 +39,32 @@ pub fn got_text(alloc: Global, name: &str, label: &str, other: &str) -> Result<S
     ensures { IfOk result (λ s. string_bytes s ≡ got_text name.now label.now other.now) }
 {
     format!(in alloc; "{name} {label}: got {other}")
+}
+
+/// `want LABEL TEXT: fault OTHER`.
+#[tactic(auto, unfolding(crate::specs::StepTexts::other_fault_text))]
+pub fn other_fault_text(
+    alloc: Global,
+    label: &str,
+    text: &str,
+    other: &str,
+) -> Result<String, AllocError>
+    ensures { IfOk result (λ s. string_bytes s ≡ other_fault_text label.now text.now other.now) }
+{
+    format!(in alloc; "want {label} {text}: fault {other}")
+}
+
+/// `NAME LABEL: fault OTHER`, of a step that met a kept fault.
+#[tactic(auto, unfolding(crate::specs::StepTexts::met_fault_text))]
+pub fn met_fault_text(
+    alloc: Global,
+    name: &str,
+    label: &str,
+    other: &str,
+) -> Result<String, AllocError>
+    ensures { IfOk result (λ s. string_bytes s ≡ met_fault_text name.now label.now other.now) }
+{
+    format!(in alloc; "{name} {label}: fault {other}")
 }
 
 /// `close TEXT`, of a value whose close failed.

@@ -1,8 +1,8 @@
 -- What a whole compute says, from what the claim of a missing value and the part after it say.
 use Rattle.std.proofs.Common.{◌≡◌, ◌≢◌, ◌∙◌, ℕ, List, [], ◌∷◌, sym, ap, subst}
-use Rattle.std.specs.Prelude.{Some, Result, Ok, Err, All}
+use Rattle.std.specs.Prelude.{Some, Result, Ok, Err, All, Bool, true, false, IsTrue, IsFalse}
 use Rattle.ext_model.specs.declared.event.Act.{Act}
-use Rattle.ext_model.specs.declared.event.Act.TheVariants.{Keep, Claim, Fill, Abandon}
+use Rattle.ext_model.specs.declared.event.Act.TheVariants.{Keep, Claim, Fill, Fail, Abandon}
 use Rattle.ext_model.specs.declared.look.Look.TheVariants as look
 use Rattle.ext_model.specs.Events as events
 use Rattle.ext_model.specs.History.{Limits, reply_after}
@@ -14,17 +14,20 @@ use Rattle.ext_model.proofs.Composed.{calls_compose, point_of_second}
 use Rattle.ext_store.specs.declared.fault.KeepFault.{KeepFault}
 use Rattle.ext_store.specs.declared.fault.KeepFault.TheVariants as fault
 use Rattle.ext_shared.specs.declared.claim.Unused.{Unused}
-use Rattle.ext_shared.specs.declared.claim.Unused.TheVariants.{Found, Refused}
+use Rattle.ext_shared.specs.declared.claim.Unused.TheVariants.{Found, FaultStands, Refused}
 use Rattle.ext_store.specs.declared.computed.Compute.{Compute}
+use Rattle.ext_store.specs.declared.computed.Compute.TheVariants as compute
+use Rattle.ext_store.specs.declared.computed.Compute.TheVariants.{Computed, Failed, FaultKept, FaultUnkept, Unkept}
+use Rattle.ext_model.specs.declared.look.Fault.{Fault}
 use Rattle.ext_tree.specs.Paths.{IsPathOf}
 use Rattle.ext_cells.specs.Lanes.{CellsId, Lane}
 use Rattle.ext_store.specs.Stores.{StoreId, StoreView, StoreLane, IsKeptBy, IsLaneOf, cell_in}
 use Rattle.ext_store.specs.Frames.{Frame}
-use Rattle.ext_store.specs.Computing.{ClaimsAndLooks, given_up_events, Fills, IsUnkept, ComputesFrom, Computes, without_factory, with_factory}
+use Rattle.ext_store.specs.Computing.{ClaimsAndLooks, given_up_events, Fills, Fails, IsUnkept, EndsFailed, HandsBack, IfComputed, IsFaultless, Uses, ComputesFrom, Computes, without_factory, with_factory}
 use Rattle.ext_shared.specs.Claiming.{ClaimsFrom, ClaimsMissing}
 use Rattle.ext_shared.proofs.Parts.{happens_second, claims_first}
 use Rattle.ext_shared.proofs.Claimed.{StoresNone, claim_acts}
-use Rattle.ext_store.proofs.Filling.{storing_none, filled_keeps}
+use Rattle.ext_store.proofs.Filling.{storing_none, filled_keeps, failed_keeps}
 use Rattle.ext_store.proofs.Frames.{frame_of, but_frame, frame_spares, frame_lane, frames_compose}
 
 -- the factory is handed back
@@ -32,6 +35,7 @@ pub unused_computes : (V : Type 0) {F : Type 0} (store : StoreView) (context : �
     → ClaimsFrom store context ancestors key a b (Err unused) → ComputesFrom store.id.cells.limits store context ancestors key a b (without_factory (with_factory {V = V} {F = F} factory unused))
 unfolding ComputesFrom
 unused_computes V store context ancestors key a b factory (Found at number) m = m
+unused_computes V store context ancestors key a b factory (FaultStands at number) m = m
 unused_computes V store context ancestors key a b factory (Refused why) m = m
 
 -- a result for the path, by the limits of the lane's own cells
@@ -95,12 +99,84 @@ module _ (store : StoreView) (context : ℕ) (ancestors : List ℕ) (key claim :
     ),
   )
 
+  pub keeps_fault : (number : ℕ) → Fails store.id.cells.limits [] claim b c number
+      → ClaimsAndLooks store.id.cells.limits store context ancestors key a c look.Absent × Fails store.id.cells.limits (Claim (cell_in store key context) ∷ []) (cell_in store key context) a c number
+  keeps_fault number f = (
+    looks (Keep number ∷ Fail claim number ∷ []) f.calls,
+    record {
+      calls = calls_compose limits a b c (Claim here ∷ []) (Keep number ∷ Fail here number ∷ []) one (subst (λ k. Calls limits b c (Keep number ∷ Fail k number ∷ [])) m.0 f.calls);
+      drawn = happens_second limits a b c (Claim here ∷ []) (Keep number ∷ Fail claim number ∷ []) one f.calls [] (Keep number) (Some number) f.drawn;
+    },
+  )
+
+-- ---- a factory that failed
+
+module _ {V : Type 0} (store : StoreView) (why : Fault) (claim : ℕ) (b c : StoreLane V) where
+  -- what comes of it is what the whole compute answers
+  pub ends_failed : (context : ℕ) (ancestors : List ℕ) (key : ℕ) (a : LaneView) → ClaimsFrom store context ancestors key a b.cells.view (Ok claim) → (r : Compute V (Unit {0})) → EndsFailed store why claim b c r
+      → ComputesFrom store.id.cells.limits store context ancestors key a c.cells.view r
+  unfolding ComputesFrom
+  ends_failed context ancestors key a m (Failed said) e = let f = fails store context ancestors key claim a b.cells.view c.cells.view m e.4 in (e.0, f.0, f.1)
+  ends_failed context ancestors key a m (FaultKept number) e = let f = keeps_fault store context ancestors key claim a b.cells.view c.cells.view m number e.3 in (e.0, f.0, f.1)
+  ends_failed context ancestors key a m (FaultUnkept said cause) e = let f = keeps_not store context ancestors key claim a b.cells.view c.cells.view m cause e.4 in (e.0, f.0, f.1)
+  ends_failed context ancestors key a m (Computed number) e = absurd e
+  ends_failed context ancestors key a m (compute.Found at number unused) e = absurd e
+  ends_failed context ancestors key a m (compute.FaultStands at number unused) e = absurd e
+  ends_failed context ancestors key a m (Unkept value cause) e = absurd e
+  ends_failed context ancestors key a m (compute.Refused refusal unused) e = absurd e
+
+  -- what the factory answered
+  pub failed_uses : (Gives : Result V Fault → Type 0) → Gives (Err why) → (r : Compute V (Unit {0})) → EndsFailed store why claim b c r → Uses Gives b c r
+  failed_uses Gives gave (Failed said) e = (subst (λ w. Gives (Err w)) (sym e.1) gave, e.2, e.3)
+  failed_uses Gives gave (FaultKept number) e = (why, gave, e.1, e.2)
+  failed_uses Gives gave (FaultUnkept said cause) e = (subst (λ w. Gives (Err w)) (sym e.1) gave, e.2, e.3)
+  failed_uses Gives gave (Computed number) e = absurd e
+  failed_uses Gives gave (compute.Found at number unused) e = absurd e
+  failed_uses Gives gave (compute.FaultStands at number unused) e = absurd e
+  failed_uses Gives gave (Unkept value cause) e = absurd e
+  failed_uses Gives gave (compute.Refused refusal unused) e = absurd e
+
+  -- no factory comes back
+  pub failed_back : {F : Type 0} (factory : F) (r : Compute V F) → EndsFailed store why claim b c (without_factory r) → HandsBack factory r
+  failed_back factory (Failed said) e = tt
+  failed_back factory (FaultKept number) e = tt
+  failed_back factory (FaultUnkept said cause) e = tt
+  failed_back factory (Computed number) e = tt
+  failed_back factory (compute.Found at number unused) e = absurd e
+  failed_back factory (compute.FaultStands at number unused) e = absurd e
+  failed_back factory (Unkept value cause) e = tt
+  failed_back factory (compute.Refused refusal unused) e = absurd e
+
+  pub failed_apart : {F : Type 0} (Fact : ℕ → Type 0) (r : Compute V F) → EndsFailed store why claim b c (without_factory r) → IfComputed r Fact
+  failed_apart Fact (Failed said) e = tt
+  failed_apart Fact (FaultKept number) e = tt
+  failed_apart Fact (FaultUnkept said cause) e = tt
+  failed_apart Fact (Computed number) e = absurd e
+  failed_apart Fact (compute.Found at number unused) e = tt
+  failed_apart Fact (compute.FaultStands at number unused) e = tt
+  failed_apart Fact (Unkept value cause) e = tt
+  failed_apart Fact (compute.Refused refusal unused) e = tt
+
+  off_on : {A : Type 0} (keeps : Bool) → IsTrue keeps → IsFalse keeps → A
+  off_on keeps on off = let e : true ≡ false = sym on ∙ off in absurd (cc e)
+
+  -- and a store that keeps no faults kept none
+  pub failed_faultless : {F : Type 0} → IsFalse store.id.cells.limits.keep_faults → (r : Compute V F) → EndsFailed store why claim b c (without_factory r) → IsFaultless r
+  failed_faultless off (Failed said) e = tt
+  failed_faultless off (FaultKept number) e = off_on store.id.cells.limits.keep_faults e.0 off
+  failed_faultless off (FaultUnkept said cause) e = off_on store.id.cells.limits.keep_faults e.0 off
+  failed_faultless off (Computed number) e = tt
+  failed_faultless off (compute.Found at number unused) e = tt
+  failed_faultless off (compute.FaultStands at number unused) e = absurd e
+  failed_faultless off (Unkept value cause) e = tt
+  failed_faultless off (compute.Refused refusal unused) e = tt
+
 -- ---- the frame of a claim
 
-module _ {V : Type 0} (id : StoreId) (inside a b : StoreLane V) (is : inside ≡ a) (mine : IsLaneOf id a) (cells : b.cells.cells ≡ inside.cells.cells) (same : b.known ≡ inside.known) where
+module _ {V : Type 0} (id : StoreId) (inside a b : StoreLane V) (is : inside ≡ a) (mine : IsLaneOf id a) (cells : b.cells.cells ≡ inside.cells.cells) (same : b.known ≡ inside.known) (also : b.faults ≡ inside.faults) where
   -- of calls that store nothing,
   pub storing_frame : (acts : List (Act ℕ)) → All StoresNone acts → Calls inside.cells.cells.limits inside.cells.view b.cells.view acts → Frame id [] a b
-  storing_frame acts none calls = frame_of id inside a b is mine cells same acts calls (storing_none inside.cells.cells.limits inside b acts none calls same)
+  storing_frame acts none calls = frame_of id inside a b is mine cells same also acts calls (storing_none inside.cells.cells.limits inside b acts none calls same)
 
   -- by the limits of the store's cells,
   pub storing_there : (store : StoreView) → store.id ≡ id → (acts : List (Act ℕ)) → All StoresNone acts → Calls store.id.cells.limits inside.cells.view b.cells.view acts → Frame id [] a b
@@ -115,9 +191,17 @@ module _ {V : Type 0} (id : StoreId) (inside a b : StoreLane V) (is : inside ≡
       storing_there store own made.0 made.1 made.2
 
 -- A value was kept, which has a frame, and then its number was stored in a claimed cell: it is none that was kept before
-pub fill_frame : {V : Type 0} (id : StoreId) (a inside b c : StoreLane V) → inside ≡ b → Frame id [] a b → c.cells.cells ≡ inside.cells.cells → c.known ≡ inside.known
+pub fill_frame : {V : Type 0} (id : StoreId) (a inside b c : StoreLane V) → inside ≡ b → Frame id [] a b → c.cells.cells ≡ inside.cells.cells → c.known ≡ inside.known → c.faults ≡ inside.faults
     → (at number : ℕ) → Calls inside.cells.cells.limits inside.cells.view c.cells.view (Fill at number ∷ []) → ((m : ℕ) → IsKeptBy a m → m ≢ number) → Frame id [] a c
-fill_frame id a inside b c is one cells same at number calls apart =
+fill_frame id a inside b c is one cells same also at number calls apart =
     frame_spares id number a c
-    (frames_compose id [] (number ∷ []) a b c one (but_frame id inside b c is (frame_lane id [] a b one) cells same number (Fill at number ∷ []) calls (filled_keeps inside.cells.cells.limits inside c at number calls same)))
+    (frames_compose id [] (number ∷ []) a b c one (but_frame id inside b c is (frame_lane id [] a b one) cells same also number (Fill at number ∷ []) calls (filled_keeps inside.cells.cells.limits inside c at number calls same)))
+    apart
+
+-- and the same of a fault
+pub fail_frame : {V : Type 0} (id : StoreId) (a inside b c : StoreLane V) → inside ≡ b → Frame id [] a b → c.cells.cells ≡ inside.cells.cells → c.known ≡ inside.known → c.faults ≡ inside.faults
+    → (at number : ℕ) → Calls inside.cells.cells.limits inside.cells.view c.cells.view (Fail at number ∷ []) → ((m : ℕ) → IsKeptBy a m → m ≢ number) → Frame id [] a c
+fail_frame id a inside b c is one cells same also at number calls apart =
+    frame_spares id number a c
+    (frames_compose id [] (number ∷ []) a b c one (but_frame id inside b c is (frame_lane id [] a b one) cells same also number (Fail at number ∷ []) calls (failed_keeps inside.cells.cells.limits inside c at number calls same)))
     apart

@@ -3,7 +3,7 @@ use Rattle.std.proofs.Common.{◌≡◌, ◌≢◌, ℕ, List, [], ◌∷◌, fa
 use Rattle.std.specs.Prelude.{Option, None, Some, All}
 use Rattle.std.proofs.lemmas.List.Elements.{All-nil, All-cons}
 use Rattle.ext_model.specs.declared.event.Act.{Act}
-use Rattle.ext_model.specs.declared.event.Act.TheVariants.{Keep, Fill, Abandon}
+use Rattle.ext_model.specs.declared.event.Act.TheVariants.{Keep, Fill, Fail, Abandon}
 use Rattle.ext_model.specs.Events as events
 use Rattle.ext_model.specs.Events.{is_on}
 use Rattle.ext_model.specs.History.{Limits, stored_number, reply_after}
@@ -19,7 +19,7 @@ use Rattle.ext_store.specs.declared.fault.KeepFault.TheVariants as fault
 use Rattle.ext_store.specs.Stores.{StoreView, StoreLane, IsKeptBy, StillKeeps}
 use Rattle.ext_store.specs.Calls as calls
 use Rattle.ext_store.specs.Calls.{KeepFails}
-use Rattle.ext_store.specs.Computing.{Fills, IsUnkept}
+use Rattle.ext_store.specs.Computing.{Fills, Fails, IsUnkept}
 use Rattle.ext_shared.proofs.Claimed.{StoresNone}
 use Rattle.ext_store.proofs.Keeping.{one_kept}
 use Rattle.ext_shared.proofs.Parts.{happens_first, happens_alone}
@@ -36,6 +36,13 @@ module _ {V : Type 0} (limits : Limits) (before after : StoreLane V) where
   pub filled_keeps : (at stored : ℕ) → Calls limits before.cells.view after.cells.view (Fill at stored ∷ []) → after.known ≡ before.known → (number : ℕ) → number ≢ stored → IsKeptBy before number → IsKeptBy after number
   filled_keeps at stored one same number other kept =
       one_kept limits before after (Fill at stored ∷ []) number one (All-cons (λ x. stored_number x ≡ Some number → ⊥) (Fill at stored) [] (λ e. other (one_number e)) (All-nil _)) (ap (λ k. known_at k number) same) kept
+    where
+      one_number : (let x : Option ℕ = Some stored in x ≡ Some number) → number ≡ stored
+      one_number e = cc e
+
+  pub failed_keeps : (at stored : ℕ) → Calls limits before.cells.view after.cells.view (Fail at stored ∷ []) → after.known ≡ before.known → (number : ℕ) → number ≢ stored → IsKeptBy before number → IsKeptBy after number
+  failed_keeps at stored one same number other kept =
+      one_kept limits before after (Fail at stored ∷ []) number one (All-cons (λ x. stored_number x ≡ Some number → ⊥) (Fail at stored) [] (λ e. other (one_number e)) (All-nil _)) (ap (λ k. known_at k number) same) kept
     where
       one_number : (let x : Option ℕ = Some stored in x ≡ Some number) → number ≡ stored
       one_number e = cc e
@@ -72,6 +79,13 @@ module _ (store : StoreView) (a b : Lane) (is : a.cells ≡ store.id.cells) (cel
     fills number h two = let one = drew number h in record {
       calls = calls_compose limits a.view b.view c.view (Keep number ∷ []) (Fill cell number ∷ []) one.calls two;
       drawn = happens_first limits a.view b.view c.view (Keep number ∷ []) (Fill cell number ∷ []) one.calls two [] (Keep number) (Some number) (happens_alone limits a.view b.view (Keep number) (Some number) one);
+    }
+
+    pub fails_with : (number : ℕ) → calls.HoldsAtPoint a b (Keep number ∷ []) (λ p. calls.reply_to a (Keep number) p ≡ events.Happens (Some number))
+        → Calls store.id.cells.limits b.view c.view (Fail cell number ∷ []) → Fails store.id.cells.limits [] cell a.view c.view number
+    fails_with number h two = let one = drew number h in record {
+      calls = calls_compose limits a.view b.view c.view (Keep number ∷ []) (Fail cell number ∷ []) one.calls two;
+      drawn = happens_first limits a.view b.view c.view (Keep number ∷ []) (Fail cell number ∷ []) one.calls two [] (Keep number) (Some number) (happens_alone limits a.view b.view (Keep number) (Some number) one);
     }
 
     pub unkept : (why : KeepFault) → KeepFails store a b why → Calls store.id.cells.limits b.view c.view (Abandon cell ∷ []) → IsUnkept store.id.cells.limits store.tries [] cell a.view c.view why

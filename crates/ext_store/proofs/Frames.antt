@@ -32,7 +32,7 @@ makes_compose limits a b c xs ys (inr one) (inr two) = (xs ++ ys, inr (calls_com
 module _ {V : Type 0} (id : StoreId) where
   pub no_frame : (lane : StoreLane V) → IsLaneOf id lane → Frame id [] lane lane
   unfolding Frame
-  no_frame lane mine = record { lane = mine; steps = ([], inl (refl, refl)); known = λ number value known. known; kept = λ number other kept. kept }
+  no_frame lane mine = record { lane = mine; steps = ([], inl (refl, refl)); known = λ number value known. known; faults = λ number value known. known; kept = λ number other kept. kept }
 
   pub frame_keeps : (a b : StoreLane V) → Frame id [] a b → StillKeeps a b
   unfolding Frame
@@ -45,6 +45,7 @@ module _ {V : Type 0} (id : StoreId) where
     lane = two.lane;
     steps = makes_compose id.cells.limits a.cells b.cells c.cells one.steps.0 two.steps.0 one.steps.1 two.steps.1;
     known = λ number value known. two.known number value (one.known number value known);
+    faults = λ number value known. two.faults number value (one.faults number value known);
     kept = λ number other kept. two.kept number (λ in_second. other (Contains-append_right first second number in_second)) (one.kept number (λ in_first. other (Contains-append_left first second number in_first)) kept);
   }
 
@@ -57,14 +58,14 @@ module _ {V : Type 0} (id : StoreId) where
 
   -- ---- the frame of one call
 
-  module _ (a b : StoreLane V) (before : IsLaneOf id a) (after : IsLaneOf id b) (known : KeepsKnown a.known b.known) where
+  module _ (a b : StoreLane V) (before : IsLaneOf id a) (after : IsLaneOf id b) (known : KeepsKnown a.known b.known) (faults : KeepsKnown a.faults b.faults) where
     steps_of : (acts : List (Act ℕ)) → Calls a.cells.cells.limits a.cells.view b.cells.view acts → (acts : List (Act ℕ)) × Makes id.cells.limits a.cells b.cells acts
     steps_of acts calls = (acts, inr (subst (λ (z : CellsId). Calls z.limits a.cells.view b.cells.view acts) before.cells calls))
 
     -- of one that made these events,
     pub framed : (acts : List (Act ℕ)) → Calls a.cells.cells.limits a.cells.view b.cells.view acts → StillKeeps a b → Frame id [] a b
     unfolding Frame
-    framed acts calls keeps = record { lane = after; steps = steps_of acts calls; known = known; kept = λ number other kept. keeps number kept }
+    framed acts calls keeps = record { lane = after; steps = steps_of acts calls; known = known; faults = faults; kept = λ number other kept. keeps number kept }
 
     -- and of one that stored a number
     pub framed_but : (stored : ℕ) (acts : List (Act ℕ)) → Calls a.cells.cells.limits a.cells.view b.cells.view acts → StillKeepsBut stored a b → Frame id (stored ∷ []) a b
@@ -73,13 +74,14 @@ module _ {V : Type 0} (id : StoreId) where
       lane = after;
       steps = steps_of acts calls;
       known = known;
+      faults = faults;
       kept = λ number other kept. keeps number (λ same. other (subst (Contains (stored ∷ [])) (sym same) (Contains-push [] stored))) kept;
     }
 
     -- and of one that made no step on the cells
     pub framed_still : b.cells ≡ a.cells → StillKeeps a b → Frame id [] a b
     unfolding Frame
-    framed_still still keeps = record { lane = after; steps = ([], inl (still, refl)); known = known; kept = λ number other kept. keeps number kept }
+    framed_still still keeps = record { lane = after; steps = ([], inl (still, refl)); known = known; faults = faults; kept = λ number other kept. keeps number kept }
 
 -- a frame says that the lane is of the store
 pub frame_lane : {V : Type 0} (id : StoreId) (stored : List ℕ) (a b : StoreLane V) → Frame id stored a b → IsLaneOf id b
@@ -98,6 +100,7 @@ frame_spares id stored a b frame apart = record {
   lane = frame.lane;
   steps = frame.steps;
   known = frame.known;
+  faults = frame.faults;
   kept = λ number other kept. frame.kept number (λ in_it. elim (Contains-push_cases [] stored number in_it) [ inl at ↦ nowhere number at | inr same ↦ apart number kept (sym same) ]) kept;
 }
 
@@ -107,18 +110,21 @@ module _ {V : Type 0} (id : StoreId) (inside a b : StoreLane V) (is : inside ≡
   own = subst (IsLaneOf id) (sym is) before
 
   -- that knows what it knew,
-  module _ (same : b.known ≡ inside.known) where
+  module _ (same : b.known ≡ inside.known) (also : b.faults ≡ inside.faults) where
     abbrev after : IsLaneOf id b
-    after = record { cells = cells ∙ own.cells; places = ap (λ l. places_of l) same ∙ own.places }
+    after = record { cells = cells ∙ own.cells; places = ap (λ l. places_of l) same ∙ own.places; fault_places = ap (λ l. places_of l) also ∙ own.fault_places }
 
     knows : KeepsKnown inside.known b.known
     knows = λ number value known. ap (λ l. known_at l number) same ∙ known
 
+    knows_faults : KeepsKnown inside.faults b.faults
+    knows_faults = λ number value known. ap (λ l. known_at l number) also ∙ known
+
     pub frame_of : (acts : List (Act ℕ)) → Calls inside.cells.cells.limits inside.cells.view b.cells.view acts → StillKeeps inside b → Frame id [] a b
-    frame_of acts calls keeps = subst (λ l. Frame id [] l b) is (framed id inside b own after knows acts calls keeps)
+    frame_of acts calls keeps = subst (λ l. Frame id [] l b) is (framed id inside b own after knows knows_faults acts calls keeps)
 
     pub but_frame : (stored : ℕ) (acts : List (Act ℕ)) → Calls inside.cells.cells.limits inside.cells.view b.cells.view acts → StillKeepsBut stored inside b → Frame id (stored ∷ []) a b
-    but_frame stored acts calls keeps = subst (λ l. Frame id (stored ∷ []) l b) is (framed_but id inside b own after knows stored acts calls keeps)
+    but_frame stored acts calls keeps = subst (λ l. Frame id (stored ∷ []) l b) is (framed_but id inside b own after knows knows_faults stored acts calls keeps)
 
     -- and made no event,
     pub quiet_frame : Calls inside.cells.cells.limits inside.cells.view b.cells.view [] → Frame id [] a b
@@ -134,15 +140,15 @@ module _ {V : Type 0} (id : StoreId) (inside a b : StoreLane V) (is : inside ≡
 
   -- that drew a number, whose value it knows now or not,
   module _ (after : IsLaneOf id b) (drawn : ℕ) (calls : Calls inside.cells.cells.limits inside.cells.view b.cells.view (Keep drawn ∷ [])) where
-    pub unplaced_frame : b.known ≡ inside.known → Frame id [] a b
-    unplaced_frame same = frame_of same (Keep drawn ∷ []) calls (unplaced_keeps inside.cells.cells.limits inside b drawn calls same)
+    pub unplaced_frame : b.known ≡ inside.known → b.faults ≡ inside.faults → Frame id [] a b
+    unplaced_frame same also = frame_of same also (Keep drawn ∷ []) calls (unplaced_keeps inside.cells.cells.limits inside b drawn calls same)
 
-    pub learnt_frame : (value : V) → KeepsKnown inside.known b.known → Learns inside.known b.known drawn value → known_at inside.known drawn ≡ None → Frame id [] a b
-    learnt_frame value knows learns free = subst (λ l. Frame id [] l b) is (framed id inside b own after knows (Keep drawn ∷ []) calls (learnt_keeps inside.cells.cells.limits inside b drawn value calls learns free))
+    pub learnt_frame : (value : V) → KeepsKnown inside.known b.known → KeepsKnown inside.faults b.faults → Learns inside.known b.known drawn value → known_at inside.known drawn ≡ None → Frame id [] a b
+    learnt_frame value knows knows_faults learns free = subst (λ l. Frame id [] l b) is (framed id inside b own after knows knows_faults (Keep drawn ∷ []) calls (learnt_keeps inside.cells.cells.limits inside b drawn value calls learns free))
 
   -- or made no step at all
-  pub still_frame : b.cells ≡ inside.cells → IsLaneOf id b → KeepsKnown inside.known b.known → StillKeeps inside b → Frame id [] a b
-  still_frame still after knows keeps = subst (λ l. Frame id [] l b) is (framed_still id inside b own after knows still keeps)
+  pub still_frame : b.cells ≡ inside.cells → IsLaneOf id b → KeepsKnown inside.known b.known → KeepsKnown inside.faults b.faults → StillKeeps inside b → Frame id [] a b
+  still_frame still after knows knows_faults keeps = subst (λ l. Frame id [] l b) is (framed_still id inside b own after knows knows_faults still keeps)
 
 -- ---- one history
 

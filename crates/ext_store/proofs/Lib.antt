@@ -9,3 +9,4 @@ pub mod Unused
 pub mod Filling
 pub mod Composing
 pub mod Waited
+pub mod Faulting

@@ -26,6 +26,7 @@ pub record KeepParts {V : Type 0} (store : StoreView) (value : V) (before after 
   pub answer : MatchResult r (KeepsAs value before after) (λ e. KeepsNothing store value before after e.0 e.1)
   pub lane : IsLaneOf store.id after
   pub known : KeepsKnown before.known after.known
+  pub faults : after.faults ≡ before.faults
   pub kept : StillKeeps before after
   pub apart : IfOk r (λ number. (m : ℕ) → IsKeptBy before m → m ≢ number)
   pub frame : Frame store.id [] before after
@@ -37,6 +38,7 @@ no_memory store value back lane mine handed = record {
   answer = record { handed_back = handed; known = refl; fails = refl };
   lane = mine;
   known = λ number v known. known;
+  faults = refl;
   kept = λ number kept. kept;
   apart = tt;
   frame = no_frame store.id lane mine;
@@ -44,10 +46,10 @@ no_memory store value back lane mine handed = record {
 
 module _ {V : Type 0} (store : StoreView) (tries : ℕ) (same : tries ≡ store.tries) (value : V) (a : StoreLane V) (mine : IsLaneOf store.id a) (after : Lane) (is : after.cells ≡ a.cells.cells) (notes : List (Known V)) where
   abbrev b : StoreLane V
-  b = record { cells = after; known = notes }
+  b = record { cells = after; known = notes; faults = a.faults }
 
   own : places_of notes ≡ places_of a.known → IsLaneOf store.id b
-  own places = record { cells = is ∙ mine.cells; places = places ∙ mine.places }
+  own places = record { cells = is ∙ mine.cells; places = places ∙ mine.places; fault_places = mine.fault_places }
 
   placed : (number : ℕ) → cells.Answers tries a.cells after cells.number_acts (cells.number_reply a.cells) (Ok number) → MayStoreNow after.view number → IsPlaced value a.known notes number → KeepParts store value a b (Ok number)
   placed number answers storable is_placed =
@@ -58,9 +60,10 @@ module _ {V : Type 0} (store : StoreView) (tries : ℕ) (same : tries ≡ store.
         answer = record { drawn = drawn; learnt = is_placed.learnt; kept = record { storable = storable; value = value; known = is_placed.learnt.learnt } };
         lane = mine_still;
         known = is_placed.known;
+        faults = refl;
         kept = keeps;
         apart = λ m kept at. not_both _ kept.value (ap (λ n. known_at a.known n) (sym at) ∙ kept.known) is_placed.free;
-        frame = framed store.id a b mine mine_still is_placed.known (Keep number ∷ []) drawn.calls keeps;
+        frame = framed store.id a b mine mine_still is_placed.known (λ number v known. known) (Keep number ∷ []) drawn.calls keeps;
       }
 
   module _ (back : V) (handed : back ≡ value) (still : notes ≡ a.known) where
@@ -72,9 +75,10 @@ module _ {V : Type 0} (store : StoreView) (tries : ℕ) (same : tries ≡ store.
           answer = record { handed_back = handed; known = still; fails = fails };
           lane = mine_still;
           known = knows;
+          faults = refl;
           kept = keeps;
           apart = tt;
-          frame = framed store.id a b mine mine_still knows acts calls keeps;
+          frame = framed store.id a b mine mine_still knows (λ number v known. known) acts calls keeps;
         }
 
     unplaced : (number : ℕ) → cells.Answers tries a.cells after cells.number_acts (cells.number_reply a.cells) (Ok number) → KeepParts store value a b (Err (back, Unplaced))
@@ -101,9 +105,9 @@ module _ {V : Type 0} (store : StoreView) (tries : ℕ) (same : tries ≡ store.
 pub kept_by_drawn : {V : Type 0} (store : StoreView) (tries : ℕ) → tries ≡ store.tries → (value : V) (inside before : StoreLane V) → inside ≡ before → IsLaneOf store.id before
     → (after : Lane) → after.cells ≡ inside.cells.cells → (notes : List (Known V)) (drawn : Result ℕ CellRefusal)
     → cells.Answers tries inside.cells after cells.number_acts (cells.number_reply inside.cells) drawn → IfOk drawn (MayStoreNow after.view)
-    → (r : Result ℕ (V × KeepFault)) → PlacesDrawn value drawn inside.known notes r → KeepParts store value before (record { cells = after; known = notes }) r
+    → (r : Result ℕ (V × KeepFault)) → PlacesDrawn value drawn inside.known notes r → KeepParts store value before (record { cells = after; known = notes; faults = inside.faults }) r
 kept_by_drawn store tries same value inside before is mine after cells notes drawn answers storable r p =
-    subst (λ l. KeepParts store value l (record { cells = after; known = notes }) r) is
+    subst (λ l. KeepParts store value l (record { cells = after; known = notes; faults = inside.faults }) r) is
     (by_drawn store tries same value inside (subst (IsLaneOf store.id) (sym is) mine) after cells notes drawn answers storable r p)
 
 -- what the drawing of a number says is what the placing of it asks for

@@ -26,10 +26,10 @@ seal_acts store context key before after (Err refusal.UnknownKey) never = absurd
 seal_acts store context key before after (Err refusal.Exhausted) never = absurd never
 
 -- so it has a frame
-pub seal_frame : {V : Type 0} (id : StoreId) (store : StoreView) (inside a b : StoreLane V) → inside ≡ a → IsLaneOf id a → b.cells.cells ≡ inside.cells.cells → b.known ≡ inside.known
+pub seal_frame : {V : Type 0} (id : StoreId) (store : StoreView) (inside a b : StoreLane V) → inside ≡ a → IsLaneOf id a → b.cells.cells ≡ inside.cells.cells → b.known ≡ inside.known → b.faults ≡ inside.faults
     → (context key : ℕ) (r : Result (Option ℕ) Refusal) → SealsKey store context key inside.cells b.cells r → Frame id [] a b
-seal_frame id store inside a b is mine cells same context key r sealed = elim (seal_acts store context key inside.cells b.cells r sealed) [
-  | inl made ↦ frame_of id inside a b is mine cells same (Seal (cell_in store key context) ∷ []) made
+seal_frame id store inside a b is mine cells same also context key r sealed = elim (seal_acts store context key inside.cells b.cells r sealed) [
+  | inl made ↦ frame_of id inside a b is mine cells same also (Seal (cell_in store key context) ∷ []) made
       (λ number kept. one_kept inside.cells.cells.limits inside b (Seal (cell_in store key context) ∷ []) number made (All-cons (StoresNot number) (Seal (cell_in store key context)) [] (λ e. cc e) (All-nil (StoresNot number))) (ap (λ l. known_at l number) same) kept)
-  | inr found ↦ quiet_frame id inside a b is mine cells same found
+  | inr found ↦ quiet_frame id inside a b is mine cells same also found
 ]

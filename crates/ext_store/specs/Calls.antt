@@ -2,6 +2,7 @@
 -- Javadoc `ExtensionContext.Store`: `get`, `put` and `remove`, which `Calls` of ext_shared has; numbers are own rules.
 use Rattle.std.specs.Prelude.{ℕ, ◌≡◌, [], ◌∷◌, Some}
 use Rattle.ext_model.specs.declared.event.Act.TheVariants.{Keep}
+use Rattle.ext_model.specs.declared.look.Fault.{Fault}
 use Rattle.ext_model.specs.Events as events
 use Rattle.ext_model.specs.Calls as model
 use Rattle.ext_values.specs.Known.{Learns}
@@ -30,3 +31,15 @@ pub record KeepsNothing {V : Type 0} (store : StoreView) (value : V) (before aft
   pub handed_back : back ≡ value
   pub known : after.known ≡ before.known
   pub fails : KeepFails store before.cells after.cells why
+
+-- the number that was drawn at a point of the call has the fault that was handed in, and may be kept in a cell
+pub record KeepsFault {V : Type 0} (why : Fault) (before after : StoreLane V) (number : ℕ) : Type 0 where
+  pub drawn : HoldsAtPoint before.cells after.cells (Keep number ∷ []) (λ p. reply_to before.cells (Keep number) p ≡ events.Happens (Some number))
+  pub learnt : Learns before.faults after.faults number why
+  pub storable : model.MayStoreNow after.cells.view number
+
+-- the fault is handed back, and the lane knows what it knew
+pub record KeepsNoFault {V : Type 0} (store : StoreView) (why : Fault) (before after : StoreLane V) (back : Fault) (cause : KeepFault) : Type 0 where
+  pub handed_back : back ≡ why
+  pub faults : after.faults ≡ before.faults
+  pub fails : KeepFails store before.cells after.cells cause

@@ -3,9 +3,9 @@
 -- context's cell is claimed first and the ancestors are looked at again, and what is refused, are own rules. `Claiming` of ext_shared has the words for that.
 -- `before` and `after` are the lane before and after the call; `first` are the events that the call made before the part that a definition speaks of. `Computes` and
 -- `Uses` are for a result without its factory, so that they can be said where the factory's type is not known.
-use Rattle.std.specs.Prelude.{ℕ, ◌≡◌, List, [], ◌∷◌, ◌++◌, Some, Result, Ok, Err}
+use Rattle.std.specs.Prelude.{ℕ, ◌≡◌, IsFalse, IsTrue, List, [], ◌∷◌, ◌++◌, Some, Result, Ok, Err}
 use Rattle.ext_model.specs.declared.event.Act.{Act}
-use Rattle.ext_model.specs.declared.event.Act.TheVariants.{Keep, Claim, Fill, Abandon}
+use Rattle.ext_model.specs.declared.event.Act.TheVariants.{Keep, Claim, Fill, Fail, Abandon}
 use Rattle.ext_model.specs.declared.look.Look.TheVariants as look
 use Rattle.ext_model.specs.declared.look.Fault.{Fault}
 use Rattle.ext_model.specs.Events as events
@@ -13,15 +13,15 @@ use Rattle.ext_model.specs.History.{History, Limits, reply_after}
 use Rattle.ext_model.specs.Views.{LaneView, IsPointAfter}
 use Rattle.ext_model.specs.Calls.{Calls, IsCrowded}
 use Rattle.ext_tree.specs.Paths.{IsPathOf}
-use Rattle.ext_values.specs.Known.{Known, Learns}
+use Rattle.ext_values.specs.Known.{Learns}
 use Rattle.ext_cells.specs.Lanes.{Lane}
 use Rattle.ext_shared.specs.declared.claim.Unused.{Unused}
 use Rattle.ext_shared.specs.declared.claim.Unused.TheVariants as unused
 use Rattle.ext_store.specs.declared.fault.KeepFault.{KeepFault}
 use Rattle.ext_store.specs.declared.fault.KeepFault.TheVariants as fault
 use Rattle.ext_store.specs.declared.computed.Compute.{Compute}
-use Rattle.ext_store.specs.declared.computed.Compute.TheVariants.{Computed, Found, Failed, Unkept, Refused}
-use Rattle.ext_store.specs.Stores.{StoreView, cell_in}
+use Rattle.ext_store.specs.declared.computed.Compute.TheVariants.{Computed, Found, Failed, FaultKept, FaultUnkept, FaultStands, Unkept, Refused}
+use Rattle.ext_store.specs.Stores.{StoreView, StoreLane, cell_in}
 pub use Rattle.ext_shared.specs.Claiming.{HappensAfter, LooksFirst, Claims, ClaimsAndLooks, given_up_events}
 unfoldable pub use Rattle.ext_shared.specs.Claiming.{Meets, IsRefused}
 
@@ -46,6 +46,31 @@ IsUnkept limits tries first cell before after fault.Contended = GivesUp limits f
 IsUnkept limits tries first cell before after fault.Unplaced =
     (number : ℕ) × Calls limits before after (first ++ Keep number ∷ Abandon cell ∷ []) × HappensAfter limits first before after (Keep number) (Some number)
 
+-- ---- what comes of the factory's fault, where faults are kept
+
+-- a number is drawn for it, and kept in the claimed cell
+pub record Fails (limits : Limits) (first : List (Act ℕ)) (cell : ℕ) (before after : LaneView) (number : ℕ) : Type 0 where
+  pub calls : Calls limits before after (first ++ Keep number ∷ Fail cell number ∷ [])
+  pub drawn : HappensAfter limits first before after (Keep number) (Some number)
+
+-- How the claim of a factory ends that failed with this fault: where faults are not kept it is given up; where they are the fault is kept under a number, or comes
+-- back with why it is not
+abbrev pub EndsFailed : {V : Type 0} → StoreView → Fault → ℕ → StoreLane V → StoreLane V → Compute V (Unit {0}) → Type 0
+EndsFailed store why cell before after (Failed said) =
+    IsFalse store.id.cells.limits.keep_faults × (said ≡ why) × (after.known ≡ before.known) × (after.faults ≡ before.faults)
+    × GivesUp store.id.cells.limits [] cell before.cells.view after.cells.view
+EndsFailed store why cell before after (FaultKept number) =
+    IsTrue store.id.cells.limits.keep_faults × (after.known ≡ before.known) × Learns before.faults after.faults number why
+    × Fails store.id.cells.limits [] cell before.cells.view after.cells.view number
+EndsFailed store why cell before after (FaultUnkept said cause) =
+    IsTrue store.id.cells.limits.keep_faults × (said ≡ why) × (after.known ≡ before.known) × (after.faults ≡ before.faults)
+    × IsUnkept store.id.cells.limits store.tries [] cell before.cells.view after.cells.view cause
+EndsFailed store why cell before after (Computed number) = ⊥
+EndsFailed store why cell before after (Found at number unused) = ⊥
+EndsFailed store why cell before after (FaultStands at number unused) = ⊥
+EndsFailed store why cell before after (Unkept value cause) = ⊥
+EndsFailed store why cell before after (Refused refusal unused) = ⊥
+
 -- ---- compute
 
 -- what a compute answers, without the factory that it hands back
@@ -53,12 +78,16 @@ abbrev pub without_factory : {V F : Type 0} → Compute V F → Compute V (Unit 
 without_factory (Computed number) = Computed number
 without_factory (Found at number unused) = Found at number tt
 without_factory (Failed why) = Failed why
+without_factory (FaultKept number) = FaultKept number
+without_factory (FaultUnkept why cause) = FaultUnkept why cause
+without_factory (FaultStands at number unused) = FaultStands at number tt
 without_factory (Unkept value cause) = Unkept value cause
 without_factory (Refused why unused) = Refused why tt
 
 -- the result that hands the factory back
 abbrev pub with_factory : {V F : Type 0} → F → Unused → Compute V F
 with_factory factory (unused.Found at number) = Found at number factory
+with_factory factory (unused.FaultStands at number) = FaultStands at number factory
 with_factory factory (unused.Refused why) = Refused why factory
 
 -- the factory comes back as it was, where it was not called
@@ -66,6 +95,9 @@ abbrev pub HandsBack : {V F : Type 0} → F → Compute V F → Type 0
 HandsBack factory (Computed number) = Unit {0}
 HandsBack factory (Found at number unused) = unused ≡ factory
 HandsBack factory (Failed why) = Unit {0}
+HandsBack factory (FaultKept number) = Unit {0}
+HandsBack factory (FaultUnkept why cause) = Unit {0}
+HandsBack factory (FaultStands at number unused) = unused ≡ factory
 HandsBack factory (Unkept value cause) = Unit {0}
 HandsBack factory (Refused why unused) = unused ≡ factory
 
@@ -76,7 +108,14 @@ ComputesFrom limits store context ancestors key before after (Computed number) =
     × Fills limits (Claim (cell_in store key context) ∷ []) (cell_in store key context) before after number
 ComputesFrom limits store context ancestors key before after (Found at number unused) = Meets limits store context ancestors key before after (look.Found at number)
 ComputesFrom limits store context ancestors key before after (Failed why) =
-    ClaimsAndLooks limits store context ancestors key before after look.Absent × Calls limits before after (given_up_events store context key)
+    IsFalse limits.keep_faults × ClaimsAndLooks limits store context ancestors key before after look.Absent × Calls limits before after (given_up_events store context key)
+ComputesFrom limits store context ancestors key before after (FaultKept number) =
+    IsTrue limits.keep_faults × ClaimsAndLooks limits store context ancestors key before after look.Absent
+    × Fails limits (Claim (cell_in store key context) ∷ []) (cell_in store key context) before after number
+ComputesFrom limits store context ancestors key before after (FaultUnkept why cause) =
+    IsTrue limits.keep_faults × ClaimsAndLooks limits store context ancestors key before after look.Absent
+    × IsUnkept limits store.tries (Claim (cell_in store key context) ∷ []) (cell_in store key context) before after cause
+ComputesFrom limits store context ancestors key before after (FaultStands at number unused) = Meets limits store context ancestors key before after (look.Fault at number)
 ComputesFrom limits store context ancestors key before after (Unkept value cause) =
     ClaimsAndLooks limits store context ancestors key before after look.Absent
     × IsUnkept limits store.tries (Claim (cell_in store key context) ∷ []) (cell_in store key context) before after cause
@@ -87,18 +126,35 @@ unfoldable pub Computes : {V : Type 0} → StoreView → ℕ → ℕ → Lane �
 Computes store context key before after result =
     (ancestors : List ℕ) × IsPathOf store.tree context (context ∷ ancestors) × ComputesFrom before.cells.limits store context ancestors key before.view after.view result
 
--- What the factory answered, where it was called, and what the lane knows of values. `Gives` says what the factory may answer for the key
-abbrev pub Uses : {V : Type 0} → (Result V Fault → Type 0) → List (Known V) → List (Known V) → Compute V (Unit {0}) → Type 0
-Uses Gives before after (Computed number) = (value : _) × Gives (Ok value) × Learns before after number value
-Uses Gives before after (Found at number unused) = after ≡ before
-Uses Gives before after (Failed why) = Gives (Err why) × (after ≡ before)
-Uses Gives before after (Unkept value cause) = Gives (Ok value) × (after ≡ before)
-Uses Gives before after (Refused why unused) = after ≡ before
+-- What the factory answered, where it was called, and what the lane knows of values and of faults. `Gives` says what the factory may answer for the key
+abbrev pub Uses : {V : Type 0} → (Result V Fault → Type 0) → StoreLane V → StoreLane V → Compute V (Unit {0}) → Type 0
+Uses Gives before after (Computed number) = (value : _) × Gives (Ok value) × Learns before.known after.known number value × (after.faults ≡ before.faults)
+Uses Gives before after (Found at number unused) = (after.known ≡ before.known) × (after.faults ≡ before.faults)
+Uses Gives before after (Failed why) = Gives (Err why) × (after.known ≡ before.known) × (after.faults ≡ before.faults)
+Uses Gives before after (FaultKept number) = (why : Fault) × Gives (Err why) × (after.known ≡ before.known) × Learns before.faults after.faults number why
+Uses Gives before after (FaultUnkept why cause) = Gives (Err why) × (after.known ≡ before.known) × (after.faults ≡ before.faults)
+Uses Gives before after (FaultStands at number unused) = (after.known ≡ before.known) × (after.faults ≡ before.faults)
+Uses Gives before after (Unkept value cause) = Gives (Ok value) × (after.known ≡ before.known) × (after.faults ≡ before.faults)
+Uses Gives before after (Refused why unused) = (after.known ≡ before.known) × (after.faults ≡ before.faults)
+
+-- what a store answers that keeps no faults
+abbrev pub IsFaultless : {V F : Type 0} → Compute V F → Type 0
+IsFaultless (Computed number) = Unit {0}
+IsFaultless (Found at number unused) = Unit {0}
+IsFaultless (Failed why) = Unit {0}
+IsFaultless (FaultKept number) = ⊥
+IsFaultless (FaultUnkept why cause) = ⊥
+IsFaultless (FaultStands at number unused) = ⊥
+IsFaultless (Unkept value cause) = Unit {0}
+IsFaultless (Refused why unused) = Unit {0}
 
 -- a fact of the number, where the value was computed and stored under one
 abbrev pub IfComputed : {V F : Type 0} → Compute V F → (ℕ → Type 0) → Type 0
 IfComputed (Computed number) Fact = Fact number
 IfComputed (Found at number unused) Fact = Unit {0}
 IfComputed (Failed why) Fact = Unit {0}
+IfComputed (FaultKept number) Fact = Unit {0}
+IfComputed (FaultUnkept why cause) Fact = Unit {0}
+IfComputed (FaultStands at number unused) Fact = Unit {0}
 IfComputed (Unkept value cause) Fact = Unit {0}
 IfComputed (Refused why unused) Fact = Unit {0}

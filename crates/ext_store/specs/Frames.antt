@@ -18,8 +18,9 @@ pub record FrameParts {V : Type 0} (id : StoreId) (stored : List ℕ) (before af
   pub lane : IsLaneOf id after
   -- it made some events, and has seen more of the one history
   pub steps : (acts : List (Act ℕ)) × Makes id.cells.limits before.cells after.cells acts
-  -- it knows what it knew
+  -- it knows what it knew, of values and of faults
   pub known : KeepsKnown before.known after.known
+  pub faults : KeepsKnown before.faults after.faults
   -- it keeps what it kept, but for what was stored
   pub kept : (number : ℕ) → ¬ Contains stored number → IsKeptBy before number → IsKeptBy after number
 

@@ -1,23 +1,24 @@
 -- What a store is made of that is opened, and why one is not opened.
 -- Own rule, below the public contract of `open`.
-use Rattle.std.specs.Prelude.{ℕ, ◌≡◌, List, length, map}
+use Rattle.std.specs.Prelude.{ℕ, ◌≡◌, Bool, IsTrue, List, length, map}
 use Rattle.ext_cells.specs.Lanes.{CellsView, AreLimits, fresh_lanes}
 use Rattle.ext_store.specs.declared.limits.StoreFault.{StoreFault}
 use Rattle.ext_store.specs.declared.limits.StoreFault.TheVariants.{BadLimit, TooManyCells, Memory}
 use Rattle.ext_store.specs.Stores.{StoreLane, CloserView, AreStoreLimits, closers_below, fresh_store_lane}
 
--- cells, places of values, lanes and closers of one store, of these limits and so many contexts
-pub record AreParts {V : Type 0} (count contexts lane_count exchanges number_count : ℕ) (cells : CellsView) (names : List ℕ) (store_lanes : List (StoreLane V)) (store_closers : List CloserView) : Type 0 where
-  pub limits : cells.id.limits ≡ record { cells = count; lanes = lane_count; numbers = number_count }
+-- cells, places of values and of faults, lanes and closers of one store, of these limits and so many contexts
+pub record AreParts {V : Type 0} (count contexts lane_count exchanges number_count : ℕ) (keeps : Bool) (cells : CellsView) (names fault_names : List ℕ) (store_lanes : List (StoreLane V)) (store_closers : List CloserView) : Type 0 where
+  pub limits : cells.id.limits ≡ record { cells = count; lanes = lane_count; numbers = number_count; keep_faults = keeps }
   pub tries : cells.tries ≡ exchanges
   pub places : length names ≡ number_count
-  pub lanes : store_lanes ≡ map (fresh_store_lane names) (fresh_lanes cells.id 0 lane_count)
+  pub fault_places : IsTrue keeps → number_count ≡ length fault_names
+  pub lanes : store_lanes ≡ map (fresh_store_lane names fault_names) (fresh_lanes cells.id 0 lane_count)
   pub closers : store_closers ≡ closers_below cells.id contexts
 
 -- such parts, where the limits are within their ranges
-pub record AreOpened {V : Type 0} (count contexts lanes tries numbers : ℕ) (cells : CellsView) (places : List ℕ) (store_lanes : List (StoreLane V)) (closers : List CloserView) : Type 0 where
+pub record AreOpened {V : Type 0} (count contexts lanes tries numbers : ℕ) (keeps : Bool) (cells : CellsView) (places fault_names : List ℕ) (store_lanes : List (StoreLane V)) (closers : List CloserView) : Type 0 where
   pub within : AreLimits count lanes tries numbers
-  pub parts : AreParts count contexts lanes tries numbers cells places store_lanes closers
+  pub parts : AreParts count contexts lanes tries numbers keeps cells places fault_names store_lanes closers
 
 -- a limit is out of its range, there are too many cells, or memory is refused
 abbrev pub IsNotOpened : ℕ → ℕ → ℕ → ℕ → StoreFault → Type 0

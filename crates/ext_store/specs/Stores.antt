@@ -1,15 +1,17 @@
 -- What contracts see of a store, of its lanes and closers, and of kept numbers.
 -- Own rule. A lane is seen as its lane of the cells, whose words are those of `Views` of ext_model, and as what it knows of the values of numbers.
 use Rattle.std.specs.Prelude.{ℕ, zero, suc, ◌≡◌, ◌≢◌, ◌<◌, List, [], ◌∷◌, ◌++◌, length, Some}
+use Rattle.ext_model.specs.declared.look.Fault.{Fault}
 use Rattle.ext_model.specs.Calls.{MayStoreNow}
 use Rattle.ext_values.specs.Known.{Known, AreNotesOf, known_at, nothing_known}
 use Rattle.ext_cells.specs.Lanes.{CellsId, Lane, AreLimits}
 pub use Rattle.ext_shared.specs.Stores.{StoreId, StoreView, cell_in}
 
--- A lane: its steps on the cells, and what it knows of the value of each number
+-- A lane: its steps on the cells, and what it knows of the value and of the kept fault of each number
 pub record StoreLane (V : Type 0) : Type 0 where
   pub cells : Lane
   pub known : List (Known V)
+  pub faults : List (Known Fault)
 
 -- A closer: the cells of its store, and the context that it closes
 pub record CloserView : Type 0 where
@@ -22,6 +24,7 @@ pub record CloserView : Type 0 where
 pub record IsLaneOf {V : Type 0} (id : StoreId) (lane : StoreLane V) : Type 0 where
   pub cells : lane.cells.cells ≡ id.cells
   pub places : AreNotesOf id.places lane.known
+  pub fault_places : AreNotesOf id.fault_places lane.faults
 
 -- the closer is of this store, and so is its context
 pub record IsCloserOf (store : StoreView) (closer : CloserView) : Type 0 where
@@ -46,9 +49,9 @@ StillKeepsBut stored before after = (number : ℕ) → number ≢ stored → IsK
 
 -- ---- opening
 
--- a lane that has made no step and knows no value
-abbrev pub fresh_store_lane : {V : Type 0} → List ℕ → Lane → StoreLane V
-fresh_store_lane places lane = record { cells = lane; known = nothing_known places }
+-- a lane that has made no step and knows no value and no fault
+abbrev pub fresh_store_lane : {V : Type 0} → List ℕ → List ℕ → Lane → StoreLane V
+fresh_store_lane places fault_places lane = record { cells = lane; known = nothing_known places; faults = nothing_known fault_places }
 
 -- a closer for each of the contexts below n, in order
 abbrev pub closers_below : CellsId → ℕ → List CloserView

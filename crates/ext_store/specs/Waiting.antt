@@ -5,7 +5,7 @@ use Rattle.ext_cells.specs.Lanes.{Lane}
 use Rattle.ext_store.specs.declared.fault.KeepFault.{KeepFault}
 use Rattle.ext_store.specs.declared.fault.KeepFault.TheVariants as fault
 use Rattle.ext_store.specs.declared.computed.Compute.{Compute}
-use Rattle.ext_store.specs.declared.computed.Compute.TheVariants.{Computed, Found, Failed, Unkept, Refused}
+use Rattle.ext_store.specs.declared.computed.Compute.TheVariants.{Computed, Found, Failed, FaultKept, FaultUnkept, FaultStands, Unkept, Refused}
 use Rattle.ext_store.specs.Stores.{StoreView}
 use Rattle.ext_store.specs.Computing.{Computes}
 pub use Rattle.ext_shared.specs.Waiting.{IsDecidedLook, IsDecided, IsDecidedUnused, VainAttempt, VainAttempts, Waits, ClaimsAfterWaits}
@@ -21,6 +21,9 @@ abbrev pub IsDecidedCompute : {V F : Type 0} → Compute V F → Type 0
 IsDecidedCompute (Computed number) = Unit {0}
 IsDecidedCompute (Found at number unused) = Unit {0}
 IsDecidedCompute (Failed why) = Unit {0}
+IsDecidedCompute (FaultKept number) = Unit {0}
+IsDecidedCompute (FaultUnkept why cause) = IsDecidedFault cause
+IsDecidedCompute (FaultStands at number unused) = Unit {0}
 IsDecidedCompute (Unkept value cause) = IsDecidedFault cause
 IsDecidedCompute (Refused why unused) = IsDecided why
 

@@ -1,5 +1,5 @@
 //! Values that are computed where none is found.
-ghost use Rattle.std.specs.Prelude.{ℕ, ◌≡◌, ◌≢◌, ◌+◌, ◌*◌, ◌<◌, ◌≤◌, [], length, Contains, IfOk, MatchResult};
+ghost use Rattle.std.specs.Prelude.{ℕ, ◌≡◌, ◌≢◌, ◌+◌, ◌*◌, ◌<◌, ◌≤◌, [], length, Contains, IfOk, IsFalse, IsTrue, MatchResult};
 ghost use Rattle.std.specs.Fn.{FnOnceReturnsAt};
 ghost use Rattle.ext_model.specs.Calls.{IsHeld};
 ghost use Rattle.ext_tree.specs.Keys.{HasNumber, KeyValue};
@@ -8,8 +8,8 @@ ghost use Rattle.ext_shared.specs.declared.fault.Refusal.TheVariants.{UnknownKey
 ghost use Rattle.ext_store.specs.declared.computed.Compute.TheVariants.{Refused};
 ghost use Rattle.ext_store.specs.Stores.{IsKeptBy, IsLaneOf, StillKeeps};
 ghost use Rattle.ext_store.specs.Frames.{Frame};
-ghost use Rattle.ext_store.specs.Calls.{steps_of};
-ghost use Rattle.ext_store.specs.Computing.{Computes, Fills, HandsBack, IfComputed, IsUnkept, Uses, without_factory};
+ghost use Rattle.ext_store.specs.Calls.{KeepsFault, KeepsNoFault, steps_of};
+ghost use Rattle.ext_store.specs.Computing.{Computes, EndsFailed, Fails, Fills, HandsBack, IfComputed, IsFaultless, IsUnkept, Uses, without_factory};
 
 use crate::computed::hand_back;
 use crate::{Compute, KeepFault, Lane, Refusal, Store, StoreValue};
@@ -34,8 +34,10 @@ impl<V: StoreValue + Drop> Store<V> {
     /// first: then the lane has claimed the cell and given it up, two events there. Where the answer is `Found` or
     /// `Refused`, the factory was not called, and comes back.
     ///
-    /// `Failed` where the factory fails, and `Unkept`, with the value, where it is not kept, with the causes of
-    /// `keep`. Nothing is stored then.
+    /// `Unkept`, with the factory's value, where it is not kept, with the causes of `keep`; nothing is stored then. Where the
+    /// factory fails, `Failed` with its fault, and nothing is stored; in a store that keeps faults `FaultKept`: the fault
+    /// stands in the context until it is removed or replaced; or `FaultUnkept`, with the fault, where it is not kept, with
+    /// the causes of `keep`. There `FaultStands` is answered in the place of `Found` where a kept fault stands.
     ///
     /// Javadoc `ExtensionContext.Store`, `getOrComputeIfAbsent`; JUnit 5 User Guide, section "Keeping State in
     /// Extensions". Claims, the second look, numbers and refusals are own rules.
@@ -52,8 +54,9 @@ impl<V: StoreValue + Drop> Store<V> {
         requires factory { F.IsAlwaysCallable factory }
         ensures unknown { ¬ Contains self.now.keys key.now → (result ≡ Refused UnknownKey factory) × (lane.new ≡ lane.old) }
         ensures answer { (number : ℕ) → HasNumber self.now.keys key.now number → Computes self.now context number lane.old.cells lane.new.cells (without_factory result) }
-        ensures factory { Uses (λ answer. FnOnceReturnsAt F.FnOnce factory key.now answer) lane.old.known lane.new.known (without_factory result) }
+        ensures factory { Uses (λ answer. FnOnceReturnsAt F.FnOnce factory key.now answer) lane.old lane.new (without_factory result) }
         ensures handed_back { HandsBack factory result }
+        ensures no_faults { IsFalse self.now.id.cells.limits.keep_faults → IsFaultless result }
         ensures known { KeepsKnown lane.old.known lane.new.known }
         ensures lane { IsLaneOf self.now.id lane.new }
         ensures kept { StillKeeps lane.old lane.new }
@@ -86,8 +89,9 @@ impl<V: StoreValue + Drop> Store<V> {
         requires key { key < length self.now.keys }
         requires factory { F.IsAlwaysCallable factory }
         ensures answer { Computes self.now context key lane.old.cells lane.new.cells (without_factory result) }
-        ensures factory { (name : KeyValue) → HasNumber self.now.keys name key → Uses (λ answer. FnOnceReturnsAt F.FnOnce factory name answer) lane.old.known lane.new.known (without_factory result) }
+        ensures factory { (name : KeyValue) → HasNumber self.now.keys name key → Uses (λ answer. FnOnceReturnsAt F.FnOnce factory name answer) lane.old lane.new (without_factory result) }
         ensures handed_back { HandsBack factory result }
+        ensures no_faults { IsFalse self.now.id.cells.limits.keep_faults → IsFaultless result }
         ensures known { KeepsKnown lane.old.known lane.new.known }
         ensures lane { IsLaneOf self.now.id lane.new }
         ensures kept { StillKeeps lane.old lane.new }
@@ -101,15 +105,80 @@ impl<V: StoreValue + Drop> Store<V> {
         };
         let value = match factory(self.directory().key(key)) {
             Ok(value) => value,
-            Err(fault) => {
-                self.shared.abandon(&mut lane.cells, claim);
-                return Compute::Failed(fault);
-            }
+            Err(fault) => return self.end_failed(lane, claim, fault),
         };
         match self.keep_and_fill(lane, claim, value) {
             Ok(number) => Compute::Computed { number },
             Err((value, cause)) => Compute::Unkept { value, cause },
         }
+    }
+
+    // Ends the claim of a factory that failed: keeps its fault where the store keeps faults, and else gives the claim up.
+    #[tactic(auto, unfolding(crate::specs::Frames::Frame))]
+    fn end_failed<F>(&self, lane: &mut Lane<V>, claim: Claim, fault: Fault) -> Compute<V, F>
+        requires lane { IsLaneOf self.now.id lane.old }
+        requires held { IsHeld lane.old.cells.view claim }
+        ensures ends { EndsFailed self.now fault claim lane.old lane.new (without_factory result) }
+        ensures frame { Frame self.now.id [] lane.old lane.new }
+        ensures steps { steps_of lane.old.cells lane.new.cells ≤ self.now.tries + 3 }
+    {
+        if !self.keeps_faults() {
+            self.shared.abandon(&mut lane.cells, claim);
+            return Compute::Failed(fault);
+        }
+        match self.keep_and_fail(lane, claim, fault) {
+            Ok(number) => Compute::FaultKept { number },
+            Err((fault, cause)) => Compute::FaultUnkept { fault, cause },
+        }
+    }
+
+    // Keeps the fault, and its number in the claimed cell, or gives the claim up.
+    #[tactic(auto, unfolding(crate::specs::Frames::Frame))]
+    fn keep_and_fail(
+        &self,
+        lane: &mut Lane<V>,
+        claim: Claim,
+        fault: Fault,
+    ) -> Result<u32, (Fault, KeepFault)>
+        requires lane { IsLaneOf self.now.id lane.old }
+        requires faults { IsTrue self.now.id.cells.limits.keep_faults }
+        requires held { IsHeld lane.old.cells.view claim }
+        ensures events { MatchResult result (Fails self.now.id.cells.limits [] claim lane.old.cells.view lane.new.cells.view) (λ e. IsUnkept self.now.id.cells.limits self.now.tries [] claim lane.old.cells.view lane.new.cells.view e.1) }
+        ensures known { lane.new.known ≡ lane.old.known }
+        ensures faults { MatchResult result (λ number. Learns lane.old.faults lane.new.faults number fault) (λ e. (e.0 ≡ fault) × (lane.new.faults ≡ lane.old.faults)) }
+        ensures frame { Frame self.now.id [] lane.old lane.new }
+        ensures steps { steps_of lane.old.cells lane.new.cells ≤ self.now.tries + 3 }
+    {
+        match self.keep_fault(lane, fault) {
+            Ok(number) => {
+                self.shared.fail(&mut lane.cells, claim, number);
+                Ok(number)
+            }
+            Err(unkept) => {
+                self.shared.abandon(&mut lane.cells, claim);
+                Err(unkept)
+            }
+        }
+    }
+
+    // Draws a number for the fault, which has it from then on.
+    #[tactic(auto, unfolding(crate::specs::Calls::KeepFails, crate::specs::Frames::Frame))]
+    fn keep_fault(&self, lane: &mut Lane<V>, fault: Fault) -> Result<u32, (Fault, KeepFault)>
+        requires lane { IsLaneOf self.now.id lane.old }
+        requires faults { IsTrue self.now.id.cells.limits.keep_faults }
+        ensures answer { MatchResult result (KeepsFault fault lane.old lane.new) (λ e. KeepsNoFault self.now fault lane.old lane.new e.0 e.1) }
+        ensures known { lane.new.known ≡ lane.old.known }
+        ensures apart { IfOk result (λ number. (m : ℕ) → IsKeptBy lane.old m → m ≢ number) }
+        ensures frame { Frame self.now.id [] lane.old lane.new }
+        ensures steps { steps_of lane.old.cells lane.new.cells ≤ self.now.tries + 1 }
+    {
+        self.shared.recall();
+        let boxed = match Box::new(self.alloc, fault) {
+            Ok(boxed) => boxed,
+            Err(failed) => return Err((failed.value, KeepFault::Memory)),
+        };
+        let drawn = self.shared.cells().next_number(&mut lane.cells);
+        self.place_drawn_fault(&mut lane.faults, drawn, boxed)
     }
 
     // Keeps the value and stores its number in the claimed cell, or gives the claim up.
@@ -124,6 +193,7 @@ impl<V: StoreValue + Drop> Store<V> {
         requires held { IsHeld lane.old.cells.view claim }
         ensures events { MatchResult result (Fills self.now.id.cells.limits [] claim lane.old.cells.view lane.new.cells.view) (λ e. IsUnkept self.now.id.cells.limits self.now.tries [] claim lane.old.cells.view lane.new.cells.view e.1) }
         ensures known { MatchResult result (λ number. Learns lane.old.known lane.new.known number value) (λ e. (e.0 ≡ value) × (lane.new.known ≡ lane.old.known)) }
+        ensures faults { lane.new.faults ≡ lane.old.faults }
         ensures apart { IfOk result (λ number. (m : ℕ) → IsKeptBy lane.old m → m ≢ number) }
         ensures frame { Frame self.now.id [] lane.old lane.new }
         ensures steps { steps_of lane.old.cells lane.new.cells ≤ self.now.tries + 3 }

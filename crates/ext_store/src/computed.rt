@@ -20,8 +20,25 @@ pub enum Compute<V, F> {
         number: u32,
         unused: F,
     },
-    /// The factory failed, and nothing is stored.
+    /// The factory failed, and nothing is stored. Only a store that keeps no faults answers it.
     Failed(Fault),
+    /// The factory failed, and its fault was kept under this number, which stands in the context now. This and the next two
+    /// are answered only by a store that keeps faults.
+    FaultKept {
+        number: u32,
+    },
+    /// The factory failed, and its fault was not kept, and comes back. Nothing is stored.
+    FaultUnkept {
+        fault: Fault,
+        cause: KeepFault,
+    },
+    /// A factory failed for the context `at`, itself or the nearest of its ancestors where anything stands, and its fault is
+    /// kept there under this number.
+    FaultStands {
+        at: ContextNo,
+        number: u32,
+        unused: F,
+    },
     /// The factory's value was not kept, and comes back. Nothing is stored.
     Unkept {
         value: V,
@@ -40,6 +57,11 @@ pub(crate) fn hand_back<V, F>(why: Unused, factory: F) -> Compute<V, F>
 {
     match why {
         Unused::Found { at, number } => Compute::Found {
+            at,
+            number,
+            unused: factory,
+        },
+        Unused::FaultStands { at, number } => Compute::FaultStands {
             at,
             number,
             unused: factory,

@@ -6,7 +6,8 @@ ghost use Rattle.ext_store.specs.Keeping.{IsOfCount, PlacesDrawn};
 
 use crate::{KeepFault, Kept, Store, StoreValue};
 use ext_cells::CellRefusal;
-use ext_values::Notes;
+use ext_model::Fault;
+use ext_values::{Notes, SilentNotes};
 
 impl<V: StoreValue + Drop> Store<V> {
     // Places the value at the number that was drawn for it, or hands it back.
@@ -26,6 +27,27 @@ impl<V: StoreValue + Drop> Store<V> {
         };
         match notes.place(self.shared.values(), number, boxed) {
             Ok(()) => Ok(Kept { number }),
+            Err(back) => Err((Box::into_inner(back), KeepFault::Unplaced)),
+        }
+    }
+
+    // Places the fault at the number that was drawn for it, and answers the number, or hands the fault back.
+    pub(crate) fn place_drawn_fault(
+        &self,
+        notes: &mut SilentNotes<Fault>,
+        drawn: Result<u32, CellRefusal>,
+        boxed: Box<Fault>,
+    ) -> Result<u32, (Fault, KeepFault)>
+        requires notes { AreNotesOf self.now.id.fault_places notes.old }
+        requires drawn { MatchResult drawn (IsNumber self.now.id.fault_places) IsOfCount }
+        ensures { PlacesDrawn boxed.value drawn notes.old notes.new result }
+    {
+        let number = match drawn {
+            Ok(number) => number,
+            Err(why) => return Err((Box::into_inner(boxed), KeepFault::of(why))),
+        };
+        match notes.place(self.shared.faults(), number, boxed) {
+            Ok(()) => Ok(number),
             Err(back) => Err((Box::into_inner(back), KeepFault::Unplaced)),
         }
     }

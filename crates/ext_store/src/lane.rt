@@ -4,18 +4,19 @@ ghost use Rattle.ext_model.specs.History.{IsLegal};
 ghost use Rattle.ext_history.specs.Views.{Follow, seen_by};
 
 use ext_cells::CellLane;
-use ext_model::LaneNo;
-use ext_values::Notes;
+use ext_model::{Fault, LaneNo};
+use ext_values::{Notes, SilentNotes};
 use std::marker::Model;
 
 /// A lane of a store, which one thread at a time owns. It may go to another thread, and be dropped.
 ///
-/// In contracts it is its lane of the cells, and what it knows of the value of each number: a value is known where
-/// the lane kept it or was shown it. Own rule.
+/// In contracts it is its lane of the cells, and what it knows of the value and of the fault of each number: they are
+/// known where the lane kept them or was shown them. Own rule.
 #[derive(Drop)]
 pub struct Lane<V> {
     pub(crate) cells: CellLane,
     pub(crate) notes: Notes<V>,
+    pub(crate) faults: SilentNotes<Fault>,
 }
 
 impl<V> Model for Lane<V> {
@@ -23,7 +24,7 @@ impl<V> Model for Lane<V> {
 
     ghost Value = { StoreLane V };
 
-    ghost view = { λ l. record { cells = l.cells; known = l.notes } };
+    ghost view = { λ l. record { cells = l.cells; known = l.notes; faults = l.faults } };
 }
 
 impl<V> Lane<V> {

@@ -9,8 +9,12 @@ pub struct Limits {
     /// How many exchanges a change makes at most, and how many passes after its first a look-up, before the answer is
     /// `Contended`: 1 to 64.
     pub tries: u32,
-    /// How many values can be kept while the store lives: 1 to 65,535.
+    /// How many values and faults can be kept while the store lives: 1 to 65,535.
     pub numbers: u32,
+    /// Whether the fault of a factory that fails is kept, under a number of its own, until it is removed or replaced, so that
+    /// the next compute meets it. Where it is false a factory that fails leaves its place empty, and its fault goes to its
+    /// caller.
+    pub keep_faults: bool,
 }
 
 /// Why a store is not opened. Own rule.

@@ -1,26 +1,37 @@
 //! What a store is made of that is opened: its cells and values, its lanes and its closers.
-ghost use Rattle.std.specs.Prelude.{◌≡◌, IfOk, MatchResult, map};
+ghost use Rattle.std.specs.Prelude.{◌≡◌, IfOk, IsTrue, MatchResult, map};
+ghost use Rattle.ext_values.specs.Places.{IsCapacity};
 ghost use Rattle.ext_cells.specs.Lanes.{AreLimits};
 ghost use Rattle.ext_store.specs.Stores.{closers_below, fresh_store_lane};
 ghost use Rattle.ext_store.specs.Opening.{AreOpened, AreParts, IsNotOpened};
 
 use crate::{Closer, Lane, Limits, StoreFault};
 use ext_cells::{CellLane, Cells, are_limits};
-use ext_model::ContextNo;
-use ext_values::{Notes, Values};
+use ext_model::{ContextNo, Fault};
+use ext_values::{Notes, SilentNotes, Values};
 use std::alloc::{AllocError, Global};
 use std::snapshot::Snapshot;
 
-// What a store of so many cells and contexts is made of: the cells, the places of the values, a lane for each lane of the limits,
+// How many places there are for faults: one for each number where faults are kept, and else one, since there is no
+// `Values` without a place.
+fn fault_capacity(numbers: u32, keep_faults: bool) -> u32
+    requires { IsCapacity numbers }
+    ensures within { IsCapacity result }
+    ensures all { IsTrue keep_faults → result ≡ numbers }
+{
+    if keep_faults { numbers } else { 1 }
+}
+
+// What a store of so many cells and contexts is made of: the cells, the places of the values and of the kept faults, a lane for each lane of the limits,
 // and a closer for each context. Or why it is not opened.
 pub(crate) fn open_parts<V: Drop>(
     alloc: Global,
     count: usize,
     contexts: ContextNo,
     limits: Limits,
-) -> Result<(Cells, Values<V>, Vec<Lane<V>>, Vec<Closer>), StoreFault>
+) -> Result<(Cells, Values<V>, Values<Fault>, Vec<Lane<V>>, Vec<Closer>), StoreFault>
     ensures { MatchResult result
-        (λ r. AreOpened count contexts limits.lanes limits.tries limits.numbers r.0 r.1 r.2.items r.3.items)
+        (λ r. AreOpened count contexts limits.lanes limits.tries limits.numbers limits.keep_faults r.0 r.1 r.2 r.3.items r.4.items)
         (IsNotOpened count limits.lanes limits.tries limits.numbers) }
 {
     if !are_limits(0, limits.lanes, limits.tries, limits.numbers) {
@@ -41,40 +52,53 @@ fn parts_of<V: Drop>(
     count: usize,
     contexts: ContextNo,
     limits: Limits,
-) -> Result<(Cells, Values<V>, Vec<Lane<V>>, Vec<Closer>), AllocError>
+) -> Result<(Cells, Values<V>, Values<Fault>, Vec<Lane<V>>, Vec<Closer>), AllocError>
     requires { AreLimits count limits.lanes limits.tries limits.numbers }
-    ensures { IfOk result (λ r. AreParts count contexts limits.lanes limits.tries limits.numbers r.0 r.1 r.2.items r.3.items) }
+    ensures { IfOk result (λ r. AreParts count contexts limits.lanes limits.tries limits.numbers limits.keep_faults r.0 r.1 r.2 r.3.items r.4.items) }
 {
     let Limits {
         lanes,
         tries,
         numbers,
+        keep_faults,
     } = limits;
-    let Ok((cells, cell_lanes)) = Cells::open(alloc, count, lanes, tries, numbers) else {
+    let Ok((cells, cell_lanes)) = Cells::open_for(alloc, count, lanes, tries, numbers, keep_faults)
+    else {
         return Err(AllocError);
     };
     let Ok(values) = Values::new(alloc, numbers) else {
         return Err(AllocError);
     };
-    let lanes = lanes_of(alloc, &values, cell_lanes)?;
+    let Ok(faults) = Values::new(alloc, fault_capacity(numbers, keep_faults)) else {
+        return Err(AllocError);
+    };
+    let lanes = lanes_of(alloc, &values, &faults, cell_lanes)?;
     let closers = closers_of(alloc, &cells, contexts)?;
-    Ok((cells, values, lanes, closers))
+    Ok((cells, values, faults, lanes, closers))
 }
 
 // A lane for each lane of the cells, in order. Each has room to know the value of every number.
 fn lanes_of<V: Drop>(
     alloc: Global,
     values: &Values<V>,
+    faults: &Values<Fault>,
     cell_lanes: Vec<CellLane>,
 ) -> Result<Vec<Lane<V>>, AllocError>
-    ensures { IfOk result (λ lanes. lanes.items ≡ map (fresh_store_lane values.now) cell_lanes.items) }
+    ensures { IfOk result (λ lanes. lanes.items ≡ map (fresh_store_lane values.now faults.now) cell_lanes.items) }
 {
     let mut lanes = Vec::with_capacity(alloc, cell_lanes.len())?;
     for cells in cell_lanes {
         let Ok(notes) = Notes::new(alloc, values) else {
             return Err(AllocError);
         };
-        lanes.push(Lane { cells, notes })?;
+        let Ok(faults) = SilentNotes::new(alloc, faults) else {
+            return Err(AllocError);
+        };
+        lanes.push(Lane {
+            cells,
+            notes,
+            faults,
+        })?;
     }
     Ok(lanes)
 }

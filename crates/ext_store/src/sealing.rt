@@ -10,8 +10,8 @@ use crate::{Closer, Lane, Refusal, Store};
 use ext_model::KeyNo;
 
 impl<V> Store<V> {
-    /// Seals the key in the closer's context for good, and answers the number that stood there, which the seal keeps.
-    /// A key that is sealed already answers what its seal kept, and nothing happens. Takes no memory.
+    /// Seals the key in the closer's context for good, and answers the number of the value that stood there, which the seal
+    /// keeps; a kept fault goes. A key that is sealed already answers what its seal kept, and nothing happens. Takes no memory.
     ///
     /// Refused as `Busy` with the context where a lane computes a value for it under this key, and else as
     /// `Contended`. Own rule.
@@ -27,6 +27,7 @@ impl<V> Store<V> {
         requires key { key < length self.now.keys }
         ensures answer { SealsKey self.now closer.now.context key lane.old.cells lane.new.cells result }
         ensures known { lane.new.known ≡ lane.old.known }
+        ensures faults { lane.new.faults ≡ lane.old.faults }
         ensures lane { IsLaneOf self.now.id lane.new }
         ensures kept { StillKeeps lane.old lane.new }
         ensures frame { Frame self.now.id [] lane.old lane.new }

@@ -14,7 +14,7 @@ ghost use Rattle.ext_store.specs.Calls.{Gets, KeepsAs, KeepsNothing, Puts, Remov
 
 use crate::opening::open_parts;
 use crate::{Closer, KeepFault, Kept, Lane, Limits, Refusal, StoreFault, StoreValue};
-use ext_model::{ContextNo, KeyNo, Look};
+use ext_model::{ContextNo, Fault, KeyNo, Look};
 use ext_shared::Shared;
 use ext_tree::{Directory, Key, Tree};
 use std::alloc::Global;
@@ -57,6 +57,13 @@ impl<V> Store<V> {
         self.shared.directory()
     }
 
+    /// Whether the store keeps the faults of factories that fail. Takes no memory. Own rule.
+    pub fn keeps_faults(&self) -> bool
+        ensures { result ≡ self.now.id.cells.limits.keep_faults }
+    {
+        self.shared.keeps_faults()
+    }
+
     /// How many exchanges a change makes at most, and how many passes after its first a look-up, from 1 to 64, before the
     /// answer is `Contended`: the clause `steps` of each call counts by it. Takes no memory. Own rule.
     pub fn tries(&self) -> u32
@@ -84,12 +91,12 @@ impl<V: StoreValue + Drop> Store<V> {
     ) -> Result<(Store<V>, Vec<Lane<V>>, Vec<Closer>), StoreFault>
         // The store is of these contexts, keys and limits.
         ensures tree { IfOk result (λ r. (r.0.tree ≡ tree) × (r.0.keys ≡ directory)) }
-        ensures limits { IfOk result (λ r. r.0.id.cells.limits ≡ record { cells = length tree * length directory; lanes = limits.lanes; numbers = limits.numbers }) }
+        ensures limits { IfOk result (λ r. r.0.id.cells.limits ≡ record { cells = length tree * length directory; lanes = limits.lanes; numbers = limits.numbers; keep_faults = limits.keep_faults }) }
         ensures places { IfOk result (λ r. length r.0.id.places ≡ limits.numbers) }
         ensures tries { IfOk result (λ r. r.0.tries ≡ limits.tries) }
 
         // Its lanes have made no step and know nothing, and there is one closer a context.
-        ensures lanes { IfOk result (λ r. r.1.items ≡ map (fresh_store_lane r.0.id.places) (fresh_lanes r.0.id.cells 0 limits.lanes)) }
+        ensures lanes { IfOk result (λ r. r.1.items ≡ map (fresh_store_lane r.0.id.places r.0.id.fault_places) (fresh_lanes r.0.id.cells 0 limits.lanes)) }
         ensures own_lanes { IfOk result (λ r. All (IsLaneOf r.0.id) r.1.items) }
         ensures closers { IfOk result (λ r. r.2.items ≡ closers_below r.0.id.cells (length tree)) }
         ensures own_closers { IfOk result (λ r. All (IsCloserOf r.0) r.2.items) }
@@ -101,8 +108,8 @@ impl<V: StoreValue + Drop> Store<V> {
     {
         let contexts = tree.len();
         let count = contexts * directory.len();
-        let (cells, values, lanes, closers) = open_parts(alloc, count, contexts, limits)?;
-        let shared = Shared::new(tree, directory, cells, values);
+        let (cells, values, faults, lanes, closers) = open_parts(alloc, count, contexts, limits)?;
+        let shared = Shared::new(tree, directory, cells, values, faults);
         Ok((Store { shared, alloc }, lanes, closers))
     }
 
@@ -118,6 +125,7 @@ impl<V: StoreValue + Drop> Store<V> {
         ensures answer { MatchResult result (KeepsAs value lane.old lane.new) (λ e. KeepsNothing self.now value lane.old lane.new e.0 e.1) }
         ensures lane { IsLaneOf self.now.id lane.new }
         ensures known { KeepsKnown lane.old.known lane.new.known }
+        ensures faults { lane.new.faults ≡ lane.old.faults }
         ensures kept { StillKeeps lane.old lane.new }
         ensures apart { IfOk result (λ number. (m : ℕ) → IsKeptBy lane.old m → m ≢ number) }
         ensures frame { Frame self.now.id [] lane.old lane.new }
@@ -306,6 +314,7 @@ impl<V: StoreValue + Drop> Store<V> {
         requires lane { IsLaneOf self.now.id lane.old }
         ensures found { IfSome result (λ value. Learns lane.old.known lane.new.known number value.now) }
         ensures known { KeepsKnown lane.old.known lane.new.known }
+        ensures faults { lane.new.faults ≡ lane.old.faults }
         ensures none { IfNone result ((known_at lane.old.known number ≡ None) × (lane.new ≡ lane.old)) }
         ensures steps { lane.new.cells ≡ lane.old.cells }
         ensures lane { IsLaneOf self.now.id lane.new }
@@ -315,8 +324,28 @@ impl<V: StoreValue + Drop> Store<V> {
         lane.notes.get(self.shared.values(), number)
     }
 
+    /// The fault that the number has, which this lane knows from now on: always where the lane kept it or was shown it, and
+    /// else where this thread finds it; never the fault of another number. Takes no memory and never waits.
+    ///
+    /// `None`, with nothing changed, for a number that has no place, as each in a store that keeps no faults but 1, and
+    /// where the thread finds no fault. Own rule.
+    #[tactic(auto, unfolding(crate::specs::Frames::Frame))]
+    pub fn show_fault<'a>(&'a self, lane: &mut Lane<V>, number: u32) -> Option<&'a Fault>
+        requires lane { IsLaneOf self.now.id lane.old }
+        ensures found { IfSome result (λ fault. Learns lane.old.faults lane.new.faults number fault.now) }
+        ensures known { lane.new.known ≡ lane.old.known }
+        ensures faults { KeepsKnown lane.old.faults lane.new.faults }
+        ensures none { IfNone result ((known_at lane.old.faults number ≡ None) × (lane.new ≡ lane.old)) }
+        ensures steps { lane.new.cells ≡ lane.old.cells }
+        ensures lane { IsLaneOf self.now.id lane.new }
+        ensures kept { StillKeeps lane.old lane.new }
+        ensures frame { Frame self.now.id [] lane.old lane.new }
+    {
+        lane.faults.get(self.shared.faults(), number)
+    }
+
     /// Afterwards what the first lane has seen is a prefix of what the second has seen: so both speak of one history.
-    /// A number that both know has one value in both. Neither makes an event. Takes no memory. Own rule.
+    /// A number that both know has one value in both, or one fault. Neither makes an event. Takes no memory. Own rule.
     #[tactic(auto, unfolding(crate::specs::Frames::Frame))]
     pub fn meet(&self, first: &mut Lane<V>, second: &mut Lane<V>)
         requires first { IsLaneOf self.now.id first.old }
@@ -325,7 +354,9 @@ impl<V: StoreValue + Drop> Store<V> {
         ensures second_call { Calls second.old.cells.cells.limits second.old.cells.view second.new.cells.view [] }
         ensures met { IsPrefix (seen_by first.new.cells.view) (seen_by second.new.cells.view) }
         ensures agree { AllAgree first.old.known second.old.known }
+        ensures agree_faults { AllAgree first.old.faults second.old.faults }
         ensures known { (first.new.known ≡ first.old.known) × (second.new.known ≡ second.old.known) }
+        ensures faults { (first.new.faults ≡ first.old.faults) × (second.new.faults ≡ second.old.faults) }
         ensures first_lane { IsLaneOf self.now.id first.new }
         ensures second_lane { IsLaneOf self.now.id second.new }
         ensures first_kept { StillKeeps first.old first.new }
@@ -337,5 +368,6 @@ impl<V: StoreValue + Drop> Store<V> {
             .cells()
             .meet(&mut first.cells, &mut second.cells);
         first.notes.meet(&mut second.notes);
+        first.faults.meet(&mut second.faults);
     }
 }

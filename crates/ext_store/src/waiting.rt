@@ -1,6 +1,6 @@
 //! The waiting forms of the calls: what met a running factory is done again once a claim has ended, and what other lanes
 //! were in the way of at once.
-ghost use Rattle.std.specs.Prelude.{ℕ, ◌≡◌, ◌≢◌, ◌<◌, [], length, Contains, Ok, Err, IfErr, IfOk, MatchResult};
+ghost use Rattle.std.specs.Prelude.{ℕ, ◌≡◌, ◌≢◌, ◌<◌, [], length, Contains, Ok, Err, IfErr, IfOk, IsFalse, IsTrue, MatchResult};
 ghost use Rattle.std.specs.Fn.{FnOnceReturnsAt};
 ghost use Rattle.ext_model.specs.Calls.{IsHeld};
 ghost use Rattle.ext_tree.specs.Keys.{HasNumber, KeyValue};
@@ -9,8 +9,8 @@ ghost use Rattle.ext_shared.specs.declared.fault.Refusal.TheVariants as refusal;
 ghost use Rattle.ext_store.specs.declared.computed.Compute.TheVariants.{Refused};
 ghost use Rattle.ext_store.specs.Stores.{IsKeptBy, IsLaneOf, StillKeeps, StillKeepsBut};
 ghost use Rattle.ext_store.specs.Frames.{Frame, stored_by};
-ghost use Rattle.ext_store.specs.Calls.{Gets, KeepsAs, KeepsNothing, Puts, Removes};
-ghost use Rattle.ext_store.specs.Computing.{Fills, HandsBack, IfComputed, IsUnkept, Uses, without_factory};
+ghost use Rattle.ext_store.specs.Calls.{Gets, KeepsAs, KeepsFault, KeepsNoFault, KeepsNothing, Puts, Removes};
+ghost use Rattle.ext_store.specs.Computing.{EndsFailed, Fails, Fills, HandsBack, IfComputed, IsFaultless, IsUnkept, Uses, without_factory};
 ghost use Rattle.ext_store.specs.Waiting.{ComputesAfterWaits, IsDecided, IsDecidedCompute, IsDecidedFault, IsDecidedLook};
 
 use crate::computed::hand_back;
@@ -208,6 +208,7 @@ impl<V: StoreValue + Drop> Store<V> {
         ensures decided { IfErr result (λ e. IsDecidedFault e.1) }
         ensures lane { IsLaneOf self.now.id lane.new }
         ensures known { KeepsKnown lane.old.known lane.new.known }
+        ensures faults { lane.new.faults ≡ lane.old.faults }
         ensures kept { StillKeeps lane.old lane.new }
         ensures apart { IfOk result (λ number. (m : ℕ) → IsKeptBy lane.old m → m ≢ number) }
         ensures frame { Frame self.now.id [] lane.old lane.new }
@@ -245,8 +246,9 @@ impl<V: StoreValue + Drop> Store<V> {
         ensures unknown { ¬ Contains self.now.keys key.now → (result ≡ Refused refusal.UnknownKey factory) × (lane.new ≡ lane.old) }
         ensures answer { (number : ℕ) → HasNumber self.now.keys key.now number → ComputesAfterWaits self.now context number lane.old.cells lane.new.cells (without_factory result) }
         ensures decided { IsDecidedCompute result }
-        ensures factory { Uses (λ answer. FnOnceReturnsAt F.FnOnce factory key.now answer) lane.old.known lane.new.known (without_factory result) }
+        ensures factory { Uses (λ answer. FnOnceReturnsAt F.FnOnce factory key.now answer) lane.old lane.new (without_factory result) }
         ensures handed_back { HandsBack factory result }
+        ensures no_faults { IsFalse self.now.id.cells.limits.keep_faults → IsFaultless result }
         ensures known { KeepsKnown lane.old.known lane.new.known }
         ensures lane { IsLaneOf self.now.id lane.new }
         ensures kept { StillKeeps lane.old lane.new }
@@ -280,8 +282,9 @@ impl<V: StoreValue + Drop> Store<V> {
         requires factory { F.IsAlwaysCallable factory }
         ensures answer { ComputesAfterWaits self.now context key lane.old.cells lane.new.cells (without_factory result) }
         ensures decided { IsDecidedCompute result }
-        ensures factory { (name : KeyValue) → HasNumber self.now.keys name key → Uses (λ answer. FnOnceReturnsAt F.FnOnce factory name answer) lane.old.known lane.new.known (without_factory result) }
+        ensures factory { (name : KeyValue) → HasNumber self.now.keys name key → Uses (λ answer. FnOnceReturnsAt F.FnOnce factory name answer) lane.old lane.new (without_factory result) }
         ensures handed_back { HandsBack factory result }
+        ensures no_faults { IsFalse self.now.id.cells.limits.keep_faults → IsFaultless result }
         ensures known { KeepsKnown lane.old.known lane.new.known }
         ensures lane { IsLaneOf self.now.id lane.new }
         ensures kept { StillKeeps lane.old lane.new }
@@ -294,15 +297,92 @@ impl<V: StoreValue + Drop> Store<V> {
         };
         let value = match factory(self.directory().key(key)) {
             Ok(value) => value,
-            Err(fault) => {
-                self.shared.abandon(&mut lane.cells, claim);
-                return Compute::Failed(fault);
-            }
+            Err(fault) => return self.wait_to_end_failed(rt, lane, claim, fault),
         };
         match self.wait_to_fill(rt, lane, claim, value) {
             Ok(number) => Compute::Computed { number },
             Err((value, cause)) => Compute::Unkept { value, cause },
         }
+    }
+
+    // Ends the claim of a factory that failed: keeps its fault where the store keeps faults, and else gives the claim up.
+    #[tactic(auto, unfolding(crate::specs::Frames::Frame))]
+    fn wait_to_end_failed<R: Wait, F>(
+        &self,
+        rt: &R,
+        lane: &mut Lane<V>,
+        claim: Claim,
+        fault: Fault,
+    ) -> Compute<V, F>
+        requires lane { IsLaneOf self.now.id lane.old }
+        requires held { IsHeld lane.old.cells.view claim }
+        ensures ends { EndsFailed self.now fault claim lane.old lane.new (without_factory result) }
+        ensures decided { IsDecidedCompute result }
+        ensures frame { Frame self.now.id [] lane.old lane.new }
+    {
+        if !self.keeps_faults() {
+            self.shared.abandon(&mut lane.cells, claim);
+            return Compute::Failed(fault);
+        }
+        match self.wait_to_fail(rt, lane, claim, fault) {
+            Ok(number) => Compute::FaultKept { number },
+            Err((fault, cause)) => Compute::FaultUnkept { fault, cause },
+        }
+    }
+
+    // Keeps the fault, and its number in the claimed cell, or gives the claim up.
+    #[tactic(auto, unfolding(crate::specs::Frames::Frame))]
+    fn wait_to_fail<R: Wait>(
+        &self,
+        rt: &R,
+        lane: &mut Lane<V>,
+        claim: Claim,
+        fault: Fault,
+    ) -> Result<u32, (Fault, KeepFault)>
+        requires lane { IsLaneOf self.now.id lane.old }
+        requires faults { IsTrue self.now.id.cells.limits.keep_faults }
+        requires held { IsHeld lane.old.cells.view claim }
+        ensures events { MatchResult result (Fails self.now.id.cells.limits [] claim lane.old.cells.view lane.new.cells.view) (λ e. IsUnkept self.now.id.cells.limits self.now.tries [] claim lane.old.cells.view lane.new.cells.view e.1) }
+        ensures decided { IfErr result (λ e. IsDecidedFault e.1) }
+        ensures known { lane.new.known ≡ lane.old.known }
+        ensures faults { MatchResult result (λ number. Learns lane.old.faults lane.new.faults number fault) (λ e. (e.0 ≡ fault) × (lane.new.faults ≡ lane.old.faults)) }
+        ensures frame { Frame self.now.id [] lane.old lane.new }
+    {
+        match self.keep_fault_wait(rt, lane, fault) {
+            Ok(number) => {
+                self.shared.fail(&mut lane.cells, claim, number);
+                Ok(number)
+            }
+            Err(unkept) => {
+                self.shared.abandon(&mut lane.cells, claim);
+                Err(unkept)
+            }
+        }
+    }
+
+    // Draws a number for the fault, however often other lanes are in the way.
+    #[tactic(auto, unfolding(crate::specs::Calls::KeepFails, crate::specs::Frames::Frame))]
+    fn keep_fault_wait<R: Wait>(
+        &self,
+        rt: &R,
+        lane: &mut Lane<V>,
+        fault: Fault,
+    ) -> Result<u32, (Fault, KeepFault)>
+        requires lane { IsLaneOf self.now.id lane.old }
+        requires faults { IsTrue self.now.id.cells.limits.keep_faults }
+        ensures answer { MatchResult result (KeepsFault fault lane.old lane.new) (λ e. KeepsNoFault self.now fault lane.old lane.new e.0 e.1) }
+        ensures decided { IfErr result (λ e. IsDecidedFault e.1) }
+        ensures known { lane.new.known ≡ lane.old.known }
+        ensures apart { IfOk result (λ number. (m : ℕ) → IsKeptBy lane.old m → m ≢ number) }
+        ensures frame { Frame self.now.id [] lane.old lane.new }
+    {
+        self.shared.recall();
+        let boxed = match Box::new(self.alloc, fault) {
+            Ok(boxed) => boxed,
+            Err(failed) => return Err((failed.value, KeepFault::Memory)),
+        };
+        let drawn = self.shared.wait_to_draw(rt, &mut lane.cells);
+        self.place_drawn_fault(&mut lane.faults, drawn, boxed)
     }
 
     // Keeps the value and stores its number in the claimed cell, or gives the claim up.
@@ -319,6 +399,7 @@ impl<V: StoreValue + Drop> Store<V> {
         ensures events { MatchResult result (Fills self.now.id.cells.limits [] claim lane.old.cells.view lane.new.cells.view) (λ e. IsUnkept self.now.id.cells.limits self.now.tries [] claim lane.old.cells.view lane.new.cells.view e.1) }
         ensures decided { IfErr result (λ e. IsDecidedFault e.1) }
         ensures known { MatchResult result (λ number. Learns lane.old.known lane.new.known number value) (λ e. (e.0 ≡ value) × (lane.new.known ≡ lane.old.known)) }
+        ensures faults { lane.new.faults ≡ lane.old.faults }
         ensures apart { IfOk result (λ number. (m : ℕ) → IsKeptBy lane.old m → m ≢ number) }
         ensures frame { Frame self.now.id [] lane.old lane.new }
     {

@@ -331,6 +331,7 @@ fn opened(alloc: Global, count: usize, tries: u32) -> Option<Result<(usize, usiz
         lanes: 2,
         tries,
         numbers: 8,
+        keep_faults: false,
     };
     let tree = contexts(alloc)?;
     let keys = keys(alloc, count)?;

@@ -4,7 +4,7 @@ ghost use Rattle.ext_store.specs.Stores.{IsCloserOf, IsLaneOf};
 
 use crate::asked::{key, same, with_made};
 use crate::closes::Recorder;
-use crate::opening::{Letter, Opened, open_chain, plain};
+use crate::opening::{Letter, Opened, closeable, open_chain_for, plain};
 use ext_closing::{CloseFault, Closes, close};
 use ext_model::{ContextNo, Fault, Look};
 use ext_store::{Closer, Compute, KeepFault, Lane, Refusal, Store};
@@ -19,6 +19,9 @@ pub(crate) enum Told {
     Computed(u32),
     Found(ContextNo, u32),
     Failed,
+    FaultKept(u32),
+    FaultUnkept(KeepFault),
+    FaultStands(ContextNo, u32),
     Unkept(KeepFault),
     Refused(Refusal),
     Other,
@@ -33,8 +36,13 @@ pub(crate) enum Call {
     Puts(Letter, u32, Result<Option<u32>, Refusal>),
     /// The letter that the factory makes.
     Computes(char, Told),
+    /// The letter that the factory makes, of a closeable value.
+    ComputesToClose(char, Told),
     /// The text with which the factory fails.
     Fails(&'static str),
+    /// The same, with what the compute tells.
+    FailsAs(&'static str, Told),
+    ShowsFault(u32, Option<&'static str>),
     Shows(u32, Option<Letter>),
     /// By all lanes up to this one: how many values are closed, or why none is, and the numbers that the action was given.
     Closes(Result<u32, CloseFault>, [u32; 4]),
@@ -135,6 +143,11 @@ fn tell(outcome: Compute<Letter, Result<Letter, Fault>>, letter: char) -> Told {
             number,
             unused: Ok(value),
         } if value.letter == letter => Told::Found(at, number),
+        Compute::FaultStands {
+            at,
+            number,
+            unused: Ok(value),
+        } if value.letter == letter => Told::FaultStands(at, number),
         Compute::Unkept { value, cause } if value.letter == letter => Told::Unkept(cause),
         Compute::Refused {
             refusal,
@@ -160,13 +173,18 @@ fn check_fault<R: Abort>(rt: &R, fault: Option<&Fault>, text: Option<&str>) {
 
 /// What the compute tells whose factory fails with the text.
 fn tell_fault(outcome: Compute<Letter, Result<Letter, Fault>>, text: &str) -> Told {
-    let Compute::Failed(fault) = outcome else {
-        return Told::Other;
-    };
-    if text_of(Some(&fault)) == Some(text) {
-        Told::Failed
-    } else {
-        Told::Other
+    match outcome {
+        Compute::Failed(fault) if text_of(Some(&fault)) == Some(text) => Told::Failed,
+        Compute::FaultKept { number } => Told::FaultKept(number),
+        Compute::FaultUnkept { fault, cause } if text_of(Some(&fault)) == Some(text) => {
+            Told::FaultUnkept(cause)
+        }
+        Compute::FaultStands {
+            at,
+            number,
+            unused: Err(_),
+        } => Told::FaultStands(at, number),
+        _ => Told::Other,
     }
 }
 
@@ -213,7 +231,14 @@ fn compute(
             number,
             unused: unused(key),
         },
+        Compute::FaultStands { at, number, unused } => Compute::FaultStands {
+            at,
+            number,
+            unused: unused(key),
+        },
         Compute::Failed(fault) => Compute::Failed(fault),
+        Compute::FaultKept { number } => Compute::FaultKept { number },
+        Compute::FaultUnkept { fault, cause } => Compute::FaultUnkept { fault, cause },
         Compute::Unkept { value, cause } => Compute::Unkept { value, cause },
         Compute::Refused { refusal, unused } => Compute::Refused {
             refusal,
@@ -222,22 +247,20 @@ fn compute(
     }
 }
 
-/// Computes by a factory that makes the letter.
+/// Computes by a factory that makes the value.
 fn make(
     store: &Store<Letter>,
     lane: &mut Lane<Letter>,
     context: ContextNo,
     key: &Key,
-    letter: char,
+    value: Letter,
 ) -> Told
     requires lane { IsLaneOf store.now.id lane.old }
     requires context { context < length store.now.tree }
     ensures { IsLaneOf store.now.id lane.new }
 {
-    tell(
-        compute(store, lane, context, key, Ok(plain(letter))),
-        letter,
-    )
+    let letter = value.letter;
+    tell(compute(store, lane, context, key, Ok(value)), letter)
 }
 
 /// Computes by a factory that fails with the text.
@@ -283,11 +306,26 @@ fn ask<R: Abort>(
             same(rt, told, (number, answer), name);
         }
         Call::Computes(letter, answer) => {
-            same(rt, make(store, lane, at, key, letter), answer, name);
+            same(rt, make(store, lane, at, key, plain(letter)), answer, name);
+        }
+        Call::ComputesToClose(letter, answer) => {
+            same(
+                rt,
+                make(store, lane, at, key, closeable(letter)),
+                answer,
+                name,
+            );
         }
         Call::Fails(text) => {
             let told = fail(alloc, store, lane, at, key, text);
             same(rt, told, Told::Failed, name);
+        }
+        Call::FailsAs(text, answer) => {
+            let told = fail(alloc, store, lane, at, key, text);
+            same(rt, told, answer, name);
+        }
+        Call::ShowsFault(number, text) => {
+            same(rt, text_of(store.show_fault(lane, number)), text, name);
         }
         Call::Shows(number, value) => same(rt, store.show(lane, number).copied(), value, name),
         Call::Closes(..) | Call::FailsToClose(..) => panic!(rt; "a close is no lane's"),
@@ -369,9 +407,9 @@ fn in_one_hand(alloc: Global, opened: Opened<Letter>) -> Chain
     }
 }
 
-/// Opens a store of the chain with so many numbers; `None` where there is no memory.
-fn open(alloc: Global, numbers: u32) -> Option<Chain> {
-    Some(in_one_hand(alloc, open_chain(alloc, numbers)?))
+/// Opens a store of the chain with so many numbers, which keeps faults or not; `None` where there is no memory.
+fn open(alloc: Global, numbers: u32, keep_faults: bool) -> Option<Chain> {
+    Some(in_one_hand(alloc, open_chain_for(alloc, numbers, keep_faults)?))
 }
 
 /// Asserts that the lanes have their numbers, and that each row's call, in order, has its answer.
@@ -385,5 +423,14 @@ fn play<R: Abort>(rt: &R, chain: &mut Chain, rows: &[Row]) {
 
 /// Opens a store of the chain with so many numbers, and asserts that each row's call, in order, has its answer.
 pub(crate) fn rows<R: Abort>(rt: &R, alloc: Global, numbers: u32, rows: &[Row]) {
-    with_made(rt, open(alloc, numbers), |chain| play(rt, chain, rows));
+    with_made(rt, open(alloc, numbers, false), |chain| {
+        play(rt, chain, rows)
+    });
+}
+
+/// The same in a store that keeps faults.
+pub(crate) fn rows_with_faults<R: Abort>(rt: &R, alloc: Global, numbers: u32, rows: &[Row]) {
+    with_made(rt, open(alloc, numbers, true), |chain| {
+        play(rt, chain, rows)
+    });
 }

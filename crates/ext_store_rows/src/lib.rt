@@ -12,10 +12,14 @@ mod chain;
 mod closes;
 #[cfg(test)]
 mod computes;
+#[cfg(test)]
+mod faults;
 mod logged;
 mod opening;
 #[cfg(test)]
 mod wide;
 
 pub use logged::{Log, close_logged};
-pub use opening::{Letter, Opened, closeable, contexts, key, keys, open_chain, open_store, plain};
+pub use opening::{
+    Letter, Opened, closeable, contexts, key, keys, open_chain, open_chain_for, open_store, plain,
+};

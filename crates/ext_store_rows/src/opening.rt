@@ -180,8 +180,19 @@ pub fn open_store<V: StoreValue + Drop>(
     })
 }
 
-/// The store of the chain with the keys a, b and c, eight tries and so many numbers; `None` where there is no memory.
+/// The store of the chain with the keys a, b and c, eight tries and so many numbers, which keeps no faults; `None` where there is
+/// no memory.
 pub fn open_chain(alloc: Global, numbers: u32) -> Option<Opened<Letter>>
+    ensures first { IfSome result (λ o. IsLaneOf o.store.id o.first) }
+    ensures second { IfSome result (λ o. IsLaneOf o.store.id o.second) }
+    ensures closers { IfSome result (λ o. All (IsCloserOf o.store) o.closers.items) }
+    ensures contexts { IfSome result (λ o. 2 < length o.store.tree) }
+{
+    open_chain_for(alloc, numbers, false)
+}
+
+/// The same, which keeps faults or not.
+pub fn open_chain_for(alloc: Global, numbers: u32, keep_faults: bool) -> Option<Opened<Letter>>
     ensures first { IfSome result (λ o. IsLaneOf o.store.id o.first) }
     ensures second { IfSome result (λ o. IsLaneOf o.store.id o.second) }
     ensures closers { IfSome result (λ o. All (IsCloserOf o.store) o.closers.items) }
@@ -191,6 +202,7 @@ pub fn open_chain(alloc: Global, numbers: u32) -> Option<Opened<Letter>>
         lanes: 2,
         tries: 8,
         numbers,
+        keep_faults,
     };
     open_store(alloc, keys(alloc, 3)?, limits)
 }

@@ -67,6 +67,7 @@ fn opened(alloc: Global, count: u32) -> Result<Result<(usize, usize), StoreFault
         lanes: 16,
         tries: 64,
         numbers: 65_535,
+        keep_faults: false,
     };
     let (tree, keys) = (contexts(alloc)?, keys(alloc, count)?);
     Ok(lanes_and_closers(alloc, tree, keys, limits))

@@ -39,6 +39,7 @@ never_unknown context (events.Refuses events.Busy) e = cc
 never_unknown context (events.Refuses events.Closed) e = cc
 never_unknown context (events.Refuses events.Exhausted) e = cc
 never_unknown context (events.Refuses (events.Standing number)) e = cc
+never_unknown context (events.Refuses (events.FaultStanding number)) e = cc
 never_unknown context (events.Refuses events.Barred) e = cc
 
 -- the result of a put without the number that it hands back

@@ -3,8 +3,9 @@
 --
 -- JUnit 5 User Guide, "Keeping State in Extensions", and Javadoc `ExtensionContext.Store`, `get`, `put`, `remove` and `getOrComputeIfAbsent`. What a step says is an
 -- own rule.
-use Rattle.std.specs.Prelude.{◌≡◌, ◌⊎◌, ℕ, List, Option, None, Result, Ok, Err, String, string_bytes}
+use Rattle.std.specs.Prelude.{◌≡◌, ◌⊎◌, ℕ, List, Option, Some, None, Result, Ok, Err, String, string_bytes}
 use Rattle.std.specs.declared.alloc.Global.{Global}
+use Rattle.ext_model.specs.declared.look.Fault.{Fault}
 use Rattle.ext_model.specs.declared.look.Fault.TheVariants as faults
 use Rattle.ext_model.specs.declared.look.Look.{Look}
 use Rattle.ext_model.specs.declared.look.Look.TheVariants as look
@@ -22,7 +23,7 @@ use Rattle.ext_store.specs.Computing.{Uses}
 use Rattle.ext_store.specs.Waiting.{ComputesAfterWaits}
 use Rattle.ext_steps.specs.declared.reason.Reason.TheVariants as reasons
 use Rattle.ext_steps.specs.Values.{ValueText, value_view}
-use Rattle.ext_steps.specs.Verdicts.{SeenText, seen_value, seen_nothing, seen_refused, none_verdict}
+use Rattle.ext_steps.specs.Verdicts.{SeenText, seen_value, seen_fault, seen_no_memory, seen_nothing, seen_refused, none_verdict, fail_verdict}
 use Rattle.ext_store_steps.specs.declared.stored_value.StoredValue.{StoredValue}
 use Rattle.ext_store_steps.specs.Saying.{Ends, EndsRefused, EndsUnkept}
 
@@ -51,12 +52,24 @@ ShowsNumber number before seen after =
     ((value : StoredValue) × Learns before after number value × (seen ≡ seen_value (stored_view value).text))
     ⊎ ((known_at before number ≡ None) × (after ≡ before) × (seen ≡ seen_refused reasons.NotShown))
 
+-- what a step is shown of a kept fault
+abbrev pub fault_seen : Fault → SeenText
+fault_seen (faults.Text text) = seen_fault (string_bytes text)
+fault_seen faults.Memory = seen_no_memory
+
+-- the step is shown the kept fault of a number that the lane knows afterwards; or the lane does not know it, and the step is told that it is not shown
+abbrev pub ShowsFault : ℕ → SeenText → List (Known Fault) → Type 0
+ShowsFault number seen after =
+    ((fault : Fault) × (known_at after number ≡ Some fault) × (seen ≡ fault_seen fault))
+    ⊎ ((known_at after number ≡ None) × (seen ≡ seen_refused reasons.NotShown))
+
 -- what a look-up that answers this shows
-abbrev pub Shows : Look → PlanNotes → SeenText → PlanNotes → Type 0
-Shows (look.Found at number) before seen after = ShowsNumber number before seen after
-Shows look.Absent before seen after = (after ≡ before) × (seen ≡ seen_nothing)
+abbrev pub Shows : Look → PlanLane → SeenText → PlanLane → Type 0
+Shows (look.Found at number) before seen after = ShowsNumber number before.known seen after.known
+Shows (look.Fault at number) before seen after = (after.known ≡ before.known) × ShowsFault number seen after.faults
+Shows look.Absent before seen after = (after.known ≡ before.known) × (seen ≡ seen_nothing)
 Shows (look.Busy at) before seen after = ⊥
-Shows (look.Closed at) before seen after = (after ≡ before) × (seen ≡ seen_refused reasons.Closed)
+Shows (look.Closed at) before seen after = (after.known ≡ before.known) × (seen ≡ seen_refused reasons.Closed)
 
 -- ---- the calls
 
@@ -65,7 +78,7 @@ module _ (store : StoreView) (context key : ℕ) where
   pub record Sees (before : PlanLane) (seen : SeenText) (after : PlanLane) : Type 0 where
     pub answer : Look
     pub looked : Gets store context key before.cells after.cells (Ok answer)
-    pub shown : Shows answer before.known seen after.known
+    pub shown : Shows answer before seen after
 
   -- the calls that end a step of this name whose key has this label
   module _ (name label : List ℕ) where
@@ -106,38 +119,48 @@ module _ (store : StoreView) (context key : ℕ) where
       pub known : after.known ≡ before.known
       pub ends : EndsChange result outcome
 
-    -- how a compute ends whose factory gives a value
-    abbrev pub EndsCompute : Compute StoredValue (Unit {0}) → Outcome → Type 0
-    EndsCompute (computes.Computed number) outcome = Ends successful 1 0 outcome
-    EndsCompute (computes.Found at number unused) outcome = Ends successful 0 1 outcome
-    EndsCompute (computes.Failed why) outcome = ⊥
-    EndsCompute (computes.Unkept value cause) outcome = EndsUnkept name label cause outcome
-    EndsCompute (computes.Refused why unused) outcome = EndsRefused name label why outcome
+    -- How a compute ends whose factory gives a value. A kept fault that stands in its place is shown, and counts for nothing
+    abbrev pub EndsCompute : Compute StoredValue (Unit {0}) → PlanLane → Outcome → PlanLane → Type 0
+    EndsCompute (computes.Computed number) before outcome after = (after ≡ before) × Ends successful 1 0 outcome
+    EndsCompute (computes.Found at number unused) before outcome after = (after ≡ before) × Ends successful 0 1 outcome
+    EndsCompute (computes.Failed why) before outcome after = ⊥
+    EndsCompute (computes.FaultKept number) before outcome after = ⊥
+    EndsCompute (computes.FaultUnkept why cause) before outcome after = ⊥
+    EndsCompute (computes.FaultStands at number unused) before outcome after =
+        (after.known ≡ before.known) × (seen : SeenText) × ShowsFault number seen after.faults × Ends (none_verdict name label seen) 0 0 outcome
+    EndsCompute (computes.Unkept value cause) before outcome after = (after ≡ before) × EndsUnkept name label cause outcome
+    EndsCompute (computes.Refused why unused) before outcome after = (after ≡ before) × EndsRefused name label why outcome
 
-    -- a compute with a factory that gives this value, and nothing else
+    -- a compute with a factory that gives this value, and after it, where a kept fault stands, the call that shows it
     pub record ComputesValue (value : ValueText) (before : PlanLane) (outcome : Outcome) (after : PlanLane) : Type 0 where
       pub given : StoredValue
       pub value_is : stored_view given ≡ value
       pub result : Compute StoredValue (Unit {0})
       pub computed : ComputesAfterWaits store context key before.cells after.cells result
-      pub uses : Uses (λ answer. answer ≡ Ok given) before.known after.known result
-      pub ends : EndsCompute result outcome
+      pub between : PlanLane
+      pub uses : Uses (λ answer. answer ≡ Ok given) before between result
+      pub ends : EndsCompute result between outcome after
 
-    -- How a compute ends whose factory fails: that its fault comes back is the success. A value that is found in its place is shown
-    abbrev pub EndsComputeFail : Compute StoredValue (Unit {0}) → PlanNotes → Outcome → PlanNotes → Type 0
-    EndsComputeFail (computes.Computed number) before outcome after = ⊥
-    EndsComputeFail (computes.Found at number unused) before outcome after =
-        (seen : SeenText) × ShowsNumber number before seen after × Ends (none_verdict name label seen) 0 1 outcome
-    EndsComputeFail (computes.Failed why) before outcome after = (after ≡ before) × Ends successful 0 0 outcome
-    EndsComputeFail (computes.Unkept value cause) before outcome after = ⊥
-    EndsComputeFail (computes.Refused why unused) before outcome after = (after ≡ before) × EndsRefused name label why outcome
+    -- How a compute ends whose factory fails with this text: that its fault comes back, or is kept, is the success, and so is a kept fault of the same text. What is
+    -- met in its place is shown; a value that is found counts, and a kept fault does not
+    abbrev pub EndsComputeFail : List ℕ → Compute StoredValue (Unit {0}) → PlanLane → Outcome → PlanLane → Type 0
+    EndsComputeFail text (computes.Computed number) before outcome after = ⊥
+    EndsComputeFail text (computes.Found at number unused) before outcome after =
+        (seen : SeenText) × ShowsNumber number before.known seen after.known × Ends (none_verdict name label seen) 0 1 outcome
+    EndsComputeFail text (computes.Failed why) before outcome after = (after ≡ before) × Ends successful 0 0 outcome
+    EndsComputeFail text (computes.FaultKept number) before outcome after = (after ≡ before) × Ends successful 0 0 outcome
+    EndsComputeFail text (computes.FaultUnkept why cause) before outcome after = (after ≡ before) × EndsUnkept name label cause outcome
+    EndsComputeFail text (computes.FaultStands at number unused) before outcome after =
+        (after.known ≡ before.known) × (seen : SeenText) × ShowsFault number seen after.faults × Ends (fail_verdict name label text seen) 0 0 outcome
+    EndsComputeFail text (computes.Unkept value cause) before outcome after = ⊥
+    EndsComputeFail text (computes.Refused why unused) before outcome after = (after ≡ before) × EndsRefused name label why outcome
 
-    -- a compute with a factory that fails with this text, and after it, where a value is found, the call that shows it
+    -- a compute with a factory that fails with this text, and after it, where a value or a kept fault is met, the call that shows it
     pub record ComputesFault (text : List ℕ) (before : PlanLane) (outcome : Outcome) (after : PlanLane) : Type 0 where
       pub message : String Global
       pub message_is : string_bytes message ≡ text
       pub result : Compute StoredValue (Unit {0})
       pub computed : ComputesAfterWaits store context key before.cells after.cells result
-      pub known : PlanNotes
-      pub uses : Uses (λ answer. answer ≡ Err (faults.Text message)) before.known known result
-      pub ends : EndsComputeFail result known outcome after.known
+      pub between : PlanLane
+      pub uses : Uses (λ answer. answer ≡ Err (faults.Text message)) before between result
+      pub ends : EndsComputeFail text result between outcome after

@@ -6,15 +6,17 @@ ghost use Rattle.ext_store.specs.Frames.{Frame};
 ghost use Rattle.ext_store.specs.Computing.{Uses, without_factory};
 ghost use Rattle.ext_store.specs.Waiting.{ComputesAfterWaits, IsDecidedCompute};
 ghost use Rattle.ext_steps.specs.Calls.{call_view, start_of};
-ghost use Rattle.ext_store_steps.specs.StoreCalls.{HasFrame, stored_view};
+ghost use Rattle.ext_store_steps.specs.StoreCalls.{HasFrame, ShowsFault, stored_view};
+ghost use Rattle.ext_steps.specs.Verdicts.{SeenText, fail_verdict, none_verdict};
+ghost use Rattle.ext_store_steps.specs.Saying.{Ends};
 ghost use Rattle.ext_store_steps.specs.StoreSteps.{FindsNoMemory, StepComputes, StepFails};
 
 use crate::StoredValue;
-use crate::looks::show;
+use crate::looks::{show, show_fault};
 use crate::reasons::{end_refused, end_unkept, or_no_memory};
 use ext_lifecycle::{Outcome, Verdict};
 use ext_model::{ContextNo, Fault};
-use ext_steps::{StepCall, none_verdict};
+use ext_steps::{StepCall, fail_verdict, none_verdict};
 use ext_store::{Compute, Lane, Store, StoreValue};
 use ext_tree::Key;
 use std::alloc::Global;
@@ -46,8 +48,15 @@ pub(crate) fn compute<'a, R: Wait>(
             number: _,
             unused: _,
         } => counted(Verdict::Successful, 0, 1),
+        Compute::FaultStands {
+            at: _,
+            number,
+            unused: _,
+        } => end_met(alloc, store, lane, call, number),
         // The factory does not fail.
         Compute::Failed(_) => unreachable!(),
+        Compute::FaultKept { number: _ } => unreachable!(),
+        Compute::FaultUnkept { fault: _, cause: _ } => unreachable!(),
         Compute::Unkept { value: _, cause } => end_unkept(alloc, call, cause),
         Compute::Refused { refusal, unused: _ } => end_refused(alloc, call, refusal),
     }
@@ -74,12 +83,12 @@ pub(crate) fn compute_fail<'a, R: Wait>(
     ensures frame { HasFrame store.now lane.old lane.new }
 {
     match text.clone() {
-        Ok(text) => compute_fault(alloc, rt, store, lane, call, key, text),
+        Ok(copy) => compute_fault(alloc, rt, store, lane, call, key, copy, text.as_str()),
         Err(_) => Outcome::of(Verdict::Failed(Fault::Memory)),
     }
 }
 
-/// A compute whose factory fails with this text.
+/// A compute whose factory fails with this text, which stands in the plan too.
 fn compute_fault<'a, R: Wait>(
     alloc: Global,
     rt: &R,
@@ -87,18 +96,20 @@ fn compute_fault<'a, R: Wait>(
     lane: &mut Lane<StoredValue<'a>>,
     call: &StepCall<'_>,
     key: &Key,
-    text: String,
+    copy: String,
+    text: &str,
 ) -> Outcome
     requires lane { IsLaneOf store.now.id lane.old }
     requires context { start_of (call_view call.now).path < length store.now.tree }
     requires key { Contains store.now.keys key.now }
-    ensures fails { StepFails store.now key.now (start_of (call_view call.now).path) (call_view call.now).name (call_view call.now).label (string_bytes text) lane.old result lane.new }
+    requires text { string_bytes copy ≡ text.now }
+    ensures fails { StepFails store.now key.now (start_of (call_view call.now).path) (call_view call.now).name (call_view call.now).label text.now lane.old result lane.new }
     ensures computed { result.computed ≤ 1 }
     ensures found { result.found ≤ 1 }
     ensures lane { IsLaneOf store.now.id lane.new }
     ensures frame { HasFrame store.now lane.old lane.new }
 {
-    let fault = Fault::Text(text);
+    let fault = Fault::Text(copy);
     match compute_made(rt, store, lane, call.at(), key, Err(fault)) {
         Compute::Found {
             at: _,
@@ -109,11 +120,57 @@ fn compute_fault<'a, R: Wait>(
             counted(or_no_memory(none_verdict(alloc, call, seen)), 0, 1)
         }
         Compute::Failed(_) => Outcome::of(Verdict::Successful),
+        Compute::FaultKept { number: _ } => Outcome::of(Verdict::Successful),
+        Compute::FaultUnkept { fault: _, cause } => end_unkept(alloc, call, cause),
+        Compute::FaultStands {
+            at: _,
+            number,
+            unused: _,
+        } => end_met_failing(alloc, store, lane, call, text, number),
         Compute::Refused { refusal, unused: _ } => end_refused(alloc, call, refusal),
         // The factory gives no value.
         Compute::Computed { number: _ } => unreachable!(),
         Compute::Unkept { value: _, cause: _ } => unreachable!(),
     }
+}
+
+/// How a step ends that computes a value, and meets the kept fault of this number.
+fn end_met<'a>(
+    alloc: Global,
+    store: &Store<StoredValue<'a>>,
+    lane: &mut Lane<StoredValue<'a>>,
+    call: &StepCall<'_>,
+    number: u32,
+) -> Outcome
+    requires lane { IsLaneOf store.now.id lane.old }
+    ensures ends { (seen : SeenText) × ShowsFault number seen lane.new.faults × Ends (none_verdict (call_view call.now).name (call_view call.now).label seen) 0 0 result }
+    ensures known { lane.new.known ≡ lane.old.known }
+    ensures steps { lane.new.cells ≡ lane.old.cells }
+    ensures lane { IsLaneOf store.now.id lane.new }
+    ensures frame { HasFrame store.now lane.old lane.new }
+{
+    let seen = show_fault(store, lane, number);
+    counted(or_no_memory(none_verdict(alloc, call, seen)), 0, 0)
+}
+
+/// How a step ends whose factory is to fail with this text, and that meets the kept fault of this number.
+fn end_met_failing<'a>(
+    alloc: Global,
+    store: &Store<StoredValue<'a>>,
+    lane: &mut Lane<StoredValue<'a>>,
+    call: &StepCall<'_>,
+    text: &str,
+    number: u32,
+) -> Outcome
+    requires lane { IsLaneOf store.now.id lane.old }
+    ensures ends { (seen : SeenText) × ShowsFault number seen lane.new.faults × Ends (fail_verdict (call_view call.now).name (call_view call.now).label text.now seen) 0 0 result }
+    ensures known { lane.new.known ≡ lane.old.known }
+    ensures steps { lane.new.cells ≡ lane.old.cells }
+    ensures lane { IsLaneOf store.now.id lane.new }
+    ensures frame { HasFrame store.now lane.old lane.new }
+{
+    let seen = show_fault(store, lane, number);
+    counted(or_no_memory(fail_verdict(alloc, call, text, seen)), 0, 0)
 }
 
 /// What a compute answers whose factory answers this.
@@ -129,7 +186,7 @@ fn compute_made<R: Wait, V: StoreValue + Drop>(
     requires context { context < length store.now.tree }
     ensures answer { (number : ℕ) → HasNumber store.now.keys key.now number → ComputesAfterWaits store.now context number lane.old.cells lane.new.cells (without_factory result) }
     ensures decided { IsDecidedCompute result }
-    ensures factory { Uses (λ answer. answer ≡ made) lane.old.known lane.new.known (without_factory result) }
+    ensures factory { Uses (λ answer. answer ≡ made) lane.old lane.new (without_factory result) }
     ensures lane { IsLaneOf store.now.id lane.new }
     ensures frame { Frame store.now.id [] lane.old lane.new }
 {
@@ -148,6 +205,17 @@ fn compute_made<R: Wait, V: StoreValue + Drop>(
             unused: (),
         },
         Compute::Failed(fault) => Compute::Failed(fault),
+        Compute::FaultKept { number } => Compute::FaultKept { number },
+        Compute::FaultUnkept { fault, cause } => Compute::FaultUnkept { fault, cause },
+        Compute::FaultStands {
+            at,
+            number,
+            unused: _,
+        } => Compute::FaultStands {
+            at,
+            number,
+            unused: (),
+        },
         Compute::Unkept { value, cause } => Compute::Unkept { value, cause },
         Compute::Refused { refusal, unused: _ } => Compute::Refused {
             refusal,

@@ -3,13 +3,13 @@ ghost use Rattle.std.specs.Prelude.{◌≡◌, ◌<◌, Contains, length};
 ghost use Rattle.ext_store.specs.Stores.{IsLaneOf};
 ghost use Rattle.ext_steps.specs.Calls.{call_view, start_of};
 ghost use Rattle.ext_steps.specs.Verdicts.{none_verdict, seen_view, want_verdict};
-ghost use Rattle.ext_store_steps.specs.StoreCalls.{HasFrame, Sees, ShowsNumber};
+ghost use Rattle.ext_store_steps.specs.StoreCalls.{HasFrame, Sees, ShowsFault, ShowsNumber};
 ghost use Rattle.ext_store_steps.specs.StoreSteps.{OfNumber, StepLooks};
 
 use crate::StoredValue;
 use crate::reasons::or_no_memory;
 use ext_lifecycle::Outcome;
-use ext_model::{ContextNo, Look};
+use ext_model::{ContextNo, Fault, Look};
 use ext_steps::{Reason, Seen, StepCall, none_verdict, want_verdict};
 use ext_store::{Lane, Store};
 use ext_tree::Key;
@@ -62,13 +62,13 @@ pub(crate) fn none<'a, R: Wait>(
 }
 
 /// What a look-up from the context shows.
-fn see<'a, R: Wait>(
+fn see<'s, 'a, R: Wait>(
     rt: &R,
-    store: &Store<StoredValue<'a>>,
+    store: &'s Store<StoredValue<'a>>,
     lane: &mut Lane<StoredValue<'a>>,
     context: ContextNo,
     key: &Key,
-) -> Seen<'a>
+) -> Seen<'s>
     requires lane { IsLaneOf store.now.id lane.old }
     requires context { context < length store.now.tree }
     requires key { Contains store.now.keys key.now }
@@ -78,6 +78,7 @@ fn see<'a, R: Wait>(
 {
     match store.get_wait(rt, lane, context, key) {
         Ok(Look::Found { at: _, number }) => show(store, lane, number),
+        Ok(Look::Fault { at: _, number }) => show_fault(store, lane, number),
         Ok(Look::Absent) => Seen::Nothing,
         Ok(Look::Closed(_)) => Seen::Refused(Reason::Closed),
         // The waiting form waits for a running factory, and is refused only for a key that the store does not have.
@@ -100,6 +101,26 @@ pub(crate) fn show<'a>(
 {
     match store.show(lane, number) {
         Some(stored) => Seen::Value(stored.value.text),
+        None => Seen::Refused(Reason::NotShown),
+    }
+}
+
+/// The kept fault of a number that was met, as it is shown to a step.
+pub(crate) fn show_fault<'s, 'a>(
+    store: &'s Store<StoredValue<'a>>,
+    lane: &mut Lane<StoredValue<'a>>,
+    number: u32,
+) -> Seen<'s>
+    requires lane { IsLaneOf store.now.id lane.old }
+    ensures shows { ShowsFault number (seen_view result) lane.new.faults }
+    ensures known { lane.new.known ≡ lane.old.known }
+    ensures steps { lane.new.cells ≡ lane.old.cells }
+    ensures lane { IsLaneOf store.now.id lane.new }
+    ensures frame { HasFrame store.now lane.old lane.new }
+{
+    match store.show_fault(lane, number) {
+        Some(Fault::Text(text)) => Seen::Fault(text.as_str()),
+        Some(Fault::Memory) => Seen::NoMemory,
         None => Seen::Refused(Reason::NotShown),
     }
 }

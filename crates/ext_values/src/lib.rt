@@ -4,7 +4,7 @@
 //! value it has, `Notes` tell it of each number that one lane knows. All notes of one number tell one value.
 //!
 //! Memory is taken by the two makers alone, `Values::new` and `Notes::new`: one pointer a number for the places, and
-//! one byte a number for each lane's notes. The values themselves stand in boxes that the caller hands in. No call
+//! one byte a number for each lane's notes; `SilentNotes`, which can't be asked what they know, take none. The values themselves stand in boxes that the caller hands in. No call
 //! takes a runtime or waits.
 #![tactic(auto)]
 
@@ -13,10 +13,13 @@ mod fault;
 mod laws;
 mod note;
 mod notes;
+mod silent_entry;
+mod silent_notes;
 mod values;
 
 pub use fault::ValuesFault;
 pub use laws::notes_laws;
 pub use note::Note;
 pub use notes::Notes;
+pub use silent_notes::SilentNotes;
 pub use values::Values;

@@ -21,7 +21,8 @@ enum FieldType {
 }
 
 /// The top fields, in the order in which they are read.
-const TOP_TYPES: [(&str, FieldType); 2] = [
+const TOP_TYPES: [(&str, FieldType); 3] = [
+    ("keep_faults", FieldType::TruthIfGiven),
     ("key", FieldType::TablesIfGiven),
     ("node", FieldType::TablesIfGiven),
 ];

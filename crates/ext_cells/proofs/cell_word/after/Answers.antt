@@ -10,4 +10,4 @@ next_word-requires-clause-version c =
     version_left _ _ _ free (c.requires.act _ _ _ p.number (sym p.parts))
 
 pub next_word-requires-clause-act : goal.next_word-requires-clause-act
-next_word-requires-clause-act c = let p = c.parts-state.ensures in (c.parts-state.result.0, c.requires.act _ _ _ p.number (sym p.parts))
+next_word-requires-clause-act c = let p = c.parts-state.ensures in c.requires.act _ _ _ p.number (sym p.parts)

@@ -1,7 +1,7 @@
 use Rattle.std.proofs.Common.{◌≡◌, false, sym, ap, subst, ◌∙◌}
 use Rattle.ext_model.specs.Words.{number_code}
 use Rattle.ext_cells.specs.declared.decision.Decision.TheVariants.{Change}
-use Rattle.ext_cells.specs.Deciding.{state_of, is_settled, number_in, Decides}
+use Rattle.ext_cells.specs.Deciding.{state_of, is_settled, stood_in, Decides}
 use Rattle.ext_cells.proofs.Decisions.{changes, refuses}
 use Rattle.ext_cells.proofs.decision.decide.Goals as goal
 
@@ -9,7 +9,7 @@ pub returns-in-Ok : goal.returns-in-Ok
 returns-in-Ok c stands version is =
     let p = c.parts-state.ensures.only (state_of stands) (number_code stands) version is.fits is.is in
     let idle : is_settled c.args.act (state_of stands) ≡ false = ap (λ z. is_settled c.args.act z.0) (sym p) ∙ sym c.is_settled.ensures ∙ c.if-is_settled.false in
-    let number : c.number_in-answer.result ≡ number_in (number_code stands) = c.number_in-answer.ensures ∙ ap (λ z. number_in z.1) p in
+    let number : c.of-stood.result ≡ stood_in (state_of stands) (number_code stands) = c.of-stood.ensures ∙ ap (λ z. stood_in z.0 z.1) p in
     subst (λ k. Decides c.args.act stands version (Change c.in-Ok.next k)) (sym number)
     (changes c.args.act stands version c.in-Ok.next c.requires.act idle is.numbered (sym (c.after.ensures (state_of stands) (number_code stands) version is.fits is.is) ∙ c.in-Ok.is))
 

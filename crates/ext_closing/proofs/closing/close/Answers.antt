@@ -23,7 +23,7 @@ returns-in-Err-clause-happened g c =
       unjoined = names_none _ _ c.in-Err.why after.refusal;
       handed_back = refl {a = c.args.closer};
       not_called = refl {a = c.args.action.now};
-      lanes = only_first c.args.lanes.now left c.seal_all.new.lane first same some after.known;
+      lanes = only_first c.args.lanes.now left c.seal_all.new.lane first same some after.known after.faults;
       own_lanes = still_own c.args.lanes.now left c.seal_all.new.lane first same some c.args.store.now.id after.lane c.requires.own_lanes;
       kept = still_kept c.args.lanes.now left c.seal_all.new.lane first same some after.kept;
     }
@@ -52,7 +52,7 @@ returns-in-Some-clause-happened g c =
           c.in-Some.ensures.unjoined;
       handed_back = refl {a = c.args.closer};
       not_called = refl {a = c.args.action.now};
-      lanes = only_first c.args.lanes.now left c.seal_all.new.lane first same some after.known;
+      lanes = only_first c.args.lanes.now left c.seal_all.new.lane first same some after.known after.faults;
       own_lanes = still_own c.args.lanes.now left c.seal_all.new.lane first same some c.args.store.now.id after.lane c.requires.own_lanes;
       kept = still_kept c.args.lanes.now left c.seal_all.new.lane first same some after.kept;
     }
@@ -81,7 +81,7 @@ returns-clause-happened g c =
       unjoined = tt;
       handed_back = tt;
       not_called = tt;
-      lanes = only_first c.args.lanes.now _ c.seal_all.new.lane first same some after.known;
+      lanes = only_first c.args.lanes.now _ c.seal_all.new.lane first same some after.known after.faults;
       own_lanes = still_own c.args.lanes.now _ c.seal_all.new.lane first same some c.args.store.now.id after.lane c.requires.own_lanes;
       kept = still_kept c.args.lanes.now _ c.seal_all.new.lane first same some after.kept;
     }

@@ -20,6 +20,7 @@ loop-key-preserved g c =
           c.loop-key.numbers c.loop-key.key inv.so_far c.in-Ok.kept next.answer);
       few = omega (arith, inv.few, c.put_in_kept.ensures.few);
       known = next.known ∙ inv.known;
+      faults = next.faults ∙ inv.faults;
       lane = next.lane;
       kept = (λ number keeps. next.kept number (inv.kept number keeps));
     }

@@ -8,6 +8,7 @@ invariant-loop-key g l = record {
   so_far : SealedSoFar l.store l.closer.context l.key l.fn.lane.cells l.lane.cells l.numbers;
   few : length l.numbers ≤ l.key;
   known : l.lane.known ≡ l.fn.lane.known;
+  faults : l.lane.faults ≡ l.fn.lane.faults;
   lane : IsLaneOf l.store.id l.lane;
   kept : StillKeeps l.fn.lane l.lane;
 }

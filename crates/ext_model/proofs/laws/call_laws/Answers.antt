@@ -4,7 +4,7 @@ use Rattle.ext_history.proofs.Crowded.{crowded_overtaken, overtaken_crowded, cro
 use Rattle.ext_history.proofs.Single.{step_calls, event_calls}
 use Rattle.ext_model.specs.History.{by}
 use Rattle.ext_model.proofs.Composed.{calls_compose, later_point, point_of_second}
-use Rattle.ext_model.proofs.Held.{claim_held, held_word, held_fill, held_abandon, goes_on_store}
+use Rattle.ext_model.proofs.Held.{claim_held, held_word, held_fill, held_fail, held_abandon, goes_on_store}
 use Rattle.ext_model.proofs.laws.call_laws.Goals as goal
 
 pub returns : goal.returns
@@ -32,6 +32,7 @@ returns c = record {
   held_claims = claim_held;
   held_words = held_word;
   fills = held_fill;
+  fails = held_fail;
   abandons = held_abandon;
   own_numbers = goes_on_store;
 }

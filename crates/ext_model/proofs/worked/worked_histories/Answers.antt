@@ -1,5 +1,5 @@
 use Rattle.std.proofs.Common.{refl}
-use Rattle.ext_model.proofs.WorkedRows.{answered_now, not_from_memory, either_point, overtaken_by_one, not_overtaken_by_two, not_overtaken_by_lagging, not_crowded_by_itself, six_are_legal, remove_answered, put_answered, no_answer_without_step, second_look_finds, root_is_legal, not_by_another_lane, not_with_anothers_number, not_twice, not_without_claim}
+use Rattle.ext_model.proofs.WorkedRows.{answered_now, not_from_memory, either_point, overtaken_by_one, not_overtaken_by_two, not_overtaken_by_lagging, not_crowded_by_itself, six_are_legal, remove_answered, put_answered, no_answer_without_step, second_look_finds, root_is_legal, not_by_another_lane, not_with_anothers_number, not_twice, kept_fault_is_legal, not_without_keeping, not_without_claim}
 use Rattle.ext_model.proofs.worked.worked_histories.Goals as goal
 
 pub returns : goal.returns
@@ -16,12 +16,20 @@ returns c = record {
   filled_stands = refl;
   abandoned_is_empty = refl;
   own_events = refl;
+  failed_is_met = refl;
+  failed_stands = refl;
+  failed_is_replaced = refl;
+  failed_is_removed = refl;
+  failed_is_passed = refl;
+  remaining_passes_fault = refl;
   remaining_falls = refl;
   sealed_is_closed = refl;
   sealed_again = refl;
   closed_hides = refl;
   numbers_run_out = refl;
   present_word = refl;
+  failed_word = refl;
+  sealed_word = refl;
   empty_word = refl;
   last_put = refl;
   no_claim_at_last_put = refl;
@@ -44,5 +52,7 @@ returns c = record {
   not_by_another_lane = not_by_another_lane;
   not_with_anothers_number = not_with_anothers_number;
   not_twice = not_twice;
+  kept_fault_is_legal = kept_fault_is_legal;
+  not_without_keeping = not_without_keeping;
   not_without_claim = not_without_claim;
 }

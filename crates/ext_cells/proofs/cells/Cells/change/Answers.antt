@@ -41,14 +41,14 @@ pub exchange-requires-clause-may : goal.exchange-requires-clause-may
 exchange-requires-clause-may c =
     let few : c.args.lane.now.cells.limits.numbers < 2 ^ 20 = subst (λ z. z.limits.numbers < 2 ^ 20) (sym c.requires.lane) c.read-word.ensures.numbers in
     let less : c.args.cell < c.args.lane.now.cells.limits.cells = subst (λ z. c.args.cell < z.limits.cells) (sym c.requires.lane) c.requires.cell in
-    may_change c.args.lane.now c.loop.lane c.loop.word c.loop.counter c.args.cell c.args.act few less c.requires.act c.requires.number c.loop.invariant c.in-Change.next c.in-Change.answer c.in-Change.ensures
+    may_change c.args.lane.now c.loop.lane c.loop.word c.loop.counter c.args.cell c.args.act few less c.requires.act c.requires.number c.loop.invariant c.in-Change.next c.in-Change.stood c.in-Change.ensures
 
 pub returns-in-Ok-clause-reply : goal.returns-in-Ok-clause-reply
 returns-in-Ok-clause-reply c =
     let few : c.args.lane.now.cells.limits.numbers < 2 ^ 20 = subst (λ z. z.limits.numbers < 2 ^ 20) (sym c.requires.lane) c.read-word.ensures.numbers in
     let less : c.args.cell < c.args.lane.now.cells.limits.cells = subst (λ z. c.args.cell < z.limits.cells) (sym c.requires.lane) c.requires.cell in
     let m = c.in-Ok.ensures.made in
-    changed c.args.lane.now c.loop.lane c.loop.word c.loop.counter c.args.cell c.args.act few less c.requires.act c.requires.number c.loop.invariant c.in-Change.next c.in-Change.answer c.in-Change.ensures c.args.self.now.tries c.exchange.new.lane m.0 m.1 (ap (λ (l : Lane). l.view) m.3)
+    changed c.args.lane.now c.loop.lane c.loop.word c.loop.counter c.args.cell c.args.act few less c.requires.act c.requires.number c.loop.invariant c.in-Change.next c.in-Change.stood c.in-Change.ensures c.args.self.now.tries c.exchange.new.lane m.0 m.1 (ap (λ (l : Lane). l.view) m.3)
 
 pub loop-preserved : goal.loop-preserved
 loop-preserved c = let m = c.in-Err.ensures.missed in next_on _ _ _ _ _ _ _ m.1.0 c.loop.invariant m.0 m.1.1 m.1.2
@@ -81,7 +81,7 @@ pub returns-in-Change-decide-clause-contended : goal.returns-in-Change-decide-cl
 returns-in-Change-decide-clause-contended c e =
     let few : c.args.lane.now.cells.limits.numbers < 2 ^ 20 = subst (λ z. z.limits.numbers < 2 ^ 20) (sym c.requires.lane) c.read-word.ensures.numbers in
     let less : c.args.cell < c.args.lane.now.cells.limits.cells = subst (λ z. c.args.cell < z.limits.cells) (sym c.requires.lane) c.requires.cell in
-    would_happen c.args.lane.now c.loop.lane c.loop.word c.loop.counter c.args.cell c.args.act few less c.requires.act c.requires.number c.loop.invariant c.in-Change-decide.next c.in-Change-decide.answer c.in-Change-decide.ensures
+    would_happen c.args.lane.now c.loop.lane c.loop.word c.loop.counter c.args.cell c.args.act few less c.requires.act c.requires.number c.loop.invariant c.in-Change-decide.next c.in-Change-decide.stood c.in-Change-decide.ensures
 
 pub returns-in-Change-decide-clause-reply : goal.returns-in-Change-decide-clause-reply
 returns-in-Change-decide-clause-reply c =

@@ -12,8 +12,8 @@ read-word-requires-clause-place c =
     let less = held_within c.args.lane.now.cells.limits c.args.lane.now.view c.args.cell c.recall.ensures.legal c.requires.held in
     let cells : c.args.lane.now.cells.limits.cells ≡ c.args.self.now.id.limits.cells = ap (λ z. z.limits.cells) c.requires.lane in omega (arith, less, cells)
 
-pub parts-number-requires : goal.parts-number-requires
-parts-number-requires c =
+pub parts-state-requires : goal.parts-state-requires
+parts-state-requires c =
     let few : c.args.lane.now.cells.limits.numbers < 2 ^ 20 = subst (λ z. z.limits.numbers < 2 ^ 20) (sym c.requires.lane) c.read-word.ensures.numbers in
     let less = held_within c.args.lane.now.cells.limits c.args.lane.now.view c.args.cell c.recall.ensures.legal c.requires.held in
     let f = c.read-word.ensures.found in
@@ -27,7 +27,7 @@ next_word-next-requires-clause-version c =
     let f = c.read-word.ensures.found in
     let on : TriesOn c.args.lane.now c.read-word.new.lane c.args.cell c.read-word.result 0 = first_on _ _ _ _ f.0 (omega (arith, less)) f.1 f.2 in
     let word = word_now c.args.lane.now c.read-word.new.lane c.read-word.result c.args.cell c.args.act few c.requires.held c.requires.act c.requires.number on in
-    let p = c.parts-number.ensures.only Computing 0 _ (omega arith) word.is in
+    let p = c.parts-state.ensures.only Computing 0 _ (omega arith) word.is in
     subst (λ z. z.2 + 1 < 2 ^ 40) (sym p) (room c.args.lane.now c.read-word.new.lane c.read-word.result c.args.cell c.args.act few c.requires.held c.requires.act c.requires.number on)
 
 pub next_word-next-requires-clause-act : goal.next_word-next-requires-clause-act
@@ -37,8 +37,8 @@ next_word-next-requires-clause-act c =
     let f = c.read-word.ensures.found in
     let on : TriesOn c.args.lane.now c.read-word.new.lane c.args.cell c.read-word.result 0 = first_on _ _ _ _ f.0 (omega (arith, less)) f.1 f.2 in
     let word = word_now c.args.lane.now c.read-word.new.lane c.read-word.result c.args.cell c.args.act few c.requires.held c.requires.act c.requires.number on in
-    let p = c.parts-number.ensures.only Computing 0 _ (omega arith) word.is in
-    (Computing, subst (λ z. Suits c.args.act Computing z.2) (sym p) (suits_now c.args.lane.now c.read-word.new.lane c.read-word.result c.args.cell c.args.act few c.requires.held c.requires.act c.requires.number on))
+    let p = c.parts-state.ensures.only Computing 0 _ (omega arith) word.is in
+    subst (λ z. Suits c.args.act z.0 z.2) (sym p) (suits_now c.args.lane.now c.read-word.new.lane c.read-word.result c.args.cell c.args.act few c.requires.held c.requires.act c.requires.number on)
 
 pub exchange-requires-clause-place : goal.exchange-requires-clause-place
 exchange-requires-clause-place c = place_in_is c.args.self.now.id.limits c.args.cell c.args.act (place_is c.args.cell c.args.act c.requires.act)
@@ -54,8 +54,8 @@ exchange-requires-clause-may c =
     let less = held_within c.args.lane.now.cells.limits c.args.lane.now.view c.args.cell c.recall.ensures.legal c.requires.held in
     let f = c.read-word.ensures.found in
     let on : TriesOn c.args.lane.now c.read-word.new.lane c.args.cell c.read-word.result 0 = first_on _ _ _ _ f.0 (omega (arith, less)) f.1 f.2 in
-    may_now c.args.lane.now c.read-word.new.lane c.read-word.result c.args.cell c.args.act few c.requires.held c.requires.act c.requires.number on c.next_word-next.result
-    (λ version is. c.next_word-next.ensures ∙ ap (λ z. next_word c.args.act z.1 z.2) (c.parts-number.ensures.only Computing 0 version (omega arith) is))
+    may_now c.args.lane.now c.read-word.new.lane c.read-word.result c.args.cell c.args.act few c.requires.held c.requires.act c.requires.number on c.requires.faults c.next_word-next.result
+    (λ version is. c.next_word-next.ensures ∙ ap (λ z. next_word c.args.act z.0 z.1 z.2) (c.parts-state.ensures.only Computing 0 version (omega arith) is))
 
 pub unreachable-requires : goal.unreachable-requires
 unreachable-requires c =
@@ -72,8 +72,8 @@ returns-clause-ended c =
     let f = c.read-word.ensures.found in
     let on : TriesOn c.args.lane.now c.read-word.new.lane c.args.cell c.read-word.result 0 = first_on _ _ _ _ f.0 (omega (arith, less)) f.1 f.2 in
     let m = c.in-Ok.ensures.made in
-    ended c.args.lane.now c.read-word.new.lane c.read-word.result c.args.cell c.args.act few c.requires.held c.requires.act c.requires.number on c.next_word-next.result
-    (λ version is. c.next_word-next.ensures ∙ ap (λ z. next_word c.args.act z.1 z.2) (c.parts-number.ensures.only Computing 0 version (omega arith) is))
+    ended c.args.lane.now c.read-word.new.lane c.read-word.result c.args.cell c.args.act few c.requires.held c.requires.act c.requires.number on c.requires.faults c.next_word-next.result
+    (λ version is. c.next_word-next.ensures ∙ ap (λ z. next_word c.args.act z.0 z.1 z.2) (c.parts-state.ensures.only Computing 0 version (omega arith) is))
     c.exchange.new.lane m.0 m.1 (ap (λ (l : Lane). l.view) m.3)
 
 pub returns-clause-steps : goal.returns-clause-steps

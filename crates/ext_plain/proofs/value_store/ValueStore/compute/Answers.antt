@@ -4,7 +4,7 @@ use Rattle.ext_model.specs.declared.look.Look.TheVariants as look
 use Rattle.ext_plain.specs.ValueStates.{Memory}
 use Rattle.ext_plain.specs.Steps.{compute_by, compute_looked}
 use Rattle.ext_plain.specs.Helpers.{memory_of, place_of_call, state_view}
-use Rattle.ext_plain.proofs.Lacks.{says-by}
+use Rattle.ext_plain.proofs.Lacks.{compute-met, says-by}
 use Rattle.ext_plain.proofs.value_store.ValueStore.compute.Goals as goal
 use Rattle.ext_steps.specs.Calls.{call_view}
 use Rattle.ext_steps.specs.Values.{value_view}
@@ -37,3 +37,13 @@ returns-in-Closed c =
     let by = λ (found : Look) (m : Memory). compute_by m call.name call.label (place_of_call c.args.call.now) (value_view c.args.value) s found in
     says-by (by (look.Closed c.in-Closed.field-0)) c.say_refused-in-Closed.result (refused call.name call.label reasons.Closed) s s c.say_refused-in-Closed.ensures refl refl refl
     ∙ ap (λ found. by found (memory_of c.say_refused-in-Closed.result)) (sym c.in-Closed.is ∙ c.look.ensures)
+
+pub returns-in-Fault : goal.returns-in-Fault
+returns-in-Fault c =
+    let call = call_view c.args.call.now in
+    let place = place_of_call c.args.call.now in
+    let s = state_view c.args.self.now in
+    let found = memory_of c.fault_met.result in
+    c.fault_met.ensures
+    ∙ compute-met found call.name call.label place (value_view c.args.value) s c.in-Fault.at c.in-Fault.number
+    ∙ ap (compute_by found call.name call.label place (value_view c.args.value) s) (sym c.in-Fault.is ∙ c.look.ensures)

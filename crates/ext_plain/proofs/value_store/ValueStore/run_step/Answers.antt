@@ -84,7 +84,8 @@ returns-in-ComputeFail c =
     let called = c.call_of-call.ensures ∙ ap (λ step. call_of (keys_in c.args.keys.now) c.args.path.now (step_view step)) c.in-ComputeFail.is in
     let found = memory_of c.computefail.result in
     c.computefail.ensures
-    ∙ ap (λ call. computefails_by found call s) called
+    ∙ ap (λ text. computefails_by found (call_view c.call_of-call.result) text s) c.as_str-in-ComputeFail.ensures.value
+    ∙ ap (λ call. computefails_by found call (string_bytes c.in-ComputeFail.text) s) called
     ∙ ap (λ step. step_by (keys_in c.args.keys.now) found c.args.path.now (step_view step) s) (sym c.in-ComputeFail.is)
 
 pub returns-in-Fail : goal.returns-in-Fail

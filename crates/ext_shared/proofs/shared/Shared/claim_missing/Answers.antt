@@ -1,7 +1,7 @@
 use Rattle.std.proofs.Common.{◌≡◌, ◌∙◌, rules, ap, arith}
 use Rattle.std.specs.Prelude.{Some}
 use Rattle.ext_shared.specs.Stores.{StoreView}
-use Rattle.ext_shared.proofs.Missing.{ancestors_are_trail, first_look_ends, standing_ends, refusal_ends, claim_stands, second_look_ends, given_up_ends}
+use Rattle.ext_shared.proofs.Missing.{ancestors_are_trail, first_look_ends, standing_ends, fault_ends, refusal_ends, claim_stands, second_look_ends, given_up_ends}
 use Rattle.ext_shared.proofs.Events.{steps_add}
 use Rattle.ext_shared.proofs.Refused.{claim_refusal}
 use Rattle.ext_shared.proofs.shared.Shared.claim_missing.Goals as goal
@@ -21,6 +21,12 @@ returns-in-Ok-Standing-clause-claim g c =
     standing_ends c.args.self.now c.args.context c.args.key _ _ _ (ap (λ (x : StoreView). x.tree) c.self.view_is) c.as_slice-path.ensures.contexts c.path-path.ensures.path
     c.args.lane.now c.stands_along.new.lane c.claim.new.lane c.requires.lane c.stands_along.ensures.lane c.in_default.ensures.stands _ (ap (λ (x : StoreView). x.tries) c.self.view_is) c.cell.result c.cell.ensures.cell
     _ c.in-Ok-Standing.number c.in-Ok-Standing.field-0-is c.in-Ok-Standing.ensures.reply
+
+pub returns-in-Ok-Fault-clause-claim : goal.returns-in-Ok-Fault-clause-claim
+returns-in-Ok-Fault-clause-claim g c =
+    fault_ends c.args.self.now c.args.context c.args.key _ _ _ (ap (λ (x : StoreView). x.tree) c.self.view_is) c.as_slice-path.ensures.contexts c.path-path.ensures.path
+    c.args.lane.now c.stands_along.new.lane c.claim.new.lane c.requires.lane c.stands_along.ensures.lane c.in_default.ensures.stands _ (ap (λ (x : StoreView). x.tries) c.self.view_is) c.cell.result c.cell.ensures.cell
+    _ c.in-Ok-Fault.number c.in-Ok-Fault.field-0-is c.in-Ok-Fault.ensures.reply
 
 pub returns-in-Err-clause-claim : goal.returns-in-Err-clause-claim
 returns-in-Err-clause-claim g c =
@@ -60,6 +66,9 @@ returns-in-Some-clause-lane g c = c.stands_along.ensures.lane
 pub returns-in-Ok-Standing-clause-lane : goal.returns-in-Ok-Standing-clause-lane
 returns-in-Ok-Standing-clause-lane g c = c.claim.ensures.lane ∙ c.stands_along.ensures.lane
 
+pub returns-in-Ok-Fault-clause-lane : goal.returns-in-Ok-Fault-clause-lane
+returns-in-Ok-Fault-clause-lane g c = c.claim.ensures.lane ∙ c.stands_along.ensures.lane
+
 pub returns-in-Err-clause-lane : goal.returns-in-Err-clause-lane
 returns-in-Err-clause-lane g c = c.claim.ensures.lane ∙ c.stands_along.ensures.lane
 
@@ -74,6 +83,14 @@ returns-in-Some-clause-steps g c = let first = c.stands_along.ensures.steps in o
 
 pub returns-in-Ok-Standing-clause-steps : goal.returns-in-Ok-Standing-clause-steps
 returns-in-Ok-Standing-clause-steps g c =
+    let tries : c.self.inside.cells.tries ≡ c.args.self.now.tries = ap (λ (s : StoreView). s.tries) c.self.view_is in
+    let first = c.stands_along.ensures.steps in
+    let claim = c.claim.ensures.steps in
+    let both = steps_add c.args.lane.now c.stands_along.new.lane c.claim.new.lane in
+    omega (arith, tries, first, claim, both)
+
+pub returns-in-Ok-Fault-clause-steps : goal.returns-in-Ok-Fault-clause-steps
+returns-in-Ok-Fault-clause-steps g c =
     let tries : c.self.inside.cells.tries ≡ c.args.self.now.tries = ap (λ (s : StoreView). s.tries) c.self.view_is in
     let first = c.stands_along.ensures.steps in
     let claim = c.claim.ensures.steps in

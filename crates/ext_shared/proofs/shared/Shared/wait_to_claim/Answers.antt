@@ -14,6 +14,14 @@ returns-in-Err-Found-clause-claim g c = record {
   then_is = subst (λ z. ClaimsMissing c.args.self.now c.args.context c.args.key c.loop.lane.view c.claim_missing.new.lane.view (Err z)) c.in-Err-Found.field-0-is c.in-Err-Found.ensures.claim;
 }
 
+pub returns-in-Err-FaultStands-clause-claim : goal.returns-in-Err-FaultStands-clause-claim
+returns-in-Err-FaultStands-clause-claim g c = record {
+  attempts = c.loop.invariant.attempts;
+  between = c.loop.lane.view;
+  in_vain = c.loop.invariant.in_vain;
+  then_is = subst (λ z. ClaimsMissing c.args.self.now c.args.context c.args.key c.loop.lane.view c.claim_missing.new.lane.view (Err z)) c.in-Err-FaultStands.field-0-is c.in-Err-FaultStands.ensures.claim;
+}
+
 pub returns-then-is_decided-clause-claim : goal.returns-then-is_decided-clause-claim
 returns-then-is_decided-clause-claim g c = record {
   attempts = c.loop.invariant.attempts;

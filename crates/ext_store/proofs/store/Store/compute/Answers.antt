@@ -34,7 +34,10 @@ pub returns-in_default-clause-apart : goal.returns-in_default-clause-apart
 returns-in_default-clause-apart g c = tt
 
 pub returns-in_default-clause-factory : goal.returns-in_default-clause-factory
-returns-in_default-clause-factory g c = refl
+returns-in_default-clause-factory g c = (refl, refl)
+
+pub returns-in_default-clause-no_faults : goal.returns-in_default-clause-no_faults
+returns-in_default-clause-no_faults g c off = tt
 
 pub returns-clause-unknown : goal.returns-clause-unknown
 returns-clause-unknown g c absent = absurd (is_number c.in-Some.number (c.in-Some.ensures.absent.1 (subst (λ keys. ¬ Contains keys c.args.key.now) (sym c.directory.ensures) absent)))
@@ -64,3 +67,6 @@ returns-clause-handed_back g c = c.compute_numbered.ensures.handed_back
 
 pub returns-clause-apart : goal.returns-clause-apart
 returns-clause-apart g c = c.compute_numbered.ensures.apart
+
+pub returns-clause-no_faults : goal.returns-clause-no_faults
+returns-clause-no_faults g c = c.compute_numbered.ensures.no_faults

@@ -1,0 +1,154 @@
+-- What the keeping of a fault says, by what was drawn and what became of it, and that a store that keeps no faults meets none.
+use Rattle.std.proofs.Common.{◌≡◌, ◌≢◌, arith, ℕ, ◌+◌, ◌≤◌, List, [], ◌∷◌, ◌++◌, sym, refl, ap, ◌∙◌, subst, inl, inr, Some, Contains}
+use Rattle.std.specs.Prelude.{Result, Ok, Err, IfOk, IfErr, MatchResult, IsFalse, ◌==◌}
+use Rattle.std.proofs.lemmas.List.Elements.{Contains-append_left}
+use Rattle.ext_model.specs.declared.event.Act.{Act}
+use Rattle.ext_model.specs.declared.event.Act.TheVariants.{Keep}
+use Rattle.ext_model.specs.declared.event.Event.{Event}
+use Rattle.ext_model.specs.declared.look.Fault.{Fault}
+use Rattle.ext_model.specs.declared.look.Look.TheVariants as look
+use Rattle.ext_model.specs.Events as events
+use Rattle.ext_model.specs.History.{History, Limits, by, own, slots_in, state_after, IsLegal}
+use Rattle.ext_history.specs.Views.{seen_by}
+use Rattle.ext_model.specs.Views.{LaneView}
+use Rattle.ext_model.specs.Calls.{Calls, MayStoreNow}
+use Rattle.ext_model.specs.SecondLook.{look_after}
+use Rattle.ext_history.proofs.Lists.{contains_none, contains_from_filter}
+use Rattle.ext_history.proofs.Legal.{legal_prefix, legal_begun}
+use Rattle.ext_history.proofs.Composed.{answer_point, point_legal}
+use Rattle.ext_model.proofs.Numbers.{bounded}
+use Rattle.ext_model.proofs.Lookups.{met_fault_stands}
+use Rattle.ext_model.proofs.Faults.{fault_was_kept, no_faults}
+use Rattle.ext_values.specs.Known.{Known, KeepsKnown, known_at, places_of}
+use Rattle.ext_cells.specs.declared.refusal.CellRefusal.{CellRefusal}
+use Rattle.ext_cells.specs.Lanes.{Lane}
+use Rattle.ext_cells.specs.Calls as cells
+use Rattle.ext_shared.specs.declared.claim.Unused.{Unused}
+use Rattle.ext_shared.specs.declared.claim.Unused.TheVariants.{Found, FaultStands, Refused}
+use Rattle.ext_shared.specs.Claiming.{ClaimsFrom, Meets}
+use Rattle.ext_shared.proofs.Events.{drew_quiet}
+use Rattle.ext_store.specs.declared.fault.KeepFault.{KeepFault}
+use Rattle.ext_store.specs.declared.fault.KeepFault.TheVariants.{Memory, Unplaced}
+use Rattle.ext_store.specs.declared.computed.Compute.{Compute}
+use Rattle.ext_store.specs.Stores.{StoreView, StoreLane, IsKeptBy, IsLaneOf, StillKeeps, cell_in}
+use Rattle.ext_store.specs.Frames.{Frame}
+use Rattle.ext_store.specs.Calls.{HoldsAtPoint, reply_to, KeepFails, KeepsFault, KeepsNoFault}
+use Rattle.ext_store.specs.Computing.{IsFaultless, with_factory}
+use Rattle.ext_store.specs.Keeping.{keep_fault, IsPlaced, PlacesDrawn}
+use Rattle.ext_store.proofs.Keeping.{quiet_keeps, unplaced_keeps, drew, drew_none}
+use Rattle.ext_store.proofs.Frames.{framed, no_frame}
+
+-- ---- a number that is drawn now is none that the lane had drawn before
+
+pub drawn_apart : (a b : Lane) (n m : ℕ) → HoldsAtPoint a b (Keep n ∷ []) (λ p. reply_to a (Keep n) p ≡ events.Happens (Some n)) → MayStoreNow a.view m → m ≢ n
+drawn_apart a b n m h now e =
+    let p : History = h.point.0 in
+    let seen : seen_by b.view ≡ p ++ by a.view.number (Keep n) ∷ [] = h.point.1.1 in
+    let legal : IsLegal a.cells.limits (p ++ by a.view.number (Keep n) ∷ []) = subst (IsLegal a.cells.limits) seen h.calls.legal in
+    let there : Contains (seen_by a.view) (by a.view.number (Keep m)) = contains_from_filter (λ (x : Event ℕ). x.lane == a.view.number) (seen_by a.view) (by a.view.number (Keep m)) now.drew in
+    let since = h.point.1.0 in
+    let in_p : Contains p (by a.view.number (Keep m)) = subst (λ z. Contains z (by a.view.number (Keep m))) since.1 (Contains-append_left (seen_by a.view) since.0 (by a.view.number (Keep m)) there) in
+    let least : m ≤ (state_after p).drawn = (bounded p (legal_prefix p (by a.view.number (Keep n) ∷ []) legal)).kept a.view.number m in_p in
+    let next : n ≡ (state_after p).drawn + 1 = (legal.each p (by a.view.number (Keep n)) [] refl).next in
+    absurd (omega (arith, least, next, e))
+
+-- ---- keeping a fault
+
+pub record FaultParts {V : Type 0} (store : StoreView) (why : Fault) (before after : StoreLane V) (r : Result ℕ (Fault × KeepFault)) : Type 0 where
+  pub answer : MatchResult r (KeepsFault why before after) (λ e. KeepsNoFault store why before after e.0 e.1)
+  pub known : after.known ≡ before.known
+  pub apart : IfOk r (λ number. (m : ℕ) → IsKeptBy before m → m ≢ number)
+  pub frame : Frame store.id [] before after
+
+-- where there is no memory for the fault
+pub no_fault_memory : {V : Type 0} (store : StoreView) (why back : Fault) (lane : StoreLane V) → IsLaneOf store.id lane → back ≡ why → FaultParts store why lane lane (Err (back, Memory))
+unfolding KeepFails
+no_fault_memory store why back lane mine handed = record {
+  answer = record { handed_back = handed; faults = refl; fails = refl };
+  known = refl;
+  apart = tt;
+  frame = no_frame store.id lane mine;
+}
+
+module _ {V : Type 0} (store : StoreView) (tries : ℕ) (same : tries ≡ store.tries) (why : Fault) (a : StoreLane V) (mine : IsLaneOf store.id a) (after : Lane) (is : after.cells ≡ a.cells.cells) (notes : List (Known Fault)) where
+  abbrev b : StoreLane V
+  b = record { cells = after; known = a.known; faults = notes }
+
+  own_lane : places_of notes ≡ places_of a.faults → IsLaneOf store.id b
+  own_lane places = record { cells = is ∙ mine.cells; places = mine.places; fault_places = places ∙ mine.fault_places }
+
+  placed : (number : ℕ) → cells.Answers tries a.cells after cells.number_acts (cells.number_reply a.cells) (Ok number) → MayStoreNow after.view number → IsPlaced why a.faults notes number → FaultParts store why a b (Ok number)
+  placed number answers storable is_placed =
+      let drawn = drew store tries a.cells after same number answers in
+      record {
+        answer = record { drawn = drawn; learnt = is_placed.learnt; storable = storable };
+        known = refl;
+        apart = λ m kept. drawn_apart a.cells after number m drawn kept.storable;
+        frame = framed store.id a b mine (own_lane is_placed.learnt.places) (λ n v known. known) is_placed.known (Keep number ∷ []) drawn.calls (unplaced_keeps a.cells.cells.limits a b number drawn.calls refl);
+      }
+
+  module _ (back : Fault) (handed : back ≡ why) (still : notes ≡ a.faults) where
+    nothing : (acts : List (Act ℕ)) → Calls a.cells.cells.limits a.cells.view after.view acts → StillKeeps a b → (cause : KeepFault) → KeepFails store a.cells after cause → FaultParts store why a b (Err (back, cause))
+    nothing acts calls keeps cause fails =
+        let knows : KeepsKnown a.faults notes = λ number v known. ap (λ l. known_at l number) still ∙ known in
+        record {
+          answer = record { handed_back = handed; faults = still; fails = fails };
+          known = refl;
+          apart = tt;
+          frame = framed store.id a b mine (own_lane (ap (λ l. places_of l) still)) (λ n v known. known) knows acts calls keeps;
+        }
+
+    unplaced : (number : ℕ) → cells.Answers tries a.cells after cells.number_acts (cells.number_reply a.cells) (Ok number) → FaultParts store why a b (Err (back, Unplaced))
+    unfolding KeepFails
+    unplaced number answers =
+        let drawn = drew store tries a.cells after same number answers in
+        nothing (Keep number ∷ []) drawn.calls (unplaced_keeps a.cells.cells.limits a b number drawn.calls refl) Unplaced (number, drawn)
+
+    undrawn : (cause : CellRefusal) → cells.Answers tries a.cells after cells.number_acts (cells.number_reply a.cells) (Err cause) → FaultParts store why a b (Err (back, keep_fault cause))
+    undrawn cause answers =
+        let quiet = drew_quiet tries a.cells after cause answers in
+        nothing [] quiet (quiet_keeps a.cells.cells.limits a b quiet refl) (keep_fault cause) (drew_none store tries a.cells after same cause answers)
+
+  by_drawn : (drawn : Result ℕ CellRefusal) → cells.Answers tries a.cells after cells.number_acts (cells.number_reply a.cells) drawn → IfOk drawn (MayStoreNow after.view)
+      → (r : Result ℕ (Fault × KeepFault)) → PlacesDrawn why drawn a.faults notes r → FaultParts store why a b r
+  by_drawn (Ok n) answers storable (Ok number) p =
+      let e : n ≡ number = cc p.0 in
+      placed number (subst (λ k. cells.Answers tries a.cells after cells.number_acts (cells.number_reply a.cells) (Ok k)) e answers) (subst (MayStoreNow after.view) e storable) p.1
+  by_drawn (Err cause) answers storable (Ok number) p = absurd (cc p.0)
+  by_drawn (Ok n) answers storable (Err (back, cause)) p = subst (λ w. FaultParts store why a b (Err (back, w))) (sym p.2) (unplaced back p.0 p.1 n answers)
+  by_drawn (Err refused) answers storable (Err (back, cause)) p = subst (λ w. FaultParts store why a b (Err (back, w))) (sym p.2) (undrawn back p.0 p.1 refused answers)
+
+-- the same for a lane as the caller has it
+pub fault_by_drawn : {V : Type 0} (store : StoreView) (tries : ℕ) → tries ≡ store.tries → (why : Fault) (inside before : StoreLane V) → inside ≡ before → IsLaneOf store.id before
+    → (after : Lane) → after.cells ≡ inside.cells.cells → (notes : List (Known Fault)) (drawn : Result ℕ CellRefusal)
+    → cells.Answers tries inside.cells after cells.number_acts (cells.number_reply inside.cells) drawn → IfOk drawn (MayStoreNow after.view)
+    → (r : Result ℕ (Fault × KeepFault)) → PlacesDrawn why drawn inside.faults notes r → FaultParts store why before (record { cells = after; known = inside.known; faults = notes }) r
+fault_by_drawn store tries same why inside before is mine after cells notes drawn answers storable r p =
+    subst (λ l. FaultParts store why l (record { cells = after; known = inside.known; faults = notes }) r) is
+    (by_drawn store tries same why inside (subst (IsLaneOf store.id) (sym is) mine) after cells notes drawn answers storable r p)
+
+-- ---- a store that keeps no faults
+
+-- no look-up meets one after a legal history
+pub none_met : (limits : Limits) (p : History) (cell_of : ℕ → ℕ) (path : List ℕ) (at number : ℕ) → IsFalse limits.keep_faults → IsLegal limits p → look_after cell_of path p ≡ look.Fault at number → ⊥
+none_met limits p cell_of path at number off legal met =
+    let stands = met_fault_stands (slots_in cell_of p) path at number met in
+    let kept = fault_was_kept p (cell_of at) number legal stands in
+    contains_none number (subst (λ xs. Contains xs number) (no_faults limits p off legal) kept)
+
+-- so none is the reason why a factory is not called
+meets_none : (store : StoreView) (context : ℕ) (ancestors : List ℕ) (key : ℕ) (a b : LaneView) (at number : ℕ) → IsFalse store.id.cells.limits.keep_faults → Meets store.id.cells.limits store context ancestors key a b (look.Fault at number) → ⊥
+unfolding Meets
+meets_none store context ancestors key a b at number off m = elim m [
+  | inl h ↦ none_met store.id.cells.limits h.point.0 (cell_in store key) (context ∷ ancestors) at number off (point_legal h.calls h.point.0 (answer_point h.calls h.point.0 h.point.1)) h.point.2
+  | inr k ↦ none_met store.id.cells.limits k.1.looked.0 (cell_in store key) ancestors at number off (legal_begun k.1.looked.0 (seen_by b) k.1.looked.1.until k.0.legal) k.1.looked.2
+]
+
+pub unused_faultless : {V F : Type 0} (store : StoreView) (context : ℕ) (ancestors : List ℕ) (key : ℕ) (a b : LaneView) (factory : F) (unused : Unused) (r : Compute V F) → r ≡ with_factory factory unused
+    → ClaimsFrom store context ancestors key a b (Err unused) → IsFalse store.id.cells.limits.keep_faults → IsFaultless r
+unused_faultless {V} {F} store context ancestors key a b factory unused r is from off = subst IsFaultless (sym is) (faultless unused from)
+  where
+    faultless : (u : Unused) → ClaimsFrom store context ancestors key a b (Err u) → IsFaultless (with_factory {V = V} {F = F} factory u)
+    faultless (Found at number) m = tt
+    faultless (FaultStands at number) m = meets_none store context ancestors key a b at number off m
+    faultless (Refused why) m = tt

@@ -1,0 +1,67 @@
+//! Faults that are kept: they stand until they are removed or replaced, and are not closed.
+use crate::chain::{Call, Told, rows, rows_with_faults};
+use crate::opening::{closeable, plain};
+use ext_model::Look;
+use ext_store::KeepFault;
+
+#[test]
+fn kept_fault_stands_until_it_is_replaced(rt: HostRuntime) {
+    let met = Look::Fault { at: 1, number: 1 };
+    let all = [
+        (0, 1, "a", Call::FailsAs("boom", Told::FaultKept(1))),
+        (0, 1, "a", Call::ShowsFault(1, Some("boom"))),
+        (0, 2, "a", Call::Computes('x', Told::FaultStands(1, 1))),
+        (0, 2, "a", Call::Gets(Ok(met))),
+        (1, 2, "a", Call::ShowsFault(1, Some("boom"))),
+        (0, 2, "a", Call::Shows(1, None)),
+        (0, 1, "a", Call::Puts(plain('y'), 2, Ok(Some(1)))),
+        (0, 1, "a", Call::Removes(Ok(Some(2)))),
+        (0, 2, "a", Call::ComputesToClose('z', Told::Computed(3))),
+        (0, 2, "b", Call::FailsAs("bang", Told::FaultKept(4))),
+        (0, 2, "a", Call::Closes(Ok(1), [3, 0, 0, 0])),
+        (0, 2, "b", Call::Gets(Ok(Look::Closed(2)))),
+    ];
+    rows_with_faults(&rt, rt.alloc(), 8, &all);
+}
+
+#[test]
+fn removed_fault_lets_a_factory_run(rt: HostRuntime) {
+    let all = [
+        (0, 0, "a", Call::FailsAs("boom", Told::FaultKept(1))),
+        (1, 2, "a", Call::FailsAs("bang", Told::FaultStands(0, 1))),
+        (1, 0, "a", Call::Removes(Ok(Some(1)))),
+        (1, 2, "a", Call::Gets(Ok(Look::Absent))),
+        (1, 2, "a", Call::Computes('x', Told::Computed(2))),
+        (0, 2, "a", Call::ShowsFault(1, Some("boom"))),
+        (0, 2, "a", Call::ShowsFault(2, None)),
+        (0, 2, "a", Call::ShowsFault(0, None)),
+        (0, 2, "a", Call::ShowsFault(9, None)),
+    ];
+    rows_with_faults(&rt, rt.alloc(), 8, &all);
+}
+
+#[test]
+fn fault_without_a_number_comes_back(rt: HostRuntime) {
+    let all = [
+        (0, 0, "a", Call::Puts(closeable('x'), 1, Ok(None))),
+        (
+            0,
+            2,
+            "b",
+            Call::FailsAs("boom", Told::FaultUnkept(KeepFault::NumbersFull)),
+        ),
+        (0, 2, "b", Call::Gets(Ok(Look::Absent))),
+        (0, 2, "b", Call::ShowsFault(1, None)),
+    ];
+    rows_with_faults(&rt, rt.alloc(), 1, &all);
+}
+
+#[test]
+fn store_without_faults_keeps_none(rt: HostRuntime) {
+    let all = [
+        (0, 1, "a", Call::Fails("boom")),
+        (0, 2, "a", Call::Gets(Ok(Look::Absent))),
+        (0, 1, "a", Call::ShowsFault(1, None)),
+    ];
+    rows(&rt, rt.alloc(), 8, &all);
+}

@@ -1,0 +1,76 @@
+//! What a lane knows of one place, where nobody asks whether it does.
+ghost use Rattle.std.specs.Prelude.{◌≡◌, IfErr, IfNone, IfSome, None, OnErr, OnOk, Some};
+ghost use Rattle.once_cell.specs.Once.{Agrees, cell_name};
+ghost use Rattle.ext_values.specs.Known.{unknown};
+
+use once_cell::race;
+use once_cell::race::OnceBox;
+use std::marker::Model;
+use std::mem::size_of;
+
+/// What a lane knows of one place: no byte, since what tells the value takes none.
+#[derive(Drop)]
+pub struct SilentEntry<V> {
+    seen: race::Note<V>,
+}
+
+// No byte a number, however large the values are.
+const _: () = prove!(size_of::<SilentEntry<[u64; 4]>>() == 0);
+
+impl<V> Model for SilentEntry<V> {
+    ghost use Rattle.ext_values.specs.Known.{Known};
+
+    ghost Value = { Known V };
+
+    ghost view = { λ e. record { place = e.seen.cell; value = e.seen.known } };
+}
+
+impl<V> SilentEntry<V> {
+    /// An entry that knows nothing of the place yet.
+    pub fn unknown(place: &OnceBox<V>) -> SilentEntry<V>
+        ensures { result ≡ unknown (cell_name place.now) }
+    {
+        SilentEntry { seen: place.note() }
+    }
+
+    /// The value of the place, if one is found. A known value is always found.
+    pub fn get<'a>(&mut self, place: &'a OnceBox<V>) -> Option<&'a V>
+        requires { self.old.place ≡ cell_name place.now }
+        ensures place { self.new.place ≡ self.old.place }
+        ensures found { IfSome result (λ x. self.new.value ≡ Some x.now) }
+        ensures same { IfSome result (λ x. Agrees self.old.value x.now) }
+        ensures none { IfNone result ((self.new ≡ self.old) × (self.old.value ≡ None)) }
+    {
+        place.get_as(&mut self.seen)
+    }
+
+    /// Shows that two entries of one place know one value, where both know one.
+    pub fn agree(&mut self, other: &mut SilentEntry<V>)
+        requires { self.old.place ≡ other.old.place }
+        ensures value { IfSome other.old.value (Agrees self.old.value) }
+        ensures unchanged { (self.new ≡ self.old) × (other.new ≡ other.old) }
+    {
+        self.seen.compare(other.seen.again());
+    }
+}
+
+impl<V: Drop> SilentEntry<V> {
+    /// Puts the value at the place. Where the place is taken the box comes back, and the entry stays as it was.
+    pub fn place(&mut self, place: &OnceBox<V>, value: Box<V>) -> Result<(), Box<V>>
+        requires { self.old.place ≡ cell_name place.now }
+        ensures place { self.new.place ≡ self.old.place }
+        ensures placed { OnOk result (self.new.value ≡ Some value.value) }
+        ensures free { OnOk result (self.old.value ≡ None) }
+        ensures handed_back { IfErr result (λ b. b.value ≡ value.value) }
+        ensures unchanged { OnErr result (self.new ≡ self.old) }
+    {
+        // A refused set also tells the value that stands there: that goes to a copy, so that this entry stays as it was.
+        let mut seen = self.seen.again();
+        match place.set_as(value, &mut seen) {
+            Ok(()) => {}
+            Err(back) => return Err(back),
+        }
+        self.seen = seen;
+        Ok(())
+    }
+}

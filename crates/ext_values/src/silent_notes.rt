@@ -1,0 +1,94 @@
+//! What one lane knows of the values of all numbers, where nobody asks whether it does.
+ghost use Rattle.std.specs.Prelude.{◌≡◌, IfErr, IfNone, IfOk, IfSome, OnErr, OnOk, OnSome, None};
+ghost use Rattle.ext_values.specs.Places.{IsNumber};
+ghost use Rattle.ext_values.specs.Known.{AllAgree, AreNotesOf, KeepsKnown, Learns, known_at, nothing_known, places_of};
+
+use crate::silent_entry::SilentEntry;
+use crate::{Values, ValuesFault};
+use std::alloc::Global;
+use std::marker::Model;
+
+/// What one lane knows of the values of all numbers of a `Values`, as `Notes`, save that nobody can ask whether it knows one.
+/// So it takes no byte a number: the notes stand in proofs alone. Own rule.
+#[derive(Drop)]
+pub struct SilentNotes<V> {
+    entries: Vec<SilentEntry<V>>,
+}
+
+impl<V> Model for SilentNotes<V> {
+    ghost use Rattle.std.specs.Prelude.{List};
+    ghost use Rattle.ext_values.specs.Known.{Known};
+
+    ghost Value = { List (Known V) };
+
+    ghost view = { λ n. n.entries.items };
+}
+
+impl<V> SilentNotes<V> {
+    /// Notes of these places that know nothing yet; takes memory.
+    ///
+    /// Refused as `Memory`, and only where its one allocation fails. Own rule.
+    pub fn new(alloc: Global, values: &Values<V>) -> Result<SilentNotes<V>, ValuesFault>
+        ensures nothing { IfOk result (λ n. n ≡ nothing_known values.now) }
+        ensures of { IfOk result (λ n. AreNotesOf values.now n) }
+    {
+        let capacity = values.capacity();
+        let mut entries = Vec::with_capacity(alloc, capacity as usize)?;
+        for index in 0..capacity {
+            entries.push_reserved(SilentEntry::unknown(values.place_at(index + 1)));
+        }
+        Ok(SilentNotes { entries })
+    }
+
+    /// The number's value, which is known from now on: always where it was known, and else where this thread finds it.
+    /// What was known stays known. Takes no memory and never waits. It is a condition that the notes are of these places.
+    ///
+    /// `None`, with nothing changed, for a number outside 1 to the capacity, and where the thread finds the place free.
+    /// Own rule.
+    pub fn get<'a>(&mut self, values: &'a Values<V>, number: u32) -> Option<&'a V>
+        requires { AreNotesOf values.now self.old }
+        ensures within { OnSome result (IsNumber values.now number) }
+        ensures found { IfSome result (λ x. Learns self.old self.new number x.now) }
+        ensures kept { KeepsKnown self.old self.new }
+        ensures none { IfNone result (known_at self.old number ≡ None) }
+        ensures unchanged { IfNone result (self.new ≡ self.old) }
+        ensures of { AreNotesOf values.now self.new }
+    {
+        if !values.has_number(number) {
+            return None;
+        }
+        self.entries[number as usize - 1].get(values.place_at(number))
+    }
+
+    /// Shows that a number that both notes know has one value in both; it does nothing else. Takes no memory and never
+    /// waits; the notes stay as they were. It is a condition that both are of the same places. Own rule.
+    pub fn meet(&mut self, other: &mut SilentNotes<V>)
+        requires { places_of self.old ≡ places_of other.old }
+        ensures agree { AllAgree self.old other.old }
+        ensures unchanged { (self.new ≡ self.old) × (other.new ≡ other.old) }
+    {
+        for index in 0..self.entries.len() {
+            self.entries[index].agree(&mut other.entries[index]);
+        }
+    }
+}
+
+impl<V: Drop> SilentNotes<V> {
+    /// Puts the value at this number, so that its value is known from now on. Takes no memory and never waits. It is a
+    /// condition that the notes are of these places, and that the number is 1 to the capacity.
+    ///
+    /// Refused where the place is taken, so always where the number's value is known: the box that was handed in comes
+    /// back with its value, and the notes stay as they were. Own rule.
+    pub fn place(&mut self, values: &Values<V>, number: u32, value: Box<V>) -> Result<(), Box<V>>
+        requires of { AreNotesOf values.now self.old }
+        requires number { IsNumber values.now number }
+        ensures placed { OnOk result (Learns self.old self.new number value.value) }
+        ensures free { OnOk result (known_at self.old number ≡ None) }
+        ensures kept { KeepsKnown self.old self.new }
+        ensures handed_back { IfErr result (λ b. b.value ≡ value.value) }
+        ensures unchanged { OnErr result (self.new ≡ self.old) }
+        ensures of { AreNotesOf values.now self.new }
+    {
+        self.entries[number as usize - 1].place(values.place_at(number), value)
+    }
+}
