@@ -125,6 +125,7 @@ pub(crate) fn open(
         lanes,
         tries: 64,
         numbers: NUMBERS,
+        keep_faults: false,
     };
     let Some((tree, keys)) = tree.zip(keys) else {
         return Err(BenchFault::Opening);

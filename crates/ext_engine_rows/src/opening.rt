@@ -72,6 +72,7 @@ fn open_store<V: StoreValue + Drop>(
         lanes,
         tries: 64,
         numbers: 100,
+        keep_faults: false,
     };
     let keys = keys(alloc)?;
     let tree = contexts(alloc, texts)?;

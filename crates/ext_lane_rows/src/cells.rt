@@ -1,8 +1,8 @@
 //! Cells whose answers were worked out by hand.
-ghost use Rattle.std.specs.Prelude.{◌≡◌, ◌<◌, ◌≤◌};
+ghost use Rattle.std.specs.Prelude.{◌≡◌, ◌<◌, ◌≤◌, IsTrue};
 ghost use Rattle.ext_model.specs.Calls.{IsHeld};
 
-use crate::hand::{Call, end_claim, go, open, rows};
+use crate::hand::{Asked, Call, end_claim, fail_claim, go, open, rows};
 use crate::same::same;
 use ext_cells::{CellLane, CellRefusal, Cells, Claim, Claimed, Nearest};
 use std::process::Abort;
@@ -20,7 +20,7 @@ fn sealed_cells_keep_their_numbers(rt: HostRuntime) {
         (1, 0, Call::Seals(Ok(Some(1)))),
         (0, 0, Call::Puts(2, closed)),
         (0, 0, Call::Removes(closed)),
-        (0, 0, Call::Asks(closed)),
+        (0, 0, Call::Asks(Err(CellRefusal::Closed))),
         // sealed, with number 1, at version 2
         (0, 0, Call::Reads(33_554_451)),
     ];
@@ -30,12 +30,44 @@ fn sealed_cells_keep_their_numbers(rt: HostRuntime) {
 #[test]
 fn abandoned_cells_are_empty(rt: HostRuntime) {
     let all = [
-        (0, 0, Call::Asks(Ok(None))),
-        (1, 0, Call::Asks(Ok(None))),
+        (0, 0, Call::Asks(Ok(Asked::Won))),
+        (1, 0, Call::Asks(Ok(Asked::Won))),
         // empty, at version 4
         (1, 0, Call::Reads(67_108_864)),
         (0, 0, Call::Seals(Ok(None))),
         (1, 0, Call::Asks(Err(CellRefusal::Closed))),
+    ];
+    rows(&rt, rt.alloc(), &all);
+}
+
+#[test]
+fn failed_cells_keep_their_numbers(rt: HostRuntime) {
+    let all = [
+        (0, 1, Call::Fails(1)),
+        // the fault of number 1, at version 2
+        (1, 1, Call::Reads(33_554_452)),
+        (1, 1, Call::Asks(Ok(Asked::Fault(1)))),
+        (0, 1, Call::Asks(Ok(Asked::Fault(1)))),
+        (0, 1, Call::Reads(33_554_452)),
+        (1, 1, Call::Puts(2, Ok(Some(1)))),
+        // the value of number 2, at version 3
+        (0, 1, Call::Reads(50_331_682)),
+        (0, 1, Call::Asks(Ok(Asked::Value(2)))),
+        (0, 1, Call::Removes(Ok(Some(2)))),
+        (1, 1, Call::Fails(3)),
+        (0, 1, Call::Removes(Ok(Some(3)))),
+        // empty, at version 7
+        (1, 1, Call::Reads(117_440_512)),
+        (1, 1, Call::Fails(4)),
+        (0, 1, Call::Seals(Ok(None))),
+        // sealed, with no number, at version 10
+        (1, 1, Call::Reads(167_772_163)),
+        (1, 1, Call::Seals(Ok(None))),
+        (1, 1, Call::Asks(Err(CellRefusal::Closed))),
+        (0, 1, Call::Removes(Err(CellRefusal::Closed))),
+        // the cells beside it
+        (0, 0, Call::Reads(0)),
+        (0, 2, Call::Asks(Ok(Asked::Won))),
     ];
     rows(&rt, rt.alloc(), &all);
 }
@@ -56,27 +88,66 @@ fn won(rt: &impl Abort, cells: &Cells, lane: &mut CellLane) -> Claim
 /// Asserts that the lane is refused cell 0, which another one has claimed.
 fn all_are_busy(rt: &impl Abort, cells: &Cells, lane: &mut CellLane)
     requires lane { lane.old.cells ≡ cells.now.id }
+    requires faults { IsTrue cells.now.id.limits.keep_faults }
     requires cell { 0 < cells.now.id.limits.cells }
     ensures { lane.new.cells ≡ lane.old.cells }
 {
     let busy = Err(CellRefusal::Busy);
-    go(rt, cells, lane, 0, Call::Asks(busy));
+    go(rt, cells, lane, 0, Call::Asks(Err(CellRefusal::Busy)));
     go(rt, cells, lane, 0, Call::Removes(busy));
     go(rt, cells, lane, 0, Call::Seals(busy));
     go(rt, cells, lane, 0, Call::Puts(1, busy));
+}
+
+/// Asserts that the second lane is refused the cell that the first one has claimed, and meets then the fault with which that one
+/// failed it.
+fn fail_beside(rt: &impl Abort, cells: &Cells, first: &mut CellLane, second: &mut CellLane)
+    requires first { first.old.cells ≡ cells.now.id }
+    requires second { second.old.cells ≡ cells.now.id }
+    requires faults { IsTrue cells.now.id.limits.keep_faults }
+    requires cell { 0 < cells.now.id.limits.cells }
+{
+    let claim = won(rt, cells, first);
+    all_are_busy(rt, cells, second);
+    let failed = fail_claim(cells, first, claim);
+    same(rt, failed, Ok(2), "the number");
+    go(rt, cells, second, 0, Call::Asks(Ok(Asked::Fault(2))));
+    go(rt, cells, second, 0, Call::Removes(Ok(Some(2))));
+    go(rt, cells, first, 0, Call::Asks(Ok(Asked::Won)));
+    cells.meet(second, first);
+}
+
+#[test]
+fn claims_that_fail_keep_others_out(rt: HostRuntime) {
+    let (cells, mut first, mut second) = open(&rt, rt.alloc(), 1, 8);
+    fail_beside(&rt, &cells, &mut first, &mut second);
+}
+
+#[test]
+fn cells_keep_faults_as_they_are_opened(rt: HostRuntime) {
+    let Ok((cells, _lanes)) = Cells::open(rt.alloc(), 3, 1, 1, 8) else {
+        panic!(rt; "no memory")
+    };
+    same(&rt, cells.keeps_faults(), true, "cells that keep faults");
+    for keep_faults in [false, true] {
+        let opened = Cells::open_for(rt.alloc(), 3, 1, 1, 8, keep_faults);
+        let told = opened.ok().map(|(cells, _lanes)| cells.keeps_faults());
+        same(&rt, told, Some(keep_faults), "cells as they are opened");
+    }
 }
 
 /// Asserts that the second lane is refused the cell that the first one has claimed, and finds then what that one filled it with.
 fn claim_beside(rt: &impl Abort, cells: &Cells, first: &mut CellLane, second: &mut CellLane)
     requires first { first.old.cells ≡ cells.now.id }
     requires second { second.old.cells ≡ cells.now.id }
+    requires faults { IsTrue cells.now.id.limits.keep_faults }
     requires cell { 0 < cells.now.id.limits.cells }
 {
     let claim = won(rt, cells, first);
     all_are_busy(rt, cells, second);
     let filled = end_claim(cells, first, claim);
     same(rt, filled, Ok(2), "the number");
-    go(rt, cells, second, 0, Call::Asks(Ok(Some(2))));
+    go(rt, cells, second, 0, Call::Asks(Ok(Asked::Value(2))));
     go(rt, cells, second, 0, Call::Removes(Ok(Some(2))));
     cells.meet(second, first);
 }
@@ -146,7 +217,7 @@ fn place_and_word(
     }
 }
 
-/// Asserts what is the nearest of some cells, of which the cells 4 and 2 hold a number.
+/// Asserts what is the nearest of some cells, of which the cells 4 and 2 hold the number of a value each, and cell 7 that of a fault.
 fn ask_for_nearest(rt: &impl Abort, cells: &Cells, lane: &mut CellLane)
     requires lane { lane.old.cells ≡ cells.now.id }
     requires cells { 9 ≤ cells.now.id.limits.cells }
@@ -157,6 +228,8 @@ fn ask_for_nearest(rt: &impl Abort, cells: &Cells, lane: &mut CellLane)
     same(rt, above, Ok(Some((2, 16_777_250))), "a later cell");
     let none = place_and_word(cells.nearest(lane, &[8, 6, 0]));
     same(rt, none, Ok(None), "empty cells");
+    let failed = place_and_word(cells.nearest(lane, &[8, 7, 2, 0]));
+    same(rt, failed, Ok(Some((1, 33_554_484))), "a cell with a fault");
 }
 
 #[test]
@@ -169,5 +242,6 @@ fn nearest_cell_decides(rt: HostRuntime) {
     };
     go(&rt, &cells, &mut lane, 4, Call::Puts(1, Ok(None)));
     go(&rt, &cells, &mut lane, 2, Call::Puts(2, Ok(None)));
+    go(&rt, &cells, &mut lane, 7, Call::Fails(3));
     ask_for_nearest(&rt, &cells, &mut lane);
 }

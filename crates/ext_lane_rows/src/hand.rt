@@ -1,5 +1,5 @@
 //! Cells with both of their lanes in one hand, so that a test names a lane by its number.
-ghost use Rattle.std.specs.Prelude.{◌≡◌, ◌<◌, ◌%◌};
+ghost use Rattle.std.specs.Prelude.{◌≡◌, ◌<◌, ◌%◌, IsTrue};
 ghost use Rattle.ext_model.specs.Calls.{IsHeld};
 
 use crate::same::same;
@@ -9,6 +9,17 @@ use std::alloc::Global;
 use std::marker::Model;
 use std::process::Abort;
 
+/// What a lane is answered that asks for a cell.
+#[derive(Clone, Copy, Debug, PartialEq, Eq)]
+pub(crate) enum Asked {
+    /// It won the claim.
+    Won,
+    /// The value of this number stands there.
+    Value(u32),
+    /// The fault of this number is kept there.
+    Fault(u32),
+}
+
 /// A call, with what it is to answer.
 #[derive(Clone, Copy)]
 pub(crate) enum Call {
@@ -16,8 +27,10 @@ pub(crate) enum Call {
     Puts(u32, Result<Option<u32>, CellRefusal>),
     Removes(Result<Option<u32>, CellRefusal>),
     Seals(Result<Option<u32>, CellRefusal>),
-    /// Asks for the cell; `None` where the claim is won, which is given up again.
-    Asks(Result<Option<u32>, CellRefusal>),
+    /// Asks for the cell. Where the claim is won, it is given up again.
+    Asks(Result<Asked, CellRefusal>),
+    /// Claims the cell, draws a number, which is this one, and fails the claim with it.
+    Fails(u32),
     /// The cell's word by a collect of it alone.
     Reads(u64),
 }
@@ -25,7 +38,7 @@ pub(crate) enum Call {
 /// A row of a test: the lane that calls, 0 or 1, the cell, 0 to 3, and the call.
 pub(crate) type Row = (usize, CellNo, Call);
 
-/// So many cells with two lanes, so many tries, and eight numbers.
+/// So many cells with two lanes, so many tries, and eight numbers, in which faults may be kept.
 pub(crate) fn open<R: Abort>(
     rt: &R,
     alloc: Global,
@@ -35,6 +48,7 @@ pub(crate) fn open<R: Abort>(
     ensures first { result.1.cells ≡ result.0.id }
     ensures second { result.2.cells ≡ result.0.id }
     ensures cells { result.0.id.limits.cells ≡ cells }
+    ensures faults { IsTrue result.0.id.limits.keep_faults }
 {
     let Ok((cells, mut lanes)) = Cells::open(alloc, cells, 2, tries, 8) else {
         panic!(rt; "no memory");
@@ -56,21 +70,17 @@ pub(crate) struct Hand {
 }
 
 impl Model for Hand {
-    ghost use Rattle.std.specs.Prelude.{◌≡◌, ◌≤◌, All};
+    ghost use Rattle.std.specs.Prelude.{◌≡◌, ◌≤◌, All, IsTrue};
 
     ghost Value = { Unit {0} };
 
     ghost view = { λ _. tt };
 
-    ghost invariant = { λ h. All (λ lane. lane.cells ≡ h.cells.id) h.lanes × (4 ≤ h.cells.id.limits.cells) };
+    ghost invariant = { λ h. All (λ lane. lane.cells ≡ h.cells.id) h.lanes × (4 ≤ h.cells.id.limits.cells) × IsTrue h.cells.id.limits.keep_faults };
 }
 
-/// What a lane is answered that asks for the cell: `None` where it won the claim, which it gives up again.
-pub(crate) fn ask(
-    cells: &Cells,
-    lane: &mut CellLane,
-    cell: CellNo,
-) -> Result<Option<u32>, CellRefusal>
+/// What a lane is answered that asks for the cell. Where it wins the claim, it gives it up again.
+pub(crate) fn ask(cells: &Cells, lane: &mut CellLane, cell: CellNo) -> Result<Asked, CellRefusal>
     requires lane { lane.old.cells ≡ cells.now.id }
     requires cell { cell < cells.now.id.limits.cells }
     ensures { lane.new.cells ≡ lane.old.cells }
@@ -78,9 +88,10 @@ pub(crate) fn ask(
     match cells.claim(lane, cell)? {
         Claimed::Won(claim) => {
             cells.abandon(lane, claim);
-            Ok(None)
+            Ok(Asked::Won)
         }
-        Claimed::Standing(number) | Claimed::Fault(number) => Ok(Some(number)),
+        Claimed::Standing(number) => Ok(Asked::Value(number)),
+        Claimed::Fault(number) => Ok(Asked::Fault(number)),
     }
 }
 
@@ -89,7 +100,7 @@ pub(crate) fn peek(cells: &Cells, lane: &mut CellLane, cell: CellNo) -> u64
     requires lane { lane.old.cells ≡ cells.now.id }
     requires cell { cell < cells.now.id.limits.cells }
     ensures lane { lane.new.cells ≡ lane.old.cells }
-    ensures word { result % 16 < 4 }
+    ensures word { result % 16 < 5 }
 {
     match cells.collect(lane, &[cell]) {
         Ok(words) => words.get(0),
@@ -119,6 +130,42 @@ pub(crate) fn end_claim(
     }
 }
 
+/// Draws a number and fails the claim with it, as that of a fault; where there is none, the claim is given up.
+pub(crate) fn fail_claim(
+    cells: &Cells,
+    lane: &mut CellLane,
+    claim: Claim,
+) -> Result<u32, CellRefusal>
+    requires lane { lane.old.cells ≡ cells.now.id }
+    requires faults { IsTrue cells.now.id.limits.keep_faults }
+    requires held { IsHeld lane.old.view claim }
+    ensures { lane.new.cells ≡ lane.old.cells }
+{
+    match cells.next_number(lane) {
+        Ok(number) => {
+            cells.fail(lane, claim, number);
+            Ok(number)
+        }
+        Err(refusal) => {
+            cells.abandon(lane, claim);
+            Err(refusal)
+        }
+    }
+}
+
+/// Claims the cell and fails it. Says with which number; `None` where anything stands there.
+fn fail_once(cells: &Cells, lane: &mut CellLane, cell: CellNo) -> Result<Option<u32>, CellRefusal>
+    requires lane { lane.old.cells ≡ cells.now.id }
+    requires faults { IsTrue cells.now.id.limits.keep_faults }
+    requires cell { cell < cells.now.id.limits.cells }
+    ensures { lane.new.cells ≡ lane.old.cells }
+{
+    match cells.claim(lane, cell)? {
+        Claimed::Won(claim) => Ok(Some(fail_claim(cells, lane, claim)?)),
+        Claimed::Standing(_) | Claimed::Fault(_) => Ok(None),
+    }
+}
+
 /// The number that is drawn, and what its put answers; or why there is none.
 pub(crate) fn put(
     cells: &Cells,
@@ -136,6 +183,7 @@ pub(crate) fn put(
 /// Asserts that the call has its answer.
 pub(crate) fn go(rt: &impl Abort, cells: &Cells, lane: &mut CellLane, cell: CellNo, call: Call)
     requires lane { lane.old.cells ≡ cells.now.id }
+    requires faults { IsTrue cells.now.id.limits.keep_faults }
     requires cell { cell < cells.now.id.limits.cells }
     ensures { lane.new.cells ≡ lane.old.cells }
 {
@@ -146,6 +194,9 @@ pub(crate) fn go(rt: &impl Abort, cells: &Cells, lane: &mut CellLane, cell: Cell
         Call::Removes(answer) => same(rt, cells.remove(lane, cell), answer, "remove"),
         Call::Seals(answer) => same(rt, cells.seal(lane, cell), answer, "seal"),
         Call::Asks(answer) => same(rt, ask(cells, lane, cell), answer, "claim"),
+        Call::Fails(number) => {
+            same(rt, fail_once(cells, lane, cell), Ok(Some(number)), "fail");
+        }
         Call::Reads(word) => same(rt, peek(cells, lane, cell), word, "collect"),
     }
 }

@@ -2,7 +2,7 @@
 //! contended, but where a test waits for that.
 ghost use Rattle.std.specs.Prelude.{◌≡◌, ◌<◌};
 
-use crate::hand::{ask, end_claim, peek, put};
+use crate::hand::{Asked, ask, end_claim, peek, put};
 use crate::same::same;
 use ext_cells::{CellLane, CellRefusal, CellState, Cells, Claimed, parts};
 use std::alloc::Global;
@@ -210,7 +210,7 @@ fn claim_without_pause(cells: &Cells, mut lane: CellLane) -> u64
     }
     let mut done = 0;
     for _ in 0..100_000_000u64 {
-        if ask(cells, &mut lane, 0) == Ok(None) {
+        if ask(cells, &mut lane, 0) == Ok(Asked::Won) {
             done += 1;
         }
         if peek(cells, &mut lane, 3) != 0 {

@@ -4,7 +4,7 @@ ghost use Rattle.ext_values.specs.Places.{IsCapacity, IsNoteOf, IsNumber};
 ghost use Rattle.ext_values.specs.Known.{AreNotesOf};
 
 use crate::same::same;
-use ext_values::{Note, Notes, Values, ValuesFault};
+use ext_values::{Note, Notes, SilentNotes, Values, ValuesFault};
 use std::alloc::Global;
 use std::test::Fail;
 use std::thread;
@@ -199,6 +199,66 @@ fn notes_know_what_was_placed_or_shown(rt: HostRuntime) -> Result<(), Fail> {
     let empty = found_by_both(&values, &mut own, &mut other, 1);
     let outside = found_by_both(&values, &mut own, &mut other, 3);
     same(&rt, (empty, outside), (None, None), "no value");
+    Ok(())
+}
+
+/// Places the value for a lane whose notes nobody asks, which then finds it; what is handed back where the place is taken.
+fn placed_silently(
+    values: &Values<u8>,
+    notes: &mut SilentNotes<u8>,
+    number: u32,
+    value: Box<u8>,
+) -> Result<u8, u8>
+    requires of { AreNotesOf values.now notes.old }
+    requires number { IsNumber values.now number }
+    ensures found { IfOk result (λ found. found ≡ value.value) }
+    ensures back { IfErr result (λ back. back ≡ value.value) }
+    ensures of { AreNotesOf values.now notes.new }
+{
+    if let Err(back) = notes.place(values, number, value) {
+        return Err(*back);
+    }
+    match notes.get(values, number) {
+        Some(found) => Ok(*found),
+        None => unreachable!(),
+    }
+}
+
+/// Two such lanes that both find a value at a number find the same one.
+fn found_silently(
+    values: &Values<u8>,
+    notes: &mut SilentNotes<u8>,
+    others: &mut SilentNotes<u8>,
+    number: u32,
+) -> Option<(u8, u8)>
+    requires notes { AreNotesOf values.now notes.old }
+    requires others { AreNotesOf values.now others.old }
+    ensures found { IfSome result (λ found. found.0 ≡ found.1) }
+    ensures notes { AreNotesOf values.now notes.new }
+    ensures others { AreNotesOf values.now others.new }
+{
+    let first = *notes.get(values, number)?;
+    let second = *others.get(values, number)?;
+    notes.meet(others);
+    Some((first, second))
+}
+
+#[test]
+fn silent_notes_find_what_was_placed(rt: HostRuntime) -> Result<(), Fail> {
+    let values = Values::new(rt.alloc(), 2)?;
+    let mut own = SilentNotes::new(rt.alloc(), &values)?;
+    let mut other = SilentNotes::new(rt.alloc(), &values)?;
+    let nothing = found_silently(&values, &mut own, &mut other, 2);
+    same(&rt, nothing, None, "an empty place");
+    let placed = placed_silently(&values, &mut own, 2, Box::new(rt.alloc(), 7)?);
+    let refused = placed_silently(&values, &mut other, 2, Box::new(rt.alloc(), 8)?);
+    same(&rt, (placed, refused), (Ok(7), Err(8)), "one place");
+    let found = found_silently(&values, &mut other, &mut own, 2);
+    same(&rt, found, Some((7, 7)), "what both find");
+    for number in [0, 1, 3] {
+        let none = found_silently(&values, &mut own, &mut other, number);
+        same(&rt, none, None, "no value");
+    }
     Ok(())
 }
 

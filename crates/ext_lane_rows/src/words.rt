@@ -85,6 +85,26 @@ fn versions_at_their_limits(rt: HostRuntime) {
     next(&rt, after(sealed, Act::Put(0, 9)), closed);
 }
 
+// The same of a word with a fault.
+#[test]
+fn failed_words_at_their_limits(rt: HostRuntime) {
+    let computing = 0xffff_ffff_fd00_0001;
+    let failed = 0xffff_ffff_fe00_0094;
+    let sealed = 0xffff_ffff_ff00_0003;
+    next(&rt, after(computing, Act::Fail(0, 9)), Ok(failed));
+    let fault = (CellState::Failed, 9, LAST_CLAIM + 2);
+    same(&rt, parts(failed), fault, "the word with the fault");
+    let exhausted = Err(CellRefusal::Exhausted);
+    next(&rt, after(failed, Act::Put(0, 6)), exhausted);
+    next(&rt, after(failed, Act::Remove(0)), exhausted);
+    next(&rt, after(failed, Act::Seal(0)), Ok(sealed));
+    let last = word(CellState::Failed, 9, LAST_CLAIM + 1);
+    let put = Ok(word(CellState::Present, 6, LAST_CLAIM + 2));
+    let removed = Ok(word(CellState::Empty, 0, LAST_CLAIM + 2));
+    next(&rt, after(last, Act::Put(0, 6)), put);
+    next(&rt, after(last, Act::Remove(0)), removed);
+}
+
 /// How many lanes there are of so many cells, or why they are not opened.
 fn opened(
     alloc: Global,

@@ -202,6 +202,7 @@ fn both_answer_in<'a, R: Abort + Wait>(
         lanes: 1,
         tries: 8,
         numbers: 8,
+        keep_faults: false,
     };
     let Ok((store, mut lanes, _closers)) = Store::open(alloc, tree, keys, limits) else {
         panic!(rt; "no store");

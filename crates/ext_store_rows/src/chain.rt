@@ -182,8 +182,12 @@ fn tell_fault(outcome: Compute<Letter, Result<Letter, Fault>>, text: &str) -> To
         Compute::FaultStands {
             at,
             number,
-            unused: Err(_),
-        } => Told::FaultStands(at, number),
+            unused: Err(fault),
+        } if text_of(Some(&fault)) == Some(text) => Told::FaultStands(at, number),
+        Compute::Refused {
+            refusal,
+            unused: Err(fault),
+        } if text_of(Some(&fault)) == Some(text) => Told::Refused(refusal),
         _ => Told::Other,
     }
 }
@@ -325,7 +329,7 @@ fn ask<R: Abort>(
             same(rt, told, answer, name);
         }
         Call::ShowsFault(number, text) => {
-            same(rt, text_of(store.show_fault(lane, number)), text, name);
+            check_fault(rt, store.show_fault(lane, number), text);
         }
         Call::Shows(number, value) => same(rt, store.show(lane, number).copied(), value, name),
         Call::Closes(..) | Call::FailsToClose(..) => panic!(rt; "a close is no lane's"),

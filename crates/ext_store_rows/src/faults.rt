@@ -2,7 +2,7 @@
 use crate::chain::{Call, Told, rows, rows_with_faults};
 use crate::opening::{closeable, plain};
 use ext_model::Look;
-use ext_store::KeepFault;
+use ext_store::{KeepFault, Refusal};
 
 #[test]
 fn kept_fault_stands_until_it_is_replaced(rt: HostRuntime) {
@@ -12,8 +12,6 @@ fn kept_fault_stands_until_it_is_replaced(rt: HostRuntime) {
         (0, 1, "a", Call::ShowsFault(1, Some("boom"))),
         (0, 2, "a", Call::Computes('x', Told::FaultStands(1, 1))),
         (0, 2, "a", Call::Gets(Ok(met))),
-        (1, 2, "a", Call::ShowsFault(1, Some("boom"))),
-        (0, 2, "a", Call::Shows(1, None)),
         (0, 1, "a", Call::Puts(plain('y'), 2, Ok(Some(1)))),
         (0, 1, "a", Call::Removes(Ok(Some(2)))),
         (0, 2, "a", Call::ComputesToClose('z', Told::Computed(3))),
@@ -36,6 +34,62 @@ fn removed_fault_lets_a_factory_run(rt: HostRuntime) {
         (0, 2, "a", Call::ShowsFault(2, None)),
         (0, 2, "a", Call::ShowsFault(0, None)),
         (0, 2, "a", Call::ShowsFault(9, None)),
+    ];
+    rows_with_faults(&rt, rt.alloc(), 8, &all);
+}
+
+#[test]
+fn fault_is_shown_to_each_lane_and_is_no_value(rt: HostRuntime) {
+    let all = [
+        (0, 1, "a", Call::FailsAs("boom", Told::FaultKept(1))),
+        (1, 1, "b", Call::Puts(plain('x'), 2, Ok(None))),
+        (1, 2, "a", Call::ShowsFault(1, Some("boom"))),
+        (1, 2, "a", Call::Shows(1, None)),
+        (0, 2, "a", Call::Shows(1, None)),
+        (0, 2, "b", Call::Shows(2, Some(plain('x')))),
+        (0, 2, "b", Call::ShowsFault(2, None)),
+        (1, 1, "a", Call::FailsAs("bang", Told::FaultStands(1, 1))),
+        (0, 1, "a", Call::ShowsFault(1, Some("boom"))),
+    ];
+    rows_with_faults(&rt, rt.alloc(), 8, &all);
+}
+
+#[test]
+fn nearest_of_faults_and_values_decides(rt: HostRuntime) {
+    let fault = |at, number| Ok(Look::Fault { at, number });
+    let value = |at, number| Ok(Look::Found { at, number });
+    let all = [
+        (0, 2, "a", Call::FailsAs("low", Told::FaultKept(1))),
+        (0, 0, "a", Call::FailsAs("high", Told::FaultKept(2))),
+        (0, 1, "a", Call::Gets(fault(0, 2))),
+        (1, 1, "a", Call::Computes('x', Told::FaultStands(0, 2))),
+        (1, 1, "a", Call::Puts(plain('x'), 3, Ok(None))),
+        (0, 1, "a", Call::Computes('y', Told::Found(1, 3))),
+        (0, 2, "a", Call::Gets(fault(2, 1))),
+        (0, 2, "a", Call::Removes(Ok(Some(1)))),
+        (1, 2, "a", Call::Gets(value(1, 3))),
+        (1, 1, "a", Call::Removes(Ok(Some(3)))),
+        (1, 2, "a", Call::Gets(fault(0, 2))),
+        (1, 2, "b", Call::Gets(Ok(Look::Absent))),
+    ];
+    rows_with_faults(&rt, rt.alloc(), 8, &all);
+}
+
+#[test]
+fn closed_context_passes_over_its_faults(rt: HostRuntime) {
+    let all = [
+        (1, 2, "a", Call::FailsAs("boom", Told::FaultKept(1))),
+        (0, 2, "b", Call::Computes('x', Told::Computed(2))),
+        (0, 2, "", Call::Closes(Ok(0), [0; 4])),
+        (0, 2, "a", Call::Gets(Ok(Look::Closed(2)))),
+        (
+            0,
+            2,
+            "a",
+            Call::FailsAs("bang", Told::Refused(Refusal::Closed(2))),
+        ),
+        (0, 2, "a", Call::ShowsFault(1, Some("boom"))),
+        (0, 1, "a", Call::FailsAs("bang", Told::FaultKept(3))),
     ];
     rows_with_faults(&rt, rt.alloc(), 8, &all);
 }

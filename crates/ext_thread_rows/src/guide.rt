@@ -53,6 +53,7 @@ fn open_for_servers<R: Abort>(rt: &R, alloc: Global, directory: Directory) -> Op
         lanes: 2,
         tries: 64,
         numbers: 1_000,
+        keep_faults: false,
     };
     let Some(opened) = open_store(alloc, directory, limits) else {
         panic!(rt; "no store");

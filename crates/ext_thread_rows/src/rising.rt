@@ -154,6 +154,7 @@ fn open_for_numbers(alloc: Global) -> Option<Opened<Letter>>
         lanes: 2,
         tries: 1,
         numbers: NUMBERS,
+        keep_faults: false,
     };
     open_store(alloc, keys(alloc, 1)?, limits)
 }

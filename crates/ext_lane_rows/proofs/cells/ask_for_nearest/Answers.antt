@@ -13,3 +13,7 @@ nearest-requires-2-clause-different g c = ((refl, (refl, (refl, tt))), ((refl, (
 pub nearest-requires-3-clause-different : goal.nearest-requires-3-clause-different
 unfolding IsDistinct
 nearest-requires-3-clause-different g c = ((refl, (refl, tt)), ((refl, tt), (tt, tt)))
+
+pub nearest-requires-4-clause-different : goal.nearest-requires-4-clause-different
+unfolding IsDistinct
+nearest-requires-4-clause-different g c = ((refl, (refl, (refl, tt))), ((refl, (refl, tt)), ((refl, tt), (tt, tt))))
