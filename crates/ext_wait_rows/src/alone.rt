@@ -4,7 +4,7 @@ ghost use Rattle.ext_store.specs.Stores.{IsLaneOf};
 
 use crate::held::{find, same};
 use crate::opening::{Letter, with_pair};
-use ext_model::{Fault, KeyNo, Look};
+use ext_model::{ContextNo, Fault, KeyNo, Look};
 use ext_store::{Compute, Lane, Store};
 use ext_tree::Key;
 use std::process::Abort;
@@ -189,7 +189,7 @@ fn call_by_number<R: Abort + Wait>(
 
 #[test]
 fn calls_by_the_number_of_a_key(rt: HostRuntime) -> Result<(), Fail> {
-    with_pair(&rt, rt.alloc(), call_by_number)
+    with_pair(&rt, rt.alloc(), false, call_by_number)
 }
 
 /// Puts a letter, finds it, takes it out, and computes another one.
@@ -210,5 +210,107 @@ fn call_alone<R: Abort + Wait>(
 
 #[test]
 fn waiting_forms_alone(rt: HostRuntime) -> Result<(), Fail> {
-    with_pair(&rt, rt.alloc(), call_alone)
+    with_pair(&rt, rt.alloc(), false, call_alone)
+}
+
+/// The number under which the fault of a factory that fails in the method is kept, and that of a fault that stands there, by the
+/// forms that wait, the second by the key's number.
+fn fails_and_meets<R: Wait>(
+    rt: &R,
+    store: &Store<Letter>,
+    lane: &mut Lane<Letter>,
+    key: &Key,
+    number: KeyNo,
+) -> Option<(u32, (ContextNo, u32))>
+    requires lane { IsLaneOf store.now.id lane.old }
+    requires context { 2 < length store.now.tree }
+    requires key { number < length store.now.keys }
+    ensures { IsLaneOf store.now.id lane.new }
+{
+    let fails = |_key: &Key| -> Result<Letter, Fault> { Err(Fault::Memory) };
+    let Compute::FaultKept { number: kept } = store.compute_wait(rt, lane, 2, key, fails) else {
+        return None;
+    };
+    let make = |_key: &Key| -> Result<Letter, Fault> { Ok(Letter { letter: 'z' }) };
+    match store.compute_wait_numbered(rt, lane, 2, number, make) {
+        Compute::FaultStands { at, number, .. } => Some((kept, (at, number))),
+        _ => None,
+    }
+}
+
+/// The numbers of two faults that are kept in the method by the key's number, the second by the form that waits, once the first
+/// was taken out.
+fn fails_by_number<R: Wait>(
+    rt: &R,
+    store: &Store<Letter>,
+    lane: &mut Lane<Letter>,
+    number: KeyNo,
+) -> Option<(u32, u32)>
+    requires lane { IsLaneOf store.now.id lane.old }
+    requires context { 2 < length store.now.tree }
+    requires key { number < length store.now.keys }
+    ensures { IsLaneOf store.now.id lane.new }
+{
+    let fails = |_key: &Key| -> Result<Letter, Fault> { Err(Fault::Memory) };
+    let Compute::FaultKept { number: first } = store.compute_numbered(lane, 2, number, fails) else {
+        return None;
+    };
+    let _taken = store.remove_numbered(lane, 2, number).ok()?;
+    let fails = |_key: &Key| -> Result<Letter, Fault> { Err(Fault::Memory) };
+    match store.compute_wait_numbered(rt, lane, 2, number, fails) {
+        Compute::FaultKept { number: second } => Some((first, second)),
+        _ => None,
+    }
+}
+
+/// Asserts what is answered where a fault is kept in the method, is met there, is replaced and is kept anew.
+fn keep_faults_alone<R: Abort + Wait>(
+    rt: &R,
+    store: &Store<Letter>,
+    key: &Key,
+    lane: &mut Lane<Letter>,
+    _other: &mut Lane<Letter>,
+)
+    requires lane { IsLaneOf store.now.id lane.old }
+    requires contexts { 2 < length store.now.tree }
+{
+    same(rt, store.keeps_faults(), true, "whether faults are kept");
+    let number = number_of(rt, store, key);
+    let failed = fails_and_meets(rt, store, lane, key, number);
+    same(rt, failed, Some((1, (2, 1))), "the fault that is kept");
+    let met = Look::Fault { at: 2, number: 1 };
+    let looked = store.get_wait(rt, lane, 2, key);
+    same(rt, looked, Ok(met), "the look-up");
+    let looked = store.get_wait_numbered(rt, lane, 2, number);
+    same(rt, looked, met, "the look-up by number");
+    let replaced = replace(rt, store, lane, key);
+    same(rt, replaced, Some((Some(1), Some(2))), "what is replaced");
+    let kept = fails_by_number(rt, store, lane, number);
+    same(rt, kept, Some((3, 4)), "the faults that are kept by number");
+}
+
+/// What a put over the fault in the method answers, and the remove after it.
+fn replace<R: Wait>(
+    rt: &R,
+    store: &Store<Letter>,
+    lane: &mut Lane<Letter>,
+    key: &Key,
+) -> Option<(Option<u32>, Option<u32>)>
+    requires lane { IsLaneOf store.now.id lane.old }
+    requires context { 2 < length store.now.tree }
+    ensures { IsLaneOf store.now.id lane.new }
+{
+    let Ok(kept) = store.keep_wait(rt, lane, Letter { letter: 'x' }) else {
+        return None;
+    };
+    let Ok(stood) = store.put_wait(rt, lane, 2, key, kept) else {
+        return None;
+    };
+    let taken = store.remove_wait(rt, lane, 2, key).ok()?;
+    Some((stood, taken))
+}
+
+#[test]
+fn waiting_forms_keep_faults_alone(rt: HostRuntime) -> Result<(), Fail> {
+    with_pair(&rt, rt.alloc(), true, keep_faults_alone)
 }

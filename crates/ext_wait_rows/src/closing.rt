@@ -2,7 +2,7 @@
 ghost use Rattle.std.specs.Prelude.{◌≡◌, ◌<◌, All, IfErr, length};
 ghost use Rattle.ext_store.specs.Stores.{IsCloserOf, IsLaneOf};
 
-use crate::held::{Gate, compute_held, same};
+use crate::held::{Ended, Gate, compute_held, same};
 use crate::opening::{Letter, with_store};
 use ext_closing::{CloseAction, CloseFault, close};
 use ext_model::Fault;
@@ -82,7 +82,7 @@ fn compute_and_close<R: Abort + Clock>(
     ensures closer { IfErr result (λ e. IsCloserOf store.now e.0) }
 {
     let computed = compute_held(rt, store, &mut hand[0], key, gate, false);
-    same(rt, computed, Some(Some(2)), "the compute");
+    same(rt, computed, Ended::Computed(2), "the compute");
     spin(turns);
     let closed = close_class(rt, store, hand, closers);
     gate.watch(rt);
@@ -215,6 +215,7 @@ fn race_in_store<R: Abort + Clock + Threads + Wait + Sync>(
     with_store(
         alloc,
         2,
+        false,
         |store: &Store<Letter>, key: &Key, lanes: &mut [Lane<Letter>], closers: &mut Vec<Closer>|
             requires lanes { All (IsLaneOf store.now.id) lanes.old }
             requires closers { All (IsCloserOf store.now) closers.old.items }

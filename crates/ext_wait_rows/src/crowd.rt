@@ -27,6 +27,9 @@ struct Counts {
     /// How often a factory gave a value, and was answered as computed.
     made: AtomicU64,
     computed: AtomicU64,
+    /// How often a factory failed, and its fault was answered as kept.
+    failed: AtomicU64,
+    faults: AtomicU64,
     /// Values that were put, and numbers that a put answered.
     put: AtomicU64,
     replaced: AtomicU64,
@@ -42,6 +45,8 @@ impl Counts {
         Counts {
             made: AtomicU64::new(0),
             computed: AtomicU64::new(0),
+            failed: AtomicU64::new(0),
+            faults: AtomicU64::new(0),
             put: AtomicU64::new(0),
             replaced: AtomicU64::new(0),
             removed: AtomicU64::new(0),
@@ -50,17 +55,44 @@ impl Counts {
         }
     }
 
-    /// The numbers of values made, computed, put, replaced and removed, and of wrong answers.
-    fn told(&self) -> [u64; 6] {
-        [
-            self.made.load(Ordering::SeqCst),
-            self.computed.load(Ordering::SeqCst),
-            self.put.load(Ordering::SeqCst),
-            self.replaced.load(Ordering::SeqCst),
-            self.removed.load(Ordering::SeqCst),
-            self.wrong.load(Ordering::SeqCst),
-        ]
+    /// All counts as they stand.
+    fn told(&self) -> Totals {
+        Totals {
+            made: self.made.load(Ordering::SeqCst),
+            computed: self.computed.load(Ordering::SeqCst),
+            failed: self.failed.load(Ordering::SeqCst),
+            faults: self.faults.load(Ordering::SeqCst),
+            put: self.put.load(Ordering::SeqCst),
+            replaced: self.replaced.load(Ordering::SeqCst),
+            removed: self.removed.load(Ordering::SeqCst),
+            wrong: self.wrong.load(Ordering::SeqCst),
+        }
     }
+}
+
+/// The numbers of values made and computed, of factories that failed and faults kept, of values put, of numbers replaced and removed,
+/// and of wrong answers.
+#[derive(Clone, Copy)]
+struct Totals {
+    made: u64,
+    computed: u64,
+    failed: u64,
+    faults: u64,
+    put: u64,
+    replaced: u64,
+    removed: u64,
+    wrong: u64,
+}
+
+/// What the lanes of a store do, and whether it keeps faults.
+#[derive(Clone, Copy)]
+enum Work {
+    /// They compute and remove.
+    Computes,
+    /// They make all calls, and factories fail among them.
+    AllCalls,
+    /// The same in a store that keeps faults.
+    KeepsFaults,
 }
 
 fn add(word: &AtomicU64) {
@@ -83,6 +115,7 @@ fn compute<R: Wait>(
 {
     let factory = |_key: &Key| -> Result<Letter, Fault> {
         if fails {
+            add(&counts.failed);
             return Err(Fault::Memory);
         }
         add(&counts.made);
@@ -91,7 +124,9 @@ fn compute<R: Wait>(
     match store.compute_wait(rt, lane, context, key, factory) {
         Compute::Computed { .. } => add(&counts.computed),
         Compute::Found { .. } => {}
-        Compute::Failed(_) if fails => {}
+        Compute::Failed(_) if fails && !store.keeps_faults() => {}
+        Compute::FaultKept { .. } if fails => add(&counts.faults),
+        Compute::FaultStands { .. } if store.keeps_faults() => {}
         _ => add(&counts.wrong),
     }
 }
@@ -149,6 +184,7 @@ fn look<R: Wait>(rt: &R, store: &Store<Letter>, lane: &mut Lane<Letter>, key: &K
 {
     match store.get_wait(rt, lane, 2, key) {
         Ok(Look::Found { .. } | Look::Absent) => {}
+        Ok(Look::Fault { .. }) if store.keeps_faults() => {}
         _ => add(&counts.wrong),
     }
 }
@@ -192,13 +228,13 @@ fn make_all_calls<R: Wait>(
     add(&counts.ended);
 }
 
-/// Has all lanes make their rounds at once, each in a thread of its own: where `all` they make all calls.
+/// Has all lanes make their rounds at once, each in a thread of its own.
 fn run<R: Threads + Wait + Sync>(
     rt: &R,
     store: &Store<Letter>,
     lanes: &mut [Lane<Letter>],
     key: &Key,
-    all: bool,
+    work: Work,
     counts: &Counts,
 )
     requires lanes { All (IsLaneOf store.now.id) lanes.old }
@@ -212,10 +248,9 @@ fn run<R: Threads + Wait + Sync>(
             requires lane { IsLaneOf store.now.id lane.old }
             requires contexts { 2 < length store.now.tree }
         {
-            if all {
-                make_all_calls(rt, store, lane, key, counts);
-            } else {
-                compute_and_remove(rt, store, lane, key, counts);
+            match work {
+                Work::Computes => compute_and_remove(rt, store, lane, key, counts),
+                Work::AllCalls | Work::KeepsFaults => make_all_calls(rt, store, lane, key, counts),
             }
         },
     );
@@ -227,8 +262,8 @@ fn told<R: Abort + Clock + Threads + Wait + Sync>(
     store: &Store<Letter>,
     key: &Key,
     lanes: &mut [Lane<Letter>],
-    all: bool,
-) -> [u64; 6]
+    work: Work,
+) -> Totals
     requires lanes { All (IsLaneOf store.now.id) lanes.old }
     requires contexts { 2 < length store.now.tree }
 {
@@ -238,24 +273,30 @@ fn told<R: Abort + Clock + Threads + Wait + Sync>(
         rt,
         move ||
             requires { All (IsLaneOf store.now.id) lanes.now × (2 < length store.now.tree) }
-        { run(rt, store, lanes, key, all, shared) },
+        { run(rt, store, lanes, key, work, shared) },
         || watch(rt, &shared.ended, 16),
     );
     counts.told()
 }
 
-/// Asserts that so many values were put, that no answer was wrong, and that each value that stood is removed or replaced.
-fn settle<R: Abort>(rt: &R, counts: [u64; 6], puts: u64) {
-    let [made, computed, put, replaced, removed, wrong] = counts;
-    same(rt, wrong, 0, "wrong answers");
-    same(rt, computed, made, "values made");
-    same(rt, put, puts, "values put");
-    same(rt, replaced <= put, true, "values replaced");
+/// Asserts that so many values were put, that no answer was wrong, that each fault of a factory is kept in a store that keeps them
+/// and none in another one, and that each number that stood is removed or replaced.
+fn settle<R: Abort>(rt: &R, told: Totals, work: Work, puts: u64) {
+    same(rt, told.wrong, 0, "wrong answers");
+    same(rt, told.computed, told.made, "values made");
+    same(rt, told.put, puts, "values put");
+    let faults = match work {
+        Work::KeepsFaults => told.failed,
+        Work::Computes | Work::AllCalls => 0,
+    };
+    same(rt, told.faults, faults, "faults kept");
+    same(rt, told.replaced <= told.put, true, "numbers replaced");
+    let stored = told.computed.wrapping_add(told.put);
     same(
         rt,
-        removed.wrapping_add(replaced),
-        computed.wrapping_add(put),
-        "values that stand no longer",
+        told.removed.wrapping_add(told.replaced),
+        stored.wrapping_add(told.faults),
+        "numbers that stand no longer",
     );
 }
 
@@ -263,23 +304,25 @@ fn settle<R: Abort>(rt: &R, counts: [u64; 6], puts: u64) {
 fn crowd_in_store<R: Abort + Clock + Threads + Wait + Sync>(
     rt: &R,
     alloc: Global,
-    all: bool,
+    work: Work,
     puts: u64,
 ) -> Result<(), Fail> {
+    let keep_faults = matches!(work, Work::KeepsFaults);
     with_store(
         alloc,
         16,
+        keep_faults,
         |store: &Store<Letter>, key: &Key, lanes: &mut [Lane<Letter>], _closers: &mut Vec<Closer>|
             requires lanes { All (IsLaneOf store.now.id) lanes.old }
             requires contexts { 2 < length store.now.tree }
-        { settle(rt, told(rt, store, key, lanes, all), puts) },
+        { settle(rt, told(rt, store, key, lanes, work), work, puts) },
     )
 }
 
 #[test]
 fn sixteen_lanes_compute_and_remove(rt: HostRuntime) -> Result<(), Fail> {
     for _ in 0..STORES {
-        crowd_in_store(&rt, rt.alloc(), false, 0)?;
+        crowd_in_store(&rt, rt.alloc(), Work::Computes, 0)?;
     }
     Ok(())
 }
@@ -287,7 +330,15 @@ fn sixteen_lanes_compute_and_remove(rt: HostRuntime) -> Result<(), Fail> {
 #[test]
 fn sixteen_lanes_make_all_calls(rt: HostRuntime) -> Result<(), Fail> {
     for _ in 0..STORES {
-        crowd_in_store(&rt, rt.alloc(), true, 16 * ROUNDS)?;
+        crowd_in_store(&rt, rt.alloc(), Work::AllCalls, 16 * ROUNDS)?;
+    }
+    Ok(())
+}
+
+#[test]
+fn sixteen_lanes_make_all_calls_and_keep_faults(rt: HostRuntime) -> Result<(), Fail> {
+    for _ in 0..STORES {
+        crowd_in_store(&rt, rt.alloc(), Work::KeepsFaults, 16 * ROUNDS)?;
     }
     Ok(())
 }

@@ -75,8 +75,21 @@ impl Gate {
     }
 }
 
+/// What became of a compute whose factory was held.
+#[derive(Clone, Copy, Debug, PartialEq, Eq)]
+pub(crate) enum Ended {
+    /// Its value was kept under this number.
+    Computed(u32),
+    /// Its factory failed, and nothing is kept.
+    Failed,
+    /// Its factory's fault was kept under this number.
+    FaultKept(u32),
+    /// It had another answer.
+    Otherwise,
+}
+
 /// Computes in the class, by a factory that is held and then fails where it is to; where it does not pass its gate it does the
-/// other of the two. Says the number of what was computed, or none where the factory failed.
+/// other of the two.
 pub(crate) fn compute_held<C: Clock>(
     clock: &C,
     store: &Store<Letter>,
@@ -84,7 +97,7 @@ pub(crate) fn compute_held<C: Clock>(
     key: &Key,
     gate: &Gate,
     fails: bool,
-) -> Option<Option<u32>>
+) -> Ended
     requires lane { IsLaneOf store.now.id lane.old }
     requires context { 1 < length store.now.tree }
     ensures { IsLaneOf store.now.id lane.new }
@@ -97,13 +110,15 @@ pub(crate) fn compute_held<C: Clock>(
         }
     };
     match store.compute(lane, 1, key, factory) {
-        Compute::Computed { number } => Some(Some(number)),
-        Compute::Failed(Fault::Memory) => Some(None),
-        _ => None,
+        Compute::Computed { number } => Ended::Computed(number),
+        Compute::Failed(Fault::Memory) => Ended::Failed,
+        Compute::FaultKept { number } => Ended::FaultKept(number),
+        _ => Ended::Otherwise,
     }
 }
 
-/// Where a compute from the method finds a value, and hands its factory back unused, which gives its letter then.
+/// Where a compute from the method finds a value, or a fault that is kept, and hands its factory back unused, which gives its
+/// letter then.
 pub(crate) fn find<R: Wait>(
     rt: &R,
     store: &Store<Letter>,
@@ -118,6 +133,10 @@ pub(crate) fn find<R: Wait>(
     match store.compute_wait(rt, lane, 2, key, make) {
         Compute::Found { at, number, unused } => match unused(key) {
             Ok(Letter { letter: 'y' }) => Some(Look::Found { at, number }),
+            _ => None,
+        },
+        Compute::FaultStands { at, number, unused } => match unused(key) {
+            Ok(Letter { letter: 'y' }) => Some(Look::Fault { at, number }),
             _ => None,
         },
         _ => None,

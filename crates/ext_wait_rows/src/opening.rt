@@ -72,8 +72,8 @@ struct Opened {
     closers: Vec<Closer>,
 }
 
-/// Opens the store of the chain with so many lanes and 65,535 numbers.
-fn open(alloc: Global, lanes: usize) -> Result<Opened, Fail>
+/// Opens the store of the chain with so many lanes and 65,535 numbers, which keeps faults or not.
+fn open(alloc: Global, lanes: usize, keep_faults: bool) -> Result<Opened, Fail>
     ensures lanes { IfOk result (λ o. All (IsLaneOf o.store.id) o.lanes.items) }
     ensures closers { IfOk result (λ o. All (IsCloserOf o.store) o.closers.items) }
     ensures contexts { IfOk result (λ o. 2 < length o.store.tree) }
@@ -82,6 +82,7 @@ fn open(alloc: Global, lanes: usize) -> Result<Opened, Fail>
         lanes,
         tries: 8,
         numbers: 65_535,
+        keep_faults,
     };
     let tree = contexts(alloc)?;
     let keys = keys(alloc)?;
@@ -118,6 +119,7 @@ fn lend<W: FnOnce(&Store<Letter>, &Key, &mut [Lane<Letter>], &mut Vec<Closer>)>(
 fn with_opened<W: FnOnce(&Store<Letter>, &Key, &mut [Lane<Letter>], &mut Vec<Closer>)>(
     alloc: Global,
     lanes: usize,
+    keep_faults: bool,
     key: &Key,
     work: W,
 ) -> Result<(), Fail>
@@ -125,16 +127,17 @@ fn with_opened<W: FnOnce(&Store<Letter>, &Key, &mut [Lane<Letter>], &mut Vec<Clo
         → All (IsLaneOf store.now.id) lanes.now → All (IsCloserOf store.now) closers.now.items → 2 < length store.now.tree
         → W.pre work store key lanes closers }
 {
-    let mut opened = open(alloc, lanes)?;
+    let mut opened = open(alloc, lanes, keep_faults)?;
     lend(&mut opened, key, work);
     Ok(())
 }
 
-/// Opens the store of the chain with so many lanes, and does the work with it: with the store, the key a, the lanes, and the
+/// Opens the store of the chain with so many lanes, which keeps faults or not, and does the work with it: with the store, the key a, the lanes, and the
 /// closers of the contexts 0, 1 and 2.
 pub(crate) fn with_store<W: FnOnce(&Store<Letter>, &Key, &mut [Lane<Letter>], &mut Vec<Closer>)>(
     alloc: Global,
     lanes: usize,
+    keep_faults: bool,
     work: W,
 ) -> Result<(), Fail>
     requires { (store : Bor StoreView) (key : _) (lanes : MutBor (List (StoreLane Letter))) (closers : _)
@@ -142,7 +145,7 @@ pub(crate) fn with_store<W: FnOnce(&Store<Letter>, &Key, &mut [Lane<Letter>], &m
         → W.pre work store key lanes closers }
 {
     let key = key_a(alloc)?;
-    with_opened(alloc, lanes, &key, work)
+    with_opened(alloc, lanes, keep_faults, &key, work)
 }
 
 /// Does the work with two lanes in hand.
@@ -168,7 +171,7 @@ fn with_both<R: Abort, W: FnOnce(&R, &Store<Letter>, &Key, &mut Lane<Letter>, &m
 pub(crate) fn with_pair<
     R: Abort,
     W: FnOnce(&R, &Store<Letter>, &Key, &mut Lane<Letter>, &mut Lane<Letter>),
->(rt: &R, alloc: Global, work: W) -> Result<(), Fail>
+>(rt: &R, alloc: Global, keep_faults: bool, work: W) -> Result<(), Fail>
     requires { (store : Bor StoreView) (key : _) (first second : MutBor (StoreLane Letter))
         → IsLaneOf store.now.id first.now → IsLaneOf store.now.id second.now → 2 < length store.now.tree
         → W.pre work rt store key first second }
@@ -176,5 +179,5 @@ pub(crate) fn with_pair<
     let work_on = |store: &Store<Letter>, key: &Key, lanes: &mut [Lane<Letter>], _closers: &mut Vec<
         Closer,
     >| { with_both(rt, store, key, lanes, work) };
-    with_store(alloc, 2, work_on)
+    with_store(alloc, 2, keep_faults, work_on)
 }
