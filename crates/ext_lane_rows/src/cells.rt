@@ -2,7 +2,7 @@
 ghost use Rattle.std.specs.Prelude.{◌≡◌, ◌<◌, ◌≤◌, IsTrue};
 ghost use Rattle.ext_model.specs.Calls.{IsHeld};
 
-use crate::hand::{Asked, Call, end_claim, fail_claim, go, open, rows};
+use crate::hand::{Call, end_claim, fail_claim, go, open, rows};
 use crate::same::same;
 use ext_cells::{CellLane, CellRefusal, Cells, Claim, Claimed, Nearest};
 use std::process::Abort;
@@ -20,7 +20,7 @@ fn sealed_cells_keep_their_numbers(rt: HostRuntime) {
         (1, 0, Call::Seals(Ok(Some(1)))),
         (0, 0, Call::Puts(2, closed)),
         (0, 0, Call::Removes(closed)),
-        (0, 0, Call::Asks(Err(CellRefusal::Closed))),
+        (0, 0, Call::Asks(closed)),
         // sealed, with number 1, at version 2
         (0, 0, Call::Reads(33_554_451)),
     ];
@@ -30,8 +30,8 @@ fn sealed_cells_keep_their_numbers(rt: HostRuntime) {
 #[test]
 fn abandoned_cells_are_empty(rt: HostRuntime) {
     let all = [
-        (0, 0, Call::Asks(Ok(Asked::Won))),
-        (1, 0, Call::Asks(Ok(Asked::Won))),
+        (0, 0, Call::Asks(Ok(None))),
+        (1, 0, Call::Asks(Ok(None))),
         // empty, at version 4
         (1, 0, Call::Reads(67_108_864)),
         (0, 0, Call::Seals(Ok(None))),
@@ -46,13 +46,13 @@ fn failed_cells_keep_their_numbers(rt: HostRuntime) {
         (0, 1, Call::Fails(1)),
         // the fault of number 1, at version 2
         (1, 1, Call::Reads(33_554_452)),
-        (1, 1, Call::Asks(Ok(Asked::Fault(1)))),
-        (0, 1, Call::Asks(Ok(Asked::Fault(1)))),
+        (1, 1, Call::Meets(1)),
+        (0, 1, Call::Meets(1)),
         (0, 1, Call::Reads(33_554_452)),
         (1, 1, Call::Puts(2, Ok(Some(1)))),
         // the value of number 2, at version 3
         (0, 1, Call::Reads(50_331_682)),
-        (0, 1, Call::Asks(Ok(Asked::Value(2)))),
+        (0, 1, Call::Asks(Ok(Some(2)))),
         (0, 1, Call::Removes(Ok(Some(2)))),
         (1, 1, Call::Fails(3)),
         (0, 1, Call::Removes(Ok(Some(3)))),
@@ -67,7 +67,7 @@ fn failed_cells_keep_their_numbers(rt: HostRuntime) {
         (0, 1, Call::Removes(Err(CellRefusal::Closed))),
         // the cells beside it
         (0, 0, Call::Reads(0)),
-        (0, 2, Call::Asks(Ok(Asked::Won))),
+        (0, 2, Call::Asks(Ok(None))),
     ];
     rows(&rt, rt.alloc(), &all);
 }
@@ -88,12 +88,11 @@ fn won(rt: &impl Abort, cells: &Cells, lane: &mut CellLane) -> Claim
 /// Asserts that the lane is refused cell 0, which another one has claimed.
 fn all_are_busy(rt: &impl Abort, cells: &Cells, lane: &mut CellLane)
     requires lane { lane.old.cells ≡ cells.now.id }
-    requires faults { IsTrue cells.now.id.limits.keep_faults }
     requires cell { 0 < cells.now.id.limits.cells }
     ensures { lane.new.cells ≡ lane.old.cells }
 {
     let busy = Err(CellRefusal::Busy);
-    go(rt, cells, lane, 0, Call::Asks(Err(CellRefusal::Busy)));
+    go(rt, cells, lane, 0, Call::Asks(busy));
     go(rt, cells, lane, 0, Call::Removes(busy));
     go(rt, cells, lane, 0, Call::Seals(busy));
     go(rt, cells, lane, 0, Call::Puts(1, busy));
@@ -111,9 +110,9 @@ fn fail_beside(rt: &impl Abort, cells: &Cells, first: &mut CellLane, second: &mu
     all_are_busy(rt, cells, second);
     let failed = fail_claim(cells, first, claim);
     same(rt, failed, Ok(2), "the number");
-    go(rt, cells, second, 0, Call::Asks(Ok(Asked::Fault(2))));
+    go(rt, cells, second, 0, Call::Meets(2));
     go(rt, cells, second, 0, Call::Removes(Ok(Some(2))));
-    go(rt, cells, first, 0, Call::Asks(Ok(Asked::Won)));
+    go(rt, cells, first, 0, Call::Asks(Ok(None)));
     cells.meet(second, first);
 }
 
@@ -140,14 +139,13 @@ fn cells_keep_faults_as_they_are_opened(rt: HostRuntime) {
 fn claim_beside(rt: &impl Abort, cells: &Cells, first: &mut CellLane, second: &mut CellLane)
     requires first { first.old.cells ≡ cells.now.id }
     requires second { second.old.cells ≡ cells.now.id }
-    requires faults { IsTrue cells.now.id.limits.keep_faults }
     requires cell { 0 < cells.now.id.limits.cells }
 {
     let claim = won(rt, cells, first);
     all_are_busy(rt, cells, second);
     let filled = end_claim(cells, first, claim);
     same(rt, filled, Ok(2), "the number");
-    go(rt, cells, second, 0, Call::Asks(Ok(Asked::Value(2))));
+    go(rt, cells, second, 0, Call::Asks(Ok(Some(2))));
     go(rt, cells, second, 0, Call::Removes(Ok(Some(2))));
     cells.meet(second, first);
 }

@@ -27,8 +27,10 @@ pub(crate) enum Call {
     Puts(u32, Result<Option<u32>, CellRefusal>),
     Removes(Result<Option<u32>, CellRefusal>),
     Seals(Result<Option<u32>, CellRefusal>),
-    /// Asks for the cell. Where the claim is won, it is given up again.
-    Asks(Result<Asked, CellRefusal>),
+    /// Asks for the cell; `None` where the claim is won, which is given up again.
+    Asks(Result<Option<u32>, CellRefusal>),
+    /// Asks for the cell, where the fault of this number is kept.
+    Meets(u32),
     /// Claims the cell, draws a number, which is this one, and fails the claim with it.
     Fails(u32),
     /// The cell's word by a collect of it alone.
@@ -70,13 +72,13 @@ pub(crate) struct Hand {
 }
 
 impl Model for Hand {
-    ghost use Rattle.std.specs.Prelude.{◌≡◌, ◌≤◌, All, IsTrue};
+    ghost use Rattle.std.specs.Prelude.{◌≡◌, ◌≤◌, All};
 
     ghost Value = { Unit {0} };
 
     ghost view = { λ _. tt };
 
-    ghost invariant = { λ h. All (λ lane. lane.cells ≡ h.cells.id) h.lanes × (4 ≤ h.cells.id.limits.cells) × IsTrue h.cells.id.limits.keep_faults };
+    ghost invariant = { λ h. All (λ lane. lane.cells ≡ h.cells.id) h.lanes × (4 ≤ h.cells.id.limits.cells) };
 }
 
 /// What a lane is answered that asks for the cell. Where it wins the claim, it gives it up again.
@@ -153,13 +155,15 @@ pub(crate) fn fail_claim(
     }
 }
 
-/// Claims the cell and fails it. Says with which number; `None` where anything stands there.
+/// Claims the cell and fails it. Says with which number; `None` where anything stands there, or where no faults are kept.
 fn fail_once(cells: &Cells, lane: &mut CellLane, cell: CellNo) -> Result<Option<u32>, CellRefusal>
     requires lane { lane.old.cells ≡ cells.now.id }
-    requires faults { IsTrue cells.now.id.limits.keep_faults }
     requires cell { cell < cells.now.id.limits.cells }
     ensures { lane.new.cells ≡ lane.old.cells }
 {
+    if !cells.keeps_faults() {
+        return Ok(None);
+    }
     match cells.claim(lane, cell)? {
         Claimed::Won(claim) => Ok(Some(fail_claim(cells, lane, claim)?)),
         Claimed::Standing(_) | Claimed::Fault(_) => Ok(None),
@@ -180,10 +184,18 @@ pub(crate) fn put(
     Ok((number, cells.put(lane, cell, number)))
 }
 
+/// What a lane is answered that wins the claim, where this is nothing, or that finds the value of this number.
+fn won_or_found(answer: Result<Option<u32>, CellRefusal>) -> Result<Asked, CellRefusal> {
+    match answer {
+        Ok(None) => Ok(Asked::Won),
+        Ok(Some(number)) => Ok(Asked::Value(number)),
+        Err(refusal) => Err(refusal),
+    }
+}
+
 /// Asserts that the call has its answer.
 pub(crate) fn go(rt: &impl Abort, cells: &Cells, lane: &mut CellLane, cell: CellNo, call: Call)
     requires lane { lane.old.cells ≡ cells.now.id }
-    requires faults { IsTrue cells.now.id.limits.keep_faults }
     requires cell { cell < cells.now.id.limits.cells }
     ensures { lane.new.cells ≡ lane.old.cells }
 {
@@ -193,7 +205,11 @@ pub(crate) fn go(rt: &impl Abort, cells: &Cells, lane: &mut CellLane, cell: Cell
         }
         Call::Removes(answer) => same(rt, cells.remove(lane, cell), answer, "remove"),
         Call::Seals(answer) => same(rt, cells.seal(lane, cell), answer, "seal"),
-        Call::Asks(answer) => same(rt, ask(cells, lane, cell), answer, "claim"),
+        Call::Asks(answer) => same(rt, ask(cells, lane, cell), won_or_found(answer), "claim"),
+        Call::Meets(number) => {
+            let fault = Ok(Asked::Fault(number));
+            same(rt, ask(cells, lane, cell), fault, "claim");
+        }
         Call::Fails(number) => {
             same(rt, fail_once(cells, lane, cell), Ok(Some(number)), "fail");
         }
