@@ -18,6 +18,8 @@ enum Call {
     Holds(ContextNo, bool),
     /// Fills the context's claim with this number.
     Fills(ContextNo, u32),
+    /// Fails the context's claim with this number, which is a fault's then.
+    Fails(ContextNo, u32),
     Abandons(ContextNo),
     Removes(ContextNo, Result<Option<u32>, PlainFault>),
     Seals(ContextNo, Result<Option<u32>, PlainFault>),
@@ -34,6 +36,10 @@ fn go<R: Abort>(rt: &R, store: &mut PlainStore, call: Call) {
         Call::Fills(at, number) => {
             assert!(rt; store.is_claimed_by(at, 0, 3));
             same(rt, store.fill(at, 0, 3, number), Ok(()), "fill");
+        }
+        Call::Fails(at, number) => {
+            assert!(rt; store.is_claimed_by(at, 0, 3));
+            same(rt, store.fail(at, 0, 3, number), Ok(()), "fail");
         }
         Call::Abandons(at) => {
             assert!(rt; store.is_claimed_by(at, 0, 3));
@@ -109,11 +115,57 @@ fn abandoned_place_is_empty(rt: HostRuntime) {
     answers(&rt, rt.alloc(), 8, &ABANDONED);
 }
 
+/// Calls of which some fail a claim: the fault's number stands until it is replaced or removed, and a seal keeps none of it.
+const FAILED: [Call; 33] = [
+    Call::Claims(1, Ok(())),
+    Call::Keeps(Ok(1)),
+    Call::Fails(1, 1),
+    Call::Holds(1, false),
+    Call::Gets(Look::Fault { at: 1, number: 1 }),
+    Call::Claims(1, Err(PlainFault::FaultStands(1))),
+    Call::Gets(Look::Fault { at: 1, number: 1 }),
+    // The fault of an ancestor is behind the value of the nearest, and the nearest fault before that of an ancestor.
+    Call::Keeps(Ok(2)),
+    Call::Puts(2, 2, Ok(None)),
+    Call::Gets(Look::Found { at: 2, number: 2 }),
+    Call::Removes(2, Ok(Some(2))),
+    Call::Claims(2, Ok(())),
+    Call::Gets(Look::Busy(2)),
+    Call::Keeps(Ok(3)),
+    Call::Fails(2, 3),
+    Call::Gets(Look::Fault { at: 2, number: 3 }),
+    // A remove takes a fault, and a put replaces one.
+    Call::Removes(2, Ok(Some(3))),
+    Call::Removes(2, Ok(None)),
+    Call::Gets(Look::Fault { at: 1, number: 1 }),
+    Call::Keeps(Ok(4)),
+    Call::Puts(1, 4, Ok(Some(1))),
+    Call::Gets(Look::Found { at: 1, number: 4 }),
+    Call::Claims(1, Err(PlainFault::Taken(4))),
+    Call::Removes(1, Ok(Some(4))),
+    // A seal passes over a fault.
+    Call::Claims(0, Ok(())),
+    Call::Claims(0, Err(PlainFault::Busy)),
+    Call::Keeps(Ok(5)),
+    Call::Fails(0, 5),
+    Call::Gets(Look::Fault { at: 0, number: 5 }),
+    Call::Seals(0, Ok(None)),
+    Call::Seals(0, Ok(None)),
+    Call::Claims(0, Err(PlainFault::Closed)),
+    Call::Gets(Look::Closed(0)),
+];
+
+#[test]
+fn failed_place_keeps_its_fault(rt: HostRuntime) {
+    answers(&rt, rt.alloc(), 8, &FAILED);
+}
+
 /// Faults, with what is printed of each.
-const FAULTS: [(PlainFault, &str); 5] = [
+const FAULTS: [(PlainFault, &str); 6] = [
     (PlainFault::Busy, "busy"),
     (PlainFault::Closed, "closed"),
     (PlainFault::Taken(2), "number 2 stands there"),
+    (PlainFault::FaultStands(2), "fault 2 stands there"),
     (PlainFault::NumbersFull, "numbers full"),
     (PlainFault::Memory, "no memory"),
 ];

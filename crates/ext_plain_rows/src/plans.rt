@@ -181,3 +181,22 @@ fn numbers_keys_by_name_and_namespace(rt: HostRuntime) -> Result<(), Fail> {
     same(&rt, told.as_str(), "0 1 0 2 3 false 3 3", "the numbers");
     Ok(())
 }
+
+/// Whether faults are kept by a plan that begins so.
+fn keeps_faults(alloc: Global, head: &str) -> Result<bool, Fail> {
+    let text = format!(in alloc; "{head}{CHAIN}")?;
+    Ok(read_plan(alloc, text.as_str())?.keep_faults)
+}
+
+#[test]
+fn reads_whether_faults_are_kept(rt: HostRuntime) -> Result<(), Fail> {
+    for (head, wanted) in [
+        ("", false),
+        ("keep_faults = false\n", false),
+        ("keep_faults = true\n", true),
+    ] {
+        let keeps = keeps_faults(rt.alloc(), head)?;
+        same(&rt, keeps, wanted, head);
+    }
+    Ok(())
+}
