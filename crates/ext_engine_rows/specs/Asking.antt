@@ -15,11 +15,14 @@ use Rattle.ext_store.specs.Waiting.{ComputesAfterWaits}
 abbrev pub HasFailed : Outcome → Type 0
 HasFailed outcome = (why : Fault) × (outcome ≡ record { verdict = Failed why; computed = 0; found = 0 })
 
--- by what its compute answered: one value computed, or one found, and else a failure
+-- by what its compute answered, in a store that keeps no faults: one value computed, or one found, and else a failure
 abbrev pub EndsBy : {V : Type 0} → Compute V (Unit {0}) → Outcome → Type 0
 EndsBy (computes.Computed number) outcome = outcome ≡ record { verdict = Successful; computed = 1; found = 0 }
 EndsBy (computes.Found at number unused) outcome = outcome ≡ record { verdict = Successful; computed = 0; found = 1 }
 EndsBy (computes.Failed why) outcome = HasFailed outcome
+EndsBy (computes.FaultKept number) outcome = ⊥
+EndsBy (computes.FaultUnkept why cause) outcome = ⊥
+EndsBy (computes.FaultStands at number unused) outcome = ⊥
 EndsBy (computes.Unkept value cause) outcome = HasFailed outcome
 EndsBy (computes.Refused why unused) outcome = HasFailed outcome
 
@@ -27,5 +30,5 @@ EndsBy (computes.Refused why unused) outcome = HasFailed outcome
 pub record AsksFor {V : Type 0} (given : V) (store : StoreView) (context : ℕ) (key : KeyValue) (before : StoreLane V) (outcome : Outcome) (after : StoreLane V) : Type 0 where
   pub answer : Compute V (Unit {0})
   pub computes : (number : ℕ) → HasNumber store.keys key number → ComputesAfterWaits store context number before.cells after.cells answer
-  pub uses : Uses (λ gives. gives ≡ Ok given) before.known after.known answer
+  pub uses : Uses (λ gives. gives ≡ Ok given) before after answer
   pub ends : EndsBy answer outcome

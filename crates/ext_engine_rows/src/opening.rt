@@ -1,5 +1,5 @@
 //! The store and the locks of a run, and its report.
-ghost use Rattle.std.specs.Prelude.{◌≡◌, ◌<◌, ◌≤◌, ◌+◌, [], ◌∷◌, ◌++◌, All, IfSome, IsPermutation, length, map};
+ghost use Rattle.std.specs.Prelude.{◌≡◌, ◌<◌, ◌≤◌, ◌+◌, [], ◌∷◌, ◌++◌, All, IfSome, IsFalse, IsPermutation, length, map};
 ghost use Rattle.ext_cells.specs.Lanes.{fresh_lanes};
 ghost use Rattle.ext_locks.specs.Names.{texts_of};
 ghost use Rattle.ext_locks.specs.Opening as locking;
@@ -58,15 +58,16 @@ fn keys(alloc: Global) -> Option<Directory> {
     Some(directory)
 }
 
-/// A store of these contexts and the key of the tests, with so many lanes, and its closers.
+/// A store of these contexts and the key of the tests, with so many lanes, which keeps no faults, and its closers.
 fn open_store<V: StoreValue + Drop>(
     alloc: Global,
     texts: &[&str],
     lanes: usize,
 ) -> Option<(Store<V>, Vec<Lane<V>>, Vec<Closer>)>
-    ensures fresh { IfSome result (λ o. o.1.items ≡ map (fresh_store_lane o.0.id.places) (fresh_lanes o.0.id.cells 0 lanes)) }
+    ensures fresh { IfSome result (λ o. o.1.items ≡ map (fresh_store_lane o.0.id.places o.0.id.fault_places) (fresh_lanes o.0.id.cells 0 lanes)) }
     ensures lanes { IfSome result (λ o. All (IsLaneOf o.0.id) o.1.items) }
     ensures closers { IfSome result (λ o. o.2.items ≡ closers_below o.0.id.cells (length o.0.tree)) }
+    ensures no_faults { IfSome result (λ o. IsFalse o.0.id.cells.limits.keep_faults) }
 {
     let limits = Limits {
         lanes,
@@ -97,7 +98,8 @@ fn open_locks(
     Some((locks, lock_lanes, spare))
 }
 
-/// A store of these contexts and the key of the tests, with so many lanes, and locks of these names, with one lane more.
+/// A store of these contexts and the key of the tests, with so many lanes, which keeps no faults, and locks of these names, with one
+/// lane more.
 pub(crate) fn open<V: StoreValue + Drop>(
     alloc: Global,
     texts: &[&str],
@@ -108,6 +110,7 @@ pub(crate) fn open<V: StoreValue + Drop>(
     ensures usable { IfSome result (λ o. IsUsable o.store o.locks (record { first = o.lanes.items; second = o.lock_lanes.items })) }
     ensures spare { IfSome result (λ o. IsIdle o.locks o.spare) }
     ensures closers { IfSome result (λ o. o.closers.items ≡ closers_below o.store.id.cells (length o.store.tree)) }
+    ensures no_faults { IfSome result (λ o. IsFalse o.store.id.cells.limits.keep_faults) }
     ensures names { IfSome result (λ o. IsPermutation (texts_of names.now) o.locks.names) }
 {
     let (locks, lock_lanes, spare) = open_locks(alloc, names, lanes)?;

@@ -1,5 +1,5 @@
 //! The code of docs/GUIDE.md, 'An engine in a page': tests that need a server, which is made once and closed with their class.
-ghost use Rattle.std.specs.Prelude.{◌≡◌, ◌<◌, Ok, length};
+ghost use Rattle.std.specs.Prelude.{◌≡◌, ◌<◌, IsFalse, Ok, length};
 ghost use Rattle.ext_store.specs.Stores.{IsLaneOf};
 ghost use Rattle.ext_engine_rows.specs.Asking.{AsksFor, HasFailed};
 
@@ -84,6 +84,7 @@ impl ServerSuite<'_> {
     fn ask<R: Wait>(&self, rt: &R, store: &Store<Server>, lane: &mut Lane<Server>) -> Outcome
         requires lane { IsLaneOf store.now.id lane.old }
         requires class { CLASS < length store.now.tree }
+        requires no_faults { IsFalse store.now.id.cells.limits.keep_faults }
         ensures asks { AsksFor (record { port = 8080 }) store.now CLASS self.now.key.now lane.old result lane.new }
         ensures lane { IsLaneOf store.now.id lane.new }
     {
@@ -106,6 +107,8 @@ impl ServerSuite<'_> {
                 found: 1,
             },
             Compute::Failed(why) => Outcome::of(Verdict::Failed(why)),
+            // The store keeps no faults.
+            Compute::FaultKept { .. } | Compute::FaultUnkept { .. } | Compute::FaultStands { .. } => unreachable!(),
             Compute::Unkept { value: _, cause } => failed(format!(in self.alloc; "{cause}")),
             Compute::Refused { refusal, unused: _ } => failed(format!(in self.alloc; "{refusal}")),
         }
@@ -132,7 +135,7 @@ impl Callbacks for ServerSuite<'_> {
 }
 
 impl<'a> Suite<Server> for ServerSuite<'a> {
-    ghost use Rattle.std.specs.Prelude.{◌≡◌, ◌<◌, [], length};
+    ghost use Rattle.std.specs.Prelude.{◌≡◌, ◌<◌, [], IsFalse, length};
     ghost use Rattle.ext_engine_rows.specs.Asking.{AsksFor};
     ghost use Rattle.ext_engine_rows.specs.Leaves.{leaves_with};
 
@@ -140,7 +143,7 @@ impl<'a> Suite<Server> for ServerSuite<'a> {
 
     ghost nodes = { λ suite. leaves_with suite.tree.now [] };
 
-    ghost fits = { λ suite store. (suite.tree.now ≡ store.tree) × (1 < length store.tree) };
+    ghost fits = { λ suite store. (suite.tree.now ≡ store.tree) × (1 < length store.tree) × IsFalse store.id.cells.limits.keep_faults };
 
     ghost call_gives = { λ suite store node call held before outcome after. AsksFor (record { port = 8080 }) store 1 suite.key.now before outcome after };
 

@@ -4,9 +4,10 @@ ghost use Rattle.ext_store.specs.Stores.{IsLaneOf};
 
 use crate::chance::{below, once_in};
 use crate::fault::SoakFault;
+use crate::mark::Mark;
 use crate::opening::{CONTEXTS, ENGINE, KEYS, MOVED, Payload, Place, STANDING, Shared};
 use crate::told::{Log, Told};
-use ext_model::{ContextNo, Fault, Look};
+use ext_model::{ContextNo, Fault, KeyNo, Look};
 use ext_store::{Compute, KeepFault, Lane, Refusal};
 use ext_tree::Key;
 use rand_pcg::Pcg32;
@@ -67,7 +68,7 @@ pub(crate) fn make_call<R: Wait>(
         1 if !moves && !stays => {
             remove(rt, shared, lane, place, waits, log);
         }
-        2 if !moves => compute(rt, shared, lane, place, waits, manner, log),
+        2 if !moves => compute(rt, shared, lane, place, waits, Manner::of(manner), log),
         _ => look(rt, shared, lane, place, waits, log),
     }
 }
@@ -94,6 +95,7 @@ pub(crate) fn look<R: Wait>(
     let (from, key) = (place.context, place.key);
     match seen {
         Ok(Look::Found { at, number }) => found(shared, lane, place, at, number, log),
+        Ok(Look::Fault { at, number }) => met_fault(shared, lane, key, at, number, log),
         Ok(Look::Absent) => log.tell(Told::Absent { key, from }),
         Ok(Look::Closed(_)) => {}
         Ok(Look::Busy(_)) => log.wrong_unless(!waits, SoakFault::Answer),
@@ -126,6 +128,35 @@ fn found(
             None => false,
         };
         log.wrong_unless(right, SoakFault::Misplaced);
+    }
+}
+
+/// What a look-up or a compute met: a kept fault, with its number, in this context. It is shown to the lane, and has no value.
+fn met_fault(
+    shared: &Shared,
+    lane: &mut Lane<Payload>,
+    key: KeyNo,
+    at: ContextNo,
+    number: u32,
+    log: &mut Log,
+)
+    requires { IsLaneOf shared.now.store.id lane.old }
+    ensures { IsLaneOf shared.now.store.id lane.new }
+{
+    log.wrong_unless(shared.store.keeps_faults(), SoakFault::Answer);
+    let mark = match shared.store.show_fault(lane, number) {
+        Some(fault) => Mark::of(fault),
+        None => None,
+    };
+    let no_value = shared.store.show(lane, number).is_none();
+    match mark {
+        Some(mark) if no_value => log.tell(Told::FaultMet {
+            key,
+            at,
+            number,
+            mark,
+        }),
+        _ => log.wrong_unless(false, SoakFault::Misplaced),
     }
 }
 
@@ -240,14 +271,45 @@ impl Watch<'_> {
     }
 }
 
-/// Computes a value for the place, by a factory that fails where the manner is 0, and gives a closeable value where it is 1.
+/// What a factory does.
+#[derive(Clone, Copy, PartialEq, Eq)]
+enum Manner {
+    /// It fails.
+    Fails,
+    /// It gives a closeable value.
+    GivesCloseable,
+    /// It gives another one.
+    Gives,
+}
+
+impl Manner {
+    /// The manner of this number.
+    fn of(number: usize) -> Manner {
+        match number {
+            0 => Manner::Fails,
+            1 => Manner::GivesCloseable,
+            _ => Manner::Gives,
+        }
+    }
+}
+
+/// How a value is computed: for the place, by a form that waits or not, and by which factory, whose fault has the mark.
+#[derive(Clone, Copy)]
+struct Asked {
+    place: Place,
+    waits: bool,
+    manner: Manner,
+    mark: Mark,
+}
+
+/// Computes a value for the place.
 fn compute<R: Wait>(
     rt: &R,
     shared: &Shared,
     lane: &mut Lane<Payload>,
     place: Place,
     waits: bool,
-    manner: usize,
+    manner: Manner,
     log: &mut Log,
 )
     requires lane { IsLaneOf shared.now.store.id lane.old }
@@ -255,12 +317,16 @@ fn compute<R: Wait>(
     ensures { IsLaneOf shared.now.store.id lane.new }
 {
     let watch = Watch::of(shared, place);
+    let mark = Mark {
+        lane: lane.number(),
+        before: log.replies.len(),
+    };
     let factory = |_key: &Key| -> Result<Payload, Fault> {
         watch.run();
-        if manner == 0 {
-            return Err(Fault::Memory);
+        if manner == Manner::Fails {
+            return Err(mark.fault(shared.alloc));
         }
-        let closeable = manner == 1;
+        let closeable = manner == Manner::GivesCloseable;
         Ok(Payload { place, closeable })
     };
     let name = shared.name(place.key);
@@ -271,7 +337,13 @@ fn compute<R: Wait>(
     } else {
         shared.store.compute(lane, place.context, name, factory)
     };
-    computed_as(shared, lane, place, waits, manner, computed, log);
+    let asked = Asked {
+        place,
+        waits,
+        manner,
+        mark,
+    };
+    computed_as(shared, lane, asked, computed, log);
     let beside = watch.beside.load(Ordering::SeqCst);
     log.wrong_unless(beside == 0, SoakFault::TwoFactories);
 }
@@ -280,31 +352,72 @@ fn compute<R: Wait>(
 fn computed_as<F: Drop>(
     shared: &Shared,
     lane: &mut Lane<Payload>,
-    place: Place,
-    waits: bool,
-    manner: usize,
+    asked: Asked,
     computed: Compute<Payload, F>,
     log: &mut Log,
 )
     requires { IsLaneOf shared.now.store.id lane.old }
     ensures { IsLaneOf shared.now.store.id lane.new }
 {
+    let place = asked.place;
     match computed {
         Compute::Computed { number } => {
-            log.wrong_unless(manner != 0, SoakFault::Answer);
+            log.wrong_unless(asked.manner != Manner::Fails, SoakFault::Answer);
             log.tell(Told::Computed {
                 place,
                 number,
-                closeable: manner == 1,
+                closeable: asked.manner == Manner::GivesCloseable,
             });
         }
         Compute::Found { at, number, .. } => found(shared, lane, place, at, number, log),
-        Compute::Failed(_fault) => log.wrong_unless(manner == 0, SoakFault::Answer),
+        Compute::FaultStands { at, number, .. } => {
+            met_fault(shared, lane, place.key, at, number, log);
+        }
+        Compute::FaultKept { number } => kept_fault(shared, lane, asked, number, log),
+        Compute::Failed(fault) => came_back(shared, asked, &fault, None, log),
+        Compute::FaultUnkept { fault, cause } => came_back(shared, asked, &fault, Some(cause), log),
         Compute::Unkept { cause, .. } => {
-            log.wrong_unless(cause == KeepFault::Contended && !waits, SoakFault::Answer);
+            let may_be = cause == KeepFault::Contended && !asked.waits;
+            log.wrong_unless(may_be, SoakFault::Answer);
         }
         Compute::Refused { refusal, .. } => {
-            log.wrong_unless(may_refuse(refusal, waits), SoakFault::Answer);
+            log.wrong_unless(may_refuse(refusal, asked.waits), SoakFault::Answer);
         }
     }
+}
+
+/// The fault of the factory that ran was kept under this number, where faults are kept. It is shown to the lane.
+fn kept_fault(shared: &Shared, lane: &mut Lane<Payload>, asked: Asked, number: u32, log: &mut Log)
+    requires { IsLaneOf shared.now.store.id lane.old }
+    ensures { IsLaneOf shared.now.store.id lane.new }
+{
+    let may_be = asked.manner == Manner::Fails && shared.store.keeps_faults();
+    let shown = match shared.store.show_fault(lane, number) {
+        Some(fault) => Mark::of(fault) == Some(asked.mark),
+        None => false,
+    };
+    log.wrong_unless(may_be && shown, SoakFault::Answer);
+    log.tell(Told::FaultKept {
+        place: asked.place,
+        number,
+        mark: asked.mark,
+    });
+}
+
+/// The fault of the factory that ran came back: as it has to where no faults are kept, and else for this cause.
+fn came_back(
+    shared: &Shared,
+    asked: Asked,
+    fault: &Fault,
+    cause: Option<KeepFault>,
+    log: &mut Log,
+) {
+    let may_be = match cause {
+        Some(cause) => {
+            shared.store.keeps_faults() && cause == KeepFault::Contended && !asked.waits
+        }
+        None => !shared.store.keeps_faults(),
+    };
+    let is_own = asked.manner == Manner::Fails && Mark::of(fault) == Some(asked.mark);
+    log.wrong_unless(may_be && is_own, SoakFault::Answer);
 }

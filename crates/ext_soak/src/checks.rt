@@ -1,5 +1,6 @@
 //! What is checked once all lanes of a round have ended: each reply against those of all other lanes.
 use crate::fault::SoakFault;
+use crate::mark::Mark;
 use crate::opening::{CLASS, CONTEXTS, KEYS, LAST_IN_CLASS, MOVED, NUMBERS, Place, STANDING};
 use crate::told::{Log, Told};
 use std::alloc::{AllocError, Global};
@@ -10,6 +11,8 @@ struct Fate {
     drawn: u32,
     stored: Option<Place>,
     closeable: bool,
+    /// The mark of the fault whose number it is; a value's has none.
+    fault: Option<Mark>,
     left: bool,
 }
 
@@ -38,6 +41,7 @@ fn unknown_fates(alloc: Global) -> Result<Vec<Fate>, AllocError> {
             drawn: 0,
             stored: None,
             closeable: false,
+            fault: None,
             left: false,
         })?;
     }
@@ -126,7 +130,7 @@ impl Checks {
                 closeable,
                 stood,
             } => {
-                self.store(place, number, closeable);
+                self.store(place, number, closeable, None);
                 if stood.is_none() {
                     count(self.standing.as_mut_slice(), place, 1);
                 }
@@ -137,7 +141,16 @@ impl Checks {
                 number,
                 closeable,
             } => {
-                self.store(place, number, closeable);
+                self.store(place, number, closeable, None);
+                count(self.standing.as_mut_slice(), place, 1);
+                self.draw(number, last)
+            }
+            Told::FaultKept {
+                place,
+                number,
+                mark,
+            } => {
+                self.store(place, number, false, Some(mark));
                 count(self.standing.as_mut_slice(), place, 1);
                 self.draw(number, last)
             }
@@ -158,7 +171,7 @@ impl Checks {
         number
     }
 
-    fn store(&mut self, place: Place, number: u32, closeable: bool) {
+    fn store(&mut self, place: Place, number: u32, closeable: bool, fault: Option<Mark>) {
         let Some(fate) = self.fates.get_mut(number as usize) else {
             self.wrong_unless(false, SoakFault::Numbers);
             return;
@@ -166,6 +179,7 @@ impl Checks {
         let is_first = fate.stored.is_none();
         fate.stored = Some(place);
         fate.closeable = closeable;
+        fate.fault = fault;
         self.wrong_unless(is_first, SoakFault::Numbers);
     }
 
@@ -192,7 +206,11 @@ impl Checks {
                 self.leave(place, number);
                 count(self.standing.as_mut_slice(), place, u32::MAX);
             }
-            Told::Closed { place, number } => self.leave(place, number),
+            Told::Closed { place, number } => {
+                self.leave(place, number);
+                let is_fault = self.fault_of(number).is_some();
+                self.wrong_unless(!is_fault, SoakFault::Closed);
+            }
             Told::Found {
                 key,
                 from,
@@ -204,6 +222,15 @@ impl Checks {
                     self.wrong_unless(last <= number, SoakFault::Misplaced);
                     return number;
                 }
+            }
+            Told::FaultMet {
+                key,
+                at,
+                number,
+                mark,
+            } => {
+                self.meet(Place { context: at, key }, number, mark);
+                self.wrong_unless(key != STANDING, SoakFault::Missed);
             }
             Told::Absent { key, from } => {
                 let always = key == STANDING
@@ -225,12 +252,30 @@ impl Checks {
         self.wrong_unless(right, SoakFault::LeftTwice);
     }
 
-    fn find(&mut self, place: Place, number: u32) {
-        let stored = match self.fates.get(number as usize) {
+    /// Where the number was stored.
+    fn place_of(&self, number: u32) -> Option<Place> {
+        match self.fates.get(number as usize) {
             Some(fate) => fate.stored,
             None => None,
-        };
-        self.wrong_unless(stored == Some(place), SoakFault::Misplaced);
+        }
+    }
+
+    /// The mark of the fault that was kept under the number.
+    fn fault_of(&self, number: u32) -> Option<Mark> {
+        match self.fates.get(number as usize) {
+            Some(fate) => fate.fault,
+            None => None,
+        }
+    }
+
+    fn find(&mut self, place: Place, number: u32) {
+        let right = self.place_of(number) == Some(place) && self.fault_of(number).is_none();
+        self.wrong_unless(right, SoakFault::Misplaced);
+    }
+
+    fn meet(&mut self, place: Place, number: u32, mark: Mark) {
+        let right = self.place_of(number) == Some(place) && self.fault_of(number) == Some(mark);
+        self.wrong_unless(right, SoakFault::Misplaced);
     }
 
     // ---- what is left

@@ -15,21 +15,23 @@ pub(crate) enum SoakFault {
     Late,
     /// A call gave an answer that it can't give there.
     Answer,
-    /// Two factories ran for one place at once, or two values were computed there without a remove between them.
+    /// Two factories ran for one place at once, or two values were computed or faults kept there without a remove between them.
     TwoFactories,
     /// A factory ran though its lane looked at an ancestor's value after it had claimed.
     AncestorMissed,
     /// A number was drawn twice or never, or stored twice, or a lane's numbers fell.
     Numbers,
-    /// A value was replaced, removed or closed twice, or where it did not stand.
+    /// A value or a kept fault was replaced, removed or closed twice, or where it did not stand.
     LeftTwice,
     /// A closeable value that stood at the end was not closed.
     NotClosed,
-    /// A close gave its action a value that is not closeable, or not the latest first, or was refused after that.
+    /// A close gave its action a value that is not closeable, or the number of a fault, or not the latest first, or was refused
+    /// after that.
     Closed,
-    /// A look-up was absent while one of its cells was always filled.
+    /// A look-up was absent, or met a kept fault, while one of its cells had a value all along.
     Missed,
-    /// A look-up found a number that was never stored there, or one behind the number that it had found before.
+    /// A look-up found a number that was never stored there, or one behind the number that it had found before, or a fault that
+    /// another factory gave.
     Misplaced,
     /// A context that is closed has an open place.
     Open,

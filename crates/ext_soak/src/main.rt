@@ -10,6 +10,7 @@ mod chance;
 mod checks;
 mod closing;
 mod fault;
+mod mark;
 mod moving;
 mod opening;
 mod race;

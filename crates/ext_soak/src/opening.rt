@@ -57,10 +57,17 @@ impl StoreValue for Payload {
     }
 }
 
+/// Whether the stores of a round keep faults: those of every second one do.
+pub(crate) fn keeps_faults(round: u32) -> bool {
+    round % 2 == 1
+}
+
 /// What the lanes of a round share.
 #[derive(Drop)]
 pub(crate) struct Shared {
     pub(crate) store: Store<Payload>,
+    /// Where factories take memory for their faults.
+    pub(crate) alloc: Global,
     /// The places for which a factory runs, one bit each.
     pub(crate) running: AtomicU64,
     ghost contexts: { length store.tree ≡ 7 },
@@ -151,12 +158,13 @@ fn made(
 /// A store, its lanes and its closers.
 type Parts = (Store<Payload>, Vec<Lane<Payload>>, Vec<Closer>);
 
-/// A store of these contexts and keys.
+/// A store of these contexts and keys, which keeps faults or not.
 fn open_store(
     alloc: Global,
     made: (Tree, Directory),
     lanes: usize,
     tries: u32,
+    keep_faults: bool,
 ) -> Result<Parts, SoakFault>
     ensures made { IfOk result (λ r. (r.0.tree ≡ made.0) × (r.0.keys ≡ made.1)) }
     ensures lanes { IfOk result (λ r. All (IsLaneOf r.0.id) r.1.items) }
@@ -166,6 +174,7 @@ fn open_store(
         lanes,
         tries,
         numbers: NUMBERS,
+        keep_faults,
     };
     let (tree, directory) = made;
     match Store::open(alloc, tree, directory, limits) {
@@ -174,13 +183,18 @@ fn open_store(
     }
 }
 
-/// A round's store with so many lanes and tries.
-pub(crate) fn open(alloc: Global, lanes: usize, tries: u32) -> Result<Opened, SoakFault>
+/// A round's store with so many lanes and tries, which keeps faults or not.
+pub(crate) fn open(
+    alloc: Global,
+    lanes: usize,
+    tries: u32,
+    keep_faults: bool,
+) -> Result<Opened, SoakFault>
     ensures lanes { IfOk result (λ o. All (IsLaneOf o.shared.store.id) o.lanes.items) }
     ensures closers { IfOk result (λ o. All (IsCloserOf o.shared.store) o.closers.items) }
 {
     match made(contexts(alloc), directory(alloc), CONTEXTS) {
-        Ok(made) => open_with(alloc, made, lanes, tries),
+        Ok(made) => open_with(alloc, made, lanes, tries, keep_faults),
         Err(fault) => Err(fault),
     }
 }
@@ -191,15 +205,20 @@ fn open_with(
     made: (Tree, Directory),
     lanes: usize,
     tries: u32,
+    keep_faults: bool,
 ) -> Result<Opened, SoakFault>
     requires { (length made.0 ≡ 7) × (length made.1 ≡ 4) }
     ensures lanes { IfOk result (λ o. All (IsLaneOf o.shared.store.id) o.lanes.items) }
     ensures closers { IfOk result (λ o. All (IsCloserOf o.shared.store) o.closers.items) }
 {
-    match open_store(alloc, made, lanes, tries) {
+    match open_store(alloc, made, lanes, tries, keep_faults) {
         Ok((store, lanes, closers)) => {
             let running = AtomicU64::new(0);
-            let shared = Shared { store, running };
+            let shared = Shared {
+                store,
+                alloc,
+                running,
+            };
             Ok(Opened {
                 shared,
                 lanes,
@@ -249,22 +268,26 @@ fn add_chain(alloc: Global, ids: &mut Vec<UniqueId>) -> Option<()> {
     Some(())
 }
 
-/// The deep store with two lanes.
-pub(crate) fn open_deep(alloc: Global) -> Result<OpenedDeep, SoakFault>
+/// The deep store with two lanes, which keeps faults or not.
+pub(crate) fn open_deep(alloc: Global, keep_faults: bool) -> Result<OpenedDeep, SoakFault>
     ensures { IfOk result (λ o. All (IsLaneOf o.deep.store.id) o.lanes.items) }
 {
     match made(chain(alloc), directory(alloc), 16) {
-        Ok(made) => open_deep_with(alloc, made),
+        Ok(made) => open_deep_with(alloc, made, keep_faults),
         Err(fault) => Err(fault),
     }
 }
 
 /// The deep store of these sixteen contexts and four keys.
-fn open_deep_with(alloc: Global, made: (Tree, Directory)) -> Result<OpenedDeep, SoakFault>
+fn open_deep_with(
+    alloc: Global,
+    made: (Tree, Directory),
+    keep_faults: bool,
+) -> Result<OpenedDeep, SoakFault>
     requires { (length made.0 ≡ 16) × (length made.1 ≡ 4) }
     ensures { IfOk result (λ o. All (IsLaneOf o.deep.store.id) o.lanes.items) }
 {
-    match open_store(alloc, made, 2, 64) {
+    match open_store(alloc, made, 2, 64, keep_faults) {
         Ok((store, lanes, _closers)) => {
             let deep = Deep { store };
             Ok(OpenedDeep { deep, lanes })

@@ -4,7 +4,7 @@ ghost use Rattle.ext_store.specs.Stores.{IsKeptBy, IsLaneOf};
 
 use crate::chance::{below, numbers_of};
 use crate::fault::SoakFault;
-use crate::opening::{Deep, OpenedDeep, Payload, Place, open_deep};
+use crate::opening::{Deep, OpenedDeep, Payload, Place, keeps_faults, open_deep};
 use crate::words::Soak;
 use ext_model::{ContextNo, Fault};
 use ext_store::{Compute, Kept, Lane};
@@ -70,14 +70,23 @@ fn value(context: ContextNo) -> Payload {
     }
 }
 
-/// Computes a value in the deepest context. Says whether the factory ran.
+/// Computes a value in the deepest context, by a factory that fails where its fault is kept. Says whether the factory ran.
 fn computes(deep: &Deep, lane: &mut Lane<Payload>) -> bool
     requires { IsLaneOf deep.now.store.id lane.old }
     ensures { IsLaneOf deep.now.store.id lane.new }
 {
-    let factory = |_key: &Key| -> Result<Payload, Fault> { Ok(value(BELOW)) };
+    let fails = deep.store.keeps_faults();
+    let factory = |_key: &Key| -> Result<Payload, Fault> {
+        if fails {
+            return Err(Fault::Memory);
+        }
+        Ok(value(BELOW))
+    };
     let computed = deep.store.compute(lane, BELOW, deep.name(), factory);
-    matches!(computed, Compute::Computed { .. })
+    matches!(
+        computed,
+        Compute::Computed { .. } | Compute::FaultKept { .. }
+    )
 }
 
 /// Puts a value in the parent. Says whether nothing was claimed or stood below after that.
@@ -166,7 +175,7 @@ pub(crate) fn make_races<R: Threads + Sync + AllocGlobal>(
     soak: Soak,
     round: u32,
 ) -> Result<(), SoakFault> {
-    match open_deep(rt.alloc()) {
+    match open_deep(rt.alloc(), keeps_faults(round)) {
         Ok(opened) => race_opened(rt, soak, round, opened),
         Err(fault) => Err(fault),
     }

@@ -1,5 +1,6 @@
 //! What a lane was answered, in the order of its calls.
 use crate::fault::SoakFault;
+use crate::mark::Mark;
 use crate::opening::Place;
 use ext_model::{ContextNo, KeyNo};
 use std::alloc::Global;
@@ -22,6 +23,12 @@ pub(crate) enum Told {
         number: u32,
         closeable: bool,
     },
+    /// The number was drawn for the fault of the place's factory, which has this mark, and stored there.
+    FaultKept {
+        place: Place,
+        number: u32,
+        mark: Mark,
+    },
     /// It was taken out of the place.
     Removed {
         place: Place,
@@ -38,6 +45,13 @@ pub(crate) enum Told {
         from: ContextNo,
         at: ContextNo,
         number: u32,
+    },
+    /// A look-up or a compute met it in this context, as that of a fault with this mark.
+    FaultMet {
+        key: KeyNo,
+        at: ContextNo,
+        number: u32,
+        mark: Mark,
     },
     /// A look-up from a context found nothing.
     Absent {
