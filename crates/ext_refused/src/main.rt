@@ -6,6 +6,7 @@
 #![tactic(auto)]
 
 mod crew;
+mod faults;
 mod ids;
 mod keys;
 mod outcome;
@@ -75,6 +76,7 @@ fn outcome_of<R: Threads + Wait + Sync>(rt: &R, alloc: Global, case: Case) -> Ou
         Case::Places => places::places(alloc),
         Case::Crew => crew::runs_jobs(rt, alloc),
         Case::Store => stores::keeps_and_computes(alloc),
+        Case::Faults => faults::keeps_a_fault(alloc),
         Case::Run => runs::runs(rt, alloc),
     }
 }

@@ -15,13 +15,23 @@ fn looks(store: &PlainStore) -> [Look; KEYS] {
     looks
 }
 
-/// Stores a number under the key, or claims its place, or seals it.
+/// Stores a number under the key, or claims its place, and fails it then, or seals it.
 fn call(store: &mut PlainStore, key: KeyNo) -> Result<(), PlainFault> {
-    match key % 3 {
+    match key % 4 {
         0 => store.put(0, key, 7).map(|_| ()),
         1 => store.claim(1, key, 0),
+        2 => claims_and_fails(store, key),
         _ => store.seal(1, key).map(|_| ()),
     }
+}
+
+/// Claims the place under the key, and keeps a fault's number there, for which no memory is wanted.
+fn claims_and_fails(store: &mut PlainStore, key: KeyNo) -> Result<(), PlainFault> {
+    store.claim(1, key, 0)?;
+    if !store.is_claimed_by(1, key, 0) {
+        return Err(PlainFault::Closed);
+    }
+    store.fail(1, key, 0, 7)
 }
 
 /// Makes a call under each key.

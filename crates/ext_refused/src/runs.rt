@@ -6,13 +6,15 @@ use std::alloc::Global;
 use std::sync::Wait;
 use std::thread::Threads;
 
-/// Four tests that run beside each other where their locks let them, of which two store values.
+/// Four tests that run beside each other where their locks let them, of which two store values, and one of these keeps the fault of
+/// a factory.
 const PLAN: &str = "\
-key = [{ label = \"a\" }]
+keep_faults = true
+key = [{ label = \"a\" }, { label = \"b\" }]
 node = [
   { id = \"[e:x]\" },
   { id = \"[e:x]/[m:1]\", mode = \"concurrent\", locks = [\"READ_WRITE r\"], test = [\"compute! a x\"] },
-  { id = \"[e:x]/[m:2]\", mode = \"concurrent\", locks = [\"READ_WRITE r\"], test = [\"put a y\"] },
+  { id = \"[e:x]/[m:2]\", mode = \"concurrent\", locks = [\"READ_WRITE r\"], test = [\"put a y\", \"computefail b t\"] },
   { id = \"[e:x]/[m:3]\", mode = \"concurrent\", locks = [\"READ r\"], test = [] },
   { id = \"[e:x]/[m:4]\", mode = \"concurrent\", locks = [\"READ r\"], test = [] },
 ]

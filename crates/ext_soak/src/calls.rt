@@ -5,7 +5,7 @@ ghost use Rattle.ext_store.specs.Stores.{IsLaneOf};
 use crate::chance::{below, once_in};
 use crate::fault::SoakFault;
 use crate::mark::Mark;
-use crate::opening::{CONTEXTS, ENGINE, KEYS, MOVED, Payload, Place, STANDING, Shared};
+use crate::opening::{COMPUTED, CONTEXTS, ENGINE, KEYS, MOVED, Payload, Place, STANDING, Shared};
 use crate::told::{Log, Told};
 use ext_model::{ContextNo, Fault, KeyNo, Look};
 use ext_store::{Compute, KeepFault, Lane, Refusal};
@@ -42,7 +42,8 @@ pub(crate) fn make_calls<R: Wait>(
     }
 }
 
-/// Makes one call. Under the key that one lane moves it looks, and it leaves what stands in the engine all along.
+/// Makes one call. Under the key that one lane moves it looks, it leaves what stands in the engine all along, and under the key that
+/// is only computed it puts nothing.
 pub(crate) fn make_call<R: Wait>(
     rt: &R,
     shared: &Shared,
@@ -61,6 +62,10 @@ pub(crate) fn make_call<R: Wait>(
     let moves = place.key == MOVED;
     let stays = place.key == STANDING && place.context == ENGINE;
     let manner = below(numbers, 3);
+    if place.key == COMPUTED {
+        compute_or_remove(rt, shared, lane, place, waits, numbers, log);
+        return;
+    }
     match below(numbers, 4) {
         0 if !moves => {
             put(rt, shared, lane, place, waits, manner == 1, log);
@@ -69,6 +74,30 @@ pub(crate) fn make_call<R: Wait>(
             remove(rt, shared, lane, place, waits, log);
         }
         2 if !moves => compute(rt, shared, lane, place, waits, Manner::of(manner), log),
+        _ => look(rt, shared, lane, place, waits, log),
+    }
+}
+
+/// Computes by a factory that fails half the time, removes, or looks.
+fn compute_or_remove<R: Wait>(
+    rt: &R,
+    shared: &Shared,
+    lane: &mut Lane<Payload>,
+    place: Place,
+    waits: bool,
+    numbers: &mut Pcg32,
+    log: &mut Log,
+)
+    requires lane { IsLaneOf shared.now.store.id lane.old }
+    requires place { (place.context < 7) × (place.key < 4) }
+    ensures { IsLaneOf shared.now.store.id lane.new }
+{
+    let manner = Manner::of(below(numbers, 4));
+    match below(numbers, 8) {
+        0..=2 => {
+            remove(rt, shared, lane, place, waits, log);
+        }
+        3..=6 => compute(rt, shared, lane, place, waits, manner, log),
         _ => look(rt, shared, lane, place, waits, log),
     }
 }
@@ -283,10 +312,10 @@ enum Manner {
 }
 
 impl Manner {
-    /// The manner of this number.
+    /// The manner of this number, 0 to 3, of which two fail.
     fn of(number: usize) -> Manner {
         match number {
-            0 => Manner::Fails,
+            0 | 3 => Manner::Fails,
             1 => Manner::GivesCloseable,
             _ => Manner::Gives,
         }

@@ -14,8 +14,14 @@ use rand_pcg::Pcg32;
 use std::alloc::Global;
 use std::sync::Wait;
 
-/// How many turns a lane has for a context beside the others: in each it looks, and in one of ten it tries to close.
-const TURNS: u32 = 60;
+/// How many times a lane tries to close a context beside the others.
+const TRIES: u32 = 6;
+
+/// How often it looks for each try.
+const LOOKS: usize = 10;
+
+/// The same in a store that keeps faults, whose contexts are open for longer, so that factories can fail in them.
+const MORE_LOOKS: usize = 60;
 
 /// What the closes of a round give to their action, and the numbers and the replies of the lane that closes. Every third number
 /// fails.
@@ -144,10 +150,15 @@ fn close_beside<R: Wait>(
     ensures lanes { All (IsLaneOf shared.now.store.id) hand.new }
     ensures closer { IfSome result (IsCloserOf shared.now.store) }
 {
+    let looks = if shared.store.keeps_faults() {
+        MORE_LOOKS
+    } else {
+        LOOKS
+    };
     let mut closer = closer;
-    for _ in 0..TURNS {
+    for _ in 0..TRIES * looks as u32 {
         look_once(rt, shared, hand, &mut closing.numbers, &mut closing.log);
-        if once_in(&mut closing.numbers, 10) {
+        if once_in(&mut closing.numbers, looks) {
             closer = close_once(shared, hand, closer, closing)?;
         }
     }

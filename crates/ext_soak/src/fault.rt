@@ -19,6 +19,8 @@ pub(crate) enum SoakFault {
     TwoFactories,
     /// A factory ran though its lane looked at an ancestor's value after it had claimed.
     AncestorMissed,
+    /// A factory ran, and its value or its fault does not stand.
+    Lost,
     /// A number was drawn twice or never, or stored twice, or a lane's numbers fell.
     Numbers,
     /// A value or a kept fault was replaced, removed or closed twice, or where it did not stand.
@@ -49,6 +51,7 @@ impl SoakFault {
             SoakFault::Answer => "a call has a wrong answer",
             SoakFault::TwoFactories => "a place had two factories",
             SoakFault::AncestorMissed => "a factory ran beside an ancestor's value",
+            SoakFault::Lost => "what a factory gave is gone",
             SoakFault::Numbers => "the numbers are not drawn and stored one after another",
             SoakFault::LeftTwice => "a value left twice, or left where it did not stand",
             SoakFault::NotClosed => "a value was not closed",

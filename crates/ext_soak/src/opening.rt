@@ -29,8 +29,11 @@ pub(crate) const STANDING: KeyNo = 0;
 /// The key whose value one lane moves from the engine to class A and back; no other lane stores under it.
 pub(crate) const MOVED: KeyNo = 1;
 
+/// The key under which values are computed and removed, and never put: so factories often run there, and faults are often kept.
+pub(crate) const COMPUTED: KeyNo = 3;
+
 /// The names of the keys, in their order.
-const NAMES: [&str; KEYS] = ["standing", "moved", "c", "d"];
+const NAMES: [&str; KEYS] = ["standing", "moved", "c", "computed"];
 
 /// How many numbers a round has.
 pub(crate) const NUMBERS: u32 = 16_384;

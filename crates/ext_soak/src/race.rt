@@ -1,4 +1,5 @@
-//! A compute that races with a put in its context's parent: where the put came before its claim, the factory does not run.
+//! A compute that races with a put in its context's parent: where the put came before its claim, the factory does not run, and
+//! where it ran, its value or its fault stands until it is taken out.
 ghost use Rattle.std.specs.Prelude.{◌<◌, All};
 ghost use Rattle.ext_store.specs.Stores.{IsKeptBy, IsLaneOf};
 
@@ -7,7 +8,7 @@ use crate::fault::SoakFault;
 use crate::opening::{Deep, OpenedDeep, Payload, Place, keeps_faults, open_deep};
 use crate::words::Soak;
 use ext_model::{ContextNo, Fault};
-use ext_store::{Compute, Kept, Lane};
+use ext_store::{Compute, Kept, Lane, Refusal};
 use ext_tree::Key;
 use rand_pcg::Pcg32;
 use std::sync::atomic::{AtomicU64, Ordering};
@@ -89,14 +90,34 @@ fn computes(deep: &Deep, lane: &mut Lane<Payload>) -> bool
     )
 }
 
-/// Puts a value in the parent. Says whether nothing was claimed or stood below after that.
-fn puts_above(deep: &Deep, lane: &mut Lane<Payload>, kept: Kept) -> bool
+/// Puts a value in the parent, and answers what a remove below took after that; it is refused where a factory runs there.
+fn puts_above(
+    deep: &Deep,
+    lane: &mut Lane<Payload>,
+    kept: Kept,
+) -> Result<Result<Option<u32>, Refusal>, SoakFault>
     requires lane { IsLaneOf deep.now.store.id lane.old }
     requires kept { IsKeptBy lane.old kept }
     ensures { IsLaneOf deep.now.store.id lane.new }
 {
-    let put = deep.store.put(lane, ABOVE, deep.name(), kept).is_ok();
-    put && matches!(deep.store.remove(lane, BELOW, deep.name()), Ok(None))
+    match deep.store.put(lane, ABOVE, deep.name(), kept) {
+        Ok(_) => Ok(deep.store.remove(lane, BELOW, deep.name())),
+        Err(_) => Err(SoakFault::Answer),
+    }
+}
+
+/// Whether what the factory gave, if it ran, was taken once: by the remove beside the compute, or by the one after it.
+fn was_taken_once(
+    ran: bool,
+    beside: Result<Option<u32>, Refusal>,
+    after: Result<Option<u32>, Refusal>,
+) -> bool {
+    let took_beside = matches!(beside, Ok(Some(_)));
+    match after {
+        Ok(Some(_)) => ran && !took_beside,
+        Ok(None) => ran == took_beside,
+        Err(_) => false,
+    }
 }
 
 /// Computes in each race. Says whether the other lane came each time.
@@ -132,17 +153,21 @@ fn put_once(
     };
     let begun = race.come(4 * number + 2);
     race.delay(turns);
-    let is_first = puts_above(deep, lane, kept);
+    let beside = puts_above(deep, lane, kept);
     if !begun || !race.come(4 * number + 4) {
         return Err(SoakFault::Late);
     }
     let ran = race.ran.load(Ordering::SeqCst) == 1;
     let above = deep.store.remove(lane, ABOVE, deep.name()).is_ok();
-    let below = deep.store.remove(lane, BELOW, deep.name()).is_ok();
-    if !above || !below {
+    let after = deep.store.remove(lane, BELOW, deep.name());
+    let beside = beside?;
+    if !above || after.is_err() {
         return Err(SoakFault::Answer);
     }
-    if is_first && ran {
+    if !was_taken_once(ran, beside, after) {
+        return Err(SoakFault::Lost);
+    }
+    if ran && beside == Ok(None) {
         return Err(SoakFault::AncestorMissed);
     }
     Ok(())
