@@ -108,7 +108,8 @@ impl ServerSuite<'_> {
             },
             Compute::Failed(why) => Outcome::of(Verdict::Failed(why)),
             // The store keeps no faults.
-            Compute::FaultKept { .. } | Compute::FaultUnkept { .. } | Compute::FaultStands { .. } => unreachable!(),
+            Compute::FaultKept { .. } | Compute::FaultUnkept { .. } | Compute::FaultStands { .. } =>
+                unreachable!(),
             Compute::Unkept { value: _, cause } => failed(format!(in self.alloc; "{cause}")),
             Compute::Refused { refusal, unused: _ } => failed(format!(in self.alloc; "{refusal}")),
         }
