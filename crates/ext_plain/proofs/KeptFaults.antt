@@ -1,6 +1,8 @@
 -- A kept fault stands: the steps that meet it say so. Where faults are not kept, a factory that fails leaves nothing.
 use Rattle.std.proofs.Common.{◌≡◌, ◌≢◌, ℕ, suc, Bool, true, false, List, [], ◌∷◌, ◌++◌, drop, Option, Some, None, refl, ap, sym, subst, ◌∙◌, arith}
 use Rattle.std.specs.Prelude.{codes, if◌then◌else◌}
+use Rattle.std.specs.Str.{bytes_eq}
+use Rattle.std.proofs.lemmas.Slice.Eq.{bytes_eq-Decides}
 use Rattle.ext_model.specs.declared.event.Act.TheVariants.{Put, Remove, Claim, Fill, Fail, Abandon, Seal}
 use Rattle.ext_model.specs.declared.event.Act.{Act}
 use Rattle.ext_model.specs.declared.event.Event.{Event}
@@ -13,14 +15,15 @@ use Rattle.ext_model.specs.State.{State, lookup}
 use Rattle.ext_model.specs.Plain.{Place, any_lane, state_by, under}
 use Rattle.ext_model.proofs.Lookups.{nearest_decides}
 use Rattle.ext_model.proofs.Steps.{abandon_undoes_claim}
-use Rattle.ext_lifecycle.specs.Endings.{successful}
+use Rattle.ext_lifecycle.specs.Endings.{failed, successful}
 use Rattle.ext_plan_model.specs.Plans.{KeyText, PlanText, compute_fail}
 use Rattle.ext_steps.specs.declared.reason.Reason.{Reason}
 use Rattle.ext_steps.specs.Calls.{key_number, label_of, start_of}
+use Rattle.ext_steps.specs.StepTexts.{met_fault_text}
 use Rattle.ext_steps.specs.Values.{ValueText}
-use Rattle.ext_steps.specs.Verdicts.{fail_verdict, none_verdict, want_verdict}
+use Rattle.ext_steps.specs.Verdicts.{seen_fault, fail_verdict, none_verdict, want_verdict}
 use Rattle.ext_plain.specs.ValueStates.{ValueState, run_numbers, reply_to, after_act, why_refused, next_number, keep_value, value_of}
-use Rattle.ext_plain.specs.Steps.{StepEnd, ended, or_refused, shown_fault, seen_by, factory_failed, claim_and, compute_looked, computefail_looked, found_along, step_run}
+use Rattle.ext_plain.specs.Steps.{StepEnd, ended, or_refused, shown, shown_fault, seen_by, factory_failed, claim_and, compute_looked, computefail_looked, found_along, step_run}
 use Rattle.ext_plain.specs.PlainRun.{RunState, node_run}
 use Rattle.ext_plain.specs.Laws.{HasNoFaults, HasValues, MeetsFault}
 use Rattle.ext_plain.proofs.Kept.{IsKept, node-kept}
@@ -63,7 +66,7 @@ is_kept name label place text s keeps passed =
     let runs : claim_and name label place (factory_failed name label place text) s ≡ failed = ap (λ w. or_refused name label w s failed) won in
     let kept : failed ≡ drawn = ap (λ b. if b then drawn else ended successful gone) keeps in
     let room : why_refused (next_number claimed) claimed ≡ None =
-        not_refused name label (why_refused (next_number claimed) claimed) gone stored (sym (ap (λ (e : StepEnd). e.verdict) (runs ∙ kept)) ∙ passed) in
+    not_refused name label (why_refused (next_number claimed) claimed) gone stored (sym (ap (λ (e : StepEnd). e.verdict) (runs ∙ kept)) ∙ passed) in
     record { won = won; room = room; end = runs ∙ kept ∙ ap (λ w. or_refused name label w gone stored) room }
 
 fault_found : (at key : ℕ) (above text : List ℕ) (s : ValueState) → why_refused (Claim (at, key)) s ≡ None
@@ -79,34 +82,63 @@ fault_known place text s h room =
 
 -- ---- the steps that meet it
 
-meets_fault : (keys : List KeyText) (path : List ℕ) (key up : ℕ) (text : List ℕ) (s : ValueState) (at number : ℕ) → found_along keys key (drop up path) s ≡ look.Fault at number → value_of s.values number ≡ Some (fault_of text)
-    → MeetsFault keys path key up text s
+meets_fault : (keys : List KeyText) (path : List ℕ) (key up : ℕ) (text : List ℕ) (s : ValueState) (at number : ℕ) → found_along keys key (drop up path) s ≡ look.Fault at number
+    → shown_fault (value_of s.values number) ≡ seen_fault text → MeetsFault keys path key up text s
 meets_fault keys path key up text s at number found known =
     let label = label_of keys key in
     let place : Place = (start_of (drop up path), key_number keys key) in
     record {
-      computes = λ other. ap (compute_looked (codes "compute") label place (record { text = other; closeable = false }) s) found ∙ ap (λ v. ended (none_verdict (codes "compute") label (shown_fault v)) s) known;
-      computes_closeable = λ other. ap (compute_looked (codes "compute!") label place (record { text = other; closeable = true }) s) found ∙ ap (λ v. ended (none_verdict (codes "compute!") label (shown_fault v)) s) known;
-      fails = λ other. ap (computefail_looked (codes "computefail") label place other s) found ∙ ap (λ v. ended (fail_verdict (codes "computefail") label other (shown_fault v)) s) known;
-      wants = λ other. ap (λ found. ended (want_verdict (codes "want") label other (seen_by s.values found)) s) found ∙ ap (λ v. ended (want_verdict (codes "want") label other (shown_fault v)) s) known;
-      finds = ap (λ found. ended (none_verdict (codes "none") label (seen_by s.values found)) s) found ∙ ap (λ v. ended (none_verdict (codes "none") label (shown_fault v)) s) known;
+      computes = λ other. ap (compute_looked (codes "compute") label place (record { text = other; closeable = false }) s) found ∙ ap (λ seen. ended (none_verdict (codes "compute") label seen) s) known;
+      computes_closeable = λ other. ap (compute_looked (codes "compute!") label place (record { text = other; closeable = true }) s) found ∙ ap (λ seen. ended (none_verdict (codes "compute!") label seen) s) known;
+      fails = λ other. ap (computefail_looked (codes "computefail") label place other s) found ∙ ap (λ seen. ended (fail_verdict (codes "computefail") label other seen) s) known;
+      wants = λ other. ap (λ found. ended (want_verdict (codes "want") label other (seen_by s.values found)) s) found ∙ ap (λ seen. ended (want_verdict (codes "want") label other seen) s) known;
+      finds = ap (λ found. ended (none_verdict (codes "none") label (seen_by s.values found)) s) found ∙ ap (λ seen. ended (none_verdict (codes "none") label seen) s) known;
     }
 
-pub kept_fault_stands : (keys : List KeyText) (path : List ℕ) (at : ℕ) (above : List ℕ) (key up : ℕ) (text : List ℕ) (s : ValueState) → drop up path ≡ at ∷ above → HasValues s → s.keep_faults ≡ true
-    → found_along keys key (drop up path) s ≡ look.Absent
-    → (step_run keys path (compute_fail key text up) s).verdict ≡ successful
-    → MeetsFault keys path key up text (step_run keys path (compute_fail key text up) s).state
-kept_fault_stands keys path at above key up text s is h keeps absent passed =
-    let name = codes "computefail" in
-    let label = label_of keys key in
+-- a value that was found lets no `computefail` pass,
+value_fails : (name label : List ℕ) (value : Option ValueText) → none_verdict name label (shown value) ≡ successful → ⊥
+value_fails name label None passed = cc
+value_fails name label (Some value) passed = cc
+
+-- and a fault that was met only one of its own text
+only_if : (b : Bool) (text : List ℕ) → (if b then successful else failed text) ≡ successful → b ≡ true
+only_if true text passed = refl
+only_if false text passed = absurd cc
+
+same_fault : (name label text : List ℕ) (fault : Option ValueText) → fail_verdict name label text (shown_fault fault) ≡ successful → shown_fault fault ≡ seen_fault text
+same_fault name label text None passed = absurd cc
+same_fault name label text (Some fault) passed = ap seen_fault ((bytes_eq-Decides fault.text text).0 (only_if (bytes_eq fault.text text) (met_fault_text name label fault.text) passed))
+
+-- ---- once a `computefail` has passed
+
+-- where it found nothing
+kept_is_met : (keys : List KeyText) (path : List ℕ) (at : ℕ) (above : List ℕ) (key up : ℕ) (text : List ℕ) (s : ValueState) → drop up path ≡ at ∷ above → HasValues s
+    → IsKeptFault (codes "computefail") (label_of keys key) (start_of (drop up path), key_number keys key) text s
+    → MeetsFault keys path key up text (failing (start_of (drop up path), key_number keys key) text s)
+kept_is_met keys path at above key up text s is h kept =
     let k = key_number keys key in
     let place : Place = (start_of (drop up path), k) in
-    let runs : step_run keys path (compute_fail key text up) s ≡ claim_and name label place (factory_failed name label place text) s = ap (computefail_looked name label place text s) absent in
-    let kept = is_kept name label place text s keeps (sym (ap (λ (e : StepEnd). e.verdict) runs) ∙ passed) in
     let found : lookup (under (failing place text s).store k) (drop up path) ≡ look.Fault (start_of (drop up path)) (drawing place text s).store.drawn =
-        subst (λ p. why_refused (Claim (start_of p, k)) s ≡ None → lookup (under (failing (start_of p, k) text s).store k) p ≡ look.Fault (start_of p) (drawing (start_of p, k) text s).store.drawn) (sym is) (fault_found at k above text s) kept.won in
-    subst (λ (t : ValueState). MeetsFault keys path key up text t) (sym (ap (λ (e : StepEnd). e.state) (runs ∙ kept.end)))
-    (meets_fault keys path key up text (failing place text s) (start_of (drop up path)) (drawing place text s).store.drawn found (fault_known place text s h kept.room))
+    subst (λ p. why_refused (Claim (start_of p, k)) s ≡ None → lookup (under (failing (start_of p, k) text s).store k) p ≡ look.Fault (start_of p) (drawing (start_of p, k) text s).store.drawn) (sym is) (fault_found at k above text s) kept.won in
+    meets_fault keys path key up text (failing place text s) (start_of (drop up path)) (drawing place text s).store.drawn found (ap shown_fault (fault_known place text s h kept.room))
+
+-- by what it found
+passed_meets : (keys : List KeyText) (path : List ℕ) (at : ℕ) (above : List ℕ) (key up : ℕ) (text : List ℕ) (s : ValueState) (found : Look) → drop up path ≡ at ∷ above → HasValues s → s.keep_faults ≡ true
+    → found_along keys key (drop up path) s ≡ found
+    → (let end = computefail_looked (codes "computefail") (label_of keys key) (start_of (drop up path), key_number keys key) text s found in end.verdict ≡ successful → MeetsFault keys path key up text end.state)
+passed_meets keys path at above key up text s (look.Found in_context number) is h keeps found = λ passed. absurd (value_fails (codes "computefail") (label_of keys key) (value_of s.values number) passed)
+passed_meets keys path at above key up text s (look.Fault in_context number) is h keeps found = λ passed.
+    meets_fault keys path key up text s in_context number found (same_fault (codes "computefail") (label_of keys key) text (value_of s.values number) passed)
+passed_meets keys path at above key up text s look.Absent is h keeps found = λ passed.
+    let kept = is_kept (codes "computefail") (label_of keys key) (start_of (drop up path), key_number keys key) text s keeps passed in
+    subst (λ (t : ValueState). MeetsFault keys path key up text t) (sym (ap (λ (e : StepEnd). e.state) kept.end)) (kept_is_met keys path at above key up text s is h kept)
+passed_meets keys path at above key up text s (look.Busy in_context) is h keeps found = λ passed. absurd cc
+passed_meets keys path at above key up text s (look.Closed in_context) is h keeps found = λ passed. absurd cc
+
+pub kept_fault_stands : (keys : List KeyText) (path : List ℕ) (at : ℕ) (above : List ℕ) (key up : ℕ) (text : List ℕ) (s : ValueState) → drop up path ≡ at ∷ above → HasValues s → s.keep_faults ≡ true
+    → (step_run keys path (compute_fail key text up) s).verdict ≡ successful
+    → MeetsFault keys path key up text (step_run keys path (compute_fail key text up) s).state
+kept_fault_stands keys path at above key up text s is h keeps passed = passed_meets keys path at above key up text s (found_along keys key (drop up path) s) is h keeps refl passed
 
 -- ---- where faults are not kept
 

@@ -146,9 +146,9 @@ refusal-fails name label place text old new why (Err lack) says keeps is same =
     let gone = after_act (Abandon place) old in
     let P : Lack → Type 0 = λ l. LacksFailed l name label place text old new in
     subst P (sym says.0) (
-      ap (ended no_memory) same
-      ∙ ap (λ w. said_by no_words (or_refused name label w gone stored)) (sym is)
-      ∙ ap (λ b. said_by no_words (if b then or_refused name label (why_refused (next_number old) old) gone stored else ended successful gone)) (sym keeps)
+    ap (ended no_memory) same
+    ∙ ap (λ w. said_by no_words (or_refused name label w gone stored)) (sym is)
+    ∙ ap (λ b. said_by no_words (if b then or_refused name label (why_refused (next_number old) old) gone stored else ended successful gone)) (sym keeps)
     )
 
 -- a step that says nothing has passed

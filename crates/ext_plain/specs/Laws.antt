@@ -4,7 +4,6 @@
 use Rattle.std.specs.Prelude.{ℕ, ◌≡◌, ◌≢◌, ◌⊎◌, ◌+◌, ◌<◌, codes, Bool, true, false, if◌then◌else◌, List, [], ◌∷◌, Some, All, IfSome, map, length, drop, is_some, slice_get}
 use Rattle.std.specs.List.{range_with_len}
 use Rattle.std.specs.Str.{bytes_eq}
-use Rattle.ext_model.specs.declared.look.Look.TheVariants as look
 use Rattle.ext_model.specs.declared.slot.Slot.TheVariants as slot
 use Rattle.ext_model.specs.State.{IsClaimed, IsSealed}
 use Rattle.ext_model.specs.Plain.{Place}
@@ -18,7 +17,7 @@ use Rattle.ext_plan_model.specs.Laws.{ids_of_nodes, NodesAreTree, TestsHaveNoChi
 use Rattle.ext_steps.specs.Calls.{label_of, start_of}
 use Rattle.ext_steps.specs.StepTexts.{met_fault_text, other_fault_text}
 use Rattle.ext_plain.specs.ValueStates.{Memory, ValueState, value_opening}
-use Rattle.ext_plain.specs.Steps.{ended, found_along, no_memory, step_by, step_run}
+use Rattle.ext_plain.specs.Steps.{ended, no_memory, step_by, step_run}
 use Rattle.ext_plan_model.specs.PlanCalls.{test_of}
 use Rattle.ext_plain.specs.NodeCalls.{befores_run}
 use Rattle.ext_plain.specs.PlainRun.{RunState, node_run, plain_run_by}
@@ -134,18 +133,17 @@ pub record MeetsFault (keys : List KeyText) (path : List ℕ) (key up : ℕ) (te
   pub wants : (other : List ℕ) → step_run keys path (want key other up) s ≡ ended (failed (other_fault_text (label_of keys key) other text)) s
   pub finds : step_run keys path (nothing key up) s ≡ ended (failed (met_fault_text (codes "none") (label_of keys key) text)) s
 
--- where faults are kept, once a `computefail` has found nothing and has passed, the steps after it meet its fault under the same key in the same context
+-- where faults are kept, once a `computefail` has passed, the steps after it meet a fault of its text under the same key in the same context: its own, or one that it met
 abbrev pub KeepsFault : Type 0
 KeepsFault =
     (keys : List KeyText) (path : List ℕ) (at : ℕ) (above : List ℕ) (key up : ℕ) (text : List ℕ) (s : ValueState) → drop up path ≡ at ∷ above → HasValues s → s.keep_faults ≡ true
-    → found_along keys key (drop up path) s ≡ look.Absent
     → (step_run keys path (compute_fail key text up) s).verdict ≡ successful
     → MeetsFault keys path key up text (step_run keys path (compute_fail key text up) s).state
 
--- and where they are not, a `computefail` leaves the store as it was, so that the next factory runs
+-- and where they are not, a `computefail` leaves the store as it was: the steps after it do what they would have done without it
 abbrev pub KeepsNoFault : Type 0
 KeepsNoFault = (keys : List KeyText) (path : List ℕ) (key up : ℕ) (text : List ℕ) (s : ValueState) → s.keep_faults ≡ false → (step_run keys path (compute_fail key text up) s).state ≡ s
 
--- and where they are not kept, none stands after a node where none stood before it
+-- and no kept fault stands after a node, where none stood before it
 abbrev pub NeverFaults : Type 0
 NeverFaults = (plan : PlanText) (levels : ℕ) (path : List ℕ) (run : RunState) → run.state.keep_faults ≡ false → HasNoFaults run.state → HasNoFaults (node_run plan levels path run).state
