@@ -16,7 +16,7 @@ use Rattle.ext_cells.specs.Lanes.{Lane}
 use Rattle.ext_cells.specs.Calls.{result_of, change_reply, put_acts, remove_acts, Answers, SealAnswers, ComesLast}
 use Rattle.ext_cells.specs.declared.stood.Stood.{Stood}
 use Rattle.ext_cells.specs.declared.stood.Stood.TheVariants.{Nothing, Value, Fault}
-use Rattle.ext_cells.specs.Steps.{Changes, number_of, value_of, number_result, value_result}
+use Rattle.ext_cells.specs.Steps.{Changes, number_of, number_result, value_result}
 
 -- two results of a call, one of them a refusal
 differ : {A : Type 0} (x : A) (why : CellRefusal) → (let r : Result A CellRefusal = Ok x in let s : Result A CellRefusal = Err why in r ≡ s) → ⊥

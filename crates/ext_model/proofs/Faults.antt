@@ -1,6 +1,6 @@
 -- The numbers of values and those of kept faults: what stands as one was never stored as the other.
 use Rattle.std.proofs.Common.{◌≡◌, ℕ, ◌⊎◌, Bool, true, false, List, [], ◌∷◌, ◌++◌, inl, inr, refl, ap, sym, subst, ◌∙◌, Option, None, Some, Contains, nat_eq, append-nil, IfSome}
-use Rattle.std.specs.Prelude.{if◌then◌else◌, IsTrue, IsFalse}
+use Rattle.std.specs.Prelude.{if◌then◌else◌, IsTrue, IsFalse, ◌↔◌}
 use Rattle.std.specs.List.{cons_option}
 use Rattle.std.proofs.lemmas.List.Elements.{Contains-push, Contains-push_cases, Contains-append_left, filter_map-append}
 use Rattle.ext_model.specs.declared.event.Act.{Act}
@@ -194,3 +194,38 @@ no_faults limits h off legal = legal_steps (λ g. faults g ≡ []) step [] h leg
   where
     step : (before : History) (e : Event ℕ) → IsAllowed limits before e → faults before ≡ [] → faults (before ++ e ∷ []) ≡ []
     step before e a none = faults-push before e ∙ ap (λ o. faults before ++ cons_option o []) (none_kept limits.keep_faults (fault_number e.act) off a.keeps) ∙ append-nil (faults before) ∙ none
+
+-- where no fault was kept, none of the events keeps one
+not_kept : (before : History) (e : Event ℕ) (later : History) → faults (before ++ e ∷ later) ≡ [] → fault_number e.act ≡ None
+not_kept before e later none = first (faults before) (fault_number e.act) (faults later) (sym (filter_map-append (λ (x : Event ℕ). fault_number x.act) before (e ∷ later)) ∙ none)
+  where
+    first : (xs : List ℕ) (o : Option ℕ) (ys : List ℕ) → xs ++ cons_option o ys ≡ [] → o ≡ None
+    first xs None ys is = refl
+    first [] (Some n) ys is = absurd (cc is)
+    first (x ∷ xs) (Some n) ys is = absurd (cc is)
+
+may_be_kept : (o : Option ℕ) → IfSome o (λ number. IsTrue true)
+may_be_kept None = tt
+may_be_kept (Some number) = refl
+
+none_is_kept : (o : Option ℕ) → o ≡ None → IfSome o (λ number. IsTrue false)
+none_is_kept None is = tt
+none_is_kept (Some number) is = absurd (cc is)
+
+-- so to keep faults adds the events that keep one, and changes nothing else
+pub keeping_adds_fails : (limits : Limits) (h : History) → IsLegal (record limits { keep_faults = false }) h ↔ (IsLegal (record limits { keep_faults = true }) h × (faults h ≡ []))
+keeping_adds_fails limits h = (λ legal. (more legal, no_faults (record limits { keep_faults = false }) h refl legal), λ both. fewer both.0 both.1)
+  where
+    more : IsLegal (record limits { keep_faults = false }) h → IsLegal (record limits { keep_faults = true }) h
+    more legal = record {
+      each = λ before e later is.
+          let a = legal.each before e later is in
+          record { lane = a.lane; within = a.within; happens = a.happens; next = a.next; drew = a.drew; fresh = a.fresh; keeps = may_be_kept (fault_number e.act) };
+    }
+
+    fewer : IsLegal (record limits { keep_faults = true }) h → faults h ≡ [] → IsLegal (record limits { keep_faults = false }) h
+    fewer legal none = record {
+      each = λ before e later is.
+          let a = legal.each before e later is in
+          record { lane = a.lane; within = a.within; happens = a.happens; next = a.next; drew = a.drew; fresh = a.fresh; keeps = none_is_kept (fault_number e.act) (not_kept before e later (ap faults (sym is) ∙ none)) };
+    }

@@ -4,7 +4,7 @@ use Rattle.ext_model.specs.declared.event.Act.TheVariants.{Keep, Put, Remove, Cl
 use Rattle.ext_model.specs.declared.event.Event.{Event}
 use Rattle.ext_model.specs.History.{History, by, lane_of, IsAllowed}
 use Rattle.ext_model.specs.Worked.{small, at_root}
-use Rattle.ext_model.specs.WorkedCalls.{AnsweredNow, NotFromMemory, EitherPoint, OvertakenByOne, NotOvertakenByTwo, NotOvertakenByLagging, NotCrowdedByItself, SixAreLegal, RemoveAnswered, PutAnswered, NoAnswerWithoutStep, meanwhile, SecondLookFinds, RootIsLegal, NotByAnotherLane, NotWithAnothersNumber, NotTwice, kept_fault, KeptFaultIsLegal, NotWithoutKeeping, NotWithoutClaim}
+use Rattle.ext_model.specs.WorkedCalls.{AnsweredNow, NotFromMemory, EitherPoint, OvertakenByOne, NotOvertakenByTwo, NotOvertakenByLagging, NotCrowdedByItself, SixAreLegal, RemoveAnswered, PutAnswered, NoAnswerWithoutStep, meanwhile, SecondLookFinds, RootIsLegal, NotByAnotherLane, NotWithAnothersNumber, NotTwice, KeptFaultIsLegal, NotWithoutKeeping, NotWithoutClaim}
 use mathlib.Core.List.{append_cancel_left}
 use Rattle.ext_history.specs.Histories.{others}
 use Rattle.ext_history.proofs.Lists.{contains_none, contains_here, contains_cons}

@@ -1,6 +1,6 @@
 -- What is true of all legal histories: sentences that a reader may judge, and that promises about several threads rest on.
 -- Own rule; each is proved, as `history_laws` says.
-use Rattle.std.specs.Prelude.{ℕ, ◌≡◌, ◌<◌, ◌↔◌, nat_eq, Bool, true, false, [], ◌∷◌, ◌++◌, Contains, Option, None, Some, IfSome, IsFalse}
+use Rattle.std.specs.Prelude.{ℕ, ◌≡◌, ◌<◌, ◌↔◌, nat_eq, Bool, true, false, [], ◌∷◌, ◌++◌, Contains, Option, Some, IfSome, IsFalse}
 use Rattle.std.specs.List.{IsDistinct}
 use Rattle.ext_model.specs.declared.event.Act.{Act}
 use Rattle.ext_model.specs.declared.event.Act.TheVariants.{Keep, Remove, Claim, Fill, Fail}
@@ -118,6 +118,12 @@ ValuesAreNoFaults = (limits : Limits) (h : History) (cell number : ℕ) → IsLe
 abbrev pub SealsKeepNoFaults : Type 0
 SealsKeepNoFaults = (limits : Limits) (h : History) (cell number : ℕ) → IsLegal limits h → (state_after h).slots cell ≡ Some (slot.Sealed (Some number)) → ¬ (Contains (faults h) number)
 
--- a store that keeps no faults never has one
+-- a store that keeps no faults never has one,
 abbrev pub NoFaults : Type 0
 NoFaults = (limits : Limits) (h : History) → IsFalse limits.keep_faults → IsLegal limits h → faults h ≡ []
+
+-- and its legal histories are those of a store that keeps faults in which no event keeps one: to keep them adds fails, and changes nothing else
+abbrev pub KeepingAddsFails : Type 0
+KeepingAddsFails =
+    (limits : Limits) (h : History)
+    → IsLegal (record limits { keep_faults = false }) h ↔ (IsLegal (record limits { keep_faults = true }) h × (faults h ≡ []))

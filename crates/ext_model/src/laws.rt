@@ -1,7 +1,7 @@
 //! What is true of look-ups, of acts on every state and of all legal histories, as the contracts of functions that do nothing.
 ghost use Rattle.ext_model.specs.CallLaws.{StepsAreCalls, EventsAreCalls, CallsCompose, FrontsCompose, FirstStepDecides, FirstStepIsEarlier, SeenGoesOn, PointsAreLegal, AnswerPointsArePoints, LaterPointsServe, EarlierPointsServe, StepsStay, PointsOfSecond, PointsOfFirst, AnswersComeFirst, SeenIsPoint, OvertakenIsCrowded, QuietCrowdedIsOvertaken, CrowdedBySecond, CrowdedByFirst, ClaimsAreHeld, HeldWordsStay, HeldCellsMayBeFilled, HeldCellsMayBeFailed, HeldCellsMayBeAbandoned, OwnNumbersMayBeStored};
 ghost use Rattle.ext_model.specs.ClosingLaws.{RemainingIsSo, RemainingIsOne, NothingFollowsClose, ClosedStaysClosed, RemainingStays, RemainingAreValues, SecondLooksStand};
-ghost use Rattle.ext_model.specs.HistoryLaws.{PrefixesAreLegal, AllowedEventsFollow, EmptyIsLegal, LegalInduction, AllowedByCases, QuietIsNoEvent, RemoveBetweenFills, RemoveAfterFail, NothingFollowsSeal, ClaimsStand, NumbersAreDrawnOnce, NumbersAreStoredOnce, LanesStoreOwnNumbers, OwnPastSuffices, UsedCellsAreWithin, EventsAreByLanes, NoLaneNoEvent, FaultsWereKept, ValuesAreNoFaults, SealsKeepNoFaults, NoFaults};
+ghost use Rattle.ext_model.specs.HistoryLaws.{PrefixesAreLegal, AllowedEventsFollow, EmptyIsLegal, LegalInduction, AllowedByCases, QuietIsNoEvent, RemoveBetweenFills, RemoveAfterFail, NothingFollowsSeal, ClaimsStand, NumbersAreDrawnOnce, NumbersAreStoredOnce, LanesStoreOwnNumbers, OwnPastSuffices, UsedCellsAreWithin, EventsAreByLanes, NoLaneNoEvent, FaultsWereKept, ValuesAreNoFaults, SealsKeepNoFaults, NoFaults, KeepingAddsFails};
 ghost use Rattle.ext_model.specs.WordLaws.{EventChangesItsWord, OtherWordsStay, CountChangesByAct, QuietCellsKeepWords, QuietCellsStay, EqualWordsLeaveNoEvent, VersionsRiseWithEvents, UnequalWordsRaiseVersions, NumbersFit, VersionsFit, ClaimsCanEnd, CellsCanBeSealed, WordsBetweenAreEqual, WordsTellParts};
 ghost use Rattle.ext_model.specs.Laws.{NearestDecides, EmptyPathIsAbsent, MetFaultStands, PutIsFound, FaultIsMet, PlacesAreTold, OthersStay, SealsStay, SealPassesFault, ClaimsStay, AbandonUndoesClaim};
 
@@ -45,6 +45,7 @@ pub fn history_laws()
     ensures values { ValuesAreNoFaults }
     ensures sealed_values { SealsKeepNoFaults }
     ensures no_faults { NoFaults }
+    ensures keeping { KeepingAddsFails }
 {}
 
 /// Proves the laws of words and versions. It does nothing when it runs (own rule).

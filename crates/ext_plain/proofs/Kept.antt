@@ -27,7 +27,7 @@ use Rattle.ext_plain.specs.PlainRun.{RunState, body_run, container_run, key_coun
 use Rattle.ext_plain.proofs.Ends.{container_end, test_end}
 use Rattle.ext_plain.proofs.Stepping.{steps_run-nil, steps_run-cons}
 
--- the fact is kept by each act, where a claim and the draw of a number were not refused
+-- the fact is kept by each act, where a claim and the draw of a number were not refused, and a fault only where faults are kept
 pub record IsKept (P : ValueState → Type 0) : Type 0 where
   pub finds : (memory : List Memory) (s : ValueState) → P s → P (with_memory memory s)
   pub puts : (place : Place) (number : ℕ) (s : ValueState) → P s → P (after_act (Put place number) s)
@@ -37,7 +37,7 @@ pub record IsKept (P : ValueState → Type 0) : Type 0 where
   pub abandons : (place : Place) (s : ValueState) → why_refused (Claim place) s ≡ None → P s → P (after_act (Abandon place) (after_act (Claim place) s))
   pub fills : (place : Place) (value : ValueText) (s : ValueState) → why_refused (Claim place) s ≡ None → why_refused (next_number (after_act (Claim place) s)) (after_act (Claim place) s) ≡ None → P s
       → P (after_act (Fill place (keep_value value (after_act (Claim place) s)).store.drawn) (keep_value value (after_act (Claim place) s)))
-  pub fails : (place : Place) (value : ValueText) (s : ValueState) → why_refused (Claim place) s ≡ None → why_refused (next_number (after_act (Claim place) s)) (after_act (Claim place) s) ≡ None → P s
+  pub fails : (place : Place) (value : ValueText) (s : ValueState) → s.keep_faults ≡ true → why_refused (Claim place) s ≡ None → why_refused (next_number (after_act (Claim place) s)) (after_act (Claim place) s) ≡ None → P s
       → P (after_act (Fail place (keep_value value (after_act (Claim place) s)).store.drawn) (keep_value value (after_act (Claim place) s)))
 
 or_refused-kept : (P : ValueState → Type 0) (name label : List ℕ) (why : Option Reason) (s : ValueState) (goes_on : StepEnd) → P s → (why ≡ None → P goes_on.state) → P (or_refused name label why s goes_on).state
@@ -86,8 +86,8 @@ module _ (P : ValueState → Type 0) (kept : IsKept P) where
   compute-kept name label place value s (look.Busy at) h = h
   compute-kept name label place value s (look.Closed at) h = h
 
-  either-kept : (b : Bool) (x y : StepEnd) → P x.state → P y.state → P (if b then x else y).state
-  either-kept true x y p q = p
+  either-kept : (b : Bool) (x y : StepEnd) → (b ≡ true → P x.state) → P y.state → P (if b then x else y).state
+  either-kept true x y p q = p refl
   either-kept false x y p q = q
 
   failed-kept : (name label : List ℕ) (place : Place) (text : List ℕ) (s : ValueState) → why_refused (Claim place) s ≡ None → P s → P (factory_failed name label place text (after_act (Claim place) s)).state
@@ -97,7 +97,7 @@ module _ (P : ValueState → Type 0) (kept : IsKept P) where
       let stored = ended successful (after_act (Fail place (keep_value value claimed).store.drawn) (keep_value value claimed)) in
       let gone = after_act (Abandon place) claimed in
       either-kept claimed.keep_faults (or_refused name label (why_refused (next_number claimed) claimed) gone stored) (ended successful gone)
-      (or_refused-kept P name label (why_refused (next_number claimed) claimed) gone stored (kept.abandons place s won h) (λ room. kept.fails place value s won room h))
+      (λ keeps. or_refused-kept P name label (why_refused (next_number claimed) claimed) gone stored (kept.abandons place s won h) (λ room. kept.fails place value s keeps won room h))
       (kept.abandons place s won h)
 
   computefail-kept : (name label : List ℕ) (place : Place) (text : List ℕ) (s : ValueState) (found : Look) → P s → P (computefail_looked name label place text s found).state
@@ -128,7 +128,7 @@ module _ (P : ValueState → Type 0) (kept : IsKept P) where
       let whole = computefail_looked name label place text s found in
       let lost = claim_and name label place (λ claimed. ended no_memory (after_act (Abandon place) claimed)) s in
       either-kept s.keep_faults (if_absent found lost whole) whole
-      (absent-kept found lost whole
+      (λ keeps. absent-kept found lost whole
       (or_refused-kept P name label (why_refused (Claim place) s) s (ended no_memory (after_act (Abandon place) (after_act (Claim place) s))) h (λ won. kept.abandons place s won h))
       (computefail-kept name label place text s found h))
       (computefail-kept name label place text s found h)

@@ -10,7 +10,8 @@ use Rattle.ext_model.specs.Events.{Reply, Happens, Answers, Refuses}
 use Rattle.ext_model.specs.Plain.{Place, state_by}
 use Rattle.ext_lifecycle.specs.declared.outcome.Outcome.{Outcome}
 use Rattle.ext_lifecycle.specs.Endings.{successful, aborted, failed, is_successful}
-use Rattle.ext_lifecycle.specs.FaultTexts.{VerdictText}
+use Rattle.ext_lifecycle.specs.declared.outcome.Verdict.TheVariants as verdicts
+use Rattle.ext_lifecycle.specs.FaultTexts.{VerdictText, verdict_text}
 use Rattle.ext_steps.specs.declared.reason.Reason.{Reason}
 use Rattle.ext_steps.specs.Values.{ValueText}
 use Rattle.ext_steps.specs.Verdicts.{refused, unless_refused}
@@ -145,10 +146,17 @@ refusal-fails name label place text old new why (Err lack) says keeps is same =
     let gone = after_act (Abandon place) old in
     let P : Lack → Type 0 = λ l. LacksFailed l name label place text old new in
     subst P (sym says.0) (
-      ap (ended no_memory) same
-      ∙ ap (λ w. said_by no_words (or_refused name label w gone stored)) (sym is)
-      ∙ ap (λ b. said_by no_words (if b then or_refused name label (why_refused (next_number old) old) gone stored else ended successful gone)) (sym keeps),
+    ap (ended no_memory) same
+    ∙ ap (λ w. said_by no_words (or_refused name label w gone stored)) (sym is)
+    ∙ ap (λ b. said_by no_words (if b then or_refused name label (why_refused (next_number old) old) gone stored else ended successful gone)) (sym keeps)
     )
+
+-- a step that says nothing has passed
+pub passes : (o : Outcome) (s : ValueState) → o.verdict ≡ verdicts.Successful → o.computed ≡ 0 → o.found ≡ 0 → step_end s o ≡ ended successful s
+passes o s is computed found =
+    ap (λ v. record { state = s; verdict = verdict_text v; computed = o.computed; found = o.found }) is
+    ∙ ap (λ n. record { state = s; verdict = successful; computed = n; found = o.found }) computed
+    ∙ ap (λ n. record { state = s; verdict = successful; computed = 0; found = n }) found
 
 -- its fault is kept
 pub fault-kept : (name label : List ℕ) (place : Place) (text : List ℕ) (old mid new : ValueState) (number : ℕ) (outcome : Outcome) → old.keep_faults ≡ true → IsKeptAs (record { text = text; closeable = false }) old mid number

@@ -13,6 +13,7 @@ pub mod Ends
 pub mod Kept
 pub mod Seals
 pub mod Values
+pub mod KeptFaults
 pub mod Sound
 pub mod Reached
 pub mod Below

@@ -41,7 +41,7 @@ act-free : (act : Act Place) (s : ValueState) → HasNoClaims s → ((place : Pl
 act-free act s old new = λ place. by_reply (reply_to act s) s.store (record { lane = any_lane; act = act }) place (old place) (new place)
 
 -- a claim that isn't refused was of an empty place
-was_empty : (x : Option Slot) → refusal (claim_reply false x) ≡ None → x ≡ None
+pub was_empty : (x : Option Slot) → refusal (claim_reply false x) ≡ None → x ≡ None
 was_empty None won = refl
 was_empty (Some (slot.Entry number)) won = absurd cc
 was_empty (Some (slot.Fault number)) won = absurd cc
@@ -90,7 +90,7 @@ fail_stands s place number claimed =
     ap (λ x. (state_by (end_reply any_lane x) s (record { lane = any_lane; act = Fail place number })).slots place) claimed
     ∙ ap (λ b. if b then Some (slot.Fault number) else s.slots place) (here place)
 
-failed_here : (place : Place) (value : ValueText) (s : ValueState) → why_refused (Claim place) s ≡ None
+pub failed_here : (place : Place) (value : ValueText) (s : ValueState) → why_refused (Claim place) s ≡ None
     → (let kept = keep_value value (after_act (Claim place) s) in (after_act (Fail place kept.store.drawn) kept).store.slots place ≡ Some (slot.Fault kept.store.drawn))
 failed_here place value s won =
     let claimed = after_act (Claim place) s in
@@ -123,7 +123,7 @@ free = record {
   keeps = λ value s room h. act-free (next_number s) s h h;
   abandons = λ place s won h. subst (λ (t : State Place). (p : Place) → ¬ IsClaimed (t.slots p)) (sym (abandon_undoes_claim run_numbers s.store any_lane place (was_empty (s.store.slots place) won))) h;
   fills = λ place value s won room h. λ p. fill-free place value s won h p (same_place place p) refl;
-  fails = λ place value s won room h. λ p. fail-free place value s won h p (same_place place p) refl;
+  fails = λ place value s keeps won room h. λ p. fail-free place value s won h p (same_place place p) refl;
 }
 
 pub node-free : (plan : PlanText) (levels : ℕ) (path : List ℕ) (run : RunState) → HasNoClaims run.state → HasNoClaims (node_run plan levels path run).state

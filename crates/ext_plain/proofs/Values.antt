@@ -31,7 +31,7 @@ drawn_by (Happens answer) s act same = same
 drawn_by (Answers answer) s act same = refl
 drawn_by (Refuses why) s act same = refl
 
-act-values : (act : Act Place) (s : ValueState) → drawn_after act s.store.drawn ≡ s.store.drawn → HasValues s → HasValues (after_act act s)
+pub act-values : (act : Act Place) (s : ValueState) → drawn_after act s.store.drawn ≡ s.store.drawn → HasValues s → HasValues (after_act act s)
 act-values act s same h = h ∙ sym (drawn_by (reply_to act s) s.store act same)
 
 drawn_if : (b : Bool) (answer : Option ℕ) (s : ValueState) → refusal (if b then Happens answer else Refuses NumbersFull) ≡ None
@@ -39,7 +39,7 @@ drawn_if : (b : Bool) (answer : Option ℕ) (s : ValueState) → refusal (if b t
 drawn_if true answer s room = add-one s.store.drawn
 drawn_if false answer s room = absurd cc
 
-keep-drawn : (value : ValueText) (s : ValueState) → why_refused (next_number s) s ≡ None → (keep_value value s).store.drawn ≡ suc s.store.drawn
+pub keep-drawn : (value : ValueText) (s : ValueState) → why_refused (next_number s) s ≡ None → (keep_value value s).store.drawn ≡ suc s.store.drawn
 keep-drawn value s room = drawn_if (nat_lt s.store.drawn run_numbers) (Some (s.store.drawn + 1)) s room
 
 -- ---- each number has a value
@@ -63,7 +63,7 @@ valued = record {
       let claimed = after_act (Claim place) s in
       let kept = keep_value value claimed in
       act-values (Fill place kept.store.drawn) kept refl (keep-values value claimed room (act-values (Claim place) s refl h));
-  fails = λ place value s won room h.
+  fails = λ place value s keeps won room h.
       let claimed = after_act (Claim place) s in
       let kept = keep_value value claimed in
       act-values (Fail place kept.store.drawn) kept refl (keep-values value claimed room (act-values (Claim place) s refl h));
@@ -74,7 +74,7 @@ node-values = node-kept HasValues valued
 
 -- ---- what was put is found
 
-last_value : (values : List ValueText) (value : ValueText) → slice_get (values ++ value ∷ []) (length values) ≡ Some value
+pub last_value : (values : List ValueText) (value : ValueText) → slice_get (values ++ value ∷ []) (length values) ≡ Some value
 last_value [] value = refl
 last_value (v ∷ values) value = last_value values value
 

@@ -145,12 +145,13 @@ abbrev pub Gives : List ℕ → List ℕ → Place → ValueText → ValueState 
 Gives name label place value old new (Ok outcome) = step_end new outcome ≡ factory_gave name label place value old
 Gives name label place value old new (Err lack) = LacksGiven lack name label place value old new
 
--- the same once a factory failed whose fault is to be kept
+-- what is left where memory is lacked once a factory failed, under the claim that stands: none is asked for but where its fault is to be kept
 abbrev pub LacksFailed : Lack → List ℕ → List ℕ → Place → List ℕ → ValueState → ValueState → Type 0
 LacksFailed lacks.Value name label place text old new = (old.keep_faults ≡ true) × (new ≡ after_act (Abandon place) old)
 LacksFailed lacks.Place name label place text old new = ⊥
 LacksFailed (lacks.Words found) name label place text old new = lack_end new (lacks.Words found) ≡ said_by no_words (factory_failed name label place text old)
 
+-- what is left once a factory failed with this text, under the claim that stands
 abbrev pub Fails : List ℕ → List ℕ → Place → List ℕ → ValueState → ValueState → Result Outcome Lack → Type 0
 Fails name label place text old new (Ok outcome) = step_end new outcome ≡ factory_failed name label place text old
 Fails name label place text old new (Err lack) = LacksFailed lack name label place text old new

@@ -1,20 +1,23 @@
 -- What is true of the plain run of every plan, whatever memory its steps find: sentences by which a reader may judge its definition.
 -- JUnit 5 User Guide, "Keeping State in Extensions": a context's store is closed at the end of the context.
 -- That results stand in the order of the plan, and which nodes are skipped, are own rules.
-use Rattle.std.specs.Prelude.{ℕ, ◌≡◌, ◌≢◌, ◌⊎◌, ◌+◌, ◌<◌, Bool, true, false, List, [], ◌∷◌, All, IfSome, map, length, drop, is_some, slice_get}
+use Rattle.std.specs.Prelude.{ℕ, ◌≡◌, ◌≢◌, ◌⊎◌, ◌+◌, ◌<◌, codes, Bool, true, false, if◌then◌else◌, List, [], ◌∷◌, Some, All, IfSome, map, length, drop, is_some, slice_get}
 use Rattle.std.specs.List.{range_with_len}
+use Rattle.std.specs.Str.{bytes_eq}
+use Rattle.ext_model.specs.declared.slot.Slot.TheVariants as slot
 use Rattle.ext_model.specs.State.{IsClaimed, IsSealed}
 use Rattle.ext_model.specs.Plain.{Place}
 use Rattle.ext_tree.specs.Paths.{IsParentOf}
 use Rattle.ext_lifecycle.specs.declared.status.Status.TheVariants as statuses
-use Rattle.ext_lifecycle.specs.Endings.{all_successful, successful}
+use Rattle.ext_lifecycle.specs.Endings.{all_successful, failed, successful}
 use Rattle.ext_lifecycle.specs.FaultTexts.{NodeOutcome}
-use Rattle.ext_plan_model.specs.Plans.{KeyText, PlanText, StepText, put, want}
+use Rattle.ext_plan_model.specs.Plans.{KeyText, PlanText, StepText, put, want, nothing, compute, compute_closeable, compute_fail}
 use Rattle.ext_plan_model.specs.KeyNumbers.{different_keys}
 use Rattle.ext_plan_model.specs.Laws.{ids_of_nodes, NodesAreTree, TestsHaveNoChildren}
-use Rattle.ext_steps.specs.Calls.{start_of}
+use Rattle.ext_steps.specs.Calls.{label_of, start_of}
+use Rattle.ext_steps.specs.StepTexts.{met_fault_text, other_fault_text}
 use Rattle.ext_plain.specs.ValueStates.{Memory, ValueState, value_opening}
-use Rattle.ext_plain.specs.Steps.{no_memory, step_by, step_run}
+use Rattle.ext_plain.specs.Steps.{ended, no_memory, step_by, step_run}
 use Rattle.ext_plan_model.specs.PlanCalls.{test_of}
 use Rattle.ext_plain.specs.NodeCalls.{befores_run}
 use Rattle.ext_plain.specs.PlainRun.{RunState, node_run, plain_run_by}
@@ -85,13 +88,17 @@ RunsParents =
 abbrev pub HasNoClaims : ValueState → Type 0
 HasNoClaims s = (place : Place) → ¬ IsClaimed (s.store.slots place)
 
--- each number that was drawn has a value
+-- each number that was drawn has a value, or the text of a kept fault, which stands among the values
 abbrev pub HasValues : ValueState → Type 0
 HasValues s = length s.values ≡ s.store.drawn
 
--- both hold before the first node
+-- no kept fault stands anywhere
+abbrev pub HasNoFaults : ValueState → Type 0
+HasNoFaults s = (place : Place) (number : ℕ) → s.store.slots place ≢ Some (slot.Fault number)
+
+-- all three hold before the first node, whether faults are kept or not
 abbrev pub OpensClear : Type 0
-OpensClear = (keeps : Bool) → HasNoClaims (value_opening keeps) × HasValues (value_opening keeps)
+OpensClear = (keeps : Bool) → HasNoClaims (value_opening keeps) × HasValues (value_opening keeps) × HasNoFaults (value_opening keeps)
 
 -- where there was no claim, there is none after a node
 abbrev pub MakesNoClaims : Type 0
@@ -113,3 +120,30 @@ FindsWhatWasPut =
     (keys : List KeyText) (path : List ℕ) (at : ℕ) (above : List ℕ) (key up : ℕ) (text : List ℕ) (s : ValueState) → drop up path ≡ at ∷ above → HasValues s
     → (step_run keys path (put key text up) s).verdict ≡ successful
     → (step_run keys path (want key text up) (step_run keys path (put key text up) s).state).verdict ≡ successful
+
+-- ---- kept faults
+
+-- Each step that meets the kept fault of this text says so, and changes nothing: no factory runs, and nothing is computed or found. A `computefail` passes where its
+-- own text is the same
+pub record MeetsFault (keys : List KeyText) (path : List ℕ) (key up : ℕ) (text : List ℕ) (s : ValueState) : Type 0 where
+  pub computes : (other : List ℕ) → step_run keys path (compute key other up) s ≡ ended (failed (met_fault_text (codes "compute") (label_of keys key) text)) s
+  pub computes_closeable : (other : List ℕ) → step_run keys path (compute_closeable key other up) s ≡ ended (failed (met_fault_text (codes "compute!") (label_of keys key) text)) s
+  pub fails : (other : List ℕ)
+      → step_run keys path (compute_fail key other up) s ≡ ended (if bytes_eq text other then successful else failed (met_fault_text (codes "computefail") (label_of keys key) text)) s
+  pub wants : (other : List ℕ) → step_run keys path (want key other up) s ≡ ended (failed (other_fault_text (label_of keys key) other text)) s
+  pub finds : step_run keys path (nothing key up) s ≡ ended (failed (met_fault_text (codes "none") (label_of keys key) text)) s
+
+-- where faults are kept, once a `computefail` has passed, the steps after it meet a fault of its text under the same key in the same context: its own, or one that it met
+abbrev pub KeepsFault : Type 0
+KeepsFault =
+    (keys : List KeyText) (path : List ℕ) (at : ℕ) (above : List ℕ) (key up : ℕ) (text : List ℕ) (s : ValueState) → drop up path ≡ at ∷ above → HasValues s → s.keep_faults ≡ true
+    → (step_run keys path (compute_fail key text up) s).verdict ≡ successful
+    → MeetsFault keys path key up text (step_run keys path (compute_fail key text up) s).state
+
+-- and where they are not, a `computefail` leaves the store as it was: the steps after it do what they would have done without it
+abbrev pub KeepsNoFault : Type 0
+KeepsNoFault = (keys : List KeyText) (path : List ℕ) (key up : ℕ) (text : List ℕ) (s : ValueState) → s.keep_faults ≡ false → (step_run keys path (compute_fail key text up) s).state ≡ s
+
+-- and no kept fault stands after a node, where none stood before it
+abbrev pub NeverFaults : Type 0
+NeverFaults = (plan : PlanText) (levels : ℕ) (path : List ℕ) (run : RunState) → run.state.keep_faults ≡ false → HasNoFaults run.state → HasNoFaults (node_run plan levels path run).state

@@ -85,7 +85,7 @@ abbrev pub shown : Option ValueText → SeenText
 shown None = seen_refused reasons.NotShown
 shown (Some value) = seen_value value.text
 
--- the kept fault of a number that a look-up met
+-- the kept fault of a number that a look-up met; it has the text of the step whose factory failed
 abbrev pub shown_fault : Option ValueText → SeenText
 shown_fault None = seen_refused reasons.NotShown
 shown_fault (Some value) = seen_fault value.text
@@ -107,8 +107,8 @@ factory_gave name label place value s =
     let computed : StepEnd = record { state = after_act (Fill place kept.store.drawn) kept; verdict = successful; computed = 1; found = 0 } in
     or_refused name label (why_refused (next_number s) s) (after_act (Abandon place) s) computed
 
--- The factory failed. Where faults are not kept its own fault comes back: the claim goes, and the step passes. Where they are it is kept under the number that is drawn
--- for it, in the place of the claim, and the step passes; where none is left, the claim goes
+-- The factory failed with this text. Where faults are not kept its own fault comes back: the claim goes, and the step passes. Where they are its fault is kept: its number is
+-- drawn and stored in the place of the claim, and the step passes; where none is left, the claim goes
 abbrev pub factory_failed : List ℕ → List ℕ → Place → List ℕ → ValueState → StepEnd
 factory_failed name label place text s =
     let kept = keep_value (record { text = text; closeable = false }) s in
@@ -151,7 +151,7 @@ computefail_looked name label place text s look.Absent = claim_and name label pl
 computefail_looked name label place text s (look.Busy at) = ended (refused name label reasons.Busy) s
 computefail_looked name label place text s (look.Closed at) = ended (refused name label reasons.Closed) s
 
--- With no memory for a fault that is to be kept the claim goes. Where faults are not kept it keeps nothing
+-- With no memory for a fault that is to be kept the claim goes, as for a value; where faults are not kept it keeps nothing
 abbrev pub computefail_by : Memory → List ℕ → List ℕ → Place → List ℕ → ValueState → Look → StepEnd
 computefail_by enough name label place text s found = computefail_looked name label place text s found
 computefail_by no_value name label place text s found =

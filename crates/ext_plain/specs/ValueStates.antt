@@ -21,8 +21,9 @@ pub data Memory : Type 0 where
   no_place : Memory
   no_words : Memory
 
--- the store of a run: whether it keeps faults, its state, the values that were kept, the first of which has number 1, a kept fault's text among them as a value that is not closeable, and what the next steps find of memory, in the order in which they are
--- made; steps past the end of that list find enough
+-- the store of a run: whether it keeps faults, as it does from its opening on or never; its state; the values that were kept, the first of which has number 1, and among
+-- them the text of each kept fault, as a value that isn't closeable; and what the next steps find of memory, in the order in which they are made; steps past the end of
+-- that list find enough
 pub record ValueState : Type 0 where
   pub keep_faults : Bool
   pub store : State Place
@@ -31,6 +32,7 @@ pub record ValueState : Type 0 where
 
 -- ---- an act on the store
 
+-- the store at its opening, which keeps faults or not
 abbrev pub value_opening : Bool → ValueState
 value_opening keeps = record { keep_faults = keeps; store = opening; values = []; memory = [] }
 

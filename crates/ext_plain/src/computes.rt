@@ -18,7 +18,8 @@ use ext_steps::{PlanValue, Reason, StepCall};
 use std::alloc::Global;
 
 impl<'a> ValueStore<'a> {
-    /// A step `compute` or `compute!`: looks up along the path, and computes where nothing is found.
+    /// A step `compute` or `compute!`: looks up along the path, and computes where nothing is found. A kept fault that it meets
+    /// fails it.
     pub fn compute(
         &mut self,
         alloc: Global,
@@ -89,7 +90,8 @@ impl<'a> ValueStore<'a> {
     }
 
     /// A step `computefail`: looks up along the path. Where nothing is found the place is claimed, and the factory fails with
-    /// this text: its own fault comes back, so that the claim goes and the step passes; or it is kept.
+    /// this text. Where faults are kept its fault then stands in the place; else it comes back, and the claim goes. The step
+    /// passes in both, and where it meets a kept fault of the same text.
     pub fn computefail(
         &mut self,
         alloc: Global,
@@ -124,8 +126,8 @@ impl<'a> ValueStore<'a> {
         }
     }
 
-    /// Ends the claim of a factory that failed with this text: keeps its fault where faults are kept, and else gives the place
-    /// back.
+    /// Ends the claim of a factory that failed with this text: keeps its fault where faults are kept. Where they are not, or
+    /// where no number is left, or no memory, the claim goes.
     fn end_failed(
         &mut self,
         alloc: Global,

@@ -34,6 +34,9 @@ pub struct PlainRunner<'a, L> {
 /// The results of the plain run of a plan, in the order of its nodes, which are the contexts of the tree. The listener is told of each node that
 /// has ended.
 ///
+/// Where the plan keeps faults, the fault of a factory that failed stands in its place until it is removed or replaced, and
+/// the steps that meet it say so; it is never closed. Where the plan does not, the fault comes back, and the place is empty.
+///
 /// Takes memory for the lists of calls, the store, the values, the texts of faults and the results. A step that finds none
 /// fails with `Fault::Memory`, and the run goes on: the results are those of the plain run in which these steps found none.
 /// `AllocError` comes only where memory is refused elsewhere, as for results or for the end of a context. Source: JUnit 5 User Guide, sections "Keeping State in Extensions" and "Relative

@@ -18,7 +18,7 @@ pub fn told<T: Drop>(answer: Result<T, PlainFault>) -> Result<Option<Reason>, La
         Ok(_) => Ok(None),
         Err(PlainFault::NumbersFull) => Ok(Some(Reason::NumbersFull)),
         Err(PlainFault::Closed) => Ok(Some(Reason::Closed)),
-        // A place that is taken is never claimed: a claim follows a look-up that found nothing.
+        // A place where something stands is never claimed: a claim follows a look-up that found nothing.
         Err(PlainFault::Busy) => Ok(Some(Reason::Busy)),
         Err(PlainFault::Taken(_)) => Ok(Some(Reason::Busy)),
         Err(PlainFault::FaultStands(_)) => Ok(Some(Reason::Busy)),

@@ -1,5 +1,5 @@
 -- The events and the steps of a call, by its result.
-use Rattle.std.proofs.Common.{◌≡◌, ◌+◌, ◌≤◌, length, length-drop, ℕ, List, [], refl, arith, Option, None, Some}
+use Rattle.std.proofs.Common.{◌+◌, ◌≤◌, length, length-drop, ℕ, List, [], refl, arith, Option, None, Some}
 use Rattle.std.specs.Prelude.{Result, Ok, Err}
 use Rattle.ext_model.specs.declared.look.Look.{Look}
 use Rattle.ext_model.specs.Calls.{Calls}

@@ -1,5 +1,6 @@
 pub mod Trails
 pub mod LookUps
+pub mod Faultless
 pub mod Replies
 pub mod Refused
 pub mod Events

@@ -1,10 +1,11 @@
 -- What the contract of each call says of its result.
 -- Javadoc `ExtensionContext.Store`: `get`, `put` and `remove`; numbers, refusals and points are own rules. `Calls` of ext_model has the words: the events that a
 -- call made, its fronts, and the points at which its answer may be that of one thread.
-use Rattle.std.specs.Prelude.{ℕ, ◌≡◌, List, [], ◌∷◌, length, Option, None, Some, Result, Ok, Err}
+use Rattle.std.specs.Prelude.{ℕ, List, [], ◌∷◌, length, Option, None, Some, Result, Ok, Err}
 use Rattle.ext_model.specs.declared.event.Act.{Act}
 use Rattle.ext_model.specs.declared.event.Act.TheVariants.{Put, Remove}
 use Rattle.ext_model.specs.declared.look.Look.{Look}
+use Rattle.ext_model.specs.declared.look.Look.TheVariants as look
 use Rattle.ext_model.specs.Events as events
 use Rattle.ext_model.specs.History.{History, reply_after}
 use Rattle.ext_history.specs.Views.{call_fronts}
@@ -43,6 +44,14 @@ look_acts result = []
 unfoldable pub Gets : StoreView → ℕ → ℕ → Lane → Lane → Result Look Refusal → Type 0
 Gets store context key before after result =
     (path : List ℕ) × IsPathOf store.tree context path × Answers store (Err Contended) before after look_acts (λ p. Ok (look_after (cell_in store key) path p)) result
+
+-- what a look-up answers in a store that keeps no faults
+abbrev pub IsFaultlessLook : Look → Type 0
+IsFaultlessLook (look.Found at number) = Unit {0}
+IsFaultlessLook (look.Fault at number) = ⊥
+IsFaultlessLook look.Absent = Unit {0}
+IsFaultlessLook (look.Busy at) = Unit {0}
+IsFaultlessLook (look.Closed at) = Unit {0}
 
 -- ---- put and remove
 

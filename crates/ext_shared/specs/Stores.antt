@@ -1,6 +1,6 @@
 -- What contracts see of a store: its cells, contexts, keys and places.
 -- Own rule.
-use Rattle.std.specs.Prelude.{ℕ, ◌≡◌, ◌+◌, ◌*◌, IsTrue, List, length}
+use Rattle.std.specs.Prelude.{ℕ, ◌≡◌, ◌+◌, ◌*◌, IsTrue, IsFalse, List, [], length}
 use Rattle.ext_model.specs.History.{Limits}
 use Rattle.ext_tree.specs.Trees.{Id}
 use Rattle.ext_tree.specs.Keys.{KeyValue}
@@ -19,11 +19,12 @@ pub record StoreView : Type 0 where
   pub keys : List KeyValue
   pub tries : ℕ
 
--- there is a cell for each context and key, and a place for each number; where faults are kept, one for the fault of each number too
+-- there is a cell for each context and key, and a place for each number; where faults are kept, one for the fault of each number too, and else none
 pub record IsWell (tree : List Id) (keys : List KeyValue) (limits : Limits) (places fault_places : List ℕ) : Type 0 where
   pub cells : limits.cells ≡ length tree * length keys
   pub numbers : limits.numbers ≡ length places
   pub faults : IsTrue limits.keep_faults → limits.numbers ≡ length fault_places
+  pub no_faults : IsFalse limits.keep_faults → fault_places ≡ []
 
 -- the cell of a context and a key, by their numbers
 abbrev pub cell_in : StoreView → ℕ → ℕ → ℕ

@@ -1,7 +1,7 @@
 //! The look-up of a key from a context through its ancestors.
-ghost use Rattle.std.specs.Prelude.{◌≡◌, ◌+◌, ◌*◌, ◌<◌, ◌≤◌, length, map, take};
+ghost use Rattle.std.specs.Prelude.{◌≡◌, ◌+◌, ◌*◌, ◌<◌, ◌≤◌, IfOk, IsFalse, length, map, take};
 ghost use Rattle.ext_shared.specs.Stores.{cell_in};
-ghost use Rattle.ext_shared.specs.Calls.{Gets, steps_of};
+ghost use Rattle.ext_shared.specs.Calls.{Gets, IsFaultlessLook, steps_of};
 ghost use Rattle.ext_shared.specs.Looking.{IsTrail, Looks};
 
 use crate::found::found_at;
@@ -13,7 +13,8 @@ impl<V> Shared<V> {
     /// Looks for the key in the context and then in its ancestors, the nearest first, at one point of the call: the
     /// first of them where anything stands under the key decides. Takes no memory.
     ///
-    /// Refused as `Contended` alone. That a context computes a value or is closed is an answer.
+    /// Refused as `Contended` alone. That a context has a kept fault, computes a value or is closed is an answer. Where no
+    /// faults are kept none is met.
     ///
     /// Javadoc `ExtensionContext.Store`, `get`.
     pub fn look_up(
@@ -27,6 +28,7 @@ impl<V> Shared<V> {
         requires key { key < length self.now.keys }
         ensures lane { lane.new.cells ≡ lane.old.cells }
         ensures answer { Gets self.now context key lane.old lane.new result }
+        ensures no_faults { IsFalse self.now.id.cells.limits.keep_faults → IfOk result IsFaultlessLook }
         ensures steps { steps_of lane.old lane.new ≤ 16 * (self.now.tries + 1) }
     {
         let path = self.tree.path(context);

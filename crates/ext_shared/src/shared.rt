@@ -1,5 +1,5 @@
 //! What the lanes of a store share.
-ghost use Rattle.std.specs.Prelude.{◌≡◌, ◌*◌, ◌<◌, ◌≤◌, IsTrue, length};
+ghost use Rattle.std.specs.Prelude.{◌≡◌, ◌*◌, ◌<◌, ◌≤◌, IsTrue, IsFalse, [], length};
 ghost use Rattle.ext_shared.specs.Stores.{IsWell, cell_in};
 
 use ext_cells::Cells;
@@ -34,7 +34,8 @@ impl<V> Model for Shared<V> {
 
 impl<V> Shared<V> {
     /// Puts together what the lanes of a store share, where there is a cell for each context and key and a place for each
-    /// number, and where faults are kept one for the fault of each number. Nobody waits. Takes no memory. Own rule.
+    /// number, and where faults are kept one for the fault of each number, and else none. Nobody waits. Takes no memory. Own
+    /// rule.
     pub fn new(
         tree: Tree,
         directory: Directory,
@@ -85,7 +86,7 @@ impl<V> Shared<V> {
         &self.values
     }
 
-    /// The places of the kept faults. Takes no memory. Own rule.
+    /// The places of the kept faults: none where no faults are kept. Takes no memory. Own rule.
     pub fn faults(&self) -> &Values<Fault>
         ensures { result.now ≡ self.now.id.fault_places }
     {
@@ -109,12 +110,14 @@ impl<V> Shared<V> {
     }
 
     /// Tells a proof what is true of all that lanes share: there is a cell for each context and key, and a place for each
-    /// of at most 65,535 numbers, where faults are kept one for its fault too. It does nothing when it runs. Own rule.
+    /// of at most 65,535 numbers; where faults are kept one for its fault too, and else none. It does nothing when it runs.
+    /// Own rule.
     pub fn recall(&self)
         ensures cells { self.now.id.cells.limits.cells ≡ length self.now.tree * length self.now.keys }
         ensures numbers { self.now.id.cells.limits.numbers ≡ length self.now.id.places }
         ensures few { self.now.id.cells.limits.numbers ≤ 65535 }
         ensures faults { IsTrue self.now.id.cells.limits.keep_faults → self.now.id.cells.limits.numbers ≡ length self.now.id.fault_places }
+        ensures no_faults { IsFalse self.now.id.cells.limits.keep_faults → self.now.id.fault_places ≡ [] }
     {
         let _capacity = self.values.capacity();
     }

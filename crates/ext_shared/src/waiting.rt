@@ -1,10 +1,10 @@
 //! The waiting forms of the calls: what met a running factory is done again once a claim has ended, and what other lanes
 //! were in the way of at once.
-ghost use Rattle.std.specs.Prelude.{◌≡◌, ◌≢◌, ◌<◌, Err, IfErr, IfOk, Ok, length};
+ghost use Rattle.std.specs.Prelude.{◌≡◌, ◌≢◌, ◌<◌, Err, IfErr, IfOk, IsFalse, Ok, length};
 ghost use Rattle.ext_model.specs.Calls.{MayStoreNow};
 ghost use Rattle.ext_cells.specs.declared.refusal.CellRefusal.TheVariants as cell_refusal;
 ghost use Rattle.ext_cells.specs.Calls as cells;
-ghost use Rattle.ext_shared.specs.Calls.{Gets, Puts, Removes, with_kept};
+ghost use Rattle.ext_shared.specs.Calls.{Gets, IsFaultlessLook, Puts, Removes, with_kept};
 ghost use Rattle.ext_shared.specs.Looking.{IsTrail, LooksAt};
 ghost use Rattle.ext_shared.specs.Waiting.{ClaimsAfterWaits, IsDecided, IsDecidedLook, IsDecidedUnused};
 
@@ -41,6 +41,7 @@ impl<V> Shared<V> {
         requires key { key < length self.now.keys }
         ensures lane { lane.new.cells ≡ lane.old.cells }
         ensures answer { Gets self.now context key lane.old lane.new (Ok result) }
+        ensures no_faults { IsFalse self.now.id.cells.limits.keep_faults → IsFaultlessLook result }
         ensures decided { IsDecidedLook result }
     {
         let path = self.tree.path(context);

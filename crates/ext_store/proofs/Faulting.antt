@@ -1,6 +1,6 @@
 -- What the keeping of a fault says, by what was drawn and what became of it, and that a store that keeps no faults meets none.
 use Rattle.std.proofs.Common.{◌≡◌, ◌≢◌, arith, ℕ, ◌+◌, ◌≤◌, List, [], ◌∷◌, ◌++◌, sym, refl, ap, ◌∙◌, subst, inl, inr, Some, Contains}
-use Rattle.std.specs.Prelude.{Result, Ok, Err, IfOk, IfErr, MatchResult, IsFalse, ◌==◌}
+use Rattle.std.specs.Prelude.{Result, Ok, Err, IfOk, MatchResult, IsFalse, ◌==◌}
 use Rattle.std.proofs.lemmas.List.Elements.{Contains-append_left}
 use Rattle.ext_model.specs.declared.event.Act.{Act}
 use Rattle.ext_model.specs.declared.event.Act.TheVariants.{Keep}
@@ -8,17 +8,14 @@ use Rattle.ext_model.specs.declared.event.Event.{Event}
 use Rattle.ext_model.specs.declared.look.Fault.{Fault}
 use Rattle.ext_model.specs.declared.look.Look.TheVariants as look
 use Rattle.ext_model.specs.Events as events
-use Rattle.ext_model.specs.History.{History, Limits, by, own, slots_in, state_after, IsLegal}
+use Rattle.ext_model.specs.History.{History, by, state_after, IsLegal}
 use Rattle.ext_history.specs.Views.{seen_by}
 use Rattle.ext_model.specs.Views.{LaneView}
 use Rattle.ext_model.specs.Calls.{Calls, MayStoreNow}
-use Rattle.ext_model.specs.SecondLook.{look_after}
-use Rattle.ext_history.proofs.Lists.{contains_none, contains_from_filter}
+use Rattle.ext_history.proofs.Lists.{contains_from_filter}
 use Rattle.ext_history.proofs.Legal.{legal_prefix, legal_begun}
 use Rattle.ext_history.proofs.Composed.{answer_point, point_legal}
 use Rattle.ext_model.proofs.Numbers.{bounded}
-use Rattle.ext_model.proofs.Lookups.{met_fault_stands}
-use Rattle.ext_model.proofs.Faults.{fault_was_kept, no_faults}
 use Rattle.ext_values.specs.Known.{Known, KeepsKnown, known_at, places_of}
 use Rattle.ext_cells.specs.declared.refusal.CellRefusal.{CellRefusal}
 use Rattle.ext_cells.specs.Lanes.{Lane}
@@ -27,6 +24,7 @@ use Rattle.ext_shared.specs.declared.claim.Unused.{Unused}
 use Rattle.ext_shared.specs.declared.claim.Unused.TheVariants.{Found, FaultStands, Refused}
 use Rattle.ext_shared.specs.Claiming.{ClaimsFrom, Meets}
 use Rattle.ext_shared.proofs.Events.{drew_quiet}
+use Rattle.ext_shared.proofs.Faultless.{none_met}
 use Rattle.ext_store.specs.declared.fault.KeepFault.{KeepFault}
 use Rattle.ext_store.specs.declared.fault.KeepFault.TheVariants.{Memory, Unplaced}
 use Rattle.ext_store.specs.declared.computed.Compute.{Compute}
@@ -129,14 +127,7 @@ fault_by_drawn store tries same why inside before is mine after cells notes draw
 
 -- ---- a store that keeps no faults
 
--- no look-up meets one after a legal history
-pub none_met : (limits : Limits) (p : History) (cell_of : ℕ → ℕ) (path : List ℕ) (at number : ℕ) → IsFalse limits.keep_faults → IsLegal limits p → look_after cell_of path p ≡ look.Fault at number → ⊥
-none_met limits p cell_of path at number off legal met =
-    let stands = met_fault_stands (slots_in cell_of p) path at number met in
-    let kept = fault_was_kept p (cell_of at) number legal stands in
-    contains_none number (subst (λ xs. Contains xs number) (no_faults limits p off legal) kept)
-
--- so none is the reason why a factory is not called
+-- no fault is the reason why a factory is not called
 meets_none : (store : StoreView) (context : ℕ) (ancestors : List ℕ) (key : ℕ) (a b : LaneView) (at number : ℕ) → IsFalse store.id.cells.limits.keep_faults → Meets store.id.cells.limits store context ancestors key a b (look.Fault at number) → ⊥
 unfolding Meets
 meets_none store context ancestors key a b at number off m = elim m [

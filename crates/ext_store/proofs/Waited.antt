@@ -1,5 +1,5 @@
 -- What a compute says that waited, and its frame.
-use Rattle.std.proofs.Common.{◌≡◌, ℕ, zero, suc, List, [], ◌∷◌, ◌++◌, refl}
+use Rattle.std.proofs.Common.{◌≡◌, ℕ, zero, suc, [], ◌∷◌, ◌++◌, refl}
 use Rattle.std.specs.Prelude.{Result, All}
 use Rattle.std.proofs.lemmas.List.Elements.{All-append}
 use Rattle.ext_model.specs.declared.event.Act.TheVariants.{Claim, Abandon}

@@ -10,7 +10,7 @@ use Rattle.ext_cells.specs.Lanes.{Lane}
 use Rattle.ext_store.specs.declared.fault.KeepFault.{KeepFault}
 use Rattle.ext_store.specs.declared.fault.KeepFault.TheVariants as fault
 use Rattle.ext_store.specs.Stores.{StoreView, StoreLane, IsKeptBy}
-pub use Rattle.ext_shared.specs.Calls.{HoldsAtPoint, reply_to, steps_of, result_at, with_kept, put_acts, remove_acts}
+pub use Rattle.ext_shared.specs.Calls.{HoldsAtPoint, IsFaultlessLook, reply_to, steps_of, result_at, with_kept, put_acts, remove_acts}
 unfoldable pub use Rattle.ext_shared.specs.Calls.{Gets, Puts, Removes}
 
 -- what each fault of a keep says of the lane's steps

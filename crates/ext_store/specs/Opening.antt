@@ -1,17 +1,21 @@
 -- What a store is made of that is opened, and why one is not opened.
--- Own rule, below the public contract of `open`.
-use Rattle.std.specs.Prelude.{ℕ, ◌≡◌, Bool, IsTrue, List, length, map}
+-- Own rule, below the public contract of `open`, but for `fault_count`.
+use Rattle.std.specs.Prelude.{ℕ, ◌≡◌, Bool, if◌then◌else◌, List, length, map}
 use Rattle.ext_cells.specs.Lanes.{CellsView, AreLimits, fresh_lanes}
 use Rattle.ext_store.specs.declared.limits.StoreFault.{StoreFault}
 use Rattle.ext_store.specs.declared.limits.StoreFault.TheVariants.{BadLimit, TooManyCells, Memory}
 use Rattle.ext_store.specs.Stores.{StoreLane, CloserView, AreStoreLimits, closers_below, fresh_store_lane}
+
+-- how many places there are for faults: one for each number where faults are kept, and else none
+abbrev pub fault_count : Bool → ℕ → ℕ
+fault_count keeps numbers = if keeps then numbers else 0
 
 -- cells, places of values and of faults, lanes and closers of one store, of these limits and so many contexts
 pub record AreParts {V : Type 0} (count contexts lane_count exchanges number_count : ℕ) (keeps : Bool) (cells : CellsView) (names fault_names : List ℕ) (store_lanes : List (StoreLane V)) (store_closers : List CloserView) : Type 0 where
   pub limits : cells.id.limits ≡ record { cells = count; lanes = lane_count; numbers = number_count; keep_faults = keeps }
   pub tries : cells.tries ≡ exchanges
   pub places : length names ≡ number_count
-  pub fault_places : IsTrue keeps → number_count ≡ length fault_names
+  pub fault_places : length fault_names ≡ fault_count keeps number_count
   pub lanes : store_lanes ≡ map (fresh_store_lane names fault_names) (fresh_lanes cells.id 0 lane_count)
   pub closers : store_closers ≡ closers_below cells.id contexts
 

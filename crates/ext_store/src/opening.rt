@@ -1,9 +1,8 @@
 //! What a store is made of that is opened: its cells and values, its lanes and its closers.
-ghost use Rattle.std.specs.Prelude.{◌≡◌, IfOk, IsTrue, MatchResult, map};
-ghost use Rattle.ext_values.specs.Places.{IsCapacity};
+ghost use Rattle.std.specs.Prelude.{◌≡◌, IfOk, MatchResult, map};
 ghost use Rattle.ext_cells.specs.Lanes.{AreLimits};
 ghost use Rattle.ext_store.specs.Stores.{closers_below, fresh_store_lane};
-ghost use Rattle.ext_store.specs.Opening.{AreOpened, AreParts, IsNotOpened};
+ghost use Rattle.ext_store.specs.Opening.{AreOpened, AreParts, IsNotOpened, fault_count};
 
 use crate::{Closer, Lane, Limits, StoreFault};
 use ext_cells::{CellLane, Cells, are_limits};
@@ -12,14 +11,11 @@ use ext_values::{Notes, SilentNotes, Values};
 use std::alloc::{AllocError, Global};
 use std::snapshot::Snapshot;
 
-// How many places there are for faults: one for each number where faults are kept, and else one, since there is no
-// `Values` without a place.
+// How many places there are for faults: one for each number where faults are kept, and else none.
 fn fault_capacity(numbers: u32, keep_faults: bool) -> u32
-    requires { IsCapacity numbers }
-    ensures within { IsCapacity result }
-    ensures all { IsTrue keep_faults → result ≡ numbers }
+    ensures { result ≡ fault_count keep_faults numbers }
 {
-    if keep_faults { numbers } else { 1 }
+    if keep_faults { numbers } else { 0 }
 }
 
 // What a store of so many cells and contexts is made of: the cells, the places of the values and of the kept faults, a lane for each lane of the limits,

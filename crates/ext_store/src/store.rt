@@ -1,5 +1,5 @@
 //! The store and its calls.
-ghost use Rattle.std.specs.Prelude.{ℕ, ◌≡◌, ◌≢◌, ◌↔◌, ◌+◌, ◌*◌, ◌<◌, ◌≤◌, [], All, Contains, IfErr, IfNone, IfOk, IfSome, MatchResult, Ok, Err, length, map};
+ghost use Rattle.std.specs.Prelude.{ℕ, ◌≡◌, ◌≢◌, ◌↔◌, ◌+◌, ◌*◌, ◌<◌, ◌≤◌, [], All, Contains, IfErr, IfNone, IfOk, IfSome, IsFalse, IsNone, MatchResult, Ok, Err, length, map};
 ghost use mathlib.Core.List.{IsPrefix};
 ghost use Rattle.ext_model.specs.Calls.{Calls};
 ghost use Rattle.ext_history.specs.Views.{seen_by};
@@ -9,8 +9,9 @@ ghost use Rattle.ext_cells.specs.Lanes.{AreLimits, fresh_lanes};
 ghost use Rattle.ext_store.specs.declared.limits.StoreFault.TheVariants as store_fault;
 ghost use Rattle.ext_shared.specs.declared.fault.Refusal.TheVariants as refusal;
 ghost use Rattle.ext_store.specs.Stores.{AreStoreLimits, IsCloserOf, IsKeptBy, IsLaneOf, StillKeeps, StillKeepsBut, closers_below, fresh_store_lane};
+ghost use Rattle.ext_store.specs.Opening.{fault_count};
 ghost use Rattle.ext_store.specs.Frames.{Frame, stored_by};
-ghost use Rattle.ext_store.specs.Calls.{Gets, KeepsAs, KeepsNothing, Puts, Removes, steps_of};
+ghost use Rattle.ext_store.specs.Calls.{Gets, IsFaultlessLook, KeepsAs, KeepsNothing, Puts, Removes, steps_of};
 
 use crate::opening::open_parts;
 use crate::{Closer, KeepFault, Kept, Lane, Limits, Refusal, StoreFault, StoreValue};
@@ -76,8 +77,8 @@ impl<V> Store<V> {
 
 impl<V: StoreValue + Drop> Store<V> {
     /// Opens a store in which nothing stands, with its lanes, which are numbered from 0 in the order of the list, and
-    /// with one closer for each context, in order. Takes all memory that the store needs but for the values
-    /// themselves. Nobody but these lanes makes an event: where none of them has made one, the history is empty (`no_lane`
+    /// with one closer for each context, in order. Takes all memory that the store needs but for the values and the
+    /// faults themselves; a store that keeps no faults takes none for them. Nobody but these lanes makes an event: where none of them has made one, the history is empty (`no_lane`
     /// of `history_laws` in ext_model). Own rule.
     ///
     /// Refused, in this order, as `BadLimit` unless there are 1 to 16 lanes, 1 to 64 tries and 1 to 65,535 numbers, as
@@ -93,6 +94,7 @@ impl<V: StoreValue + Drop> Store<V> {
         ensures tree { IfOk result (λ r. (r.0.tree ≡ tree) × (r.0.keys ≡ directory)) }
         ensures limits { IfOk result (λ r. r.0.id.cells.limits ≡ record { cells = length tree * length directory; lanes = limits.lanes; numbers = limits.numbers; keep_faults = limits.keep_faults }) }
         ensures places { IfOk result (λ r. length r.0.id.places ≡ limits.numbers) }
+        ensures fault_places { IfOk result (λ r. length r.0.id.fault_places ≡ fault_count limits.keep_faults limits.numbers) }
         ensures tries { IfOk result (λ r. r.0.tries ≡ limits.tries) }
 
         // Its lanes have made no step and know nothing, and there is one closer a context.
@@ -144,7 +146,8 @@ impl<V: StoreValue + Drop> Store<V> {
     /// first of them where anything stands under the key decides. Takes no memory.
     ///
     /// Refused as `UnknownKey` where the key was not declared, which is no step of the lane, and else as `Contended`.
-    /// That a context computes a value or is closed is an answer: `Look::Busy` or `Look::Closed`.
+    /// That a context has a kept fault, computes a value or is closed is an answer: `Look::Fault`, `Look::Busy` or
+    /// `Look::Closed`. In a store that keeps no faults none is met.
     ///
     /// Javadoc `ExtensionContext.Store`, `get`. It answers the context and the number, which `show` makes a value.
     #[tactic(auto, unfolding(crate::specs::Frames::Frame))]
@@ -153,7 +156,9 @@ impl<V: StoreValue + Drop> Store<V> {
         requires context { context < length self.now.tree }
         ensures unknown { ¬ Contains self.now.keys key.now → (result ≡ Err refusal.UnknownKey) × (lane.new ≡ lane.old) }
         ensures answer { (number : ℕ) → HasNumber self.now.keys key.now number → Gets self.now context number lane.old.cells lane.new.cells result }
+        ensures no_faults { IsFalse self.now.id.cells.limits.keep_faults → IfOk result IsFaultlessLook }
         ensures known { lane.new.known ≡ lane.old.known }
+        ensures faults { lane.new.faults ≡ lane.old.faults }
         ensures lane { IsLaneOf self.now.id lane.new }
         ensures kept { StillKeeps lane.old lane.new }
         ensures frame { Frame self.now.id [] lane.old lane.new }
@@ -179,7 +184,9 @@ impl<V: StoreValue + Drop> Store<V> {
         requires context { context < length self.now.tree }
         requires key { key < length self.now.keys }
         ensures answer { Gets self.now context key lane.old.cells lane.new.cells result }
+        ensures no_faults { IsFalse self.now.id.cells.limits.keep_faults → IfOk result IsFaultlessLook }
         ensures known { lane.new.known ≡ lane.old.known }
+        ensures faults { lane.new.faults ≡ lane.old.faults }
         ensures lane { IsLaneOf self.now.id lane.new }
         ensures kept { StillKeeps lane.old lane.new }
         ensures frame { Frame self.now.id [] lane.old lane.new }
@@ -212,6 +219,7 @@ impl<V: StoreValue + Drop> Store<V> {
         ensures answer { (number : ℕ) → HasNumber self.now.keys key.now number → Puts self.now context number kept lane.old.cells lane.new.cells result }
         ensures handed_back { IfErr result (λ e. e.0 ≡ kept) }
         ensures known { lane.new.known ≡ lane.old.known }
+        ensures faults { lane.new.faults ≡ lane.old.faults }
         ensures lane { IsLaneOf self.now.id lane.new }
         ensures kept { MatchResult result (λ _. StillKeepsBut kept lane.old lane.new) (λ _. StillKeeps lane.old lane.new) }
         ensures frame { Frame self.now.id (stored_by kept result) lane.old lane.new }
@@ -241,6 +249,7 @@ impl<V: StoreValue + Drop> Store<V> {
         ensures answer { Puts self.now context key kept lane.old.cells lane.new.cells result }
         ensures handed_back { IfErr result (λ e. e.0 ≡ kept) }
         ensures known { lane.new.known ≡ lane.old.known }
+        ensures faults { lane.new.faults ≡ lane.old.faults }
         ensures lane { IsLaneOf self.now.id lane.new }
         ensures kept { MatchResult result (λ _. StillKeepsBut kept lane.old lane.new) (λ _. StillKeeps lane.old lane.new) }
         ensures frame { Frame self.now.id (stored_by kept result) lane.old lane.new }
@@ -271,6 +280,7 @@ impl<V: StoreValue + Drop> Store<V> {
         ensures unknown { ¬ Contains self.now.keys key.now → (result ≡ Err refusal.UnknownKey) × (lane.new ≡ lane.old) }
         ensures answer { (number : ℕ) → HasNumber self.now.keys key.now number → Removes self.now context number lane.old.cells lane.new.cells result }
         ensures known { lane.new.known ≡ lane.old.known }
+        ensures faults { lane.new.faults ≡ lane.old.faults }
         ensures lane { IsLaneOf self.now.id lane.new }
         ensures kept { StillKeeps lane.old lane.new }
         ensures frame { Frame self.now.id [] lane.old lane.new }
@@ -297,6 +307,7 @@ impl<V: StoreValue + Drop> Store<V> {
         requires key { key < length self.now.keys }
         ensures answer { Removes self.now context key lane.old.cells lane.new.cells result }
         ensures known { lane.new.known ≡ lane.old.known }
+        ensures faults { lane.new.faults ≡ lane.old.faults }
         ensures lane { IsLaneOf self.now.id lane.new }
         ensures kept { StillKeeps lane.old lane.new }
         ensures frame { Frame self.now.id [] lane.old lane.new }
@@ -327,8 +338,8 @@ impl<V: StoreValue + Drop> Store<V> {
     /// The fault that the number has, which this lane knows from now on: always where the lane kept it or was shown it, and
     /// else where this thread finds it; never the fault of another number. Takes no memory and never waits.
     ///
-    /// `None`, with nothing changed, for a number that has no place, as each in a store that keeps no faults but 1, and
-    /// where the thread finds no fault. Own rule.
+    /// `None`, with nothing changed, for a number that has no place, and where the thread finds no fault; in a store that
+    /// keeps no faults always. Own rule.
     #[tactic(auto, unfolding(crate::specs::Frames::Frame))]
     pub fn show_fault<'a>(&'a self, lane: &mut Lane<V>, number: u32) -> Option<&'a Fault>
         requires lane { IsLaneOf self.now.id lane.old }
@@ -336,11 +347,13 @@ impl<V: StoreValue + Drop> Store<V> {
         ensures known { lane.new.known ≡ lane.old.known }
         ensures faults { KeepsKnown lane.old.faults lane.new.faults }
         ensures none { IfNone result ((known_at lane.old.faults number ≡ None) × (lane.new ≡ lane.old)) }
+        ensures none_kept { IsFalse self.now.id.cells.limits.keep_faults → IsNone result }
         ensures steps { lane.new.cells ≡ lane.old.cells }
         ensures lane { IsLaneOf self.now.id lane.new }
         ensures kept { StillKeeps lane.old lane.new }
         ensures frame { Frame self.now.id [] lane.old lane.new }
     {
+        self.shared.recall();
         lane.faults.get(self.shared.faults(), number)
     }
 

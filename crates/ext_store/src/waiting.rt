@@ -9,7 +9,7 @@ ghost use Rattle.ext_shared.specs.declared.fault.Refusal.TheVariants as refusal;
 ghost use Rattle.ext_store.specs.declared.computed.Compute.TheVariants.{Refused};
 ghost use Rattle.ext_store.specs.Stores.{IsKeptBy, IsLaneOf, StillKeeps, StillKeepsBut};
 ghost use Rattle.ext_store.specs.Frames.{Frame, stored_by};
-ghost use Rattle.ext_store.specs.Calls.{Gets, KeepsAs, KeepsFault, KeepsNoFault, KeepsNothing, Puts, Removes};
+ghost use Rattle.ext_store.specs.Calls.{Gets, IsFaultlessLook, KeepsAs, KeepsFault, KeepsNoFault, KeepsNothing, Puts, Removes};
 ghost use Rattle.ext_store.specs.Computing.{EndsFailed, Fails, Fills, HandsBack, IfComputed, IsFaultless, IsUnkept, Uses, without_factory};
 ghost use Rattle.ext_store.specs.Waiting.{ComputesAfterWaits, IsDecided, IsDecidedCompute, IsDecidedFault, IsDecidedLook};
 
@@ -38,8 +38,10 @@ impl<V: StoreValue + Drop> Store<V> {
         requires context { context < length self.now.tree }
         ensures unknown { ¬ Contains self.now.keys key.now → (result ≡ Err refusal.UnknownKey) × (lane.new ≡ lane.old) }
         ensures answer { (number : ℕ) → HasNumber self.now.keys key.now number → Gets self.now context number lane.old.cells lane.new.cells result }
+        ensures no_faults { IsFalse self.now.id.cells.limits.keep_faults → IfOk result IsFaultlessLook }
         ensures decided { MatchResult result IsDecidedLook IsDecided }
         ensures known { lane.new.known ≡ lane.old.known }
+        ensures faults { lane.new.faults ≡ lane.old.faults }
         ensures lane { IsLaneOf self.now.id lane.new }
         ensures kept { StillKeeps lane.old lane.new }
         ensures frame { Frame self.now.id [] lane.old lane.new }
@@ -65,8 +67,10 @@ impl<V: StoreValue + Drop> Store<V> {
         requires context { context < length self.now.tree }
         requires key { key < length self.now.keys }
         ensures answer { Gets self.now context key lane.old.cells lane.new.cells (Ok result) }
+        ensures no_faults { IsFalse self.now.id.cells.limits.keep_faults → IsFaultlessLook result }
         ensures decided { IsDecidedLook result }
         ensures known { lane.new.known ≡ lane.old.known }
+        ensures faults { lane.new.faults ≡ lane.old.faults }
         ensures lane { IsLaneOf self.now.id lane.new }
         ensures kept { StillKeeps lane.old lane.new }
         ensures frame { Frame self.now.id [] lane.old lane.new }
@@ -98,6 +102,7 @@ impl<V: StoreValue + Drop> Store<V> {
         ensures decided { IfErr result (λ e. IsDecided e.1) }
         ensures handed_back { IfErr result (λ e. e.0 ≡ kept) }
         ensures known { lane.new.known ≡ lane.old.known }
+        ensures faults { lane.new.faults ≡ lane.old.faults }
         ensures lane { IsLaneOf self.now.id lane.new }
         ensures kept { MatchResult result (λ _. StillKeepsBut kept lane.old lane.new) (λ _. StillKeeps lane.old lane.new) }
         ensures frame { Frame self.now.id (stored_by kept result) lane.old lane.new }
@@ -128,6 +133,7 @@ impl<V: StoreValue + Drop> Store<V> {
         ensures decided { IfErr result (λ e. IsDecided e.1) }
         ensures handed_back { IfErr result (λ e. e.0 ≡ kept) }
         ensures known { lane.new.known ≡ lane.old.known }
+        ensures faults { lane.new.faults ≡ lane.old.faults }
         ensures lane { IsLaneOf self.now.id lane.new }
         ensures kept { MatchResult result (λ _. StillKeepsBut kept lane.old lane.new) (λ _. StillKeeps lane.old lane.new) }
         ensures frame { Frame self.now.id (stored_by kept result) lane.old lane.new }
@@ -158,6 +164,7 @@ impl<V: StoreValue + Drop> Store<V> {
         ensures answer { (number : ℕ) → HasNumber self.now.keys key.now number → Removes self.now context number lane.old.cells lane.new.cells result }
         ensures decided { IfErr result IsDecided }
         ensures known { lane.new.known ≡ lane.old.known }
+        ensures faults { lane.new.faults ≡ lane.old.faults }
         ensures lane { IsLaneOf self.now.id lane.new }
         ensures kept { StillKeeps lane.old lane.new }
         ensures frame { Frame self.now.id [] lane.old lane.new }
@@ -185,6 +192,7 @@ impl<V: StoreValue + Drop> Store<V> {
         ensures answer { Removes self.now context key lane.old.cells lane.new.cells result }
         ensures decided { IfErr result IsDecided }
         ensures known { lane.new.known ≡ lane.old.known }
+        ensures faults { lane.new.faults ≡ lane.old.faults }
         ensures lane { IsLaneOf self.now.id lane.new }
         ensures kept { StillKeeps lane.old lane.new }
         ensures frame { Frame self.now.id [] lane.old lane.new }

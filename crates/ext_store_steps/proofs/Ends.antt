@@ -1,7 +1,8 @@
 -- How steps end, from what the calls of the store and the words of steps say.
-use Rattle.std.proofs.Common.{◌≡◌, ℕ, false, subst, sym, ap, ◌∙◌, inl, inr}
+use Rattle.std.proofs.Common.{◌≡◌, ℕ, List, false, subst, sym, ap, ◌∙◌, inl, inr}
 use Rattle.std.specs.Prelude.{Result, Ok, Err, IfOk, IfErr}
 use Rattle.std.specs.declared.alloc.AllocError.{AllocError}
+use Rattle.ext_model.specs.declared.look.Fault.{Fault}
 use Rattle.ext_model.specs.declared.look.Look.{Look}
 use Rattle.ext_model.specs.declared.look.Look.TheVariants as look
 use Rattle.ext_lifecycle.specs.declared.outcome.Outcome.{Outcome}
@@ -9,29 +10,30 @@ use Rattle.ext_lifecycle.specs.declared.outcome.Verdict.{Verdict}
 use Rattle.ext_lifecycle.specs.declared.outcome.Verdict.TheVariants as verdicts
 use Rattle.ext_lifecycle.specs.Endings.{successful, aborted, failed, is_successful}
 use Rattle.ext_lifecycle.specs.FaultTexts.{VerdictText, verdict_text}
+use Rattle.ext_values.specs.Known.{Known}
 use Rattle.ext_cells.specs.Lanes.{Lane}
 use Rattle.ext_store.specs.Stores.{StoreView}
 use Rattle.ext_store.specs.Calls.{Gets}
 use Rattle.ext_steps.specs.Verdicts.{SeenText}
 use Rattle.ext_store_steps.specs.Saying.{no_memory, Says, Ends}
-use Rattle.ext_store_steps.specs.StoreCalls.{PlanLane, PlanNotes, ShowsNumber, Shows, Sees}
+use Rattle.ext_store_steps.specs.StoreCalls.{PlanLane, PlanNotes, ShowsNumber, ShowsFault, Shows, Sees}
 
--- what is shown goes by what the lane knew of values before the look-up
-shows_from : (before between after : PlanLane) (answer : Look) (seen : SeenText) → between.known ≡ before.known → Shows answer between seen after → Shows answer before seen after
-shows_from before between after (look.Found at number) seen known shown = subst (λ (k : PlanNotes). ShowsNumber number k seen after.known) known shown
-shows_from before between after (look.Fault at number) seen known shown = (shown.0 ∙ known, shown.1)
-shows_from before between after look.Absent seen known shown = (shown.0 ∙ known, shown.1)
-shows_from before between after (look.Busy at) seen known shown = shown
-shows_from before between after (look.Closed at) seen known shown = (shown.0 ∙ known, shown.1)
+-- what is shown goes by what the lane knew before the look-up
+shows_from : (before between after : PlanLane) (answer : Look) (seen : SeenText) → between.known ≡ before.known → between.faults ≡ before.faults → Shows answer between seen after → Shows answer before seen after
+shows_from before between after (look.Found at number) seen known faults shown = (shown.0 ∙ faults, subst (λ (k : PlanNotes). ShowsNumber number k seen after.known) known shown.1)
+shows_from before between after (look.Fault at number) seen known faults shown = (shown.0 ∙ known, subst (λ (k : List (Known Fault)). ShowsFault number k seen after.faults) faults shown.1)
+shows_from before between after look.Absent seen known faults shown = ((shown.0.0 ∙ known, shown.0.1 ∙ faults), shown.1)
+shows_from before between after (look.Busy at) seen known faults shown = shown
+shows_from before between after (look.Closed at) seen known faults shown = ((shown.0.0 ∙ known, shown.0.1 ∙ faults), shown.1)
 
 -- a look-up, and after it what shows what was found
 pub sees_shown : (store : StoreView) (context key : ℕ) (before between after : PlanLane) (met answer : Look) (seen : SeenText)
-    → met ≡ answer → Gets store context key before.cells between.cells (Ok met) → between.known ≡ before.known → after.cells ≡ between.cells → Shows answer between seen after
+    → met ≡ answer → Gets store context key before.cells between.cells (Ok met) → between.known ≡ before.known → between.faults ≡ before.faults → after.cells ≡ between.cells → Shows answer between seen after
     → Sees store context key before seen after
-sees_shown store context key before between after met answer seen is looked known cells shown = record {
+sees_shown store context key before between after met answer seen is looked known faults cells shown = record {
   answer = answer;
   looked = subst (λ (x : Look × Lane). Gets store context key before.cells x.1 (Ok x.0)) (λ i. (is i, sym cells i)) looked;
-  shown = shows_from before between after answer seen known shown;
+  shown = shows_from before between after answer seen known faults shown;
 }
 
 -- ---- verdicts

@@ -57,19 +57,23 @@ abbrev pub fault_seen : Fault → SeenText
 fault_seen (faults.Text text) = seen_fault (string_bytes text)
 fault_seen faults.Memory = seen_no_memory
 
--- the step is shown the kept fault of a number that the lane knows afterwards; or the lane does not know it, and the step is told that it is not shown
-abbrev pub ShowsFault : ℕ → SeenText → List (Known Fault) → Type 0
-ShowsFault number seen after =
-    ((fault : Fault) × (known_at after number ≡ Some fault) × (seen ≡ fault_seen fault))
-    ⊎ ((known_at after number ≡ None) × (seen ≡ seen_refused reasons.NotShown))
+-- the lane is shown the kept fault of a number, and the step its text; or it does not know the fault, and the step is told that it is not shown
+abbrev pub ShowsFault : ℕ → List (Known Fault) → SeenText → List (Known Fault) → Type 0
+ShowsFault number before seen after =
+    ((fault : Fault) × Learns before after number fault × (seen ≡ fault_seen fault))
+    ⊎ ((known_at before number ≡ None) × (after ≡ before) × (seen ≡ seen_refused reasons.NotShown))
+
+-- it knows the values and the faults that it knew, and no others
+abbrev pub KnowsTheSame : PlanLane → PlanLane → Type 0
+KnowsTheSame before after = (after.known ≡ before.known) × (after.faults ≡ before.faults)
 
 -- what a look-up that answers this shows
 abbrev pub Shows : Look → PlanLane → SeenText → PlanLane → Type 0
-Shows (look.Found at number) before seen after = ShowsNumber number before.known seen after.known
-Shows (look.Fault at number) before seen after = (after.known ≡ before.known) × ShowsFault number seen after.faults
-Shows look.Absent before seen after = (after.known ≡ before.known) × (seen ≡ seen_nothing)
+Shows (look.Found at number) before seen after = (after.faults ≡ before.faults) × ShowsNumber number before.known seen after.known
+Shows (look.Fault at number) before seen after = (after.known ≡ before.known) × ShowsFault number before.faults seen after.faults
+Shows look.Absent before seen after = KnowsTheSame before after × (seen ≡ seen_nothing)
 Shows (look.Busy at) before seen after = ⊥
-Shows (look.Closed at) before seen after = (after.known ≡ before.known) × (seen ≡ seen_refused reasons.Closed)
+Shows (look.Closed at) before seen after = KnowsTheSame before after × (seen ≡ seen_refused reasons.Closed)
 
 -- ---- the calls
 
@@ -102,6 +106,7 @@ module _ (store : StoreView) (context key : ℕ) where
       pub result : Result (Option ℕ) (ℕ × Refusal)
       pub puts : Puts store context key number between.cells after.cells result
       pub known : after.known ≡ between.known
+      pub faults : after.faults ≡ before.faults
       pub ends : EndsPut result outcome
 
     -- the value is not kept, and nothing is stored
@@ -110,13 +115,14 @@ module _ (store : StoreView) (context key : ℕ) where
       pub value_is : stored_view lost_value ≡ value
       pub why : KeepFault
       pub keeps_nothing : KeepsNothing store lost_value before after lost_value why
+      pub faults : after.faults ≡ before.faults
       pub ends : EndsUnkept name label why outcome
 
     -- what stands in the context itself is taken out, or nothing stands there, or that is refused
     pub record RemovesThere (before : PlanLane) (outcome : Outcome) (after : PlanLane) : Type 0 where
       pub result : Result (Option ℕ) Refusal
       pub removes : Removes store context key before.cells after.cells result
-      pub known : after.known ≡ before.known
+      pub known : KnowsTheSame before after
       pub ends : EndsChange result outcome
 
     -- How a compute ends whose factory gives a value. A kept fault that stands in its place is shown, and counts for nothing
@@ -127,7 +133,7 @@ module _ (store : StoreView) (context key : ℕ) where
     EndsCompute (computes.FaultKept number) before outcome after = ⊥
     EndsCompute (computes.FaultUnkept why cause) before outcome after = ⊥
     EndsCompute (computes.FaultStands at number unused) before outcome after =
-        (after.known ≡ before.known) × (seen : SeenText) × ShowsFault number seen after.faults × Ends (none_verdict name label seen) 0 0 outcome
+        (after.known ≡ before.known) × (seen : SeenText) × ShowsFault number before.faults seen after.faults × Ends (none_verdict name label seen) 0 0 outcome
     EndsCompute (computes.Unkept value cause) before outcome after = (after ≡ before) × EndsUnkept name label cause outcome
     EndsCompute (computes.Refused why unused) before outcome after = (after ≡ before) × EndsRefused name label why outcome
 
@@ -146,12 +152,12 @@ module _ (store : StoreView) (context key : ℕ) where
     abbrev pub EndsComputeFail : List ℕ → Compute StoredValue (Unit {0}) → PlanLane → Outcome → PlanLane → Type 0
     EndsComputeFail text (computes.Computed number) before outcome after = ⊥
     EndsComputeFail text (computes.Found at number unused) before outcome after =
-        (seen : SeenText) × ShowsNumber number before.known seen after.known × Ends (none_verdict name label seen) 0 1 outcome
+        (after.faults ≡ before.faults) × (seen : SeenText) × ShowsNumber number before.known seen after.known × Ends (none_verdict name label seen) 0 1 outcome
     EndsComputeFail text (computes.Failed why) before outcome after = (after ≡ before) × Ends successful 0 0 outcome
     EndsComputeFail text (computes.FaultKept number) before outcome after = (after ≡ before) × Ends successful 0 0 outcome
     EndsComputeFail text (computes.FaultUnkept why cause) before outcome after = (after ≡ before) × EndsUnkept name label cause outcome
     EndsComputeFail text (computes.FaultStands at number unused) before outcome after =
-        (after.known ≡ before.known) × (seen : SeenText) × ShowsFault number seen after.faults × Ends (fail_verdict name label text seen) 0 0 outcome
+        (after.known ≡ before.known) × (seen : SeenText) × ShowsFault number before.faults seen after.faults × Ends (fail_verdict name label text seen) 0 0 outcome
     EndsComputeFail text (computes.Unkept value cause) before outcome after = ⊥
     EndsComputeFail text (computes.Refused why unused) before outcome after = (after ≡ before) × EndsRefused name label why outcome
 

@@ -143,7 +143,7 @@ fn end_met<'a>(
     number: u32,
 ) -> Outcome
     requires lane { IsLaneOf store.now.id lane.old }
-    ensures ends { (seen : SeenText) × ShowsFault number seen lane.new.faults × Ends (none_verdict (call_view call.now).name (call_view call.now).label seen) 0 0 result }
+    ensures ends { (seen : SeenText) × ShowsFault number lane.old.faults seen lane.new.faults × Ends (none_verdict (call_view call.now).name (call_view call.now).label seen) 0 0 result }
     ensures known { lane.new.known ≡ lane.old.known }
     ensures steps { lane.new.cells ≡ lane.old.cells }
     ensures lane { IsLaneOf store.now.id lane.new }
@@ -163,7 +163,7 @@ fn end_met_failing<'a>(
     number: u32,
 ) -> Outcome
     requires lane { IsLaneOf store.now.id lane.old }
-    ensures ends { (seen : SeenText) × ShowsFault number seen lane.new.faults × Ends (fail_verdict (call_view call.now).name (call_view call.now).label text.now seen) 0 0 result }
+    ensures ends { (seen : SeenText) × ShowsFault number lane.old.faults seen lane.new.faults × Ends (fail_verdict (call_view call.now).name (call_view call.now).label text.now seen) 0 0 result }
     ensures known { lane.new.known ≡ lane.old.known }
     ensures steps { lane.new.cells ≡ lane.old.cells }
     ensures lane { IsLaneOf store.now.id lane.new }

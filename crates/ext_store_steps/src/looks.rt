@@ -95,6 +95,7 @@ pub(crate) fn show<'a>(
 ) -> Seen<'a>
     requires lane { IsLaneOf store.now.id lane.old }
     ensures shows { ShowsNumber number lane.old.known (seen_view result) lane.new.known }
+    ensures faults { lane.new.faults ≡ lane.old.faults }
     ensures steps { lane.new.cells ≡ lane.old.cells }
     ensures lane { IsLaneOf store.now.id lane.new }
     ensures frame { HasFrame store.now lane.old lane.new }
@@ -112,7 +113,7 @@ pub(crate) fn show_fault<'s, 'a>(
     number: u32,
 ) -> Seen<'s>
     requires lane { IsLaneOf store.now.id lane.old }
-    ensures shows { ShowsFault number (seen_view result) lane.new.faults }
+    ensures shows { ShowsFault number lane.old.faults (seen_view result) lane.new.faults }
     ensures known { lane.new.known ≡ lane.old.known }
     ensures steps { lane.new.cells ≡ lane.old.cells }
     ensures lane { IsLaneOf store.now.id lane.new }

@@ -1,14 +1,14 @@
 -- The test for trees accepts the trees, and no other list of ids.
-use Rattle.std.proofs.Common.{◌≡◌, ◌≢◌, ◌<◌, ◌≤◌, ◌+◌, ℕ, Bool, true, false, not, ◌&&◌, List, [], ◌∷◌, ◌++◌, length, refl, ap, sym, subst, ◌∙◌, arith, inl, inr, append_assoc, length-append, true≢false, ◌↔◌}
+use Rattle.std.proofs.Common.{◌≡◌, ◌<◌, ◌≤◌, ◌+◌, ℕ, Bool, true, not, ◌&&◌, List, [], ◌∷◌, ◌++◌, length, refl, ap, sym, subst, ◌∙◌, arith, inl, inr, append_assoc, length-append, true≢false}
 use Rattle.std.specs.Prelude.{◌==◌, nat_le}
 use Rattle.std.specs.List.{list_any}
 use Rattle.std.specs.Cmp.Lexicographic.{pointwise}
-use Rattle.std.proofs.lemmas.Bool.{and_parts, and_from, not-true, not_from_false, false_from_ne_true, leb-true, le-leb, eqb-true, eqb-false, eq-eqb, ne_eqb, cases_eq}
+use Rattle.std.proofs.lemmas.Bool.{and_parts, and_from, not-true, not_from_false, false_from_ne_true, leb-true, le-leb, eqb-true, eq-eqb, ne_eqb, cases_eq}
 use Rattle.std.proofs.lemmas.List.{get_or_append_left, get_or_default, get_or_at}
 use Rattle.std.proofs.lemmas.List.Folds.{Any-from_list_any, list_any_at}
 use Rattle.ext_ids.specs.Ids.{pair_eq, is_parent}
 use Rattle.ext_ids.proofs.Pairs.{ids_Decides}
-use Rattle.ext_tree.specs.Trees.{Id, id_at, MayFollow, HasRoot, IsTree}
+use Rattle.ext_tree.specs.Trees.{Id, id_at, MayFollow, IsTree}
 use Rattle.ext_tree.specs.Decided.{may_follow, each_may_follow, is_tree}
 use Rattle.ext_tree.specs.Laws.{TestTells}
 use Rattle.ext_tree.proofs.Children.{is_parent_Decides}

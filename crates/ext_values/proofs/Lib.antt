@@ -1,3 +1,4 @@
 pub mod Agreeing
+pub mod Flags
 pub mod Learning
 pub mod NotesLaws

@@ -1,6 +1,6 @@
 -- What a lane knows of the values of all numbers: for each number, in order, the name of its place, and the value that stands there, where that is
 -- known. A value is known where the lane placed it or was shown it, and stays known. Own rules throughout.
-use Rattle.std.specs.Prelude.{ℕ, zero, suc, ◌≡◌, ◌≢◌, List, map, Option, Some, None, slice_index_or}
+use Rattle.std.specs.Prelude.{ℕ, zero, suc, ◌≡◌, ◌≢◌, Bool, List, map, Option, Some, None, is_some, slice_index_or}
 
 -- what is known of one place
 pub record Known (V : Type 0) : Type 0 where
@@ -27,6 +27,10 @@ AreNotesOf places notes = places_of notes ≡ places
 abbrev pub known_at : {V : Type 0} → List (Known V) → ℕ → Option V
 known_at notes zero = None
 known_at notes (suc index) = (slice_index_or notes index (unknown 0)).value
+
+-- whether the value is known, of each number in order
+abbrev pub are_known : {V : Type 0} → List (Known V) → List Bool
+are_known notes = map (λ known. is_some known.value) notes
 
 -- afterwards the value of this number is known, and of every other number what was known before
 pub record Learns {V : Type 0} (before after : List (Known V)) (number : ℕ) (value : V) : Type 0 where

@@ -3,9 +3,9 @@
 -- stands in a place of its own, which is set once and which any thread finds by its number, and it is the number that is stored under a key.
 use Rattle.std.specs.Prelude.{ℕ, ◌≡◌, ◌-◌, ◌<◌, ◌≤◌, List, length, Option, slice_index}
 
--- how many places there may be
+-- how many places there may be, also none
 abbrev pub IsCapacity : ℕ → Type 0
-IsCapacity capacity = (0 < capacity) × (capacity ≤ 65535)
+IsCapacity capacity = capacity ≤ 65535
 
 -- These places have the number: numbers begin at 1. Places are listed by their names, in the order of their numbers.
 abbrev pub IsNumber : List ℕ → ℕ → Type 0

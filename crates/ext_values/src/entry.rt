@@ -1,5 +1,5 @@
 //! What a lane knows of one place.
-ghost use Rattle.std.specs.Prelude.{◌≡◌, IfErr, IfNone, IfSome, None, OnErr, OnOk, Some, is_some};
+ghost use Rattle.std.specs.Prelude.{◌≡◌, IfErr, IfNone, IfSome, None, OnErr, OnOk, Some};
 ghost use Rattle.once_cell.specs.Once.{Agrees, cell_name};
 ghost use Rattle.ext_values.specs.Known.{unknown};
 
@@ -8,25 +8,21 @@ use once_cell::race::OnceBox;
 use std::marker::Model;
 use std::mem::size_of;
 
-/// What a lane knows of one place: one byte, since what tells the value takes none.
+/// What a lane knows of one place: no byte, since what tells the value takes none.
 #[derive(Drop)]
 pub struct Entry<V> {
-    is_known: bool,
     seen: race::Note<V>,
 }
 
-// One byte a number, however large the values are.
-const _: () = prove!(size_of::<Entry<[u64; 4]>>() == 1);
+// No byte a number, however large the values are.
+const _: () = prove!(size_of::<Entry<[u64; 4]>>() == 0);
 
 impl<V> Model for Entry<V> {
-    ghost use Rattle.std.specs.Prelude.{◌≡◌, is_some};
     ghost use Rattle.ext_values.specs.Known.{Known};
 
     ghost Value = { Known V };
 
     ghost view = { λ e. record { place = e.seen.cell; value = e.seen.known } };
-
-    ghost invariant = { λ e. e.is_known ≡ is_some e.seen.known };
 }
 
 impl<V> Entry<V> {
@@ -34,17 +30,7 @@ impl<V> Entry<V> {
     pub fn unknown(place: &OnceBox<V>) -> Entry<V>
         ensures { result ≡ unknown (cell_name place.now) }
     {
-        Entry {
-            is_known: false,
-            seen: place.note(),
-        }
-    }
-
-    /// Whether the value is known.
-    pub fn is_known(&self) -> bool
-        ensures { result ≡ is_some self.now.value }
-    {
-        self.is_known
+        Entry { seen: place.note() }
     }
 
     /// The value of the place, if one is found. A known value is always found.
@@ -55,9 +41,7 @@ impl<V> Entry<V> {
         ensures same { IfSome result (λ x. Agrees self.old.value x.now) }
         ensures none { IfNone result ((self.new ≡ self.old) × (self.old.value ≡ None)) }
     {
-        let value = place.get_as(&mut self.seen)?;
-        self.is_known = true;
-        Some(value)
+        place.get_as(&mut self.seen)
     }
 
     /// Shows that two entries of one place know one value, where both know one.
@@ -87,7 +71,6 @@ impl<V: Drop> Entry<V> {
             Err(back) => return Err(back),
         }
         self.seen = seen;
-        self.is_known = true;
         Ok(())
     }
 }

@@ -4,8 +4,8 @@
 //! value it has, `Notes` tell it of each number that one lane knows. All notes of one number tell one value.
 //!
 //! Memory is taken by the two makers alone, `Values::new` and `Notes::new`: one pointer a number for the places, and
-//! one byte a number for each lane's notes; `SilentNotes`, which can't be asked what they know, take none. The values themselves stand in boxes that the caller hands in. No call
-//! takes a runtime or waits.
+//! one byte a number for each lane's notes. `SilentNotes`, which nobody can ask whether they know a number, take none. The
+//! values themselves stand in boxes that the caller hands in. No call takes a runtime or waits.
 #![tactic(auto)]
 
 mod entry;
@@ -13,7 +13,6 @@ mod fault;
 mod laws;
 mod note;
 mod notes;
-mod silent_entry;
 mod silent_notes;
 mod values;
 

@@ -1,10 +1,9 @@
-//! What one lane knows of the values of all numbers.
+//! What one lane knows of the values of all numbers, and can be asked whether it does.
 ghost use Rattle.std.specs.Prelude.{◌≡◌, IfErr, IfNone, IfOk, IfSome, OnErr, OnOk, OnSome, None, is_some};
 ghost use Rattle.ext_values.specs.Places.{IsNumber};
 ghost use Rattle.ext_values.specs.Known.{AllAgree, AreNotesOf, KeepsKnown, Learns, known_at, nothing_known, places_of};
 
-use crate::entry::Entry;
-use crate::{Values, ValuesFault};
+use crate::{SilentNotes, Values, ValuesFault};
 use std::alloc::Global;
 use std::marker::Model;
 
@@ -12,16 +11,20 @@ use std::marker::Model;
 /// A known value stays known. Takes one byte a number, however large the values are. Own rule.
 #[derive(Drop)]
 pub struct Notes<V> {
-    entries: Vec<Entry<V>>,
+    notes: SilentNotes<V>,
+    // Whether the value is known, of each number in order.
+    flags: Vec<bool>,
 }
 
 impl<V> Model for Notes<V> {
-    ghost use Rattle.std.specs.Prelude.{List};
-    ghost use Rattle.ext_values.specs.Known.{Known};
+    ghost use Rattle.std.specs.Prelude.{◌≡◌, List};
+    ghost use Rattle.ext_values.specs.Known.{Known, are_known};
 
     ghost Value = { List (Known V) };
 
-    ghost view = { λ n. n.entries.items };
+    ghost view = { λ n. n.notes };
+
+    ghost invariant = { λ n. n.flags.items ≡ are_known n.notes };
 }
 
 impl<V> Notes<V> {
@@ -32,12 +35,9 @@ impl<V> Notes<V> {
         ensures nothing { IfOk result (λ n. n ≡ nothing_known values.now) }
         ensures of { IfOk result (λ n. AreNotesOf values.now n) }
     {
-        let capacity = values.capacity();
-        let mut entries = Vec::with_capacity(alloc, capacity as usize)?;
-        for index in 0..capacity {
-            entries.push_reserved(Entry::unknown(values.place_at(index + 1)));
-        }
-        Ok(Notes { entries })
+        let notes = SilentNotes::new(alloc, values)?;
+        let flags = vec![in alloc; false; values.capacity() as usize]?;
+        Ok(Notes { notes, flags })
     }
 
     /// Whether the number's value is known: whether these notes placed it or were shown it. False for a number outside
@@ -45,9 +45,7 @@ impl<V> Notes<V> {
     pub fn knows(&self, number: u32) -> bool
         ensures { result ≡ is_some (known_at self.now number) }
     {
-        number > 0
-            && number as usize <= self.entries.len()
-            && self.entries[number as usize - 1].is_known()
+        number > 0 && number as usize <= self.flags.len() && self.flags[number as usize - 1]
     }
 
     /// The number's value, which is known from now on: always where it was known, and else where this thread finds it.
@@ -64,10 +62,9 @@ impl<V> Notes<V> {
         ensures unchanged { IfNone result (self.new ≡ self.old) }
         ensures of { AreNotesOf values.now self.new }
     {
-        if !values.has_number(number) {
-            return None;
-        }
-        self.entries[number as usize - 1].get(values.place_at(number))
+        let value = self.notes.get(values, number)?;
+        self.flags[number as usize - 1] = true;
+        Some(value)
     }
 
     /// Shows that a number that both notes know has one value in both; it does nothing else. Takes no memory and never
@@ -77,9 +74,7 @@ impl<V> Notes<V> {
         ensures agree { AllAgree self.old other.old }
         ensures unchanged { (self.new ≡ self.old) × (other.new ≡ other.old) }
     {
-        for index in 0..self.entries.len() {
-            self.entries[index].agree(&mut other.entries[index]);
-        }
+        self.notes.meet(&mut other.notes);
     }
 }
 
@@ -99,6 +94,11 @@ impl<V: Drop> Notes<V> {
         ensures unchanged { OnErr result (self.new ≡ self.old) }
         ensures of { AreNotesOf values.now self.new }
     {
-        self.entries[number as usize - 1].place(values.place_at(number), value)
+        match self.notes.place(values, number, value) {
+            Ok(()) => {}
+            Err(back) => return Err(back),
+        }
+        self.flags[number as usize - 1] = true;
+        Ok(())
     }
 }

@@ -3,7 +3,7 @@ ghost use Rattle.std.specs.Prelude.{◌≡◌, IfErr, IfNone, IfOk, IfSome, OnEr
 ghost use Rattle.ext_values.specs.Places.{IsNumber};
 ghost use Rattle.ext_values.specs.Known.{AllAgree, AreNotesOf, KeepsKnown, Learns, known_at, nothing_known, places_of};
 
-use crate::silent_entry::SilentEntry;
+use crate::entry::Entry;
 use crate::{Values, ValuesFault};
 use std::alloc::Global;
 use std::marker::Model;
@@ -12,7 +12,7 @@ use std::marker::Model;
 /// So it takes no byte a number: the notes stand in proofs alone. Own rule.
 #[derive(Drop)]
 pub struct SilentNotes<V> {
-    entries: Vec<SilentEntry<V>>,
+    entries: Vec<Entry<V>>,
 }
 
 impl<V> Model for SilentNotes<V> {
@@ -25,9 +25,9 @@ impl<V> Model for SilentNotes<V> {
 }
 
 impl<V> SilentNotes<V> {
-    /// Notes of these places that know nothing yet; takes memory.
+    /// Notes of these places that know nothing yet. Takes no memory, since no entry has a size.
     ///
-    /// Refused as `Memory`, and only where its one allocation fails. Own rule.
+    /// Refused as `Memory`, as the making of any list may be, and only where an allocation fails. Own rule.
     pub fn new(alloc: Global, values: &Values<V>) -> Result<SilentNotes<V>, ValuesFault>
         ensures nothing { IfOk result (λ n. n ≡ nothing_known values.now) }
         ensures of { IfOk result (λ n. AreNotesOf values.now n) }
@@ -35,7 +35,7 @@ impl<V> SilentNotes<V> {
         let capacity = values.capacity();
         let mut entries = Vec::with_capacity(alloc, capacity as usize)?;
         for index in 0..capacity {
-            entries.push_reserved(SilentEntry::unknown(values.place_at(index + 1)));
+            entries.push_reserved(Entry::unknown(values.place_at(index + 1)));
         }
         Ok(SilentNotes { entries })
     }

@@ -32,8 +32,8 @@ impl<V> Model for Values<V> {
 }
 
 impl<V> Values<V> {
-    /// So many free places; takes memory. It is a condition that the capacity is 1 to 65,535: a call with 0 or with
-    /// 65,536 is not proved.
+    /// So many free places; takes memory, but none for a capacity of 0. It is a condition that the capacity is at most
+    /// 65,535: a call with 65,536 is not proved.
     ///
     /// Refused as `Memory`, and only where its one allocation fails. Own rule.
     pub fn new(alloc: Global, capacity: u32) -> Result<Values<V>, ValuesFault>
@@ -47,7 +47,7 @@ impl<V> Values<V> {
         Ok(Values { places })
     }
 
-    /// How many places there are, which is the last number: 1 to 65,535. Takes no memory. Own rule.
+    /// How many places there are, which is the last number: at most 65,535. Takes no memory. Own rule.
     pub fn capacity(&self) -> u32
         ensures count { result ≡ length self.now }
         ensures within { IsCapacity result }

@@ -8,7 +8,7 @@ use Rattle.ext_model.proofs.Standing.{is_sealed, remove_between_fills, remove_af
 use Rattle.ext_model.proofs.Claims.{claim_stands, used_within}
 use Rattle.ext_model.proofs.Stored.{stored_once, drew_own}
 use Rattle.ext_model.proofs.Owned.{drawn_once, own_may_store}
-use Rattle.ext_model.proofs.Faults.{fault_was_kept, value_is_no_fault, seal_keeps_no_fault, no_faults}
+use Rattle.ext_model.proofs.Faults.{fault_was_kept, value_is_no_fault, seal_keeps_no_fault, no_faults, keeping_adds_fails}
 use Rattle.ext_model.proofs.laws.history_laws.Goals as goal
 
 pub returns : goal.returns
@@ -34,4 +34,5 @@ returns c = record {
   values = λ limits h cell number legal is. value_is_no_fault h cell number legal is;
   sealed_values = λ limits h cell number legal is. seal_keeps_no_fault h cell number legal is;
   no_faults = no_faults;
+  keeping = keeping_adds_fails;
 }

@@ -3,6 +3,7 @@ use Rattle.ext_plain.proofs.Below.{runs_below}
 use Rattle.ext_plain.proofs.Sound.{result_of_each_node, tests_of_plan}
 use Rattle.ext_plain.proofs.Reached.{each_node_runs, runs_body, runs_node, skips_body}
 use Rattle.ext_plain.proofs.Seals.{node-free, node-sealed}
+use Rattle.ext_plain.proofs.KeptFaults.{kept_fault_stands, no_fault_stays, node-faultless}
 use Rattle.ext_plain.proofs.Lacking.{does_or_lacks}
 use Rattle.ext_plain.proofs.Skipping.{skips_below}
 use Rattle.ext_plain.proofs.Values.{node-values, put_is_found}
@@ -19,9 +20,12 @@ returns c = record {
   skipped = skips_body;
   parents = runs_below;
   ancestors = skips_below;
-  opening = λ keeps. (λ place claimed. claimed, refl);
+  opening = λ keeps. (λ place claimed. claimed, refl, λ place number is. cc);
   unclaimed = node-free;
   sealed = node-sealed;
   values = node-values;
   found = put_is_found;
+  kept_fault = kept_fault_stands;
+  no_fault = no_fault_stays;
+  faultless = node-faultless;
 }

@@ -1,4 +1,4 @@
-use Rattle.std.proofs.Common.{inl, refl, subst}
+use Rattle.std.proofs.Common.{inl, refl, subst, ◌∙◌}
 use Rattle.ext_store_steps.specs.StoreCalls.{stored_view}
 use Rattle.ext_store_steps.specs.StoreSteps.{StepPuts}
 use Rattle.ext_store_steps.proofs.KnownKeys.{number_of_key, put_knows}
@@ -27,6 +27,7 @@ returns-in-Ok-put_wait-clause-puts g c =
         result = _;
         puts = c.in-Ok-put_wait.ensures.answer n.0 n.1;
         known = c.in-Ok-put_wait.ensures.known;
+        faults = c.in-Ok-put_wait.ensures.faults ∙ c.in-Ok.ensures.faults;
         ends = ends_well 0 0 _ c.of.ensures.verdict c.of.ensures.computed c.of.ensures.found;
       }),
     )
@@ -46,6 +47,7 @@ returns-in-Err-put_wait-clause-puts g c =
         result = _;
         puts = c.in-Err-put_wait.ensures.answer n.0 n.1;
         known = c.in-Err-put_wait.ensures.known;
+        faults = c.in-Err-put_wait.ensures.faults ∙ c.in-Ok.ensures.faults;
         ends = c.end_refused.ensures;
       }),
     )

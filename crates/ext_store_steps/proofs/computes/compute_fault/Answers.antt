@@ -31,7 +31,7 @@ returns-in-Found-clause-fails g c =
         computed = (subst (λ (l : Lane). ComputesAfterWaits {V = StoredValue} c.args.store.now c.at.result n.0 c.args.lane.now.cells l (computes.Found c.in-Found.at c.in-Found.number tt)) (sym c.show-seen.ensures.steps) (c.in-Found.ensures.answer n.0 n.1));
         between = c.compute_made.new.lane;
         uses = c.in-Found.ensures.factory;
-        ends = (_, c.show-seen.ensures.shows, ends_with _ _ _ 0 1 _ c.none_verdict.ensures.verdict c.none_verdict.ensures.memory c.or_no_memory.ensures.verdict c.or_no_memory.ensures.memory c.counted.ensures.verdict c.counted.ensures.computed c.counted.ensures.found);
+        ends = (c.show-seen.ensures.faults, _, c.show-seen.ensures.shows, ends_with _ _ _ 0 1 _ c.none_verdict.ensures.verdict c.none_verdict.ensures.memory c.or_no_memory.ensures.verdict c.or_no_memory.ensures.memory c.counted.ensures.verdict c.counted.ensures.computed c.counted.ensures.found);
       },
     )
 

@@ -1,4 +1,4 @@
-use Rattle.std.proofs.Common.{◌≡◌, ◌<◌, ◌+◌, ◌∙◌, [], ap, sym, length, refl, arith, subst, HoldsAt, ℕ}
+use Rattle.std.proofs.Common.{◌≡◌, ◌<◌, ◌+◌, ◌∙◌, [], ap, sym, length, arith, subst, HoldsAt, ℕ}
 use Rattle.std.proofs.lemmas.List.{length_push}
 use Rattle.ext_tree.proofs.TreeFacts.{held_more}
 use Rattle.ext_tree.proofs.Children.{none_yet}

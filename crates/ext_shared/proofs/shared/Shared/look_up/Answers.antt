@@ -2,6 +2,7 @@ use Rattle.std.proofs.Common.{rules, ◌≤◌, ap, arith, length}
 use Rattle.ext_tree.specs.Paths.{IsPathOf}
 use Rattle.ext_shared.specs.Calls.{Gets}
 use Rattle.ext_shared.proofs.LookUps.{looks_answer}
+use Rattle.ext_shared.proofs.Faultless.{looks_faultless}
 use Rattle.ext_shared.proofs.shared.Shared.look_up.Goals as goal
 
 pub returns-clause-answer : goal.returns-clause-answer
@@ -13,3 +14,6 @@ returns-clause-answer g c =
 
 pub returns-clause-lane : goal.returns-clause-lane
 returns-clause-lane g c = c.look_along.ensures.lane
+
+pub returns-clause-no_faults : goal.returns-clause-no_faults
+returns-clause-no_faults g c off = looks_faultless c.args.self.now c.as_slice.result.now c.args.key c.args.lane.now c.look_along.new.lane c.requires.lane off c.look_along.result c.look_along.ensures.look

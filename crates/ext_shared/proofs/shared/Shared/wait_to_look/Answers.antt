@@ -3,6 +3,7 @@ use Rattle.std.specs.Prelude.{Ok}
 use Rattle.ext_tree.specs.Paths.{IsPathOf}
 use Rattle.ext_shared.specs.Calls.{Gets}
 use Rattle.ext_shared.proofs.LookUps.{looks_answer}
+use Rattle.ext_shared.proofs.Faultless.{look_faultless}
 use Rattle.ext_shared.proofs.shared.Shared.wait_to_look.Goals as goal
 
 pub returns-clause-answer : goal.returns-clause-answer
@@ -14,3 +15,6 @@ returns-clause-answer g c =
 
 pub returns-clause-lane : goal.returns-clause-lane
 returns-clause-lane g c = c.wait_along.ensures.lane
+
+pub returns-clause-no_faults : goal.returns-clause-no_faults
+returns-clause-no_faults g c off = look_faultless c.args.self.now c.as_slice.result.now c.args.key c.args.lane.now c.wait_along.new.lane c.requires.lane off c.wait_along.result c.wait_along.ensures.look

@@ -1,14 +1,11 @@
-use Rattle.std.proofs.Common.{◌≡◌, [], ◌∷◌, sym, refl, ap, ◌∙◌, subst}
+use Rattle.std.proofs.Common.{◌≡◌, [], sym, refl, ap, ◌∙◌, subst}
 use Rattle.std.specs.Prelude.{Ok, Err}
 use Rattle.std.specs.Fn.{FnOnceReturns, FnOnceReturnsAt}
-use Rattle.ext_model.specs.declared.event.Act.TheVariants.{Abandon}
-use Rattle.ext_model.specs.Calls.{Calls}
-use Rattle.ext_cells.specs.Lanes.{CellsId, Lane}
+use Rattle.ext_cells.specs.Lanes.{Lane}
 use Rattle.ext_values.specs.Known.{Learns}
 use Rattle.ext_store.specs.Stores.{StoreLane, StoreView}
 use Rattle.ext_store.specs.Computing.{ComputesFrom, Uses, without_factory}
 use Rattle.ext_store.specs.Waiting.{ClaimsAfterWaits, ComputesAfterWaits}
-use Rattle.ext_shared.proofs.Claimed.{none_stored, nor_this}
 use Rattle.ext_store.proofs.Frames.{frame_keeps, frame_known, frame_lane, frames_compose}
 use Rattle.ext_store.proofs.Composing.{unused_computes, ends_failed, failed_uses, failed_back, failed_apart, failed_faultless, computes, keeps_not}
 use Rattle.ext_store.proofs.Waited.{computes_later, waits_frame}

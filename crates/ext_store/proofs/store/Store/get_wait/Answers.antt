@@ -1,4 +1,4 @@
-use Rattle.std.proofs.Common.{◌≡◌, subst, sym, ap, refl}
+use Rattle.std.proofs.Common.{◌≡◌, subst, sym, refl}
 use Rattle.ext_tree.specs.Keys.{HasNumber}
 use Rattle.std.specs.Prelude.{Contains, Ok}
 use Rattle.ext_store.specs.Calls.{Gets}

@@ -1,4 +1,4 @@
-use Rattle.std.proofs.Common.{◌≡◌, ◌∙◌, length, sym, refl, ap, subst}
+use Rattle.std.proofs.Common.{◌≡◌, ◌∙◌, length, ap, subst}
 use Rattle.ext_cells.specs.Lanes.{CellsId}
 use Rattle.ext_store.specs.Stores.{StoreView, StoreLane}
 use Rattle.ext_store.specs.Keeping.{PlacesDrawn}

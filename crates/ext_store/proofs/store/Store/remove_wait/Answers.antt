@@ -1,4 +1,4 @@
-use Rattle.std.proofs.Common.{◌≡◌, subst, sym, ap, refl}
+use Rattle.std.proofs.Common.{◌≡◌, subst, sym, refl}
 use Rattle.std.specs.Prelude.{Contains}
 use Rattle.ext_tree.specs.Keys.{HasNumber}
 use Rattle.ext_store.specs.Calls.{Removes}

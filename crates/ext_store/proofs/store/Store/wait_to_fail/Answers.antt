@@ -1,4 +1,4 @@
-use Rattle.std.proofs.Common.{◌≡◌, ℕ, [], ◌∷◌, sym, refl, ap, ◌∙◌, subst}
+use Rattle.std.proofs.Common.{[], ◌∷◌, sym, refl, ap, subst}
 use Rattle.ext_model.specs.declared.event.Act.TheVariants.{Fail, Abandon}
 use Rattle.ext_model.specs.Calls.{Calls, IsHeld}
 use Rattle.ext_cells.specs.Lanes.{CellsId, Lane}

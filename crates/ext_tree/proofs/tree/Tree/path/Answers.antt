@@ -1,6 +1,5 @@
-use Rattle.std.proofs.Common.{rules, ◌≡◌, ◌<◌, subst, length, arith}
-use Rattle.ext_tree.specs.Trees.{IsTree, id_at}
-use Rattle.ext_tree.specs.Paths.{IsPathOf}
+use Rattle.std.proofs.Common.{rules, subst, arith}
+use Rattle.ext_tree.specs.Trees.{IsTree}
 use Rattle.ext_tree.proofs.TreeFacts.{has_segment}
 use Rattle.ext_tree.proofs.Walks.{path_length, path_within, path_falls}
 use Rattle.ext_tree.proofs.tree.Tree.path.Goals as goal

@@ -1,14 +1,10 @@
-use Rattle.std.proofs.Common.{rules}
-use Rattle.std.proofs.lemmas.Option.{IfSome_then}
-use Rattle.ext_values.specs.Places.{IsNumber}
-use Rattle.ext_values.proofs.Learning.{learns, places_stay}
+use Rattle.std.proofs.Common.{◌∙◌, ◌-◌, true, ap, set, sym, subst}
+use Rattle.ext_values.specs.Known.{AreNotesOf}
+use Rattle.ext_values.proofs.Flags.{one_more_known}
 use Rattle.ext_values.proofs.notes.Notes.get.Goals as goal
 
-pub returns-clause-found : goal.returns-clause-found
-returns-clause-found g c =
-    let within : IsNumber c.args.values.now c.args.number = search rules in
-    IfSome_then c.get.result c.get.ensures.found
-    (λ x known. learns c.self.inside.entries.items c.args.self.now c.args.values.now c.self.view_is c.requires c.args.number c.index_mut.result.now c.get.new.self c.index_mut.ensures.value c.get.ensures.place x.now within known)
-
-pub returns-clause-of : goal.returns-clause-of
-returns-clause-of g c = places_stay c.self.inside.entries.items c.args.self.now c.args.values.now c.self.view_is c.requires c.args.number c.index_mut.result.now c.get.new.self c.index_mut.ensures.value c.get.ensures.place
+pub invariant_of-self-2 : goal.invariant_of-self-2
+invariant_of-self-2 g c =
+    let of : AreNotesOf c.args.values.now c.self.inside.notes = subst (λ l. AreNotesOf c.args.values.now l) (sym c.self.view_is) c.requires in
+    ap (λ l. set l (c.args.number - 1) true) c.self.invariant
+    ∙ one_more_known c.self.inside.notes c.get.new.self c.args.values.now c.args.number c.in_ok-value.value.now of c.in_ok-value.ensures.within c.in_ok-value.ensures.found

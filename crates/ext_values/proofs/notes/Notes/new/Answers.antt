@@ -1,11 +1,11 @@
-use Rattle.std.proofs.Common.{◌≤◌, ◌∙◌, ap, arith, length}
-use Rattle.std.proofs.lemmas.List.{take_all}
-use Rattle.ext_values.specs.Known.{nothing_known}
-use Rattle.ext_values.proofs.NotesLaws.{notes_of_nothing}
+use Rattle.std.proofs.Common.{◌∙◌, false, ap, replicate, sym}
+use Rattle.ext_values.specs.Known.{are_known}
+use Rattle.ext_values.proofs.Flags.{none_known}
 use Rattle.ext_values.proofs.notes.Notes.new.Goals as goal
 
-pub returns-clause-of : goal.returns-clause-of
-returns-clause-of g c =
-    let all : length c.args.values.now ≤ c.loop-index.index = omega arith in
-    notes_of_nothing c.loop-index.entries.items c.args.values.now
-    (c.loop-index.invariant.entries ∙ ap (λ l. nothing_known l) (take_all c.loop-index.index c.args.values.now all))
+pub invariant_of-result : goal.invariant_of-result
+invariant_of-result g c =
+    c.in_ok-flags.ensures.items_if_clones_equal (λ y same. same)
+    ∙ ap (λ n. replicate n false) c.capacity.ensures.count
+    ∙ sym (none_known g.row.V.Denot c.args.values.now)
+    ∙ sym (ap (λ l. are_known l) c.in_ok-notes.ensures.nothing)

@@ -1,12 +1,10 @@
-use Rattle.std.proofs.lemmas.Result.{on_ok_weaker}
-use Rattle.ext_values.proofs.Learning.{learns, places_stay}
+use Rattle.std.proofs.Common.{◌∙◌, ◌-◌, true, ap, set, sym, subst}
+use Rattle.ext_values.specs.Known.{AreNotesOf}
+use Rattle.ext_values.proofs.Flags.{one_more_known}
 use Rattle.ext_values.proofs.notes.Notes.place.Goals as goal
 
-pub returns-clause-placed : goal.returns-clause-placed
-returns-clause-placed g c =
-    on_ok_weaker c.place.result
-    (learns c.self.inside.entries.items c.args.self.now c.args.values.now c.self.view_is c.requires.of c.args.number c.index_mut.result.now c.place.new.self c.index_mut.ensures.value c.place.ensures.place c.args.value.value c.requires.number)
-    c.place.ensures.placed
-
-pub returns-clause-of : goal.returns-clause-of
-returns-clause-of g c = places_stay c.self.inside.entries.items c.args.self.now c.args.values.now c.self.view_is c.requires.of c.args.number c.index_mut.result.now c.place.new.self c.index_mut.ensures.value c.place.ensures.place
+pub invariant_of-self-2 : goal.invariant_of-self-2
+invariant_of-self-2 g c =
+    let of : AreNotesOf c.args.values.now c.self.inside.notes = subst (λ l. AreNotesOf c.args.values.now l) (sym c.self.view_is) c.requires.of in
+    ap (λ l. set l (c.args.number - 1) true) c.self.invariant
+    ∙ one_more_known c.self.inside.notes c.place.new.self c.args.values.now c.args.number c.args.value.value of c.requires.number c.in-Ok.ensures.placed

@@ -1,0 +1,210 @@
+-- A kept fault stands: the steps that meet it say so. Where faults are not kept, a factory that fails leaves nothing.
+use Rattle.std.proofs.Common.{◌≡◌, ◌≢◌, ℕ, suc, Bool, true, false, List, [], ◌∷◌, ◌++◌, drop, Option, Some, None, refl, ap, sym, subst, ◌∙◌, arith}
+use Rattle.std.specs.Prelude.{codes, if◌then◌else◌}
+use Rattle.std.specs.Str.{bytes_eq}
+use Rattle.std.proofs.lemmas.Slice.Eq.{bytes_eq-Decides}
+use Rattle.ext_model.specs.declared.event.Act.TheVariants.{Put, Remove, Claim, Fill, Fail, Abandon, Seal}
+use Rattle.ext_model.specs.declared.event.Act.{Act}
+use Rattle.ext_model.specs.declared.event.Event.{Event}
+use Rattle.ext_model.specs.declared.look.Look.{Look}
+use Rattle.ext_model.specs.declared.look.Look.TheVariants as look
+use Rattle.ext_model.specs.declared.slot.Slot.{Slot}
+use Rattle.ext_model.specs.declared.slot.Slot.TheVariants as slot
+use Rattle.ext_model.specs.Events.{Reply, Happens, Answers, Refuses, slot_after}
+use Rattle.ext_model.specs.State.{State, lookup}
+use Rattle.ext_model.specs.Plain.{Place, any_lane, state_by, under}
+use Rattle.ext_model.proofs.Lookups.{nearest_decides}
+use Rattle.ext_model.proofs.Steps.{abandon_undoes_claim}
+use Rattle.ext_lifecycle.specs.Endings.{failed, successful}
+use Rattle.ext_plan_model.specs.Plans.{KeyText, PlanText, compute_fail}
+use Rattle.ext_steps.specs.declared.reason.Reason.{Reason}
+use Rattle.ext_steps.specs.Calls.{key_number, label_of, start_of}
+use Rattle.ext_steps.specs.StepTexts.{met_fault_text}
+use Rattle.ext_steps.specs.Values.{ValueText}
+use Rattle.ext_steps.specs.Verdicts.{seen_fault, fail_verdict, none_verdict, want_verdict}
+use Rattle.ext_plain.specs.ValueStates.{ValueState, run_numbers, reply_to, after_act, why_refused, next_number, keep_value, value_of}
+use Rattle.ext_plain.specs.Steps.{StepEnd, ended, or_refused, shown, shown_fault, seen_by, factory_failed, claim_and, compute_looked, computefail_looked, found_along, step_run}
+use Rattle.ext_plain.specs.PlainRun.{RunState, node_run}
+use Rattle.ext_plain.specs.Laws.{HasNoFaults, HasValues, MeetsFault}
+use Rattle.ext_plain.proofs.Kept.{IsKept, node-kept}
+use Rattle.ext_plain.proofs.Seals.{failed_here, was_empty}
+use Rattle.ext_plain.proofs.Values.{act-values, keep-drawn, last_value}
+
+-- the text of a kept fault, as it stands among the values
+abbrev fault_of : List ℕ → ValueText
+fault_of text = record { text = text; closeable = false }
+
+-- the place is claimed and the number of the fault is drawn,
+abbrev drawing : Place → List ℕ → ValueState → ValueState
+drawing place text s = keep_value (fault_of text) (after_act (Claim place) s)
+
+-- and then it is stored there
+abbrev failing : Place → List ℕ → ValueState → ValueState
+failing place text s = after_act (Fail place (drawing place text s).store.drawn) (drawing place text s)
+
+-- ---- where faults are kept
+
+-- a step that passed was not refused
+not_refused : (name label : List ℕ) (why : Option Reason) (s : ValueState) (goes_on : StepEnd) → (or_refused name label why s goes_on).verdict ≡ successful → why ≡ None
+not_refused name label None s goes_on passed = refl
+not_refused name label (Some why) s goes_on passed = absurd cc
+
+record IsKeptFault (name label : List ℕ) (place : Place) (text : List ℕ) (s : ValueState) : Type 0 where
+  won : why_refused (Claim place) s ≡ None
+  room : why_refused (next_number (after_act (Claim place) s)) (after_act (Claim place) s) ≡ None
+  end : claim_and name label place (factory_failed name label place text) s ≡ ended successful (failing place text s)
+
+is_kept : (name label : List ℕ) (place : Place) (text : List ℕ) (s : ValueState) → s.keep_faults ≡ true → (claim_and name label place (factory_failed name label place text) s).verdict ≡ successful
+    → IsKeptFault name label place text s
+is_kept name label place text s keeps passed =
+    let claimed = after_act (Claim place) s in
+    let failed : StepEnd = factory_failed name label place text claimed in
+    let stored : StepEnd = ended successful (failing place text s) in
+    let gone = after_act (Abandon place) claimed in
+    let drawn : StepEnd = or_refused name label (why_refused (next_number claimed) claimed) gone stored in
+    let won : why_refused (Claim place) s ≡ None = not_refused name label (why_refused (Claim place) s) s failed passed in
+    let runs : claim_and name label place (factory_failed name label place text) s ≡ failed = ap (λ w. or_refused name label w s failed) won in
+    let kept : failed ≡ drawn = ap (λ b. if b then drawn else ended successful gone) keeps in
+    let room : why_refused (next_number claimed) claimed ≡ None =
+    not_refused name label (why_refused (next_number claimed) claimed) gone stored (sym (ap (λ (e : StepEnd). e.verdict) (runs ∙ kept)) ∙ passed) in
+    record { won = won; room = room; end = runs ∙ kept ∙ ap (λ w. or_refused name label w gone stored) room }
+
+fault_found : (at key : ℕ) (above text : List ℕ) (s : ValueState) → why_refused (Claim (at, key)) s ≡ None
+    → lookup (under (failing (at, key) text s).store key) (at ∷ above) ≡ look.Fault at (drawing (at, key) text s).store.drawn
+fault_found at key above text s won =
+    nearest_decides (under (failing (at, key) text s).store key) [] at above (slot.Fault (drawing (at, key) text s).store.drawn) (λ k d within. absurd (omega (arith, within))) (failed_here (at, key) (fault_of text) s won)
+
+fault_known : (place : Place) (text : List ℕ) (s : ValueState) → HasValues s → why_refused (next_number (after_act (Claim place) s)) (after_act (Claim place) s) ≡ None
+    → value_of (failing place text s).values (drawing place text s).store.drawn ≡ Some (fault_of text)
+fault_known place text s h room =
+    let claimed = after_act (Claim place) s in
+    ap (value_of (s.values ++ fault_of text ∷ [])) (keep-drawn (fault_of text) claimed room ∙ ap suc (sym (act-values (Claim place) s refl h))) ∙ last_value s.values (fault_of text)
+
+-- ---- the steps that meet it
+
+meets_fault : (keys : List KeyText) (path : List ℕ) (key up : ℕ) (text : List ℕ) (s : ValueState) (at number : ℕ) → found_along keys key (drop up path) s ≡ look.Fault at number
+    → shown_fault (value_of s.values number) ≡ seen_fault text → MeetsFault keys path key up text s
+meets_fault keys path key up text s at number found known =
+    let label = label_of keys key in
+    let place : Place = (start_of (drop up path), key_number keys key) in
+    record {
+      computes = λ other. ap (compute_looked (codes "compute") label place (record { text = other; closeable = false }) s) found ∙ ap (λ seen. ended (none_verdict (codes "compute") label seen) s) known;
+      computes_closeable = λ other. ap (compute_looked (codes "compute!") label place (record { text = other; closeable = true }) s) found ∙ ap (λ seen. ended (none_verdict (codes "compute!") label seen) s) known;
+      fails = λ other. ap (computefail_looked (codes "computefail") label place other s) found ∙ ap (λ seen. ended (fail_verdict (codes "computefail") label other seen) s) known;
+      wants = λ other. ap (λ found. ended (want_verdict (codes "want") label other (seen_by s.values found)) s) found ∙ ap (λ seen. ended (want_verdict (codes "want") label other seen) s) known;
+      finds = ap (λ found. ended (none_verdict (codes "none") label (seen_by s.values found)) s) found ∙ ap (λ seen. ended (none_verdict (codes "none") label seen) s) known;
+    }
+
+-- a value that was found lets no `computefail` pass,
+value_fails : (name label : List ℕ) (value : Option ValueText) → none_verdict name label (shown value) ≡ successful → ⊥
+value_fails name label None passed = cc
+value_fails name label (Some value) passed = cc
+
+-- and a fault that was met only one of its own text
+only_if : (b : Bool) (text : List ℕ) → (if b then successful else failed text) ≡ successful → b ≡ true
+only_if true text passed = refl
+only_if false text passed = absurd cc
+
+same_fault : (name label text : List ℕ) (fault : Option ValueText) → fail_verdict name label text (shown_fault fault) ≡ successful → shown_fault fault ≡ seen_fault text
+same_fault name label text None passed = absurd cc
+same_fault name label text (Some fault) passed = ap seen_fault ((bytes_eq-Decides fault.text text).0 (only_if (bytes_eq fault.text text) (met_fault_text name label fault.text) passed))
+
+-- ---- once a `computefail` has passed
+
+-- where it found nothing
+kept_is_met : (keys : List KeyText) (path : List ℕ) (at : ℕ) (above : List ℕ) (key up : ℕ) (text : List ℕ) (s : ValueState) → drop up path ≡ at ∷ above → HasValues s
+    → IsKeptFault (codes "computefail") (label_of keys key) (start_of (drop up path), key_number keys key) text s
+    → MeetsFault keys path key up text (failing (start_of (drop up path), key_number keys key) text s)
+kept_is_met keys path at above key up text s is h kept =
+    let k = key_number keys key in
+    let place : Place = (start_of (drop up path), k) in
+    let found : lookup (under (failing place text s).store k) (drop up path) ≡ look.Fault (start_of (drop up path)) (drawing place text s).store.drawn =
+    subst (λ p. why_refused (Claim (start_of p, k)) s ≡ None → lookup (under (failing (start_of p, k) text s).store k) p ≡ look.Fault (start_of p) (drawing (start_of p, k) text s).store.drawn) (sym is) (fault_found at k above text s) kept.won in
+    meets_fault keys path key up text (failing place text s) (start_of (drop up path)) (drawing place text s).store.drawn found (ap shown_fault (fault_known place text s h kept.room))
+
+-- by what it found
+passed_meets : (keys : List KeyText) (path : List ℕ) (at : ℕ) (above : List ℕ) (key up : ℕ) (text : List ℕ) (s : ValueState) (found : Look) → drop up path ≡ at ∷ above → HasValues s → s.keep_faults ≡ true
+    → found_along keys key (drop up path) s ≡ found
+    → (let end = computefail_looked (codes "computefail") (label_of keys key) (start_of (drop up path), key_number keys key) text s found in end.verdict ≡ successful → MeetsFault keys path key up text end.state)
+passed_meets keys path at above key up text s (look.Found in_context number) is h keeps found = λ passed. absurd (value_fails (codes "computefail") (label_of keys key) (value_of s.values number) passed)
+passed_meets keys path at above key up text s (look.Fault in_context number) is h keeps found = λ passed.
+    meets_fault keys path key up text s in_context number found (same_fault (codes "computefail") (label_of keys key) text (value_of s.values number) passed)
+passed_meets keys path at above key up text s look.Absent is h keeps found = λ passed.
+    let kept = is_kept (codes "computefail") (label_of keys key) (start_of (drop up path), key_number keys key) text s keeps passed in
+    subst (λ (t : ValueState). MeetsFault keys path key up text t) (sym (ap (λ (e : StepEnd). e.state) kept.end)) (kept_is_met keys path at above key up text s is h kept)
+passed_meets keys path at above key up text s (look.Busy in_context) is h keeps found = λ passed. absurd cc
+passed_meets keys path at above key up text s (look.Closed in_context) is h keeps found = λ passed. absurd cc
+
+pub kept_fault_stands : (keys : List KeyText) (path : List ℕ) (at : ℕ) (above : List ℕ) (key up : ℕ) (text : List ℕ) (s : ValueState) → drop up path ≡ at ∷ above → HasValues s → s.keep_faults ≡ true
+    → (step_run keys path (compute_fail key text up) s).verdict ≡ successful
+    → MeetsFault keys path key up text (step_run keys path (compute_fail key text up) s).state
+kept_fault_stands keys path at above key up text s is h keeps passed = passed_meets keys path at above key up text s (found_along keys key (drop up path) s) is h keeps refl passed
+
+-- ---- where faults are not kept
+
+unless_refused-same : (name label : List ℕ) (why : Option Reason) (s : ValueState) (goes_on : StepEnd) → (why ≡ None → goes_on.state ≡ s) → (or_refused name label why s goes_on).state ≡ s
+unless_refused-same name label None s goes_on same = same refl
+unless_refused-same name label (Some why) s goes_on same = refl
+
+failed-same : (name label : List ℕ) (place : Place) (text : List ℕ) (s : ValueState) → s.keep_faults ≡ false → why_refused (Claim place) s ≡ None → (factory_failed name label place text (after_act (Claim place) s)).state ≡ s
+failed-same name label place text s keeps won =
+    let claimed = after_act (Claim place) s in
+    let gone = after_act (Abandon place) claimed in
+    let drawn : StepEnd = or_refused name label (why_refused (next_number claimed) claimed) gone (ended successful (failing place text s)) in
+    ap (λ b. (let end : StepEnd = if b then drawn else ended successful gone in end.state)) keeps
+    ∙ ap (λ (t : State Place). record s { store = t }) (abandon_undoes_claim run_numbers s.store any_lane place (was_empty (s.store.slots place) won))
+
+looked-same : (name label : List ℕ) (place : Place) (text : List ℕ) (s : ValueState) (found : Look) → s.keep_faults ≡ false → (computefail_looked name label place text s found).state ≡ s
+looked-same name label place text s (look.Found at number) keeps = refl
+looked-same name label place text s (look.Fault at number) keeps = refl
+looked-same name label place text s look.Absent keeps =
+    unless_refused-same name label (why_refused (Claim place) s) s (factory_failed name label place text (after_act (Claim place) s)) (failed-same name label place text s keeps)
+looked-same name label place text s (look.Busy at) keeps = refl
+looked-same name label place text s (look.Closed at) keeps = refl
+
+pub no_fault_stays : (keys : List KeyText) (path : List ℕ) (key up : ℕ) (text : List ℕ) (s : ValueState) → s.keep_faults ≡ false → (step_run keys path (compute_fail key text up) s).state ≡ s
+no_fault_stays keys path key up text s keeps = looked-same (codes "computefail") (label_of keys key) (start_of (drop up path), key_number keys key) text s (found_along keys key (drop up path) s) keeps
+
+-- ---- where faults are not kept, none stands
+
+abbrev IsNoFault : Option Slot → Type 0
+IsNoFault x = (number : ℕ) → x ≢ Some (slot.Fault number)
+
+either-faultless : (b : Bool) (x y : Option Slot) → IsNoFault x → IsNoFault y → IsNoFault (if b then x else y)
+either-faultless true x y p q = p
+either-faultless false x y p q = q
+
+by_reply : (r : Reply) (s : State Place) (e : Event Place) (place : Place) → IsNoFault (s.slots place) → IsNoFault (slot_after e.lane e.act (s.slots place)) → IsNoFault ((state_by r s e).slots place)
+by_reply (Happens answer) s e place old new = either-faultless _ _ _ new old
+by_reply (Answers answer) s e place old new = old
+by_reply (Refuses why) s e place old new = old
+
+act-faultless : (act : Act Place) (s : ValueState) → HasNoFaults s → ((place : Place) → IsNoFault (slot_after any_lane act (s.store.slots place))) → HasNoFaults (after_act act s)
+act-faultless act s old new = λ place. by_reply (reply_to act s) s.store (record { lane = any_lane; act = act }) place (old place) (new place)
+
+-- it keeps no faults, and none stands
+record IsFaultless (s : ValueState) : Type 0 where
+  never : s.keep_faults ≡ false
+  nowhere : HasNoFaults s
+
+claim-faultless : (place : Place) (s : ValueState) → HasNoFaults s → HasNoFaults (after_act (Claim place) s)
+claim-faultless place s h = act-faultless (Claim place) s h (λ p number is. cc)
+
+faultless : IsKept IsFaultless
+faultless = record {
+  finds = λ memory s h. record { never = h.never; nowhere = h.nowhere };
+  puts = λ place number s h. record { never = h.never; nowhere = act-faultless (Put place number) s h.nowhere (λ p n is. cc) };
+  removes = λ place s h. record { never = h.never; nowhere = act-faultless (Remove place) s h.nowhere (λ p n is. cc) };
+  seals = λ place s h. record { never = h.never; nowhere = act-faultless (Seal place) s h.nowhere (λ p n is. cc) };
+  keeps = λ value s room h. record { never = h.never; nowhere = act-faultless (next_number s) s h.nowhere h.nowhere };
+  abandons = λ place s won h. record { never = h.never; nowhere = act-faultless (Abandon place) (after_act (Claim place) s) (claim-faultless place s h.nowhere) (λ p n is. cc) };
+  fills = λ place value s won room h.
+      let claimed = after_act (Claim place) s in
+      let kept = keep_value value claimed in
+      let drawn : HasNoFaults kept = act-faultless (next_number claimed) claimed (claim-faultless place s h.nowhere) (claim-faultless place s h.nowhere) in
+      record { never = h.never; nowhere = act-faultless (Fill place kept.store.drawn) kept drawn (λ p n is. cc) };
+  fails = λ place value s keeps won room h. absurd (let both : true ≡ false = sym keeps ∙ h.never in cc);
+}
+
+pub node-faultless : (plan : PlanText) (levels : ℕ) (path : List ℕ) (run : RunState) → run.state.keep_faults ≡ false → HasNoFaults run.state → HasNoFaults (node_run plan levels path run).state
+node-faultless plan levels path run keeps h = (node-kept IsFaultless faultless plan levels path run (record { never = keeps; nowhere = h })).nowhere
