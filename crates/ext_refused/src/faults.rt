@@ -49,16 +49,23 @@ fn fail(store: &Store<Letter>, lane: &mut Lane<Letter>, a: &Key, fault: Fault) -
     let factory = move |_key: &Key| -> Result<Letter, Fault> { Err(fault) };
     match store.compute(lane, 2, a, factory) {
         Compute::FaultKept { number } => Answer::Kept(number),
-        Compute::FaultUnkept {
-            fault,
-            cause: KeepFault::Memory,
-        } => Answer::Unkept(fault),
-        Compute::FaultStands {
-            at: 2,
-            number: 1,
-            unused,
-        } => answer_of(unused(a)),
-        _ => Answer::Other,
+        Compute::FaultUnkept { fault, cause } => {
+            if cause == KeepFault::Memory {
+                Answer::Unkept(fault)
+            } else {
+                Answer::Other
+            }
+        }
+        Compute::FaultStands { at, number, unused } => {
+            let given = unused(a);
+            if at == 2 && number == 1 {
+                answer_of(given)
+            } else {
+                Answer::Other
+            }
+        }
+        Compute::Computed { .. } | Compute::Found { .. } | Compute::Failed(_) => Answer::Other,
+        Compute::Unkept { .. } | Compute::Refused { .. } => Answer::Other,
     }
 }
 

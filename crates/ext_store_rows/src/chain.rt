@@ -171,24 +171,36 @@ fn check_fault<R: Abort>(rt: &R, fault: Option<&Fault>, text: Option<&str>) {
     same(rt, text_of(fault), text, "the fault");
 }
 
+/// This, where the fault has the text.
+fn told_if(fault: &Fault, text: &str, told: Told) -> Told {
+    if text_of(Some(fault)) == Some(text) {
+        told
+    } else {
+        Told::Other
+    }
+}
+
+/// This, where the factory that came back fails with the text.
+fn told_if_unused(made: Result<Letter, Fault>, text: &str, told: Told) -> Told {
+    match made {
+        Ok(_) => Told::Other,
+        Err(fault) => told_if(&fault, text, told),
+    }
+}
+
 /// What the compute tells whose factory fails with the text.
 fn tell_fault(outcome: Compute<Letter, Result<Letter, Fault>>, text: &str) -> Told {
     match outcome {
-        Compute::Failed(fault) if text_of(Some(&fault)) == Some(text) => Told::Failed,
+        Compute::Failed(fault) => told_if(&fault, text, Told::Failed),
         Compute::FaultKept { number } => Told::FaultKept(number),
-        Compute::FaultUnkept { fault, cause } if text_of(Some(&fault)) == Some(text) => {
-            Told::FaultUnkept(cause)
+        Compute::FaultUnkept { fault, cause } => told_if(&fault, text, Told::FaultUnkept(cause)),
+        Compute::FaultStands { at, number, unused } => {
+            told_if_unused(unused, text, Told::FaultStands(at, number))
         }
-        Compute::FaultStands {
-            at,
-            number,
-            unused: Err(fault),
-        } if text_of(Some(&fault)) == Some(text) => Told::FaultStands(at, number),
-        Compute::Refused {
-            refusal,
-            unused: Err(fault),
-        } if text_of(Some(&fault)) == Some(text) => Told::Refused(refusal),
-        _ => Told::Other,
+        Compute::Refused { refusal, unused } => {
+            told_if_unused(unused, text, Told::Refused(refusal))
+        }
+        Compute::Computed { .. } | Compute::Found { .. } | Compute::Unkept { .. } => Told::Other,
     }
 }
 
