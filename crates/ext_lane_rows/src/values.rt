@@ -1,5 +1,5 @@
 //! The worked examples of places and notes, and callers that go by the clauses alone.
-ghost use Rattle.std.specs.Prelude.{◌≡◌, IfErr, IfOk, IfSome};
+ghost use Rattle.std.specs.Prelude.{◌≡◌, ◌<◌, IfErr, IfOk, IfSome};
 ghost use Rattle.ext_values.specs.Places.{IsCapacity, IsNoteOf, IsNumber};
 ghost use Rattle.ext_values.specs.Known.{AreNotesOf};
 
@@ -264,7 +264,8 @@ fn silent_notes_find_what_was_placed(rt: HostRuntime) -> Result<(), Fail> {
 
 /// The capacity for so many numbers, and whether the last of them is known once it was placed, and the one behind it.
 fn last_number(alloc: Global, capacity: u32) -> Result<(u32, bool, bool), Fail>
-    requires { IsCapacity capacity }
+    requires capacity { IsCapacity capacity }
+    requires some { 0 < capacity }
 {
     let values = Values::new(alloc, capacity)?;
     let mut notes = Notes::new(alloc, &values)?;
@@ -282,6 +283,22 @@ fn capacities_from_1_to_65535(rt: HostRuntime) -> Result<(), Fail> {
     same(&rt, last_number(rt.alloc(), 1)?, (1, true, false), "1");
     let largest = last_number(rt.alloc(), 65_535)?;
     same(&rt, largest, (65_535, true, false), "65,535");
+    Ok(())
+}
+
+#[test]
+fn no_places_for_no_numbers(rt: HostRuntime) -> Result<(), Fail> {
+    let values: Values<u8> = Values::new(rt.alloc(), 0)?;
+    let numbers = (
+        values.capacity(),
+        values.has_number(0),
+        values.has_number(1),
+    );
+    same(&rt, numbers, (0, false, false), "the numbers");
+    let mut notes = Notes::new(rt.alloc(), &values)?;
+    let mut silent = SilentNotes::new(rt.alloc(), &values)?;
+    let found = (notes.get(&values, 1), silent.get(&values, 1));
+    same(&rt, found, (None, None), "no value");
     Ok(())
 }
 

@@ -1,5 +1,5 @@
 //! The closes of a round: by one lane beside the others, and of what is left by all lanes.
-ghost use Rattle.std.specs.Prelude.{◌<◌, All, IfSome};
+ghost use Rattle.std.specs.Prelude.{◌<◌, ◌≤◌, All, IfSome};
 ghost use Rattle.ext_store.specs.Stores.{IsCloserOf, IsLaneOf};
 
 use crate::calls::look;
@@ -15,7 +15,7 @@ use std::alloc::Global;
 use std::sync::Wait;
 
 /// How many times a lane tries to close a context beside the others.
-const TRIES: u32 = 6;
+const TRIES: usize = 6;
 
 /// How often it looks for each try.
 const LOOKS: usize = 10;
@@ -137,6 +137,13 @@ fn close_once(
     }
 }
 
+/// How often a lane looks for each try, in a store that keeps faults or not.
+fn looks_for_a_try(keep_faults: bool) -> usize
+    ensures { (0 < result) × (result ≤ 60) }
+{
+    if keep_faults { MORE_LOOKS } else { LOOKS }
+}
+
 /// Tries to close the context beside the other lanes, again and again. Answers its closer where it is not closed.
 fn close_beside<R: Wait>(
     rt: &R,
@@ -150,13 +157,9 @@ fn close_beside<R: Wait>(
     ensures lanes { All (IsLaneOf shared.now.store.id) hand.new }
     ensures closer { IfSome result (IsCloserOf shared.now.store) }
 {
-    let looks = if shared.store.keeps_faults() {
-        MORE_LOOKS
-    } else {
-        LOOKS
-    };
+    let looks = looks_for_a_try(shared.store.keeps_faults());
     let mut closer = closer;
-    for _ in 0..TRIES * looks as u32 {
+    for _ in 0..TRIES * looks {
         look_once(rt, shared, hand, &mut closing.numbers, &mut closing.log);
         if once_in(&mut closing.numbers, looks) {
             closer = close_once(shared, hand, closer, closing)?;
