@@ -7,6 +7,7 @@
 #![tactic(auto)]
 
 mod laws;
+mod meeting;
 mod runner;
 mod tree_run;
 
@@ -15,5 +16,5 @@ pub use ext_lifecycle::{
     run_befores, run_body,
 };
 pub use ext_node_run::{EngineFault, Suite};
-pub use laws::engine_laws;
+pub use laws::{engine_laws, order_laws};
 pub use tree_run::run_tree;

@@ -9,6 +9,7 @@ ghost use Rattle.ext_node_run.specs.Containers.{AreChildren};
 ghost use Rattle.ext_engine.specs.TreeRun.{Ran, setting_of, IsUsable, IsFit, IsFault, TreeRun, BodyMade, RanInTurn, all_results};
 ghost use Rattle.ext_node_run.specs.Helpers.{ran_view};
 
+use crate::meeting::{fork, join};
 use crate::runner::TreeRunner;
 use crate::{EngineFault, Suite};
 use ext_crew::{Gate, run_children};
@@ -165,8 +166,10 @@ impl<
             return Ok(Vec::new(alloc));
         }
         let Children { beside, in_turn } = children;
+        fork(self.nodes.store, lanes);
         let outcomes = self.run_beside(alloc, depth, beside, lanes, lock_lanes)?;
         let mut ran = gathered(alloc, outcomes)?;
+        join(self.nodes.store, lanes);
         let mut others = self.run_in_turn(alloc, depth, in_turn, lanes, lock_lanes)?;
         ran.append(&mut others)?;
         Ok(ran)

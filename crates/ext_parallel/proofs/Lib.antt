@@ -1,5 +1,5 @@
 -- Lemmas of this crate.
 mod Names
-mod MetLanes
+mod Turning
 mod InTree
 mod Refusals
