@@ -1,6 +1,7 @@
 -- Lemmas of this crate.
 pub mod Above
 pub mod Acts
+pub mod Finer
 pub mod Fresh
 pub mod Going
 pub mod Grown
@@ -9,6 +10,7 @@ pub mod Meets
 pub mod OneEach
 pub mod Order
 pub mod Ordered
+pub mod Relates
 pub mod Roots
 pub mod RunLaws
 pub mod Seen

@@ -46,21 +46,16 @@ module _ {V : Type 0} (h : History) where
       let whole : Acts h (on.lane ∷ on.rest) (on.left ∷ on.rest) = record { goes = (go on.lane on.left on.change, all_same on.rest); seen = first_made h on.lane on.left on.rest } in
       subst (λ l. Acts h l ys) (sym on.first_was) (subst (λ l. Acts h (on.lane ∷ on.rest) l) (sym on.first_is) whole)
 
-  pub acts_close : (store : StoreView) (context keys : ℕ) (xs ys : List (StoreLane V)) → OnlyFirstSteps xs ys → MakesSeals store context keys (first_lane store xs) (first_lane store ys) → Acts h xs ys
-  acts_close store context keys [] ys steps seals = subst (λ l. Acts h [] l) (sym steps.1) (acts_same [])
-  acts_close store context keys (a ∷ xs) ys steps seals =
+  pub acts_close : (xs ys : List (StoreLane V)) → OnlyFirstSteps xs ys → AllGoOn xs ys → Acts h xs ys
+  acts_close [] ys steps go = subst (λ l. Acts h [] l) (sym steps.1) (acts_same [])
+  acts_close (a ∷ xs) ys steps go =
       let b : StoreLane V = record { cells = steps.0; known = a.known; faults = a.faults } in
-      record {
-        goes = close_goes store context keys (a ∷ xs) ys steps seals;
-        seen = subst (λ l. IsSeenByFirst h (a ∷ xs) l) (sym steps.1) (first_made h a b xs);
-      }
+      record { goes = go; seen = subst (λ l. IsSeenByFirst h (a ∷ xs) l) (sym steps.1) (first_made h a b xs) }
 
   -- lanes of which each was shown what the first had seen, then acted, and of which the first was then shown what each had seen
-  pub acts_between : (store : StoreView) (before forked between joined : List (StoreLane V)) → AllZip (OnlyMeets store) before forked → AllGoOn forked between → AllZip (OnlyMeets store) between joined
-      → All (HasSeen (first_seen before)) forked → All (HasSeenWithin (first_seen joined)) between → All (HasSeenWithin h) forked → All (HasSeenWithin h) joined → Acts h before joined
-  acts_between store before forked between joined fork go join begins ends within_forked within_joined =
-      let first = all_met store before forked fork in
-      let last = all_met store between joined join in
+  pub acts_between : (store : StoreView) (before forked between joined : List (StoreLane V)) → AllZip (OnlyMeets store) before forked → AllGoOn before forked → AllGoOn forked between → AllZip (OnlyMeets store) between joined
+      → AllGoOn between joined → All (HasSeen (first_seen before)) forked → All (HasSeenWithin (first_seen joined)) between → All (HasSeenWithin h) forked → All (HasSeenWithin h) joined → Acts h before joined
+  acts_between store before forked between joined fork first go join last begins ends within_forked within_joined =
       record {
         goes = all_then before forked joined first (all_then forked between joined go last);
         seen = λ place made. elim (all_made_then h before forked joined place first made) [
@@ -79,7 +74,7 @@ module _ {V A : Type 0} (t : TreeSetting V) (makes : ℕ → Call → Option Hel
   test_acts : (node : ℕ) (path : List ℕ) (before : Lanes V) (ran : List Ran) (after : Lanes V) → TestRun t makes actions gives node path before ran after → Acts h before.first after.first
   test_acts node path before ran after run =
       acts_then h before.first run.called after.first (acts_first h _ before.first run.called (λ a b made. calls_go t makes actions gives moves node (Some run.held) _ _ _ a run.outcomes b made) run.calls)
-      (acts_close h t.store _ _ run.called after.first run.closes.closes.lanes run.closes.closes.own_events)
+      (acts_close h run.called after.first run.closes.closes.lanes (close_goes t makes actions gives moves _ _ run.called after.first run.closes.closes.lanes run.closes.closes.own_events))
 
   module _ (Run : ℕ → Lanes V → List Ran → Lanes V → Type 0) (go : (c : ℕ) (s : Lanes V) (below : List Ran) (u : Lanes V) → Run c s below u → AllGoOn s.first u.first)
       (at : (c : ℕ) (s : Lanes V) (below : List Ran) (u : Lanes V) → Run c s below u → All (HasSeenWithin h) u.first → Acts h s.first u.first) where
@@ -106,9 +101,9 @@ module _ {V A : Type 0} (t : TreeSetting V) (makes : ℕ → Call → Option Hel
     pub dealt_acts : (node : ℕ) (before : Lanes V) (below : List Ran) (after : Lanes V) (b : BodyRun t makes actions gives Run node before below after) → All (HasSeenWithin h) b.joined → Acts h before.first b.joined
     dealt_acts node before below after b within =
         let dealt = children_dealt_go t makes actions gives moves Run go node before below after b in
-        let last = all_met t.store b.between.first b.joined b.joins.only_meet in
+        let last = all_met t makes actions gives moves b.between.first b.joined b.joins.only_meet in
         let within_between = came_from h b.between.first b.joined last within in
-        acts_between h t.store before.first b.forked b.between.first b.joined b.forks.only_meet dealt b.joins.only_meet b.forks.shown b.joins.shown (came_from h b.forked b.between.first dealt within_between) within
+        acts_between h t.store before.first b.forked b.between.first b.joined b.forks.only_meet (all_met t makes actions gives moves before.first b.forked b.forks.only_meet) dealt b.joins.only_meet last b.forks.shown b.joins.shown (came_from h b.forked b.between.first dealt within_between) within
 
     pub turned_within : (node : ℕ) (before : Lanes V) (below : List Ran) (after : Lanes V) (b : BodyRun t makes actions gives Run node before below after) → All (HasSeenWithin h) after.first → All (HasSeenWithin h) b.joined
     turned_within node before below after b within =
@@ -131,7 +126,7 @@ module _ {V A : Type 0} (t : TreeSetting V) (makes : ℕ → Call → Option Hel
     called_acts node path before ran after run = acts_first h _ run.body.first run.called (λ a b made. all_go t makes actions gives moves node None _ a run.afters b made) run.afters_made
 
     pub closed_acts : (node : ℕ) (path : List ℕ) (before : Lanes V) (ran : List Ran) (after : Lanes V) (run : ContainerRun t makes actions gives Run node path before ran after) → Acts h run.called after.first
-    closed_acts node path before ran after run = acts_close h t.store _ _ run.called after.first run.closes.closes.lanes run.closes.closes.own_events
+    closed_acts node path before ran after run = acts_close h run.called after.first run.closes.closes.lanes (close_goes t makes actions gives moves _ _ run.called after.first run.closes.closes.lanes run.closes.closes.own_events)
 
     pub body_within : (node : ℕ) (path : List ℕ) (before : Lanes V) (ran : List Ran) (after : Lanes V) (run : ContainerRun t makes actions gives Run node path before ran after) → All (HasSeenWithin h) after.first
         → All (HasSeenWithin h) run.body.first

@@ -12,6 +12,7 @@ use Rattle.ext_lifecycle.specs.declared.call.Kind.{Kind}
 use Rattle.ext_lifecycle.specs.declared.outcome.Outcome.{Outcome}
 use Rattle.ext_lifecycle.specs.Endings.{all_successful}
 use Rattle.ext_lifecycle.specs.Lifecycle.{endings_of}
+use Rattle.ext_values.specs.Known.{KeepsKnown}
 use Rattle.ext_store.specs.Stores.{StoreView, StoreLane}
 use Rattle.ext_closing.specs.Closing.{Answer}
 use Rattle.ext_locks.specs.Opening.{LocksView}
@@ -23,10 +24,12 @@ use Rattle.ext_engine.specs.TreeRun.{Lanes, Ran, TreeSetting, BodyRun, Container
 
 -- ---- lanes that go on
 
--- the lane goes on: it is the same one, and has seen what it had seen
+-- the lane goes on: it is the same one, has seen what it had seen, and knows the values and the faults that it knew
 pub record GoesOn {V : Type 0} (before after : StoreLane V) : Type 0 where
   pub number : after.cells.view.number ≡ before.cells.view.number
   pub seen : IsPrefix (seen_by before.cells.view) (seen_by after.cells.view)
+  pub known : KeepsKnown before.known after.known
+  pub faults : KeepsKnown before.faults after.faults
 
 -- all lanes of a share go on
 abbrev pub AllGoOn : {V : Type 0} → List (StoreLane V) → List (StoreLane V) → Type 0
