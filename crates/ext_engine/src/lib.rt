@@ -1,9 +1,10 @@
 //! Runs trees of tests: the calls of each node, its children by several workers, its locks, and the close of its context.
 //!
-//! What the nodes are, and what their calls do, is told by a `Suite`; `run_tree` runs them over a store, on several lanes, and gives
-//! one result a node. Which calls of a node are made, and what they come to, is that of `ext_lifecycle`, whose names stand here too.
-//! `specs/TreeRun` says what a run of a tree is, and `specs/Suites` what a suite says of its nodes. Own rule, for JUnit 5 User
-//! Guide, sections "Parallel Execution", "Synchronization" and "Keeping State in Extensions".
+//! What the nodes are, and what their calls do, is told by a `Suite`; `run_tree` runs them over a store, on several lanes, and
+//! gives one result a node. Which calls of a node are made, and what they come to, is that of `ext_lifecycle`, whose names stand
+//! here too. `specs/TreeRun` says what a run of a tree is, `specs/Order` what comes before what in it, and `specs/Suites` what a
+//! suite says of its nodes. Own rule, for JUnit 5 User Guide, sections "Parallel Execution", "Synchronization" and "Keeping State
+//! in Extensions".
 #![tactic(auto)]
 
 mod laws;

@@ -3,3 +3,7 @@ mod Names
 mod Turning
 mod InTree
 mod Refusals
+mod Values
+mod StepValues
+mod Moves
+mod Found
