@@ -19,6 +19,7 @@ use Rattle.ext_model.specs.declared.look.Look.{Look}
 use Rattle.ext_model.specs.declared.look.Look.TheVariants as look
 use Rattle.ext_model.specs.SecondLook.{look_after}
 use Rattle.ext_model.specs.History.{History, Limits, IsAllowed, lane_of, own}
+use Rattle.ext_model.specs.Views.{LaneView}
 use Rattle.ext_lifecycle.specs.declared.call.Call.{Call}
 use Rattle.ext_lifecycle.specs.declared.outcome.Outcome.{Outcome}
 use Rattle.ext_lifecycle.specs.Endings.{is_successful}
@@ -29,12 +30,17 @@ use Rattle.ext_tree.specs.Keys.{HasNumber, KeyValue}
 use Rattle.ext_plan_model.specs.Plans.{PlanText, StepText, put, put_closeable, want, nothing, remove, compute, compute_closeable, compute_fail, fail, abort}
 use Rattle.ext_plan_model.specs.PlanCalls.{registered, steps_of_call}
 use Rattle.ext_values.specs.Known.{Known, AllAgree, known_at}
-use Rattle.ext_cells.specs.Lanes.{CellsId, fresh_lanes}
+use Rattle.ext_cells.specs.Lanes.{CellsId, Lane, fresh_lanes}
 use Rattle.ext_store.specs.Stores.{StoreView, StoreLane, cell_in, fresh_store_lane}
+use Rattle.ext_store.specs.declared.computed.Compute.{Compute}
+use Rattle.ext_store.specs.declared.computed.Compute.TheVariants as computes
 use Rattle.ext_store.specs.Calls.{Gets}
+use Rattle.ext_store.specs.Computing.{Computes, ComputesFrom}
+use Rattle.ext_store.specs.Waiting.{ComputesAfterWaits}
+use Rattle.ext_shared.specs.Claiming.{Meets}
 use Rattle.ext_steps.specs.Verdicts.{SeenText, seen_fault, seen_nothing, seen_no_memory, seen_refused, seen_value}
 use Rattle.ext_store_steps.specs.declared.stored_value.StoredValue.{StoredValue}
-use Rattle.ext_store_steps.specs.StoreCalls.{PlanLane, PlanNotes, Sees, Shows, ShowsFault, ShowsNumber, fault_seen, stored_view}
+use Rattle.ext_store_steps.specs.StoreCalls.{EndsComputeFail, PlanLane, PlanNotes, Sees, Shows, ShowsFault, ShowsNumber, fault_seen, stored_view}
 use Rattle.ext_store_steps.specs.StoreSteps.{StepRun, StepsRun, key_of_label}
 use Rattle.ext_suite.specs.PlanSuites.{RunsCall, suite_of}
 use Rattle.ext_engine.specs.Order.{GoesOn}
@@ -42,7 +48,7 @@ use Rattle.ext_engine.specs.TreeRun.{setting_of}
 use Rattle.ext_engine.proofs.Finer.{tree_finer}
 use Rattle.ext_engine.proofs.Going.{goes_met, goes_same, goes_sealed, goes_then}
 use Rattle.ext_engine.proofs.Relates.{tree_relates}
-use Rattle.ext_parallel.specs.Finding.{CallFinds, IsKeptByPlan, IsSeenOfPlan, RunsFindWhatIsKept, StepFinds, StepsFind}
+use Rattle.ext_parallel.specs.Finding.{CallFinds, IsKeptByPlan, IsMetOfPlan, IsSeenOfPlan, RunsFindWhatIsKept, StepFinds, StepsFind}
 use Rattle.ext_parallel.specs.Opened.{all_known}
 use Rattle.ext_parallel.specs.ParallelRun.{ClosesValue, IsAction, MakesCall, ParallelRun}
 use Rattle.ext_parallel.proofs.Moves.{IsOwn, Moves, OwnKept, call_moves, goes_framed, moves_met, moves_same, moves_sealed, moves_then, plans_go_on, steps_go}
@@ -168,15 +174,11 @@ module _ (plan : PlanText) (lanes : ℕ) (results : List (ResultOf Fault)) (run 
   same_key context other key second low high same =
       sym (mod-mul-add context (length store.keys) key low) ∙ (ap (λ n. n % length store.keys) same ∙ mod-mul-add other (length store.keys) second high)
 
-  found_kept : (context key : ℕ) (name : KeyValue) (a b : PlanLane) (at number : ℕ) → HasNumber store.keys name key → Gets store context key a.cells b.cells (Ok (look.Found at number)) → Leads b → (value : StoredValue)
-      → known_at b.known number ≡ Some value → IsKeptByPlan plan store key (stored_view value).text
-  unfolding Gets
-  found_kept context key name a b at number named gets leads value known =
-      let path = gets.0 in
-      let point = (gets.2.replied (λ is. absurd (cc is))).point in
-      let p = point.0 in
-      let part = prefix_trans p (seen_by b.cells.view) h point.1.1 (prefix_trans (seen_by b.cells.view) (seen_by leads.last.cells.view) h leads.goes.seen (part_of leads.last leads.among)) in
-      let found : look_after (cell_in store key) path p ≡ look.Found at number = cc point.2 in
+  -- a value that a look-up finds at a point that the lane has seen
+  kept_at : (key : ℕ) (name : KeyValue) (b : PlanLane) (at number : ℕ) (path : List ℕ) (p : History) → HasNumber store.keys name key → IsPrefix p (seen_by b.cells.view) → look_after (cell_in store key) path p ≡ look.Found at number
+      → Leads b → (value : StoredValue) → known_at b.known number ≡ Some value → IsKeptByPlan plan store key (stored_view value).text
+  kept_at key name b at number path p named until found leads value known =
+      let part = prefix_trans p (seen_by b.cells.view) h until (prefix_trans (seen_by b.cells.view) (seen_by leads.last.cells.view) h leads.goes.seen (part_of leads.last leads.among)) in
       let stands = found_stands (cell_in store key) path p at number found in
       let was = was_stored p (cell_in store key at) number (legal_begun p h part run.shared.legal) stands in
       let there : Contains h was.event = subst (λ (l : History). Contains l was.event) part.1 (Contains-append_left p part.0 was.event was.among) in
@@ -187,6 +189,29 @@ module _ (plan : PlanText) (lanes : ℕ) (results : List (ResultOf Fault)) (run 
       (leads.goes.known number value known) own_one.known in
       let keys : key ≡ own_one.key = same_key at own_one.context key own_one.key (slice_get_within store.keys key name named) (slice_get_within store.keys own_one.key (key_of_label plan.keys own_one.kept.label) own_one.kept.named) own_one.cell_is in
       subst (λ (x : ℕ × StoredValue). IsKeptByPlan plan store x.0 (stored_view x.1).text) (λ i. (sym keys i, sym same i)) own_one.kept
+
+  found_kept : (context key : ℕ) (name : KeyValue) (a b : PlanLane) (at number : ℕ) → HasNumber store.keys name key → Gets store context key a.cells b.cells (Ok (look.Found at number)) → Leads b → (value : StoredValue)
+      → known_at b.known number ≡ Some value → IsKeptByPlan plan store key (stored_view value).text
+  unfolding Gets
+  found_kept context key name a b at number named gets leads value known =
+      let point = (gets.2.replied (λ is. absurd (cc is))).point in
+      let found : look_after (cell_in store key) gets.0 point.0 ≡ look.Found at number = cc point.2 in
+      kept_at key name b at number gets.0 point.0 named point.1.1 found leads value known
+
+  met_kept : (limits : Limits) (context key : ℕ) (ancestors : List ℕ) (name : KeyValue) (a : LaneView) (b : PlanLane) (at number : ℕ) → HasNumber store.keys name key
+      → Meets limits store context ancestors key a b.cells.view (look.Found at number) → Leads b → (value : StoredValue) → known_at b.known number ≡ Some value → IsKeptByPlan plan store key (stored_view value).text
+  unfolding Meets
+  met_kept limits context key ancestors name a b at number named (inl here) leads value known =
+      kept_at key name b at number (context ∷ ancestors) here.point.0 named here.point.1.1 here.point.2 leads value known
+  met_kept limits context key ancestors name a b at number named (inr given_up) leads value known =
+      let looked = given_up.1.looked in
+      kept_at key name b at number ancestors looked.0 named looked.1.until looked.2 leads value known
+
+  computes_kept : (context key : ℕ) (name : KeyValue) (a : Lane) (b : PlanLane) (at number : ℕ) (unused : Unit {0}) → HasNumber store.keys name key
+      → ComputesAfterWaits {V = StoredValue} store context key a b.cells (computes.Found at number unused) → Leads b → (value : StoredValue) → known_at b.known number ≡ Some value → IsKeptByPlan plan store key (stored_view value).text
+  unfolding ComputesAfterWaits Computes ComputesFrom
+  computes_kept context key name a b at number unused named waits leads value known =
+      met_kept a.cells.limits context key waits.then_is.0 name waits.between b at number named waits.then_is.2 leads value known
 
   seen_kept : (key : ℕ) (seen other : SeenText) → seen ≡ other → IsSeenOfPlan plan store key other → IsSeenOfPlan plan store key seen
   seen_kept key seen other is kept = subst (λ (s : SeenText). IsSeenOfPlan plan store key s) (sym is) kept
@@ -199,14 +224,15 @@ module _ (plan : PlanText) (lanes : ℕ) (results : List (ResultOf Fault)) (run 
   shows_fault key number before seen after (inl known) = seen_kept key seen _ known.2 (fault_kept key known.0)
   shows_fault key number before seen after (inr unknown) = seen_kept key seen _ unknown.2 tt
 
-  shows_number : (context key : ℕ) (name : KeyValue) (a b : PlanLane) (seen : SeenText) (at number : ℕ) → HasNumber store.keys name key → Gets store context key a.cells b.cells (Ok (look.Found at number)) → Leads b
-      → ShowsNumber number a.known seen b.known → IsSeenOfPlan plan store key seen
-  shows_number context key name a b seen at number named gets leads (inl known) = seen_kept key seen _ known.2 (found_kept context key name a b at number named gets leads known.0 known.1.learnt)
-  shows_number context key name a b seen at number named gets leads (inr unknown) = seen_kept key seen _ unknown.2 tt
+  shown_kept : (key : ℕ) (before : PlanNotes) (b : PlanLane) (seen : SeenText) (number : ℕ) → ShowsNumber number before seen b.known
+      → ((value : StoredValue) → known_at b.known number ≡ Some value → IsKeptByPlan plan store key (stored_view value).text) → IsSeenOfPlan plan store key seen
+  shown_kept key before b seen number (inl known) kept = seen_kept key seen _ known.2 (kept known.0 known.1.learnt)
+  shown_kept key before b seen number (inr unknown) kept = seen_kept key seen _ unknown.2 tt
 
   answer_kept : (context key : ℕ) (name : KeyValue) (a b : PlanLane) (seen : SeenText) (answer : Look) → HasNumber store.keys name key → Gets store context key a.cells b.cells (Ok answer) → Leads b → Shows answer a seen b
       → IsSeenOfPlan plan store key seen
-  answer_kept context key name a b seen (look.Found at number) named gets leads shown = shows_number context key name a b seen at number named gets leads shown.1
+  answer_kept context key name a b seen (look.Found at number) named gets leads shown =
+      shown_kept key a.known b seen number shown.1 (λ value known. found_kept context key name a b at number named gets leads value known)
   answer_kept context key name a b seen (look.Fault at number) named gets leads shown = shows_fault key number a.faults seen b.faults shown.1
   answer_kept context key name a b seen look.Absent named gets leads shown = seen_kept key seen _ shown.1 tt
   answer_kept context key name a b seen (look.Busy at) named gets leads shown = absurd shown
@@ -214,6 +240,20 @@ module _ (plan : PlanText) (lanes : ℕ) (results : List (ResultOf Fault)) (run 
 
   sees_kept : (context key : ℕ) (name : KeyValue) (a b : PlanLane) (seen : SeenText) → HasNumber store.keys name key → Sees store context key a seen b → Leads b → IsSeenOfPlan plan store key seen
   sees_kept context key name a b seen named sees leads = answer_kept context key name a b seen sees.answer named sees.looked leads sees.shown
+
+  -- a compute whose factory fails
+  made_kept : (context key : ℕ) (name : KeyValue) (said label text : List ℕ) (a : PlanLane) (o : Outcome) (b : PlanLane) → HasNumber store.keys name key → (result : Compute StoredValue (Unit {0})) (between : PlanLane)
+      → ComputesAfterWaits store context key a.cells b.cells result → (ends : EndsComputeFail store context key said label text result between o b) → Leads b
+      → IsMetOfPlan plan store context key said label text result between o b ends
+  made_kept context key name said label text a o b named (computes.Computed number) between waits ends leads = tt
+  made_kept context key name said label text a o b named (computes.Found at number unused) between waits ends leads =
+      shown_kept key between.known b ends.1 number ends.2 (λ value known. computes_kept context key name a.cells b at number unused named waits leads value known)
+  made_kept context key name said label text a o b named (computes.Failed why) between waits ends leads = tt
+  made_kept context key name said label text a o b named (computes.FaultKept number) between waits ends leads = tt
+  made_kept context key name said label text a o b named (computes.FaultUnkept why cause) between waits ends leads = tt
+  made_kept context key name said label text a o b named (computes.FaultStands at number unused) between waits ends leads = tt
+  made_kept context key name said label text a o b named (computes.Unkept value cause) between waits ends leads = tt
+  made_kept context key name said label text a o b named (computes.Refused why unused) between waits ends leads = tt
 
   -- ---- steps
 
@@ -225,7 +265,8 @@ module _ (plan : PlanText) (lanes : ℕ) (results : List (ResultOf Fault)) (run 
   step_finds path (remove label up) a o b made leads = made
   step_finds path (compute label text up) a o b made leads = made
   step_finds path (compute_closeable label text up) a o b made leads = made
-  step_finds path (compute_fail label text up) a o b made leads = made
+  step_finds path (compute_fail label text up) a o b (inl made) leads = inl (made.0, made.1, (made.2, made_kept _ made.0 _ _ _ _ a o b made.1 made.2.result made.2.between made.2.computed made.2.ends leads))
+  step_finds path (compute_fail label text up) a o b (inr none) leads = inr none
   step_finds path (fail text) a o b made leads = made
   step_finds path (abort text) a o b made leads = made
 

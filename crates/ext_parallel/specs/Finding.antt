@@ -1,6 +1,6 @@
 -- What the steps of a run find: values that steps of the plan keep, under the same key.
 -- Javadoc `ExtensionContext.Store`, `get`: a value that was stored under the key. That nobody but the plan's steps stores any is an own rule.
-use Rattle.std.specs.Prelude.{◌≡◌, ℕ, codes, true, false, List, [], ◌∷◌, Option, Some, None, Contains}
+use Rattle.std.specs.Prelude.{◌≡◌, ◌⊎◌, ℕ, codes, true, false, List, [], ◌∷◌, Option, Some, None, Contains}
 use Rattle.ext_lifecycle.specs.declared.call.Call.{Call}
 use Rattle.ext_lifecycle.specs.declared.outcome.Outcome.{Outcome}
 use Rattle.ext_lifecycle.specs.Endings.{successful, is_successful}
@@ -12,13 +12,15 @@ use Rattle.ext_tree.specs.Keys.{HasNumber}
 use Rattle.ext_tree.specs.Paths.{IsPathOf}
 use Rattle.ext_plan_model.specs.Plans.{PlanText, StepText, put, put_closeable, want, nothing, remove, compute, compute_closeable, compute_fail, fail, abort}
 use Rattle.ext_plan_model.specs.PlanCalls.{registered, steps_of_call}
+use Rattle.ext_store.specs.declared.computed.Compute.{Compute}
+use Rattle.ext_store.specs.declared.computed.Compute.TheVariants as computes
 use Rattle.ext_store.specs.Stores.{StoreView}
 use Rattle.ext_steps.specs.Calls.{label_of}
 use Rattle.ext_steps.specs.Values.{ValueText}
 use Rattle.ext_steps.specs.Verdicts.{SeenText, seen_value, seen_fault, seen_no_memory, seen_nothing, seen_refused, want_verdict, none_verdict}
 use Rattle.ext_store_steps.specs.Saying.{Ends}
-use Rattle.ext_store_steps.specs.StoreCalls.{PlanLane, Sees}
-use Rattle.ext_store_steps.specs.StoreSteps.{AddsUp, OfNumber, StepRun, context_up, key_of_label}
+use Rattle.ext_store_steps.specs.StoreCalls.{ComputesFault, EndsComputeFail, PlanLane, Sees}
+use Rattle.ext_store_steps.specs.StoreSteps.{AddsUp, FindsNoMemory, OfNumber, StepRun, context_up, key_of_label}
 use Rattle.ext_store_steps.specs.declared.stored_value.StoredValue.{StoredValue}
 use Rattle.ext_suite.specs.PlanSuites.{suite_of}
 use Rattle.ext_engine.specs.Order.{CallsGoOn}
@@ -59,6 +61,18 @@ IsSeenOfPlan plan store key seen_no_memory = Unit {0}
 IsSeenOfPlan plan store key seen_nothing = Unit {0}
 IsSeenOfPlan plan store key (seen_refused why) = Unit {0}
 
+-- the same of a compute whose factory fails, which is shown the value that it found in its place
+abbrev pub IsMetOfPlan : (plan : PlanText) (store : StoreView) (context key : ℕ) (name label text : List ℕ) (result : Compute StoredValue (Unit {0})) (between : PlanLane) (outcome : Outcome) (after : PlanLane)
+    → EndsComputeFail store context key name label text result between outcome after → Type 0
+IsMetOfPlan plan store context key name label text (computes.Computed number) between outcome after ends = Unit {0}
+IsMetOfPlan plan store context key name label text (computes.Found at number unused) between outcome after ends = IsSeenOfPlan plan store key ends.1
+IsMetOfPlan plan store context key name label text (computes.Failed why) between outcome after ends = Unit {0}
+IsMetOfPlan plan store context key name label text (computes.FaultKept number) between outcome after ends = Unit {0}
+IsMetOfPlan plan store context key name label text (computes.FaultUnkept why cause) between outcome after ends = Unit {0}
+IsMetOfPlan plan store context key name label text (computes.FaultStands at number unused) between outcome after ends = Unit {0}
+IsMetOfPlan plan store context key name label text (computes.Unkept value cause) between outcome after ends = Unit {0}
+IsMetOfPlan plan store context key name label text (computes.Refused why unused) between outcome after ends = Unit {0}
+
 -- ---- what the steps of a call find
 
 module _ (plan : PlanText) (store : StoreView) (path : List ℕ) where
@@ -75,7 +89,10 @@ module _ (plan : PlanText) (store : StoreView) (path : List ℕ) where
   StepFinds (remove key up) before outcome after = StepRun store plan.keys path (remove key up) before outcome after
   StepFinds (compute key text up) before outcome after = StepRun store plan.keys path (compute key text up) before outcome after
   StepFinds (compute_closeable key text up) before outcome after = StepRun store plan.keys path (compute_closeable key text up) before outcome after
-  StepFinds (compute_fail key text up) before outcome after = StepRun store plan.keys path (compute_fail key text up) before outcome after
+  StepFinds (compute_fail key text up) before outcome after =
+      OfNumber store (key_of_label plan.keys key) (λ number. (made : ComputesFault store (context_up store plan.keys path up) number (codes "computefail") (label_of plan.keys key) text before outcome after)
+      × IsMetOfPlan plan store (context_up store plan.keys path up) number (codes "computefail") (label_of plan.keys key) text made.result made.between outcome after made.ends)
+      ⊎ FindsNoMemory before outcome after
   StepFinds (fail text) before outcome after = StepRun store plan.keys path (fail text) before outcome after
   StepFinds (abort text) before outcome after = StepRun store plan.keys path (abort text) before outcome after
 
@@ -99,7 +116,8 @@ pub record CallFinds (plan : PlanText) (store : StoreView) (node : ℕ) (call : 
 abbrev pub PlansGoOn : Type 0
 PlansGoOn = (plan : PlanText) (store : StoreView) → CallsGoOn (MakesCall plan store)
 
--- In a run of a plan on several lanes a step `want` or `none` that sees a value sees one that a step of the plan puts or computes, under the same key
+-- In a run of a plan on several lanes a step that sees a value, which a `want`, a `none` or a `computefail` may, sees one that a step of the plan puts or computes, under
+-- the same key
 abbrev pub RunsFindWhatIsKept : Type 0
 RunsFindWhatIsKept = (plan : PlanText) (lanes : ℕ) (results : List (ResultOf Fault)) (run : ParallelRun plan lanes results)
     → TreeRun (setting_of run.store run.locks (suite_of plan) (registered plan) (λ (value : StoredValue). value.value.closeable)) (CallFinds plan run.store) IsAction ClosesValue 16 0 run.first run.ran run.after

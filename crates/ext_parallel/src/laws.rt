@@ -2,9 +2,9 @@
 ghost use Rattle.ext_parallel.specs.Finding.{PlansGoOn, RunsFindWhatIsKept};
 
 /// Proves the laws of runs of plans on several lanes. What a call of a plan's node does lets its lane go on, so that the laws of order
-/// of `ext_engine` (`order_laws`) hold of each such run. And in each of them a step `want` or `none` that sees a value sees one that a
-/// step of the plan puts or computes, under the same key: where no step of the plan keeps a text under a key, no such step reports
-/// it. It does nothing when it runs.
+/// of `ext_engine` (`order_laws`) hold of each such run. And in each of them a step that sees a value, which a `want`, a `none` or a
+/// `computefail` may, sees one that a step of the plan puts or computes, under the same key: where no step of the plan keeps a text
+/// under a key, none reports it there. It does nothing when it runs.
 ///
 /// Own rule, for Javadoc `ExtensionContext.Store`, `get`.
 pub fn parallel_laws()
