@@ -1,14 +1,14 @@
 -- What the run of a tree leaves of its lanes.
 use Rattle.std.proofs.Common.{◌≡◌, inl, inr, ℕ, zero, suc, Bool, true, false, List, [], ◌∷◌, length, refl, ap, sym, subst, ◌∙◌, arith}
 use Rattle.std.specs.Prelude.{All, Option, slice_index_or}
-use Rattle.std.specs.List.{FoldsTo}
+use Rattle.std.specs.List.{FoldsTo, AllZip}
 use Rattle.std.proofs.lemmas.List.Elements.{All-cons, All-drop, All-head, All-tail, All-take}
 use Rattle.ext_history.proofs.Lists.{bools}
 use Rattle.ext_lifecycle.specs.declared.call.Call.{Call}
 use Rattle.ext_lifecycle.specs.declared.outcome.Outcome.{Outcome}
 use Rattle.ext_lifecycle.specs.Endings.{all_successful}
 use Rattle.ext_lifecycle.specs.Lifecycle.{endings_of}
-use Rattle.ext_store.specs.Stores.{StoreLane, IsLaneOf}
+use Rattle.ext_store.specs.Stores.{StoreView, StoreLane, IsLaneOf}
 use Rattle.ext_closing.specs.Closing.{Answer}
 use Rattle.ext_locks.specs.declared.event.LockMode.{LockMode}
 use Rattle.ext_locks.specs.Opening.{LocksView}
@@ -17,7 +17,9 @@ use Rattle.ext_locks.specs.Views.{Lane}
 use Rattle.ext_crew.specs.Dealing.{front, back}
 use Rattle.ext_crew.proofs.Lists.{all_parts, length_parts}
 use Rattle.ext_crew.proofs.RunLaws.{run-relates}
-use Rattle.ext_engine.specs.TreeRun.{Ran, TreeSetting, Lanes, TreeRun, TestRun, ContainerRun, BodyRun, BodyMade, OnFirst, TakesSet, GivesBack, IsIdle, IsUsable, concurrent_children}
+use Rattle.ext_engine.specs.TreeRun.{Ran, TreeSetting, Lanes, TreeRun, TestRun, ContainerRun, BodyRun, BodyMade, OnFirst, TakesSet, GivesBack, IsIdle, IsUsable, concurrent_children, with_lanes}
+use Rattle.ext_engine.specs.Meeting.{OnlyMeets}
+use Rattle.ext_engine.proofs.Trees.{met_mine}
 use Rattle.ext_engine.proofs.Grown.{Entry}
 use Rattle.ext_node_run.proofs.Refusals.{count_kept}
 
@@ -33,6 +35,9 @@ module _ {V : Type 0} (locks : LocksView) where
 
   kept_then : (s t u : Lanes V) → Kept locks s t → Kept locks t u → Kept locks s u
   kept_then s t u a b = record { firsts = b.firsts ∙ a.firsts; seconds = b.seconds ∙ a.seconds; still_idle = λ all. b.still_idle (a.still_idle all) }
+
+  kept_met : (store : StoreView) (s : Lanes V) (after : List (StoreLane V)) → AllZip (OnlyMeets store) s.first after → Kept locks s (with_lanes after s)
+  kept_met store s after met = record { firsts = (met_mine store s.first after met).1; seconds = refl; still_idle = λ all. all }
 
   kept_join : (n : ℕ) (s t : Lanes V) → Kept locks (front n s) (front n t) → Kept locks (back n s) (back n t) → Kept locks s t
   kept_join n s t a b =
@@ -96,10 +101,13 @@ module _ {V A : Type 0} (t : TreeSetting V) (makes : ℕ → Call → Option Hel
     body_kept node before below after b =
         let cs = concurrent_children t makes actions gives node in
         let R : Lanes V → Lanes V → Type 0 = λ s u. Kept t.locks s u in
-        kept_then t.locks before b.between after
+        let s = with_lanes b.forked before in
+        let u = with_lanes b.joined b.between in
+        kept_then t.locks before s after (kept_met t.locks t.store before b.forked b.forks.only_meet)
+        (kept_then t.locks s b.between after
         (run-relates (λ i s ran u. Run (slice_index_or cs i 0) s ran u) R (kept_same t.locks) (λ job s o v u r more. kept_then t.locks s v u (at (slice_index_or cs job 0) s o v r) more) (kept_join t.locks)
-        (length cs) _ before b.between b.beside b.dealt)
-        (turn_kept t.locks Run at b.in_turn.done b.between after b.in_turn.runs)
+        (length cs) _ s b.between b.beside b.dealt)
+        (kept_then t.locks b.between u after (kept_met t.locks t.store b.between b.joined b.joins.only_meet) (turn_kept t.locks Run at b.in_turn.done u after b.in_turn.runs)))
 
     made_kept : (go : Bool) (node : ℕ) (before : Lanes V) (below : List Ran) (after : Lanes V) → BodyMade t makes actions gives Run go node before below after → Kept t.locks before after
     made_kept true node before below after made = body_kept node before below after (made.made refl)

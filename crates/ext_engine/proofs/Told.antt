@@ -20,7 +20,7 @@ use Rattle.ext_store.specs.Stores.{StoreLane}
 use Rattle.ext_closing.specs.Closing.{Answer}
 use Rattle.ext_locks.specs.Sets.{HeldView}
 use Rattle.ext_crew.proofs.RunLaws.{run-outcome}
-use Rattle.ext_engine.specs.TreeRun.{Ran, TreeSetting, Lanes, TreeRun, TestRun, ContainerRun, BodyRun, IsFit, concurrent_children}
+use Rattle.ext_engine.specs.TreeRun.{Ran, TreeSetting, Lanes, TreeRun, TestRun, ContainerRun, BodyRun, IsFit, concurrent_children, with_lanes}
 use Rattle.ext_engine.proofs.Above.{within_tree}
 use Rattle.ext_engine.proofs.Grown.{Entry, runs_in, order, Grows}
 
@@ -94,9 +94,9 @@ module _ {V A : Type 0} (t : TreeSetting V) (makes : ℕ → Call → Option Hel
           runs_are = b.below_are ∙ ap₂ (λ x y. x ++ y) (sym (paired-runs cs b.beside same)) b.in_turn.ran_are ∙ sym (flat_map-append (λ e. e.1) first second);
           nodes_are = map-append (λ e. e.0) first second ∙ ap₂ (λ x y. x ++ y) (paired-nodes cs b.beside same) b.in_turn.each;
           each = All-append (λ e. P e.0 e.1) first second
-              (paired-all P cs b.beside same (λ i less. let o = run-outcome runs b.beside (length cs) _ before b.between b.dealt i less in
+              (paired-all P cs b.beside same (λ i less. let o = run-outcome runs b.beside (length cs) _ (with_lanes b.forked before) b.between b.dealt i less in
               record { one = o.outcome; stands = o.stands; holds = at (slice_index_or cs i 0) o.before o.outcome o.after o.run }))
-              (turn-all Run P at second b.between after b.in_turn.runs);
+              (turn-all Run P at second (with_lanes b.joined b.between) after b.in_turn.runs);
         }
 
   test_grown : (depth node : ℕ) (path : List ℕ) (before : Lanes V) (ran : List Ran) (after : Lanes V) → IsPathOf t.store.tree node path → t.suite.is_test node ≡ true

@@ -2,11 +2,11 @@
 use Rattle.std.proofs.Common.{◌≡◌, ℕ, ◌+◌, ◌-◌, ◌<◌, ◌≤◌, false, true, min, zero, suc, List, [], ◌∷◌, ◌++◌, length, map, drop, ap, ◌∙◌, sym, refl, subst, arith, append-nil, length-drop, length-take}
 use Rattle.std.specs.Prelude.{All, Option, option_map, filter, not, Some, Ok, Err, Result, Vec, IfOk, IsOk, slice_get, slice_index_or}
 use Rattle.std.specs.declared.alloc.Global.{Global}
-use Rattle.std.specs.List.{flat_map}
+use Rattle.std.specs.List.{flat_map, AllZip}
 use Rattle.std.proofs.lemmas.Fn.{FoldsTo-push}
 use Rattle.std.proofs.lemmas.Grind.{flat_map-append}
 use Rattle.std.proofs.lemmas.List.{map-append}
-use Rattle.std.proofs.lemmas.List.Elements.{All-take, All-drop}
+use Rattle.std.proofs.lemmas.List.Elements.{All-take, All-drop, All-nil, All-cons}
 use Rattle.std.proofs.lemmas.Option.{slice_get_within, get_or_from_slice_get, slice_get-map}
 use Rattle.ext_tree.specs.Paths.{IsPathOf, children_of}
 use Rattle.ext_store.specs.Stores.{StoreView, StoreLane, IsLaneOf}
@@ -22,7 +22,8 @@ use Rattle.ext_lifecycle.specs.declared.outcome.Outcome.{Outcome}
 use Rattle.ext_node_run.specs.declared.closers.Item.{Item}
 use Rattle.ext_node_run.specs.declared.results.RanNode.{RanNode}
 use Rattle.ext_node_run.specs.Helpers.{ran_view, ran_in}
-use Rattle.ext_engine.specs.TreeRun.{Ran, TreeSetting, Lanes, IsUsable, IsIdle, TreeRun, TestRun, ContainerRun, BodyRun, RanInTurn}
+use Rattle.ext_engine.specs.TreeRun.{Ran, TreeSetting, Lanes, IsUsable, IsIdle, TreeRun, TestRun, ContainerRun, BodyRun, RanInTurn, with_lanes}
+use Rattle.ext_engine.specs.Meeting.{Forks, Joins, OnlyMeets}
 
 -- ---- shares that can be used
 
@@ -56,6 +57,18 @@ pub usable-then : {V : Type 0} (store : StoreView) (locks : LocksView) (s t : La
 usable-then store locks s t h m n kept =
     let a = h.some in let b = h.same in let c = h.few in
     record { some = omega (arith, m); same = omega (arith, m, n); few = omega (arith, m); lanes = kept.0; idle = kept.1 }
+
+-- lanes that only met
+pub met_mine : {V : Type 0} (store : StoreView) (before after : List (StoreLane V)) → AllZip (OnlyMeets store) before after → All (IsLaneOf store.id) after × (length after ≡ length before)
+met_mine {V} store [] [] met = (All-nil (IsLaneOf {V = V} store.id), refl)
+met_mine store [] (lane ∷ lanes) met = absurd met
+met_mine store (lane ∷ lanes) [] met = absurd met
+met_mine store (lane ∷ lanes) (later ∷ more) met =
+    let rest = met_mine store lanes more met.1 in (All-cons (IsLaneOf store.id) later more met.0.lane rest.0, ap suc rest.1)
+
+-- a share whose lanes only met
+pub usable-met : {V : Type 0} (store : StoreView) (locks : LocksView) (s : Lanes V) (after : List (StoreLane V)) → IsUsable store locks s → AllZip (OnlyMeets store) s.first after → IsUsable store locks (with_lanes after s)
+usable-met store locks s after h met = let m = met_mine store s.first after met in usable-then store locks s (with_lanes after s) h m.1 refl (m.0, h.idle)
 
 -- ---- jobs
 
@@ -128,20 +141,24 @@ module _ {V A : Type 0} (t : TreeSetting V) (makes : ℕ → Call → Option Hel
 
   module _ (Child : ℕ → Lanes V → List Ran → Lanes V → Type 0) where
     -- the children beside one another, and then the others
-    pub body-of : {E : Type 0} (node : ℕ) (nodes others : List ℕ) (s between u : Lanes V) (outcomes : List (Result (Vec RanNode Global) E)) (alone ran first : List Ran) (count : ℕ)
-        → length nodes ≡ count
+    pub body-of : {E : Type 0} (node : ℕ) (nodes others : List ℕ) (before : Lanes V) (forked : List (StoreLane V)) (between : Lanes V) (joined : List (StoreLane V)) (u : Lanes V) (outcomes : List (Result (Vec RanNode Global) E)) (alone ran first : List Ran) (count : ℕ)
+        → Forks t.store before.first forked → Joins t.store between.first joined → length nodes ≡ count
         → nodes ≡ filter t.suite.is_concurrent (children_of t.store.tree node) → others ≡ filter (λ c. not (t.suite.is_concurrent c)) (children_of t.store.tree node)
-        → RunByDealing (λ i v r w. IfOk r (λ l. Child (slice_index_or nodes i 0) v (map ran_view l.items) w)) count (min (length s.first) count) s outcomes between
-        → All IsOk outcomes → first ≡ flat_map ran_in outcomes → RanInTurn Child others between alone u → ran ≡ first ++ alone
-        → BodyRun t makes actions gives Child node s ran u
-    body-of {E} node nodes others s between u outcomes alone ran first count size conc same run all are turn is =
+        → RunByDealing (λ i v r w. IfOk r (λ l. Child (slice_index_or nodes i 0) v (map ran_view l.items) w)) count (min (length forked) count) (with_lanes forked before) outcomes between
+        → All IsOk outcomes → first ≡ flat_map ran_in outcomes → RanInTurn Child others (with_lanes joined between) alone u → ran ≡ first ++ alone
+        → BodyRun t makes actions gives Child node before ran u
+    body-of {E} node nodes others before forked between joined u outcomes alone ran first count forks joins size conc same run all are turn is =
         let R : ℕ → Lanes V → Result (Vec RanNode Global) E → Lanes V → Type 0 = λ i v r w. IfOk r (λ l. Child (slice_index_or nodes i 0) v (map ran_view l.items) w) in
         let S : ℕ → Lanes V → List Ran → Lanes V → Type 0 = λ i v rs w. Child (slice_index_or nodes i 0) v rs w in
-        let lists = run-map ran_in R S outcomes (λ job v r w at h. answer-ok (λ l. Child (slice_index_or nodes job 0) v l w) outcomes job r all at h) count (min (length s.first) count) s between run in
-        let C : ℕ → Type 0 = λ n. RunByDealing S n (min (length s.first) n) s (map ran_in outcomes) between in
-        let D : List ℕ → Type 0 = λ l. RunByDealing (λ i v rs w. Child (slice_index_or l i 0) v rs w) (length l) (min (length s.first) (length l)) s (map ran_in outcomes) between in
-        let T : List ℕ → Type 0 = λ l. RanInTurn Child l between alone u in
+        let lists = run-map ran_in R S outcomes (λ job v r w at h. answer-ok (λ l. Child (slice_index_or nodes job 0) v l w) outcomes job r all at h) count (min (length forked) count) (with_lanes forked before) between run in
+        let C : ℕ → Type 0 = λ n. RunByDealing S n (min (length forked) n) (with_lanes forked before) (map ran_in outcomes) between in
+        let D : List ℕ → Type 0 = λ l. RunByDealing (λ i v rs w. Child (slice_index_or l i 0) v rs w) (length l) (min (length forked) (length l)) (with_lanes forked before) (map ran_in outcomes) between in
+        let T : List ℕ → Type 0 = λ l. RanInTurn Child l (with_lanes joined between) alone u in
         record {
+          forked = forked;
+          forks = forks;
+          joined = joined;
+          joins = joins;
           beside = map ran_in outcomes;
           between = between;
           dealt = subst D conc (subst C (sym size) lists);

@@ -16,6 +16,7 @@ use Rattle.ext_closing.specs.Closing.{Answer}
 use Rattle.ext_locks.specs.Sets.{HeldView}
 use Rattle.ext_crew.specs.Dealing.{Share, RunByDealing}
 use Rattle.ext_node_run.specs.Suites.{SuiteView}
+use Rattle.ext_engine.specs.Meeting.{Forks, Joins}
 pub use Rattle.ext_node_run.specs.NodeRun.{Ran, TreeSetting, setting_of, Lanes, placed, all_skipped, OnFirst, ClosesNode, MakesOn, TestRun, TakesSet, GivesBack, IsIdle, IsUsable, IsNamedLock, IsFit, IsUnjoined, IsFault}
 
 -- ---- results
@@ -23,6 +24,10 @@ pub use Rattle.ext_node_run.specs.NodeRun.{Ran, TreeSetting, setting_of, Lanes, 
 -- one result a node, in order: those of the nodes that ran, and the others are skipped
 abbrev pub all_results : SuiteView → ℕ → List Ran → List (ResultOf Fault)
 all_results suite count ran = placed (all_skipped suite count) ran
+
+-- the same share, with these lanes of the store
+abbrev pub with_lanes : {V : Type 0} → List (StoreLane V) → Lanes V → Lanes V
+with_lanes lanes s = record { first = lanes; second = s.second }
 
 -- ---- children
 
@@ -49,14 +54,19 @@ module _ {V A : Type 0} (t : TreeSetting V) (makes : ℕ → Call → Option Hel
 
   -- `Child` says what the run of a child does
   module _ (Child : ℕ → Lanes V → List Ran → Lanes V → Type 0) where
-    -- The body of a container: its concurrent children by some dealing, each with a share of the lanes, and once all have ended the others in order, each with all
+    -- The body of a container: all lanes are shown what the first has seen; its concurrent children by some dealing, each with a share of the lanes; once all have ended
+    -- the first lane is shown what all have seen; and the others in order, each with all
     pub record BodyRun (node : ℕ) (before : Lanes V) (below : List Ran) (after : Lanes V) : Type 0 where
+      pub forked : List (StoreLane V)
+      pub forks : Forks t.store before.first forked
       pub beside : List (List Ran)
       pub between : Lanes V
       pub dealt : RunByDealing (λ i s ran u. Child (slice_index_or (concurrent_children node) i 0) s ran u)
-          (length (concurrent_children node)) (min (length before.first) (length (concurrent_children node))) before beside between
+          (length (concurrent_children node)) (min (length forked) (length (concurrent_children node))) (with_lanes forked before) beside between
+      pub joined : List (StoreLane V)
+      pub joins : Joins t.store between.first joined
       pub alone : List Ran
-      pub in_turn : RanInTurn Child (same_thread_children node) between alone after
+      pub in_turn : RanInTurn Child (same_thread_children node) (with_lanes joined between) alone after
       pub below_are : below ≡ flat_map (λ ran. ran) beside ++ alone
 
     -- the body is run where it is to be, and else there is no step

@@ -1,5 +1,6 @@
 //! What is true of all runs of trees, as the contract of a function that does nothing.
 ghost use Rattle.ext_engine.specs.Laws.{RunsOnce, SkipsExactly, OneResultEach, SkippedBelow, KeepsLanes};
+ghost use Rattle.ext_engine.specs.Order.{ContainersAreMadeInOrder, ContainersAreSeenInOrder, NodesAreSeen, NodesGoOn, OfSuites};
 
 use crate::Suite;
 use ext_store::StoreValue;
@@ -15,4 +16,20 @@ pub fn engine_laws<V: StoreValue + Drop, S: Suite<V>>()
     ensures results { OneResultEach V.is_closeable S.nodes S.registered S.call_gives S.action_gives S.Action.close_gives }
     ensures results_skipped { SkippedBelow V.is_closeable S.nodes S.registered S.call_gives S.action_gives S.Action.close_gives }
     ensures lanes { KeepsLanes V.is_closeable S.nodes S.registered S.call_gives S.action_gives S.Action.close_gives }
+{}
+
+/// Proves in which order the lanes of a run do what they do, for any suite of this type whose calls let their lanes go on. What a
+/// lane does is an event of the one history that all lanes see. All events of a node's run come behind what the first lane of its
+/// share had seen before it, and are among what that lane has seen after it. So in a container whose children are run, what a
+/// concurrent child does comes after the before-callbacks, and before the other children, the after-callbacks and the close. What
+/// each of the others does comes after all that was done before it, and before all that is done after it. The after-callbacks come
+/// after all children, and the close after them. Nothing is said of two concurrent children of one container. It does nothing when it
+/// runs.
+///
+/// Own rule, for JUnit 5 User Guide, sections "Relative Execution Order of User Code and Extensions" and "Parallel Execution".
+pub fn order_laws<V: StoreValue + Drop, S: Suite<V>>()
+    ensures go_on { OfSuites V.is_closeable S.nodes S.registered S.call_gives S.action_gives (λ t makes actions. NodesGoOn t makes actions S.Action.close_gives) }
+    ensures seen { OfSuites V.is_closeable S.nodes S.registered S.call_gives S.action_gives (λ t makes actions. NodesAreSeen t makes actions S.Action.close_gives) }
+    ensures containers_seen { OfSuites V.is_closeable S.nodes S.registered S.call_gives S.action_gives (λ t makes actions. ContainersAreSeenInOrder t makes actions S.Action.close_gives) }
+    ensures containers { OfSuites V.is_closeable S.nodes S.registered S.call_gives S.action_gives (λ t makes actions. ContainersAreMadeInOrder t makes actions S.Action.close_gives) }
 {}

@@ -9,6 +9,7 @@ ghost use Rattle.ext_node_run.specs.Containers.{AreChildren};
 ghost use Rattle.ext_engine.specs.TreeRun.{Ran, setting_of, IsUsable, IsFit, IsFault, TreeRun, BodyMade, RanInTurn, all_results};
 ghost use Rattle.ext_node_run.specs.Helpers.{ran_view};
 
+use crate::meeting::{fork, join};
 use crate::runner::TreeRunner;
 use crate::{EngineFault, Suite};
 use ext_crew::{Gate, run_children};
@@ -29,14 +30,16 @@ const LEVELS: usize = 16;
 
 /// Runs all nodes of the store's tree, and gives one result a node, in the order of their contexts.
 ///
-/// A container's before-callbacks are called, its children are run where all of these were successful, then its after-callbacks are
-/// called, and its context is closed. Its concurrent children are drawn by as many workers as its share has lanes, or as there are
-/// such children where these are fewer, each with its own part of the share; when all of them have ended, the others are run one
-/// after another, each with the whole share. The root has all lanes, so a run has at most as many threads at work as lanes. A test
-/// takes the global lock and those named at itself and at its ancestors, all its calls are lent them, and they are given back once
-/// its context is closed. The calls of a node are made on the first lane of its share. A node is skipped exactly where a node above
-/// it did not run its children: then nothing of it is called, and its context is not closed. `gate` is told when each concurrent
-/// child begins and when it has ended, by its index among those of its container, and nothing of the root and of other children.
+/// A container's before-callbacks are called, its children are run where all of these were successful, then its after-callbacks
+/// are called, and its context is closed. Before its children are run all lanes of its share are shown what the first one has
+/// seen, and when the concurrent ones have ended the first is shown what all have seen; neither is an event. Its concurrent
+/// children are drawn by as many workers as its share has lanes, or as there are such children where these are fewer, each with
+/// its own part of the share; when all of them have ended, the others are run one after another, each with the whole share. The
+/// root has all lanes, so a run has at most as many threads at work as lanes. A test takes the global lock and those named at
+/// itself and at its ancestors, all its calls are lent them, and they are given back once its context is closed. The calls of a
+/// node are made on the first lane of its share. A node is skipped exactly where a node above it did not run its children: then
+/// nothing of it is called, and its context is not closed. `gate` is told when each concurrent child begins and when it has
+/// ended, by its index among those of its container, and nothing of the root and of other children.
 ///
 /// There are 1 to 16 lanes of the store and as many of the locks, which hold nothing. The closers are those of all contexts, in
 /// order. The locks have every name that a node asks for, and no node is below a test. The store is one that the suite may be run
@@ -165,8 +168,10 @@ impl<
             return Ok(Vec::new(alloc));
         }
         let Children { beside, in_turn } = children;
+        fork(self.nodes.store, lanes);
         let outcomes = self.run_beside(alloc, depth, beside, lanes, lock_lanes)?;
         let mut ran = gathered(alloc, outcomes)?;
+        join(self.nodes.store, lanes);
         let mut others = self.run_in_turn(alloc, depth, in_turn, lanes, lock_lanes)?;
         ran.append(&mut others)?;
         Ok(ran)

@@ -15,7 +15,7 @@ use Rattle.ext_node_run.specs.declared.fault.EngineFault.{EngineFault}
 use Rattle.ext_node_run.specs.declared.fault.EngineFault.TheVariants as faults
 use Rattle.ext_node_run.specs.declared.results.RanNode.{RanNode}
 use Rattle.ext_node_run.specs.declared.node_runner.TestParts.{TestParts}
-use Rattle.ext_node_run.specs.NodeRun.{Ran, TreeSetting, Lanes, TestRun, IsUsable, IsFault}
+use Rattle.ext_node_run.specs.NodeRun.{Ran, TreeSetting, Lanes, TestRun, IsUsable, IsFault, IsUnjoinedNode}
 
 abbrev pub ran_view : RanNode → Ran
 ran_view r = record { result = told r.result; went_on = r.went_on }
@@ -54,3 +54,4 @@ module _ {V A : Type 0} (t : TreeSetting V) (makes : ℕ → Call → Option Hel
     pub count : length after.first ≡ length before.first
     pub run : IfOk result (λ x. (path : List ℕ) × IsPathOf t.store.tree node path × TestRun t makes actions gives node path before (view x) after)
     pub fault : IfErr result (IsFault t actions gives)
+    pub unjoined : IfErr result (IsUnjoinedNode node after.first)

@@ -16,6 +16,7 @@ use Rattle.ext_lifecycle.specs.declared.closes.Closes as report
 use Rattle.ext_closing.specs.declared.fault.CloseFault.TheVariants as close_fault
 use Rattle.ext_closing.specs.Closing.{Answer, fault_in}
 use Rattle.ext_closing.specs.Closes.{Closes, IsClosedBy}
+use Rattle.ext_closing.specs.Lanes.{IsUnknown}
 use Rattle.ext_locks.specs.declared.event.LockMode.{LockMode}
 use Rattle.ext_locks.specs.Opening.{LocksView}
 use Rattle.ext_locks.specs.Views.{Lane}
@@ -143,3 +144,7 @@ module _ {V A : Type 0} (t : TreeSetting V) (actions : ℕ → A → Type 0) (gi
   IsFault faults.Memory = Unit {0}
   IsFault faults.NoThread = ⊥
   IsFault (faults.Unjoined context number) = IsUnjoined context number
+
+-- the node's own context could not be closed, and none of these lanes knows the value that remained in it
+abbrev pub IsUnjoinedNode : {V : Type 0} → ℕ → List (StoreLane V) → EngineFault → Type 0
+IsUnjoinedNode node lanes why = (number : ℕ) × (why ≡ faults.Unjoined node number) × IsUnknown lanes number

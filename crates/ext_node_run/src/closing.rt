@@ -3,6 +3,7 @@ ghost use Rattle.std.specs.Prelude.{◌≡◌, ◌≤◌, List, length, All, IfO
 ghost use Rattle.ext_closing.specs.declared.fault.CloseFault.TheVariants as close_fault;
 ghost use Rattle.ext_closing.specs.Closes as closing;
 ghost use Rattle.ext_closing.specs.Closes.{IsClosedBy};
+ghost use Rattle.ext_closing.specs.Lanes.{IsUnknown};
 ghost use Rattle.ext_closing.specs.Steps.{IsOfKey};
 ghost use Rattle.ext_store.specs.Stores.{StoreLane, IsCloserOf, IsLaneOf};
 
@@ -26,6 +27,7 @@ pub(crate) fn close_again<R: Wait, V: StoreValue + Drop, A: CloseAction<V>>(
     ensures closes { IfOk result (λ closed. IsClosedBy V.is_closeable A.close_gives store.now closer lanes.old action.old closed lanes.new action.new) }
     ensures unjoined { IfErr result (λ number. (before : List (StoreLane V)) × All (IsLaneOf store.now.id) before
         × closing.Closes V.is_closeable A.close_gives store.now closer before action.old (Err (closer, close_fault.Unjoined number)) lanes.new action.old) }
+    ensures unknown { IfErr result (IsUnknown lanes.new) }
     ensures own_lanes { All (IsLaneOf store.now.id) lanes.new }
     ensures count { length lanes.new ≡ length lanes.old }
 {

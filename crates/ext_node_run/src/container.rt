@@ -4,7 +4,7 @@ ghost use Rattle.ext_lifecycle.specs.declared.outcome.Outcome.{Outcome};
 ghost use Rattle.ext_store.specs.Stores.{IsLaneOf};
 ghost use Rattle.ext_node_run.specs.declared.fault.EngineFault.TheVariants as engine_fault;
 ghost use Rattle.ext_node_run.specs.Closers.{IsNode};
-ghost use Rattle.ext_node_run.specs.NodeRun.{IsFault, setting_of};
+ghost use Rattle.ext_node_run.specs.NodeRun.{IsFault, IsUnjoinedNode, setting_of};
 ghost use Rattle.ext_node_run.specs.Helpers.{ran_view};
 ghost use Rattle.ext_node_run.specs.Containers.{AreChildren, IsOpen, IsOpenBy, Opens, Ends};
 
@@ -33,8 +33,8 @@ pub struct OpenContainer {
 /// left to be done after its children, and these.
 ///
 /// The item is a container with the closers of its subtree, and `depth` is 17 less the levels from the root to it. There is at least one lane, all are of
-/// the store, and the store is one that the suite may be run over. Refused as `Memory` where memory for its lists is refused: then nothing was called and
-/// the closers are dropped, so that its context stays open. Takes memory, and what more a call takes, and for whom it waits, is its own matter.
+/// the store, and the store is one that the suite may be run over. Refused as `Memory` where memory for its lists is refused: then nothing was called, the lanes are as they were,
+/// and the closers are dropped, so that its context stays open. Takes memory, and what more a call takes, and for whom it waits, is its own matter.
 ///
 /// JUnit 5 User Guide, section "Relative Execution Order of User Code and Extensions".
 pub fn open_container<'a, R: Wait, V: StoreValue + Drop, S: Suite<V>>(
@@ -55,6 +55,7 @@ pub fn open_container<'a, R: Wait, V: StoreValue + Drop, S: Suite<V>>(
     ensures befores { IfOk result (λ r. Opens (setting_of nodes.now.store.now nodes.now.locks.now (S.nodes nodes.now.suite.now) (S.registered nodes.now.suite.now) V.is_closeable) (S.call_gives nodes.now.suite.now nodes.now.store.now) (S.action_gives nodes.now.suite.now) S.Action.close_gives item.node lanes.old r.0 lanes.new) }
     ensures children { IfOk result (λ r. AreChildren nodes.now.store.now (S.nodes nodes.now.suite.now) (depth - 1) item.node r.1 × (1 ≤ depth)) }
     ensures fault { IfErr result (λ why. why ≡ engine_fault.Memory) }
+    ensures untouched { IfErr result (λ _. lanes.new ≡ lanes.old) }
 {
     let node = item.node;
     let Parts {
@@ -105,6 +106,7 @@ pub fn close_container<'a, R: Wait, V: StoreValue + Drop, S: Suite<V>>(
     ensures ends { IfOk result (λ ran. (path : List ℕ) (befores : List Outcome) → IsOpenBy (S.registered nodes.now.suite.now) node path befores begun
         → Ends (setting_of nodes.now.store.now nodes.now.locks.now (S.nodes nodes.now.suite.now) (S.registered nodes.now.suite.now) V.is_closeable) (S.call_gives nodes.now.suite.now nodes.now.store.now) (S.action_gives nodes.now.suite.now) S.Action.close_gives node path befores lanes.old (ran_view ran) lanes.new) }
     ensures fault { IfErr result (IsFault (setting_of nodes.now.store.now nodes.now.locks.now (S.nodes nodes.now.suite.now) (S.registered nodes.now.suite.now) V.is_closeable) (S.action_gives nodes.now.suite.now) S.Action.close_gives) }
+    ensures unjoined { IfErr result (IsUnjoinedNode node lanes.new) }
 {
     let OpenContainer {
         closer,

@@ -1,12 +1,14 @@
 //! How one node is run.
-ghost use Rattle.std.specs.Prelude.{◌≡◌, ◌<◌, ◌≤◌, ℕ, List, Option, length, map, All, IfOk, IfErr, true};
+ghost use Rattle.std.specs.Prelude.{◌≡◌, ◌≢◌, ◌<◌, ◌≤◌, ℕ, List, Option, length, map, All, IfOk, IfErr, true};
 ghost use Rattle.ext_model.specs.declared.look.Fault.{Fault};
 ghost use Rattle.ext_tree.specs.Paths.{IsPathOf};
 ghost use Rattle.ext_lifecycle.specs.Results.{closes_of};
 ghost use Rattle.ext_store.specs.Stores.{IsCloserOf, IsLaneOf};
 ghost use Rattle.ext_node_run.specs.Closers.{IsNode};
 ghost use Rattle.ext_node_run.specs.Helpers.{ran_view, of_test, ArePartsOf, TestEnds};
-ghost use Rattle.ext_node_run.specs.NodeRun.{setting_of, ClosesNode, IsUnjoined, IsUsable, IsFit, IsFault, TestRun};
+ghost use Rattle.ext_closing.specs.Lanes.{IsUnknown};
+ghost use Rattle.ext_node_run.specs.declared.fault.EngineFault.TheVariants as engine_fault;
+ghost use Rattle.ext_node_run.specs.NodeRun.{setting_of, ClosesNode, IsUnjoined, IsUnjoinedNode, IsUsable, IsFit, IsFault, TestRun};
 
 use crate::closers::closer_of;
 use crate::closing::close_again;
@@ -50,9 +52,9 @@ impl<'a, R: Wait, V: StoreValue + Drop, S: Suite<V>> NodeRunner<'a, R, V, S> {
     /// locks, which hold nothing. The locks have every name that the test and the nodes above it ask for, and the store is one that the suite
     /// may be run over. `depth` is 17 less the levels from the root to the test.
     ///
-    /// Refused as `Memory` where memory for its lists or for its locks is refused, and then nothing was called; and as `Unjoined` where its context
-    /// can't be closed, as no lane in hand knows a value that remains in it: its calls were made then, its locks are given back, and its context
-    /// stays open. Takes memory, all of it before the locks, so that these are given back whatever happens. May wait: it promises its clauses if it
+    /// Refused as `Memory` where memory for its lists or for its locks is refused, and then nothing was called, and all lanes are as they were; and as
+    /// `Unjoined`, with its context, where that can't be closed, as no lane in hand knows a value that remains in it: its calls were made then, its locks are
+    /// given back, and its context stays open. Takes memory, all of it before the locks, so that these are given back whatever happens. May wait: it promises its clauses if it
     /// returns.
     ///
     /// JUnit 5 User Guide, sections "Relative Execution Order of User Code and Extensions", "Synchronization" and "Keeping State in Extensions"; lanes
@@ -75,6 +77,8 @@ impl<'a, R: Wait, V: StoreValue + Drop, S: Suite<V>> NodeRunner<'a, R, V, S> {
         ensures run { IfOk result (λ ran. (path : List ℕ) × IsPathOf self.now.store.now.tree item.node path × TestRun (setting_of self.now.store.now self.now.locks.now (S.nodes self.now.suite.now) (S.registered self.now.suite.now) V.is_closeable) (S.call_gives self.now.suite.now self.now.store.now) (S.action_gives self.now.suite.now) S.Action.close_gives item.node path
             (record { first = lanes.old; second = lock_lanes.old }) (map ran_view ran.items) (record { first = lanes.new; second = lock_lanes.new })) }
         ensures fault { IfErr result (IsFault (setting_of self.now.store.now self.now.locks.now (S.nodes self.now.suite.now) (S.registered self.now.suite.now) V.is_closeable) (S.action_gives self.now.suite.now) S.Action.close_gives) }
+        ensures unjoined { IfErr result (λ why. why ≢ engine_fault.Memory → IsUnjoinedNode item.node lanes.new why) }
+        ensures untouched { IfErr result (λ why. why ≡ engine_fault.Memory → (lanes.new ≡ lanes.old) × (lock_lanes.new ≡ lock_lanes.old)) }
     {
         let node = item.node;
         let closer = closer_of(self.store, item);
@@ -190,6 +194,7 @@ impl<'a, R: Wait, V: StoreValue + Drop, S: Suite<V>> NodeRunner<'a, R, V, S> {
         requires context { closer.context ≡ node }
         ensures closes { IfOk result (λ closes. (faults : List (Option Fault)) × ClosesNode (setting_of self.now.store.now self.now.locks.now (S.nodes self.now.suite.now) (S.registered self.now.suite.now) V.is_closeable) (S.call_gives self.now.suite.now self.now.store.now) (S.action_gives self.now.suite.now) S.Action.close_gives node lanes.old faults lanes.new × (closes ≡ closes_of faults)) }
         ensures unjoined { IfErr result (IsUnjoined (setting_of self.now.store.now self.now.locks.now (S.nodes self.now.suite.now) (S.registered self.now.suite.now) V.is_closeable) (S.action_gives self.now.suite.now) S.Action.close_gives node) }
+        ensures unknown { IfErr result (IsUnknown lanes.new) }
         ensures own_lanes { All (IsLaneOf self.now.store.now.id) lanes.new }
         ensures count { length lanes.new ≡ length lanes.old }
     {

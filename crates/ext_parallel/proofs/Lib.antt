@@ -1,5 +1,9 @@
 -- Lemmas of this crate.
 mod Names
-mod MetLanes
+mod Turning
 mod InTree
 mod Refusals
+mod Values
+mod StepValues
+mod Moves
+mod Found

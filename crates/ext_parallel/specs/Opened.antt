@@ -1,14 +1,16 @@
 -- The store and the locks that a run of a plan opens, and the one history of lanes that met.
 -- Own rule. JUnit 5 User Guide, "Keeping State in Extensions" and "Synchronization", for stores and locks.
-use Rattle.std.specs.Prelude.{◌≡◌, ℕ, ◌*◌, List, [], length, All, IsPermutation}
+use Rattle.std.specs.Prelude.{◌≡◌, ℕ, ◌*◌, List, [], length, map, All, AllPairs, IsPermutation}
 use mathlib.Core.List.{IsPrefix}
-use Rattle.ext_model.specs.History.{History, IsLegal}
+use Rattle.ext_model.specs.declared.look.Fault.{Fault}
+use Rattle.ext_model.specs.History.{History, IsLegal, own}
 use Rattle.ext_plan_model.specs.Plans.{PlanText}
 use Rattle.ext_plan_model.specs.KeyNumbers.{different_keys}
 use Rattle.ext_plan_model.specs.Laws.{ids_of_nodes}
 use Rattle.ext_plan_model.specs.Locks.{lock_names}
 use Rattle.ext_history.specs.Views.{Follow, seen_by}
 use Rattle.ext_model.specs.Calls.{Calls}
+use Rattle.ext_values.specs.Known.{Known, AllAgree}
 use Rattle.ext_store.specs.Stores.{StoreView, StoreLane, IsLaneOf}
 use Rattle.ext_locks.specs.Opening.{LocksView}
 
@@ -33,18 +35,34 @@ pub record IsLocksOf (plan : PlanText) (lanes : ℕ) (locks : LocksView) : Type 
   pub same_lanes : locks.lanes ≡ lanes
   pub tries : locks.tries ≡ run_tries
 
--- the lane stayed one of the store and made no event
-pub record OnlyMeets {V : Type 0} (store : StoreView) (before after : StoreLane V) : Type 0 where
-  pub lane : IsLaneOf store.id after
-  pub calls : Calls store.id.cells.limits before.cells.view after.cells.view []
-
 -- what is true of each lane in hand: what it has seen is legal, and each of its fronts goes on from the one before it
 pub record HasRecalled {V : Type 0} (lane : StoreLane V) : Type 0 where
   pub legal : IsLegal lane.cells.cells.limits (seen_by lane.cells.view)
   pub follow : Follow [] lane.cells.view.fronts
 
--- all fronts of these lanes are parts of one legal history
+-- The lane stayed one of the store, made no event and knows what it knew. In between it saw this history, which goes on from what it had seen
+pub record Turns {V : Type 0} (store : StoreView) (h : History) (before after : StoreLane V) : Type 0 where
+  pub lane : IsLaneOf store.id after
+  pub calls : Calls store.id.cells.limits before.cells.view after.cells.view []
+  pub since : IsPrefix (seen_by before.cells.view) h
+  pub until : IsPrefix h (seen_by after.cells.view)
+  pub known : after.known ≡ before.known
+  pub faults : after.faults ≡ before.faults
+
+-- what each of the lanes knows of values
+abbrev pub all_known : {V : Type 0} → List (StoreLane V) → List (List (Known V))
+all_known lanes = map (λ lane. lane.known) lanes
+
+-- and of faults
+abbrev pub all_faults : {V : Type 0} → List (StoreLane V) → List (List (Known Fault))
+all_faults lanes = map (λ lane. lane.faults) lanes
+
+-- What all lanes of a run have seen is one history. All their fronts are parts of it, and it is legal. The events that it has of a lane are those that this lane has seen of
+-- itself: nobody else makes events in its name. A value or a fault that two of them know of one number is the same in both
 pub record ShareHistory {V : Type 0} (store : StoreView) (lanes : List (StoreLane V)) : Type 0 where
   pub history : History
   pub legal : IsLegal store.id.cells.limits history
   pub parts : All (λ lane. All (λ front. IsPrefix front history) lane.cells.view.fronts) lanes
+  pub own_events : All (λ lane. own lane.cells.view.number history ≡ own lane.cells.view.number (seen_by lane.cells.view)) lanes
+  pub agree : AllPairs AllAgree (all_known lanes)
+  pub agree_faults : AllPairs AllAgree (all_faults lanes)

@@ -4,7 +4,6 @@
 -- JUnit 5 User Guide, "Parallel Execution", "Synchronization" and "Keeping State in Extensions", by the definitions of the engine. What numbers and tries a run's
 -- store has, and that lanes meet at its end, are own rules.
 use Rattle.std.specs.Prelude.{◌≡◌, ℕ, List, length, map, Option, Result}
-use Rattle.std.specs.List.{AllZip}
 use Rattle.ext_model.specs.declared.look.Fault.{Fault}
 use Rattle.ext_lifecycle.specs.declared.call.Call.{Call}
 use Rattle.ext_lifecycle.specs.declared.outcome.Outcome.{Outcome}
@@ -12,7 +11,7 @@ use Rattle.ext_lifecycle.specs.Results.{ResultOf}
 use Rattle.ext_plan_model.specs.Plans.{PlanText}
 use Rattle.ext_plan_model.specs.PlanCalls.{registered}
 use Rattle.ext_cells.specs.Lanes.{fresh_lanes}
-use Rattle.ext_store.specs.Stores.{StoreView, StoreLane, fresh_store_lane}
+use Rattle.ext_store.specs.Stores.{StoreView, fresh_store_lane}
 use Rattle.ext_locks.specs.Opening as locking
 use Rattle.ext_locks.specs.Opening.{LocksView}
 use Rattle.ext_locks.specs.Sets.{HeldView}
@@ -20,7 +19,7 @@ use Rattle.ext_node_run.specs.declared.fault.EngineFault.{EngineFault}
 use Rattle.ext_node_run.specs.declared.fault.EngineFault.TheVariants as faults
 use Rattle.ext_engine.specs.TreeRun.{IsUnjoined, Lanes, Ran, TreeRun, all_results, setting_of}
 use Rattle.ext_store_steps.specs.declared.stored_value.StoredValue.{StoredValue}
-use Rattle.ext_parallel.specs.Opened.{IsStoreOf, IsLocksOf, OnlyMeets, ShareHistory}
+use Rattle.ext_parallel.specs.Opened.{IsStoreOf, IsLocksOf, ShareHistory}
 use Rattle.ext_steps.specs.Values.{close_fault}
 use Rattle.ext_store_steps.specs.StoreCalls.{PlanLane, stored_view}
 use Rattle.ext_suite.specs.declared.plan_action.PlanAction.{PlanAction}
@@ -54,10 +53,8 @@ pub record ParallelRun (plan : PlanText) (lanes : ℕ) (results : List (ResultOf
   pub after : Lanes StoredValue
   pub run : TreeRun (setting_of store locks (suite_of plan) (registered plan) (λ (value : StoredValue). value.value.closeable)) (MakesCall plan store) IsAction ClosesValue 16 0 first ran after
   pub results_are : results ≡ all_results (suite_of plan) (length plan.nodes) ran
-  -- what all lanes have seen is one history: they only met one another after the run
-  pub met : List (StoreLane StoredValue)
-  pub only_met : AllZip (OnlyMeets store) after.first met
-  pub shared : ShareHistory store met
+  -- what all lanes have seen is one history, in which each of them made just its own events, and what two of them know of a number is the same
+  pub shared : ShareHistory store after.first
 
 -- ---- refusals
 

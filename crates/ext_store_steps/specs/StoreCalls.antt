@@ -3,7 +3,7 @@
 --
 -- JUnit 5 User Guide, "Keeping State in Extensions", and Javadoc `ExtensionContext.Store`, `get`, `put`, `remove` and `getOrComputeIfAbsent`. What a step says is an
 -- own rule.
-use Rattle.std.specs.Prelude.{◌≡◌, ◌⊎◌, ℕ, List, Option, Some, None, Result, Ok, Err, String, string_bytes}
+use Rattle.std.specs.Prelude.{◌≡◌, ◌⊎◌, ℕ, List, [], Option, Some, None, Result, Ok, Err, String, string_bytes}
 use Rattle.std.specs.declared.alloc.Global.{Global}
 use Rattle.ext_model.specs.declared.look.Fault.{Fault}
 use Rattle.ext_model.specs.declared.look.Fault.TheVariants as faults
@@ -39,10 +39,10 @@ PlanLane = StoreLane StoredValue
 abbrev pub PlanNotes : Type 0
 PlanNotes = List (Known StoredValue)
 
--- What some calls do to a lane in all, by which some numbers were stored: it is a lane of the store, it made some events and no others, it knows what it knew, and it
--- keeps what it kept, but for those numbers
+-- What the calls of a step, or of several, do to a lane in all: it is a lane of the store, it made some events and no others, it knows what it knew, and it keeps what it
+-- kept. So a step stores no number but those that it drew itself
 abbrev pub HasFrame : StoreView → PlanLane → PlanLane → Type 0
-HasFrame store before after = (stored : List ℕ) × Frame store.id stored before after
+HasFrame store before after = Frame store.id [] before after
 
 -- ---- what a look-up shows
 

@@ -16,7 +16,7 @@ use Rattle.ext_steps.specs.Calls.{label_of, start_of}
 use Rattle.ext_steps.specs.Values.{ValueText}
 use Rattle.ext_steps.specs.Verdicts.{SeenText, want_verdict, none_verdict}
 use Rattle.ext_store_steps.specs.Saying.{no_memory, Ends}
-use Rattle.ext_store_steps.specs.StoreCalls.{PlanLane, Sees, PutsKept, PutsNothing, RemovesThere, ComputesValue, ComputesFault}
+use Rattle.ext_store_steps.specs.StoreCalls.{HasFrame, PlanLane, Sees, PutsKept, PutsNothing, RemovesThere, ComputesValue, ComputesFault}
 
 -- ---- keys
 
@@ -92,10 +92,10 @@ module _ (store : StoreView) (keys : List KeyText) (path : List ℕ) where
     pub computed_are : outcome.computed ≡ first.computed + rest.computed
     pub found_are : outcome.found ≡ first.found + rest.found
 
-  -- The steps are made in order, up to the first that isn't successful, with it
+  -- The steps are made in order, up to the first that isn't successful, with it. Each leaves its lane what it knew and what it kept
   unfoldable pub StepsRun : List StepText → PlanLane → Outcome → PlanLane → Type 0
   StepsRun [] before outcome after = (after ≡ before) × Ends successful 0 0 outcome
   StepsRun (step ∷ more) before outcome after =
-      (first : Outcome) × (between : PlanLane) × StepRun step before first between
+      (first : Outcome) × (between : PlanLane) × StepRun step before first between × HasFrame store before between
       × ((is_successful (ending_of first.verdict) ≡ true → (rest : Outcome) × StepsRun more between rest after × AddsUp first rest outcome)
       × (is_successful (ending_of first.verdict) ≡ false → (outcome ≡ first) × (after ≡ between)))

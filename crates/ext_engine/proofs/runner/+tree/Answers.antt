@@ -14,7 +14,7 @@ use Rattle.ext_node_run.specs.declared.results.RanNode.{RanNode}
 use Rattle.ext_node_run.specs.Closers.{IsNode}
 use Rattle.ext_node_run.specs.Helpers.{ran_view}
 use Rattle.ext_engine.specs.TreeRun.{Lanes, setting_of, IsUsable, IsIdle, IsFault, TreeRun, TestRun, BodyMade}
-use Rattle.ext_engine.proofs.Trees.{usable_part, usable-shown, usable-then, at_item, node_at, outcomes-meet, ran-none, ran-push, tree-of-test, tree-of-container, body-of}
+use Rattle.ext_engine.proofs.Trees.{usable_part, usable-met, met_mine, usable-shown, usable-then, at_item, node_at, outcomes-meet, ran-none, ran-push, tree-of-test, tree-of-container, body-of}
 use Rattle.ext_engine.proofs.runner.+tree.Goals as goal
 
 pub TreeRunner::run_beside-run_children-requires-clause-accepts : goal.TreeRunner::run_beside-run_children-requires-clause-accepts
@@ -65,6 +65,16 @@ TreeRunner::run_beside-returns-in-Ok g t c = record {
   );
 }
 
+pub TreeRunner::run_body-run_beside-requires-clause-ready : goal.TreeRunner::run_body-run_beside-requires-clause-ready
+TreeRunner::run_body-run_beside-requires-clause-ready g t c κs inside =
+    let r = c.args.self.now.nodes in
+    (c.requires.ready.0, c.requires.ready.1, usable-met r.store.now r.locks.now (record { first = c.args.lanes.now; second = c.args.lock_lanes.now }) c.fork.new.lanes c.requires.ready.2 c.fork.ensures.forked.only_meet)
+
+pub TreeRunner::run_body-run_in_turn-requires-clause-ready : goal.TreeRunner::run_body-run_in_turn-requires-clause-ready
+TreeRunner::run_body-run_in_turn-requires-clause-ready g t c κs inside =
+    let r = c.args.self.now.nodes in
+    (c.requires.ready.0, c.requires.ready.1, usable-met r.store.now r.locks.now (record { first = c.run_beside.new.lanes; second = c.run_beside.new.lock_lanes }) c.join.new.lanes c.in_ok-outcomes.ensures.left.0 c.join.ensures.joined.only_meet)
+
 pub TreeRunner::run_body-returns : goal.TreeRunner::run_body-returns
 TreeRunner::run_body-returns g t c =
     let r = c.args.self.now.nodes in
@@ -76,10 +86,12 @@ TreeRunner::run_body-returns g t c =
     let views = ap (map ran_view) is ∙ map-append ran_view c.in_ok-ran.ran.items c.in_ok-others.others.items in
     let size = length-map c.args.children.beside.items (λ (i : Item). i.node) in
     let body = body-of ts makes actions gives (TreeRun ts makes actions gives c.args.depth) c.args.node (map (λ i. i.node) c.args.children.beside.items) (map (λ i. i.node) c.args.children.in_turn.items)
-    (record { first = c.args.lanes.now; second = c.args.lock_lanes.now }) (record { first = c.run_beside.new.lanes; second = c.run_beside.new.lock_lanes }) (record { first = c.run_in_turn.new.lanes; second = c.run_in_turn.new.lock_lanes })
-    c.in_ok-outcomes.outcomes.items (map ran_view c.in_ok-others.others.items) (map ran_view c.append.new.self.items) (map ran_view c.in_ok-ran.ran.items) (length c.args.children.beside.items) size c.requires.children.concurrent c.requires.children.same_thread
+    (record { first = c.args.lanes.now; second = c.args.lock_lanes.now }) c.fork.new.lanes (record { first = c.run_beside.new.lanes; second = c.run_beside.new.lock_lanes }) c.join.new.lanes (record { first = c.run_in_turn.new.lanes; second = c.run_in_turn.new.lock_lanes })
+    c.in_ok-outcomes.outcomes.items (map ran_view c.in_ok-others.others.items) (map ran_view c.append.new.self.items) (map ran_view c.in_ok-ran.ran.items) (length c.args.children.beside.items) c.fork.ensures.forked c.join.ensures.joined size c.requires.children.concurrent c.requires.children.same_thread
     c.in_ok-outcomes.ensures.left.2 c.in_ok-ran.ensures.all.0 c.in_ok-ran.ensures.all.1 c.in_ok-others.ensures.left.2 views in
-    record { left = (c.in_ok-others.ensures.left.0, c.in_ok-others.ensures.left.1 ∙ c.in_ok-outcomes.ensures.left.1, record { made = λ _. body; skipped = λ bad. absurd (let e : c.args.go ≡ true = search rules in let f : true ≡ false = sym e ∙ bad in cc) }, tt) }
+    let met = met_mine r.store.now c.args.lanes.now c.fork.new.lanes c.fork.ensures.forked.only_meet in
+    let back = met_mine r.store.now c.run_beside.new.lanes c.join.new.lanes c.join.ensures.joined.only_meet in
+    record { left = (c.in_ok-others.ensures.left.0, c.in_ok-others.ensures.left.1 ∙ (back.1 ∙ (c.in_ok-outcomes.ensures.left.1 ∙ met.1)), record { made = λ _. body; skipped = λ bad. absurd (let e : c.args.go ≡ true = search rules in let f : true ≡ false = sym e ∙ bad in cc) }, tt) }
 
 pub TreeRunner::run_in_turn-loop-item-init : goal.TreeRunner::run_in_turn-loop-item-init
 TreeRunner::run_in_turn-loop-item-init g t c =

@@ -2,7 +2,11 @@ use Rattle.std.proofs.Common.{[], ◌∷◌, ◌++◌, ◌∙◌, refl, sym, sub
 use Rattle.std.specs.Prelude.{Ok}
 use Rattle.std.proofs.lemmas.Fn.{FoldsTo-push}
 use Rattle.ext_store.specs.Stores.{IsCloserOf}
+use Rattle.ext_closing.specs.declared.fault.CloseFault.{CloseFault}
 use Rattle.ext_closing.specs.Closes.{IsRefused}
+use Rattle.ext_closing.specs.Closing.{NamesUnjoined}
+use Rattle.ext_closing.specs.Lanes.{first_lane}
+use Rattle.ext_closing.specs.Sealing.{numbers_left}
 use Rattle.ext_closing.proofs.Again.{asked_again}
 use Rattle.ext_node_run.proofs.Refusals.{same_close, refused_close, count_kept}
 use Rattle.ext_node_run.proofs.closing.close_again.Goals as goal
@@ -55,3 +59,8 @@ loop-preserved g c =
       action = e.happened.not_called ∙ inv.action;
       closer = e.handed_back ∙ inv.closer;
     }
+
+pub returns-in-Some-unjoined-clause-unknown : goal.returns-in-Some-unjoined-clause-unknown
+returns-in-Some-unjoined-clause-unknown g c =
+    let P : CloseFault → Type 0 = λ why. NamesUnjoined c.close.new.lanes (numbers_left c.args.store.now c.loop.left.context (first_lane c.args.store.now c.close.new.lanes)) why in
+    (subst P c.in-Some-unjoined.ensures.number c.in-Err.ensures.happened.unjoined).unknown

@@ -1,20 +1,39 @@
-use Rattle.std.proofs.Common.{rules, ◌∷◌, List, subst, sym}
+use Rattle.std.proofs.Common.{rules, ◌≡◌, ◌∷◌, [], List, length, subst, sym}
 use Rattle.std.specs.List.{AllZip}
+use Rattle.ext_history.specs.Views.{seen_by}
 use Rattle.ext_store.specs.Stores.{StoreLane, IsLaneOf}
-use Rattle.ext_parallel.specs.Opened.{OnlyMeets}
-use Rattle.ext_parallel.proofs.MetLanes.{met_once, met_again, still_seen}
+use Rattle.ext_parallel.specs.Opened.{Turns}
+use Rattle.ext_parallel.proofs.Turning.{none_turn, turns_last, turns_lane, turns_next, legal_here}
 use Rattle.ext_parallel.proofs.meeting.+meet_rest.Goals as goal
 
-pub returns-in-Some-clause-only_met : goal.returns-in-Some-clause-only_met
-returns-in-Some-clause-only_met g t c =
+pub returns-in-Some : goal.returns-in-Some
+returns-in-Some g t c =
     let st = c.args.store.now in
     let next : IsLaneOf st.id c.in-Some.next.now = search rules in
-    let all : AllZip (OnlyMeets st) (c.in-Some.next.now ∷ c.in-Some.more.now) (c.meet_rest.new.lane ∷ c.meet_rest.new.others) =
-    (met_again st c.in-Some.next.now c.meet.new.second c.meet_rest.new.lane next c.meet.ensures.second_call c.meet_rest.ensures.only_met.0, c.meet_rest.ensures.only_met.1) in (
-      met_once st c.args.lane.now c.meet.new.first c.requires.lane c.meet.ensures.first_lane c.meet.ensures.first_call,
-      subst (λ (l : List (StoreLane g.row.V.Denot)). AllZip (OnlyMeets st) l (c.meet_rest.new.lane ∷ c.meet_rest.new.others)) (sym c.in-Some.ensures.cases.0) all,
-    )
+    let r = c.meet_rest.ensures.turned in
+    let h = r.0 in
+    let all : AllZip (Turns st h) (c.in-Some.next.now ∷ c.in-Some.more.now) (c.meet-in-Some.new.first ∷ c.meet_rest.new.others) =
+    (turns_next st h c.in-Some.next.now c.meet.new.second c.meet_rest.new.lane c.meet-in-Some.new.first next c.meet-in-Some.ensures.first_lane c.meet.ensures.second_call r.2 c.meet-in-Some.ensures.first_call c.meet.ensures.known.1 c.meet-in-Some.ensures.known.0 c.meet.ensures.faults.1 c.meet-in-Some.ensures.faults.0, r.3) in
+    record {
+      turned = (
+        h,
+        r.1,
+        turns_lane st h c.args.lane.now c.meet.new.first c.meet-in-Some.new.second c.meet.new.second c.meet_rest.new.lane c.meet-in-Some.new.first c.requires.lane c.meet.ensures.first_lane c.meet-in-Some.ensures.second_lane
+            c.meet.ensures.first_call c.meet.ensures.met r.2 r.2.lane c.meet-in-Some.ensures.first_call c.meet-in-Some.ensures.met c.meet-in-Some.ensures.second_call c.meet.ensures.known.0 c.meet-in-Some.ensures.known.1 c.meet.ensures.faults.0 c.meet-in-Some.ensures.faults.1,
+        subst (λ (l : List (StoreLane g.row.V.Denot)). AllZip (Turns st h) l (c.meet-in-Some.new.first ∷ c.meet_rest.new.others)) (sym c.in-Some.ensures.cases.0) all,
+      );
+    }
 
-pub returns-in-Some-clause-followed : goal.returns-in-Some-clause-followed
-returns-in-Some-clause-followed g t c =
-    (still_seen c.args.store.now _ c.meet.new.second c.meet_rest.new.lane c.meet.ensures.met c.meet_rest.ensures.only_met.0, c.meet_rest.ensures.followed)
+pub returns-in_default : goal.returns-in_default
+returns-in_default g t c =
+    let st = c.args.store.now in
+    let lane = c.args.lane.now in
+    let none : length c.args.others.now ≡ 0 = search rules in
+    record {
+      turned = (
+        seen_by lane.cells.view,
+        legal_here st lane c.requires.lane c.requires.looked.0,
+        turns_last st lane c.requires.lane c.requires.looked.0,
+        none_turn st (seen_by lane.cells.view) c.args.others.now none,
+      );
+    }

@@ -57,8 +57,6 @@ returns-clause-run g c =
       results_are =
           subst (λ (n : ℕ). map told results.items ≡ all_results (suite_of plan) n ran.0) count
           (subst (λ (p : PlanText). map told results.items ≡ all_results (suite_of p) (length st.tree) ran.0) c.requires.suite ran.2);
-      met = c.meet_all.new.lanes;
-      only_met = c.meet_all.ensures.only_met;
       shared = c.meet_all.ensures.shared;
     }) c.run_tree-ran.ensures.run
 

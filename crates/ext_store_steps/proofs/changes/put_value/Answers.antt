@@ -4,7 +4,7 @@ use Rattle.ext_store_steps.specs.StoreSteps.{StepPuts}
 use Rattle.ext_store_steps.proofs.KnownKeys.{number_of_key, put_knows}
 use Rattle.ext_store_steps.proofs.Ends.{ends_well}
 use Rattle.std.proofs.Common.{[]}
-use Rattle.ext_store_steps.proofs.Framed.{then_framed}
+use Rattle.ext_store_steps.proofs.Framed.{put_framed, then_framed}
 use Rattle.ext_store_steps.proofs.changes.put_value.Goals as goal
 
 pub end_refused-requires-clause-known : goal.end_refused-requires-clause-known
@@ -53,10 +53,10 @@ returns-in-Err-put_wait-clause-puts g c =
     )
 
 pub returns-in-Err-clause-frame : goal.returns-in-Err-clause-frame
-returns-in-Err-clause-frame g c = ([], c.in-Err.ensures.frame)
+returns-in-Err-clause-frame g c = c.in-Err.ensures.frame
 
 pub returns-in-Ok-put_wait-clause-frame : goal.returns-in-Ok-put_wait-clause-frame
-returns-in-Ok-put_wait-clause-frame g c = then_framed c.args.store.now c.args.lane.now c.keep_wait.new.lane c.put_wait.new.lane ([], c.in-Ok.ensures.frame) (_, c.in-Ok-put_wait.ensures.frame)
+returns-in-Ok-put_wait-clause-frame g c = put_framed c.args.store.now c.in-Ok.kept c.args.lane.now c.keep_wait.new.lane c.put_wait.new.lane c.in-Ok.ensures.frame c.in-Ok.ensures.apart c.in-Ok-put_wait.ensures.frame
 
 pub returns-in-Err-put_wait-clause-frame : goal.returns-in-Err-put_wait-clause-frame
-returns-in-Err-put_wait-clause-frame g c = then_framed c.args.store.now c.args.lane.now c.keep_wait.new.lane c.put_wait.new.lane ([], c.in-Ok.ensures.frame) (_, c.in-Err-put_wait.ensures.frame)
+returns-in-Err-put_wait-clause-frame g c = then_framed c.args.store.now c.args.lane.now c.keep_wait.new.lane c.put_wait.new.lane c.in-Ok.ensures.frame c.in-Err-put_wait.ensures.frame

@@ -23,7 +23,7 @@ returns-in-Err-clause-removes g c =
     (n.0, n.1, record { result = _; removes = c.in-Err.ensures.answer n.0 n.1; known = (c.in-Err.ensures.known, c.in-Err.ensures.faults); ends = c.end_refused.ensures })
 
 pub returns-in-Ok-clause-frame : goal.returns-in-Ok-clause-frame
-returns-in-Ok-clause-frame g c = ([], c.in-Ok.ensures.frame)
+returns-in-Ok-clause-frame g c = c.in-Ok.ensures.frame
 
 pub returns-in-Err-clause-frame : goal.returns-in-Err-clause-frame
-returns-in-Err-clause-frame g c = ([], c.in-Err.ensures.frame)
+returns-in-Err-clause-frame g c = c.in-Err.ensures.frame

@@ -41,16 +41,16 @@ returns-in-Refused-clause-computes g c =
     (n.0, n.1, record { given = c.args.value; value_is = refl; result = _; computed = c.in-Refused.ensures.answer n.0 n.1; between = _; uses = c.in-Refused.ensures.factory; ends = (refl, c.end_refused.ensures) })
 
 pub returns-in-Computed-clause-frame : goal.returns-in-Computed-clause-frame
-returns-in-Computed-clause-frame g c = ([], c.in-Computed.ensures.frame)
+returns-in-Computed-clause-frame g c = c.in-Computed.ensures.frame
 
 pub returns-in-Found-clause-frame : goal.returns-in-Found-clause-frame
-returns-in-Found-clause-frame g c = ([], c.in-Found.ensures.frame)
+returns-in-Found-clause-frame g c = c.in-Found.ensures.frame
 
 pub returns-in-Unkept-clause-frame : goal.returns-in-Unkept-clause-frame
-returns-in-Unkept-clause-frame g c = ([], c.in-Unkept.ensures.frame)
+returns-in-Unkept-clause-frame g c = c.in-Unkept.ensures.frame
 
 pub returns-in-Refused-clause-frame : goal.returns-in-Refused-clause-frame
-returns-in-Refused-clause-frame g c = ([], c.in-Refused.ensures.frame)
+returns-in-Refused-clause-frame g c = c.in-Refused.ensures.frame
 
 pub returns-in-FaultStands-clause-computes : goal.returns-in-FaultStands-clause-computes
 returns-in-FaultStands-clause-computes g c =
@@ -70,4 +70,4 @@ returns-in-FaultStands-clause-computes g c =
     )
 
 pub returns-in-FaultStands-clause-frame : goal.returns-in-FaultStands-clause-frame
-returns-in-FaultStands-clause-frame g c = then_framed c.args.store.now c.args.lane.now c.compute_made.new.lane c.end_met.new.lane ([], c.in-FaultStands.ensures.frame) c.end_met.ensures.frame
+returns-in-FaultStands-clause-frame g c = then_framed c.args.store.now c.args.lane.now c.compute_made.new.lane c.end_met.new.lane c.in-FaultStands.ensures.frame c.end_met.ensures.frame

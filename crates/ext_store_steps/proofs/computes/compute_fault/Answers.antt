@@ -121,7 +121,7 @@ returns-in-Refused-clause-fails g c =
     )
 
 pub returns-in-Found-clause-frame : goal.returns-in-Found-clause-frame
-returns-in-Found-clause-frame g c = then_framed c.args.store.now c.args.lane.now c.compute_made.new.lane c.show-seen.new.lane ([], c.in-Found.ensures.frame) c.show-seen.ensures.frame
+returns-in-Found-clause-frame g c = then_framed c.args.store.now c.args.lane.now c.compute_made.new.lane c.show-seen.new.lane c.in-Found.ensures.frame c.show-seen.ensures.frame
 
 pub returns-in-FaultStands-clause-frame : goal.returns-in-FaultStands-clause-frame
-returns-in-FaultStands-clause-frame g c = then_framed c.args.store.now c.args.lane.now c.compute_made.new.lane c.end_met_failing.new.lane ([], c.in-FaultStands.ensures.frame) c.end_met_failing.ensures.frame
+returns-in-FaultStands-clause-frame g c = then_framed c.args.store.now c.args.lane.now c.compute_made.new.lane c.end_met_failing.new.lane c.in-FaultStands.ensures.frame c.end_met_failing.ensures.frame

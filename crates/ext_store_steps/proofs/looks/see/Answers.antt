@@ -27,13 +27,13 @@ returns-in-Ok-Closed-clause-sees g c =
     (n.0, n.1, sees_shown _ _ n.0 c.args.lane.now c.get_wait.new.lane c.get_wait.new.lane _ (look.Closed c.in-Ok-Closed.field-0-0) _ c.in-Ok-Closed.field-0-is (c.in-Ok-Closed.ensures.answer n.0 n.1) c.in-Ok-Closed.ensures.known c.in-Ok-Closed.ensures.faults refl ((refl, refl), refl))
 
 pub returns-in-Ok-Found-clause-frame : goal.returns-in-Ok-Found-clause-frame
-returns-in-Ok-Found-clause-frame g c = then_framed c.args.store.now c.args.lane.now c.get_wait.new.lane c.show.new.lane ([], c.in-Ok-Found.ensures.frame) c.show.ensures.frame
+returns-in-Ok-Found-clause-frame g c = then_framed c.args.store.now c.args.lane.now c.get_wait.new.lane c.show.new.lane c.in-Ok-Found.ensures.frame c.show.ensures.frame
 
 pub returns-in-Ok-Absent-clause-frame : goal.returns-in-Ok-Absent-clause-frame
-returns-in-Ok-Absent-clause-frame g c = ([], c.in-Ok-Absent.ensures.frame)
+returns-in-Ok-Absent-clause-frame g c = c.in-Ok-Absent.ensures.frame
 
 pub returns-in-Ok-Closed-clause-frame : goal.returns-in-Ok-Closed-clause-frame
-returns-in-Ok-Closed-clause-frame g c = ([], c.in-Ok-Closed.ensures.frame)
+returns-in-Ok-Closed-clause-frame g c = c.in-Ok-Closed.ensures.frame
 
 pub returns-in-Ok-Fault-clause-sees : goal.returns-in-Ok-Fault-clause-sees
 returns-in-Ok-Fault-clause-sees g c =
@@ -41,4 +41,4 @@ returns-in-Ok-Fault-clause-sees g c =
     (n.0, n.1, sees_shown _ _ n.0 c.args.lane.now c.get_wait.new.lane c.show_fault.new.lane _ (look.Fault c.in-Ok-Fault.field-0-0 c.in-Ok-Fault.number) _ c.in-Ok-Fault.field-0-is (c.in-Ok-Fault.ensures.answer n.0 n.1) c.in-Ok-Fault.ensures.known c.in-Ok-Fault.ensures.faults c.show_fault.ensures.steps (c.show_fault.ensures.known, c.show_fault.ensures.shows))
 
 pub returns-in-Ok-Fault-clause-frame : goal.returns-in-Ok-Fault-clause-frame
-returns-in-Ok-Fault-clause-frame g c = then_framed c.args.store.now c.args.lane.now c.get_wait.new.lane c.show_fault.new.lane ([], c.in-Ok-Fault.ensures.frame) c.show_fault.ensures.frame
+returns-in-Ok-Fault-clause-frame g c = then_framed c.args.store.now c.args.lane.now c.get_wait.new.lane c.show_fault.new.lane c.in-Ok-Fault.ensures.frame c.show_fault.ensures.frame

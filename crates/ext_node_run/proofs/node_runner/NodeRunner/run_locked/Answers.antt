@@ -1,4 +1,4 @@
-use Rattle.std.proofs.Common.{◌<◌, ◌∙◌, length, arith, length-set, true}
+use Rattle.std.proofs.Common.{◌<◌, ◌∙◌, length, arith, length-set, refl, true}
 use Rattle.std.specs.Prelude.{Some, slice_set}
 use Rattle.ext_store.specs.Stores.{StoreLane}
 use Rattle.ext_lifecycle.specs.declared.call.Call.{Call}
@@ -47,6 +47,7 @@ returns-in-Ok g c =
         },
       );
       fault = tt;
+      unjoined = tt;
     }
 
 pub returns-in-Err : goal.returns-in-Err
@@ -57,4 +58,5 @@ returns-in-Err g c =
       count = count;
       run = tt;
       fault = c.in-Err.ensures.unjoined;
+      unjoined = (c.in-Err.number, refl, c.in-Err.ensures.unknown);
     }

@@ -1,0 +1,24 @@
+use Rattle.ext_engine.specs.TreeRun.{setting_of}
+use Rattle.ext_engine.proofs.Going.{tree_goes}
+use Rattle.ext_engine.proofs.Ordered.{containers_made, containers_seen, nodes_seen}
+use Rattle.ext_engine.proofs.laws.order_laws.Goals as goal
+
+pub returns-clause-go_on : goal.returns-clause-go_on
+returns-clause-go_on g c = λ suite store locks moves.
+    tree_goes (setting_of store locks (g.S.Suite.nodes suite) (g.S.Callbacks.registered suite) g.V.StoreValue.is_closeable) (g.S.Suite.call_gives suite store) (g.S.Suite.action_gives suite)
+    g.S.Action.CloseAction.close_gives moves
+
+pub returns-clause-seen : goal.returns-clause-seen
+returns-clause-seen g c = λ suite store locks moves.
+    nodes_seen (setting_of store locks (g.S.Suite.nodes suite) (g.S.Callbacks.registered suite) g.V.StoreValue.is_closeable) (g.S.Suite.call_gives suite store) (g.S.Suite.action_gives suite)
+    g.S.Action.CloseAction.close_gives moves
+
+pub returns-clause-containers_seen : goal.returns-clause-containers_seen
+returns-clause-containers_seen g c = λ suite store locks moves.
+    containers_seen (setting_of store locks (g.S.Suite.nodes suite) (g.S.Callbacks.registered suite) g.V.StoreValue.is_closeable) (g.S.Suite.call_gives suite store) (g.S.Suite.action_gives suite)
+    g.S.Action.CloseAction.close_gives moves
+
+pub returns-clause-containers : goal.returns-clause-containers
+returns-clause-containers g c = λ suite store locks moves.
+    containers_made (setting_of store locks (g.S.Suite.nodes suite) (g.S.Callbacks.registered suite) g.V.StoreValue.is_closeable) (g.S.Suite.call_gives suite store) (g.S.Suite.action_gives suite)
+    g.S.Action.CloseAction.close_gives moves

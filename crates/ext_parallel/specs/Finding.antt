@@ -1,0 +1,123 @@
+-- What the steps of a run find: values that steps of the plan keep, under the same key.
+-- Javadoc `ExtensionContext.Store`, `get`: a value that was stored under the key. That nobody but the plan's steps stores any is an own rule.
+use Rattle.std.specs.Prelude.{◌≡◌, ◌⊎◌, ℕ, codes, true, false, List, [], ◌∷◌, Option, Some, None, Contains}
+use Rattle.ext_lifecycle.specs.declared.call.Call.{Call}
+use Rattle.ext_lifecycle.specs.declared.outcome.Outcome.{Outcome}
+use Rattle.ext_lifecycle.specs.Endings.{successful, is_successful}
+use Rattle.ext_lifecycle.specs.Lifecycle.{ending_of}
+use Rattle.ext_lifecycle.specs.Results.{ResultOf}
+use Rattle.ext_locks.specs.Sets.{HeldView}
+use Rattle.ext_model.specs.declared.look.Fault.{Fault}
+use Rattle.ext_tree.specs.Keys.{HasNumber}
+use Rattle.ext_tree.specs.Paths.{IsPathOf}
+use Rattle.ext_plan_model.specs.Plans.{PlanText, StepText, put, put_closeable, want, nothing, remove, compute, compute_closeable, compute_fail, fail, abort}
+use Rattle.ext_plan_model.specs.PlanCalls.{registered, steps_of_call}
+use Rattle.ext_store.specs.declared.computed.Compute.{Compute}
+use Rattle.ext_store.specs.declared.computed.Compute.TheVariants as computes
+use Rattle.ext_store.specs.Stores.{StoreView}
+use Rattle.ext_steps.specs.Calls.{label_of}
+use Rattle.ext_steps.specs.Values.{ValueText}
+use Rattle.ext_steps.specs.Verdicts.{SeenText, seen_value, seen_fault, seen_no_memory, seen_nothing, seen_refused, want_verdict, none_verdict}
+use Rattle.ext_store_steps.specs.Saying.{Ends}
+use Rattle.ext_store_steps.specs.StoreCalls.{ComputesFault, EndsComputeFail, PlanLane, Sees}
+use Rattle.ext_store_steps.specs.StoreSteps.{AddsUp, FindsNoMemory, OfNumber, StepRun, context_up, key_of_label}
+use Rattle.ext_store_steps.specs.declared.stored_value.StoredValue.{StoredValue}
+use Rattle.ext_suite.specs.PlanSuites.{suite_of}
+use Rattle.ext_engine.specs.Order.{CallsGoOn}
+use Rattle.ext_engine.specs.TreeRun.{TreeRun, setting_of}
+use Rattle.ext_parallel.specs.ParallelRun.{ClosesValue, IsAction, MakesCall, ParallelRun}
+
+-- ---- what a plan keeps
+
+-- what a step keeps, if it keeps a value: the place of its key's label, and the value
+abbrev pub kept_by : StepText → Option (ℕ × ValueText)
+kept_by (put key text up) = Some (key, record { text = text; closeable = false })
+kept_by (put_closeable key text up) = Some (key, record { text = text; closeable = true })
+kept_by (want key text up) = None
+kept_by (nothing key up) = None
+kept_by (remove key up) = None
+kept_by (compute key text up) = Some (key, record { text = text; closeable = false })
+kept_by (compute_closeable key text up) = Some (key, record { text = text; closeable = true })
+kept_by (compute_fail key text up) = None
+kept_by (fail text) = None
+kept_by (abort text) = None
+
+-- a step of the plan puts or computes a value of this text, under the key that has this number in the store
+pub record IsKeptByPlan (plan : PlanText) (store : StoreView) (key : ℕ) (text : List ℕ) : Type 0 where
+  pub call : Call
+  pub step : StepText
+  pub among : Contains (steps_of_call plan call) step
+  pub label : ℕ
+  pub value : ValueText
+  pub keeps : kept_by step ≡ Some (label, value)
+  pub text_is : value.text ≡ text
+  pub named : HasNumber store.keys (key_of_label plan.keys label) key
+
+-- where a value is seen, it is one that the plan keeps under the key
+abbrev pub IsSeenOfPlan : PlanText → StoreView → ℕ → SeenText → Type 0
+IsSeenOfPlan plan store key (seen_value text) = IsKeptByPlan plan store key text
+IsSeenOfPlan plan store key (seen_fault text) = Unit {0}
+IsSeenOfPlan plan store key seen_no_memory = Unit {0}
+IsSeenOfPlan plan store key seen_nothing = Unit {0}
+IsSeenOfPlan plan store key (seen_refused why) = Unit {0}
+
+-- the same of a compute whose factory fails, which is shown the value that it found in its place
+abbrev pub IsMetOfPlan : (plan : PlanText) (store : StoreView) (context key : ℕ) (name label text : List ℕ) (result : Compute StoredValue (Unit {0})) (between : PlanLane) (outcome : Outcome) (after : PlanLane)
+    → EndsComputeFail store context key name label text result between outcome after → Type 0
+IsMetOfPlan plan store context key name label text (computes.Computed number) between outcome after ends = Unit {0}
+IsMetOfPlan plan store context key name label text (computes.Found at number unused) between outcome after ends = IsSeenOfPlan plan store key ends.1
+IsMetOfPlan plan store context key name label text (computes.Failed why) between outcome after ends = Unit {0}
+IsMetOfPlan plan store context key name label text (computes.FaultKept number) between outcome after ends = Unit {0}
+IsMetOfPlan plan store context key name label text (computes.FaultUnkept why cause) between outcome after ends = Unit {0}
+IsMetOfPlan plan store context key name label text (computes.FaultStands at number unused) between outcome after ends = Unit {0}
+IsMetOfPlan plan store context key name label text (computes.Unkept value cause) between outcome after ends = Unit {0}
+IsMetOfPlan plan store context key name label text (computes.Refused why unused) between outcome after ends = Unit {0}
+
+-- ---- what the steps of a call find
+
+module _ (plan : PlanText) (store : StoreView) (path : List ℕ) where
+  -- a step, which sees a value only where the plan keeps it under the step's key
+  abbrev pub StepFinds : StepText → PlanLane → Outcome → PlanLane → Type 0
+  StepFinds (put key text up) before outcome after = StepRun store plan.keys path (put key text up) before outcome after
+  StepFinds (put_closeable key text up) before outcome after = StepRun store plan.keys path (put_closeable key text up) before outcome after
+  StepFinds (want key text up) before outcome after =
+      OfNumber store (key_of_label plan.keys key) (λ number. (seen : SeenText) × Sees store (context_up store plan.keys path up) number before seen after × Ends (want_verdict (codes "want") (label_of plan.keys key) text seen) 0 0 outcome
+      × IsSeenOfPlan plan store number seen)
+  StepFinds (nothing key up) before outcome after =
+      OfNumber store (key_of_label plan.keys key) (λ number. (seen : SeenText) × Sees store (context_up store plan.keys path up) number before seen after × Ends (none_verdict (codes "none") (label_of plan.keys key) seen) 0 0 outcome
+      × IsSeenOfPlan plan store number seen)
+  StepFinds (remove key up) before outcome after = StepRun store plan.keys path (remove key up) before outcome after
+  StepFinds (compute key text up) before outcome after = StepRun store plan.keys path (compute key text up) before outcome after
+  StepFinds (compute_closeable key text up) before outcome after = StepRun store plan.keys path (compute_closeable key text up) before outcome after
+  StepFinds (compute_fail key text up) before outcome after =
+      OfNumber store (key_of_label plan.keys key) (λ number. (made : ComputesFault store (context_up store plan.keys path up) number (codes "computefail") (label_of plan.keys key) text before outcome after)
+      × IsMetOfPlan plan store (context_up store plan.keys path up) number (codes "computefail") (label_of plan.keys key) text made.result made.between outcome after made.ends)
+      ⊎ FindsNoMemory before outcome after
+  StepFinds (fail text) before outcome after = StepRun store plan.keys path (fail text) before outcome after
+  StepFinds (abort text) before outcome after = StepRun store plan.keys path (abort text) before outcome after
+
+  -- steps in order, up to the first that isn't successful, with it
+  abbrev pub StepsFind : List StepText → PlanLane → Outcome → PlanLane → Type 0
+  StepsFind [] before outcome after = (after ≡ before) × Ends successful 0 0 outcome
+  StepsFind (step ∷ more) before outcome after =
+      (first : Outcome) × (between : PlanLane) × StepFinds step before first between
+      × ((is_successful (ending_of first.verdict) ≡ true → (rest : Outcome) × StepsFind more between rest after × AddsUp store plan.keys path first rest outcome)
+      × (is_successful (ending_of first.verdict) ≡ false → (outcome ≡ first) × (after ≡ between)))
+
+-- a call of a node, whose steps are run in the node's context
+pub record CallFinds (plan : PlanText) (store : StoreView) (node : ℕ) (call : Call) (held : Option HeldView) (before : PlanLane) (outcome : Outcome) (after : PlanLane) : Type 0 where
+  pub path : List ℕ
+  pub path_is : IsPathOf store.tree node path
+  pub steps : StepsFind plan store path (steps_of_call plan call) before outcome after
+
+-- ---- the laws
+
+-- what a call of a plan's node does lets its lane go on: so the laws of order of the engine hold of runs of plans
+abbrev pub PlansGoOn : Type 0
+PlansGoOn = (plan : PlanText) (store : StoreView) → CallsGoOn (MakesCall plan store)
+
+-- In a run of a plan on several lanes a step that sees a value, which a `want`, a `none` or a `computefail` may, sees one that a step of the plan puts or computes, under
+-- the same key
+abbrev pub RunsFindWhatIsKept : Type 0
+RunsFindWhatIsKept = (plan : PlanText) (lanes : ℕ) (results : List (ResultOf Fault)) (run : ParallelRun plan lanes results)
+    → TreeRun (setting_of run.store run.locks (suite_of plan) (registered plan) (λ (value : StoredValue). value.value.closeable)) (CallFinds plan run.store) IsAction ClosesValue 16 0 run.first run.ran run.after
