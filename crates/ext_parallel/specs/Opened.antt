@@ -11,6 +11,7 @@ use Rattle.ext_plan_model.specs.Locks.{lock_names}
 use Rattle.ext_history.specs.Views.{Follow, seen_by}
 use Rattle.ext_model.specs.Calls.{Calls}
 use Rattle.ext_values.specs.Known.{Known, AllAgree}
+use Rattle.ext_store.specs.Opening.{fault_count}
 use Rattle.ext_store.specs.Stores.{StoreView, StoreLane, IsLaneOf}
 use Rattle.ext_locks.specs.Opening.{LocksView}
 
@@ -22,11 +23,13 @@ run_numbers = 65535
 abbrev pub run_tries : ℕ
 run_tries = 64
 
--- a store of the plan's contexts and different keys, for so many lanes
+-- a store of the plan's contexts and different keys, for so many lanes, with a place for the value of each number, and where faults are kept one for the fault of each
 pub record IsStoreOf (plan : PlanText) (lanes : ℕ) (store : StoreView) : Type 0 where
   pub tree : store.tree ≡ ids_of_nodes plan.nodes
   pub keys : store.keys ≡ different_keys plan.keys
   pub limits : store.id.cells.limits ≡ record { cells = length plan.nodes * length (different_keys plan.keys); lanes = lanes; numbers = run_numbers; keep_faults = plan.keep_faults }
+  pub places : length store.id.places ≡ run_numbers
+  pub fault_places : length store.id.fault_places ≡ fault_count plan.keep_faults run_numbers
   pub tries : store.tries ≡ run_tries
 
 -- locks of the names that the plan's nodes name, for so many lanes
