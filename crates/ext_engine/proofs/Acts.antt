@@ -15,7 +15,6 @@ use Rattle.ext_model.specs.History.{History, lane_of, own}
 use Rattle.ext_store.specs.Stores.{StoreView, StoreLane}
 use Rattle.ext_engine.specs.Meeting.{HasSeen, HasSeenWithin, OnlyMeets, first_seen}
 use Rattle.ext_engine.specs.Order.{AllGoOn, ComesBefore, GoesOn, IsMadeBy, IsMadeIn, IsSeenByFirst}
-use Rattle.ext_engine.specs.TreeRun.{OnFirst}
 
 pub shorter : (a b : History) → IsPrefix a b → length a ≤ length b
 shorter a b on = let e = ap length on.1 in let l = length-append a on.0 in omega (arith, e, l)

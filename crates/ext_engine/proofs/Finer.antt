@@ -1,7 +1,7 @@
 -- A run of a tree whose calls do what `makes` says is one whose calls do what `finer` says, where that follows of each call that leads to the lanes at the run's end.
-use Rattle.std.proofs.Common.{◌≡◌, inl, inr, ℕ, zero, suc, Bool, true, false, List, [], ◌∷◌, ◌+◌, ◌/◌, ◌%◌, min, length, refl, sym, subst}
+use Rattle.std.proofs.Common.{inl, inr, ℕ, zero, suc, Bool, true, false, List, [], ◌∷◌, min, length, refl, subst}
 use Rattle.std.specs.Prelude.{All, Option, Some, None, slice_index_or}
-use Rattle.std.specs.List.{AllZip, FoldsTo}
+use Rattle.std.specs.List.{FoldsTo}
 use Rattle.std.proofs.lemmas.List.Elements.{All-nil, All-cons, All-head, All-tail, All-take, All-drop}
 use Rattle.ext_history.proofs.Lists.{bools}
 use Rattle.ext_lifecycle.specs.declared.call.Call.{Call}
@@ -15,7 +15,7 @@ use Rattle.ext_closing.specs.Sealing.{MakesSeals}
 use Rattle.ext_locks.specs.Sets.{HeldView}
 use Rattle.ext_crew.proofs.Runs.{run-weaker}
 use Rattle.ext_engine.specs.Meeting.{OnlyMeets}
-use Rattle.ext_engine.specs.TreeRun.{Ran, TreeSetting, Lanes, TreeRun, TestRun, ContainerRun, BodyRun, BodyMade, ClosesNode, OnFirst, MakesOn, RanInTurn, concurrent_children, same_thread_children, with_lanes}
+use Rattle.ext_engine.specs.TreeRun.{Ran, TreeSetting, Lanes, TreeRun, TestRun, ContainerRun, BodyRun, BodyMade, ClosesNode, OnFirst, MakesOn, concurrent_children, with_lanes}
 use Rattle.ext_engine.proofs.Grown.{Entry}
 use Rattle.ext_engine.proofs.Order.{run-inside}
 use Rattle.ext_engine.proofs.Relates.{AllRelate, all_relate, close_relates, dealt_relates, first_relates, met_relate, tree_relates, turn_relates}

@@ -1,6 +1,6 @@
 -- Where calls let lanes go on, so does the run of a tree.
 use Rattle.std.proofs.Common.{◌≡◌, inl, inr, ℕ, List, ap, refl, sym, subst, ◌∙◌}
-use Rattle.std.specs.Prelude.{Option, Some}
+use Rattle.std.specs.Prelude.{Option}
 use Rattle.std.specs.List.{AllZip, FoldsTo}
 use base.Growing.{prefix_refl, prefix_trans}
 use Rattle.ext_history.proofs.Composed.{seen_goes_on}

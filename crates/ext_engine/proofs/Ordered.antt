@@ -1,9 +1,7 @@
 -- A container's concurrent children come after its before-callbacks, and before its other children and its after-callbacks; these come one after another; and its close
 -- comes last.
-use Rattle.std.proofs.Common.{ℕ, List, [], ◌∷◌, arith}
+use Rattle.std.proofs.Common.{ℕ, List, arith}
 use Rattle.std.specs.Prelude.{All, Option, None}
-use mathlib.Core.List.{IsPrefix}
-use Rattle.ext_model.specs.History.{History}
 use Rattle.ext_lifecycle.specs.declared.call.Call.{Call}
 use Rattle.ext_lifecycle.specs.declared.outcome.Outcome.{Outcome}
 use Rattle.ext_store.specs.Stores.{StoreLane}

@@ -1,8 +1,7 @@
 -- All events of a run of a node come behind what the first lane of its share had seen before it, and are among what that lane has seen after it.
-use Rattle.std.proofs.Common.{◌≡◌, inl, inr, ℕ, zero, suc, Bool, true, false, List, [], ◌∷◌, length, refl, ap, subst, sym, arith}
-use Rattle.std.specs.Prelude.{All, Option, Some, None, slice_index_or}
+use Rattle.std.proofs.Common.{inl, inr, ℕ, zero, suc, Bool, true, false, List, [], ◌∷◌, refl, subst, sym, arith}
+use Rattle.std.specs.Prelude.{All, Option, Some, None}
 use Rattle.std.specs.List.{AllZip, FoldsTo}
-use Rattle.std.proofs.lemmas.List.Elements.{All-head, All-tail}
 use Rattle.ext_history.proofs.Lists.{bools}
 use Rattle.ext_model.specs.History.{History}
 use Rattle.ext_lifecycle.specs.declared.call.Call.{Call}
@@ -11,15 +10,13 @@ use Rattle.ext_lifecycle.specs.Endings.{all_successful}
 use Rattle.ext_lifecycle.specs.Lifecycle.{endings_of}
 use Rattle.ext_store.specs.Stores.{StoreView, StoreLane}
 use Rattle.ext_closing.specs.Closing.{Answer}
-use Rattle.ext_closing.specs.Lanes.{OnlyFirstSteps, first_lane}
-use Rattle.ext_closing.specs.Sealing.{MakesSeals}
+use Rattle.ext_closing.specs.Lanes.{OnlyFirstSteps}
 use Rattle.ext_locks.specs.Sets.{HeldView}
-use Rattle.ext_crew.proofs.RunLaws.{run-relates}
 use Rattle.ext_engine.specs.Meeting.{HasSeen, HasSeenWithin, OnlyMeets, first_seen}
 use Rattle.ext_engine.specs.Order.{AllGoOn, CallsGoOn, ComesBefore, GoesOn, IsSeenByFirst}
-use Rattle.ext_engine.specs.TreeRun.{Ran, TreeSetting, Lanes, TreeRun, TestRun, ContainerRun, BodyRun, BodyMade, OnFirst, concurrent_children, with_lanes}
+use Rattle.ext_engine.specs.TreeRun.{Ran, TreeSetting, Lanes, TreeRun, TestRun, ContainerRun, BodyRun, BodyMade, OnFirst, with_lanes}
 use Rattle.ext_engine.proofs.Acts.{Acts, acts_before, all_made_then, all_met_made, first_made, heads_go, same_made, shorter, shown_made}
-use Rattle.ext_engine.proofs.Going.{all_go, all_met, all_same, all_then, befores_go, calls_go, close_goes, children_dealt_go, first_goes, tree_goes, turn_goes}
+use Rattle.ext_engine.proofs.Going.{all_go, all_met, all_same, all_then, befores_go, calls_go, close_goes, children_dealt_go, tree_goes, turn_goes}
 use Rattle.ext_engine.proofs.Grown.{Entry}
 use Rattle.ext_engine.proofs.Order.{came_from}
 

@@ -72,6 +72,7 @@ pub fn run_tree<
     requires fit { IsFit store.now locks.now (S.nodes suite.now) }
     requires suite_fits { S.fits suite.now store.now }
     ensures lanes { IsUsable store.now locks.now (record { first = lanes.new; second = lock_lanes.new }) }
+    ensures count { length lanes.new ≡ length lanes.old }
     ensures run { IfOk result (λ results. (ran : List Ran)
         × TreeRun (setting_of store.now locks.now (S.nodes suite.now) (S.registered suite.now) V.is_closeable) (S.call_gives suite.now store.now) (S.action_gives suite.now) S.Action.close_gives 16 0 (record { first = lanes.old; second = lock_lanes.old }) ran (record { first = lanes.new; second = lock_lanes.new })
         × (map told results.items ≡ all_results (S.nodes suite.now) (length store.now.tree) ran)) }

@@ -3,7 +3,7 @@
 --
 -- JUnit 5 User Guide, "Keeping State in Extensions", and Javadoc `ExtensionContext.Store`, `get`, `put`, `remove` and `getOrComputeIfAbsent`. What a step says is an
 -- own rule.
-use Rattle.std.specs.Prelude.{◌≡◌, ◌⊎◌, ℕ, List, [], Option, Some, None, Result, Ok, Err, String, string_bytes}
+use Rattle.std.specs.Prelude.{◌≡◌, ◌⊎◌, ℕ, List, [], Option, None, Result, Ok, Err, String, string_bytes}
 use Rattle.std.specs.declared.alloc.Global.{Global}
 use Rattle.ext_model.specs.declared.look.Fault.{Fault}
 use Rattle.ext_model.specs.declared.look.Fault.TheVariants as faults

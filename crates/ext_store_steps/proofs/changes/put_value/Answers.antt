@@ -3,7 +3,6 @@ use Rattle.ext_store_steps.specs.StoreCalls.{stored_view}
 use Rattle.ext_store_steps.specs.StoreSteps.{StepPuts}
 use Rattle.ext_store_steps.proofs.KnownKeys.{number_of_key, put_knows}
 use Rattle.ext_store_steps.proofs.Ends.{ends_well}
-use Rattle.std.proofs.Common.{[]}
 use Rattle.ext_store_steps.proofs.Framed.{put_framed, then_framed}
 use Rattle.ext_store_steps.proofs.changes.put_value.Goals as goal
 

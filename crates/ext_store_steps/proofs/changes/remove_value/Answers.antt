@@ -2,7 +2,6 @@ use Rattle.std.proofs.Common.{subst}
 use Rattle.ext_store_steps.specs.StoreSteps.{StepRemoves}
 use Rattle.ext_store_steps.proofs.KnownKeys.{number_of_key, remove_knows}
 use Rattle.ext_store_steps.proofs.Ends.{ends_well}
-use Rattle.std.proofs.Common.{[]}
 use Rattle.ext_store_steps.proofs.changes.remove_value.Goals as goal
 
 pub end_refused-requires-clause-known : goal.end_refused-requires-clause-known

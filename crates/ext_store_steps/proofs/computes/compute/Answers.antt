@@ -8,7 +8,6 @@ use Rattle.ext_store_steps.specs.StoreCalls.{stored_view}
 use Rattle.ext_store_steps.specs.StoreSteps.{StepComputes}
 use Rattle.ext_store_steps.proofs.KnownKeys.{number_of_key, compute_knows}
 use Rattle.ext_store_steps.proofs.Ends.{ends_well}
-use Rattle.std.proofs.Common.{[]}
 use Rattle.ext_store_steps.proofs.computes.compute.Goals as goal
 
 pub end_refused-requires-clause-known : goal.end_refused-requires-clause-known

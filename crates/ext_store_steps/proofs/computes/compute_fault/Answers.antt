@@ -1,16 +1,12 @@
-use Rattle.std.proofs.Common.{ℕ, refl, subst, sym}
-use Rattle.ext_lifecycle.specs.declared.outcome.Outcome.{Outcome}
+use Rattle.std.proofs.Common.{refl, subst, sym}
 use Rattle.ext_cells.specs.Lanes.{Lane}
 use Rattle.ext_store.specs.declared.computed.Compute.TheVariants as computes
 use Rattle.ext_store.specs.Waiting.{ComputesAfterWaits}
 use Rattle.ext_store_steps.specs.declared.stored_value.StoredValue.{StoredValue}
-use Rattle.ext_store_steps.specs.StoreCalls.{PlanLane}
 use Rattle.ext_store_steps.specs.StoreSteps.{StepFails}
 use Rattle.ext_store_steps.proofs.KnownKeys.{number_of_key, compute_knows}
 use Rattle.ext_store_steps.proofs.Ends.{ends_well, ends_with}
 use Rattle.ext_store_steps.proofs.computes.compute_fault.Goals as goal
-use Rattle.std.proofs.Common.{[]}
-use Rattle.ext_store_steps.specs.StoreCalls.{HasFrame}
 use Rattle.ext_store_steps.proofs.Framed.{then_framed}
 
 pub end_refused-requires-clause-known : goal.end_refused-requires-clause-known

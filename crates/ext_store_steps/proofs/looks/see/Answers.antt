@@ -2,7 +2,6 @@ use Rattle.std.proofs.Common.{refl}
 use Rattle.ext_model.specs.declared.look.Look.TheVariants as look
 use Rattle.ext_store_steps.proofs.KnownKeys.{number_of_key, look_is_ok}
 use Rattle.ext_store_steps.proofs.Ends.{sees_shown}
-use Rattle.std.proofs.Common.{[]}
 use Rattle.ext_store_steps.proofs.Framed.{then_framed}
 use Rattle.ext_store_steps.proofs.looks.see.Goals as goal
 

@@ -1,4 +1,3 @@
-use Rattle.std.proofs.Common.{[]}
 use Rattle.ext_store_steps.proofs.looks.show.Goals as goal
 
 pub returns-in-Some-clause-frame : goal.returns-in-Some-clause-frame

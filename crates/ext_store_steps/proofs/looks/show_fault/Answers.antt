@@ -1,4 +1,3 @@
-use Rattle.std.proofs.Common.{[]}
 use Rattle.ext_store_steps.proofs.looks.show_fault.Goals as goal
 
 pub returns-in-Some-Text-clause-frame : goal.returns-in-Some-Text-clause-frame
