@@ -19,3 +19,4 @@ pub mod Reached
 pub mod Below
 pub mod Skipping
 pub mod Lacking
+pub mod Unfailed

@@ -124,7 +124,7 @@ module _ (m : List Memory) where
       ∙ ap (if_absent found (or_refused name label (why_refused (Claim place) s) (with_memory m s) (ended no_memory (with_memory m s)))) (computefail_looked-with name label place text s found)
   computefail_by-with no_words name label place text s found = said_by-with no_words (computefail_looked name label place text s found) ∙ ap (said_by no_words) (computefail_looked-with name label place text s found)
 
-  step_by-with : (keys : List KeyText) (found : Memory) (path : List ℕ) (step : StepText) (s : ValueState) → end_with m (step_by keys found path step s) ≡ step_by keys found path step (with_memory m s)
+  pub step_by-with : (keys : List KeyText) (found : Memory) (path : List ℕ) (step : StepText) (s : ValueState) → end_with m (step_by keys found path step s) ≡ step_by keys found path step (with_memory m s)
   step_by-with keys found path (put key text up) s = put_by-with found _ _ _ _ s
   step_by-with keys found path (put_closeable key text up) s = put_by-with found _ _ _ _ s
   step_by-with keys found path (want key text up) s = said_by-with found _

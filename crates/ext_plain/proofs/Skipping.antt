@@ -48,7 +48,7 @@ before_new at (x ∷ xs) later fresh =
 
 -- ---- children stand once in their order
 
-abbrev Distinct : List ℕ → Type 0
+abbrev pub Distinct : List ℕ → Type 0
 Distinct [] = Unit {0}
 Distinct (x ∷ xs) = (¬ Stands x xs) × Distinct xs
 
@@ -86,7 +86,7 @@ not_twice : (b : Bool) → b ≡ true → not b ≡ true → ⊥
 not_twice true is other = cc
 not_twice false is other = cc
 
-distinct-ordered : (test : ℕ → Bool) (xs : List ℕ) → Distinct xs → Distinct (in_run_order test xs)
+pub distinct-ordered : (test : ℕ → Bool) (xs : List ℕ) → Distinct xs → Distinct (in_run_order test xs)
 distinct-ordered test xs distinct =
     distinct-append (filter test xs) (filter (λ x. not (test x)) xs) (distinct-filter test xs distinct) (distinct-filter (λ x. not (test x)) xs distinct)
     (λ x a b. not_twice (test x) (stands-filter test xs x a).1 (stands-filter (λ x. not (test x)) xs x b).1)
@@ -104,7 +104,7 @@ distinct-by : (b : Bool) (xs : List ℕ) (n : ℕ) → Distinct xs → ((y : ℕ
 distinct-by true xs n distinct each = distinct-append xs (n ∷ []) distinct (λ none. none, tt) (λ x a b. ⊎_elim (λ same. let less = each x a in absurd (omega (arith, same, less))) (λ none. none) b)
 distinct-by false xs n distinct each = distinct
 
-distinct-below : (ids : List Id) (at n : ℕ) → Distinct (children_below ids at n)
+pub distinct-below : (ids : List Id) (at n : ℕ) → Distinct (children_below ids at n)
 distinct-below ids at zero = tt
 distinct-below ids at (suc n) = distinct-by _ (children_below ids at n) n (distinct-below ids at n) (below_n ids at n)
 
@@ -270,7 +270,7 @@ skipped_if : (o : Option NodeOutcome) → (IfSome o (λ r. r.status ≢ statuses
 skipped_if None h = h tt
 skipped_if (Some r) h = by_status r.status h
 
-walk_within : (ids : List Id) (at : ℕ) (above : List ℕ) → IsTree ids → IsWalk ids at above → at < length ids
+pub walk_within : (ids : List Id) (at : ℕ) (above : List ℕ) → IsTree ids → IsWalk ids at above → at < length ids
 walk_within ids at [] tree is = subst (λ n. n < length ids) (sym is) tree.first.some
 walk_within ids at (parent ∷ rest) tree is = is.0.child_within
 

@@ -20,7 +20,7 @@ use Rattle.ext_plain.specs.ValueStates.{Memory, ValueState, value_opening}
 use Rattle.ext_plain.specs.Steps.{ended, no_memory, step_by, step_run}
 use Rattle.ext_plan_model.specs.PlanCalls.{test_of}
 use Rattle.ext_plain.specs.NodeCalls.{befores_run}
-use Rattle.ext_plain.specs.PlainRun.{RunState, node_run, plain_run_by}
+use Rattle.ext_plain.specs.PlainRun.{HasNoFailed, RunState, node_run, plain_run, plain_run_by}
 
 -- ---- the results
 
@@ -39,6 +39,10 @@ abbrev pub DoesOrLacks : Type 0
 DoesOrLacks =
     (keys : List KeyText) (found : Memory) (path : List ℕ) (step : StepText) (s : ValueState)
     → (step_by keys found path step s ≡ step_run keys path step s) ⊎ ((step_by keys found path step s).verdict ≡ no_memory)
+
+-- Where no node failed no step lacked memory: the run is the one that the plan has, whatever the list says
+abbrev pub RunsAsPlanned : Type 0
+RunsAsPlanned = (memory : List Memory) (plan : PlanText) → NodesAreTree plan → HasNoFailed (plain_run_by memory plan) → plain_run_by memory plan ≡ plain_run plan
 
 -- ---- which nodes run
 

@@ -5,7 +5,8 @@
 -- JUnit 5 User Guide, "Relative Execution Order of User Code and Extensions", and "Keeping State in Extensions": a store is bound to the life of its context, and
 -- is closed when that ends, so after the contexts below it. Which statuses there are, that the nodes below a body that is skipped run nothing, aren't closed and are
 -- skipped, and that a container's status does not depend on its children's, are own rules.
-use Rattle.std.specs.Prelude.{◌≡◌, ℕ, zero, suc, ◌+◌, Bool, true, false, List, [], ◌∷◌, length, fold, Option, is_some, slice_set, if◌then◌else◌}
+use Rattle.std.specs.Prelude.{◌≡◌, ◌≢◌, ℕ, zero, suc, ◌+◌, Bool, true, false, List, [], ◌∷◌, length, fold, Option, is_some, slice_set, All, if◌then◌else◌}
+use Rattle.ext_lifecycle.specs.declared.status.Status.TheVariants as statuses
 use Rattle.ext_lifecycle.specs.Endings.{all_successful}
 use Rattle.ext_lifecycle.specs.FaultTexts.{NodeOutcome}
 use Rattle.ext_lifecycle.specs.Modes.{in_run_order}
@@ -92,7 +93,13 @@ plain_run_by memory plan = (node_run plan (length plan.nodes) (0 ∷ []) (run_op
 abbrev pub plain_run : PlanText → List NodeOutcome
 plain_run plan = plain_run_by [] plan
 
--- They are those of a plain run of the plan: for each step that was made there is one answer to what memory it found, and all the rest follows from the plan
+-- no node has failed
+abbrev pub HasNoFailed : List NodeOutcome → Type 0
+HasNoFailed results = All (λ r. r.status ≢ statuses.Failed) results
+
+-- They are those of a plain run of the plan: for each step that was made there is one answer to what memory it found, and all the rest follows from the plan. Where no
+-- node failed no step lacked memory, and they are those of the one run that the plan has
 pub record ArePlain (plan : PlanText) (results : List NodeOutcome) : Type 0 where
   pub memory : List Memory
   pub exact : results ≡ plain_run_by memory plan
+  pub planned : HasNoFailed results → results ≡ plain_run plan

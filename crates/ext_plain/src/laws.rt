@@ -1,6 +1,6 @@
 //! What is true of the plain run of every plan, whatever memory its steps find, as the contract of a function that does nothing.
 ghost use Rattle.ext_plain.specs.Ancestors.{SkipsBelow};
-ghost use Rattle.ext_plain.specs.Laws.{HasResultOfEachNode, HasTestsOfPlan, RunsEachNode, DoesOrLacks, RunsNode, RunsBody, SkipsBody, RunsParents, OpensClear, MakesNoClaims, SealsContexts, KeepsValues, FindsWhatWasPut, KeepsFault, KeepsNoFault, NeverFaults};
+ghost use Rattle.ext_plain.specs.Laws.{HasResultOfEachNode, HasTestsOfPlan, RunsEachNode, DoesOrLacks, RunsAsPlanned, RunsNode, RunsBody, SkipsBody, RunsParents, OpensClear, MakesNoClaims, SealsContexts, KeepsValues, FindsWhatWasPut, KeepsFault, KeepsNoFault, NeverFaults};
 
 /// Proves laws of the plain run. It does nothing when it runs.
 ///
@@ -10,6 +10,7 @@ pub fn plain_run_laws()
     ensures results { HasResultOfEachNode }
     ensures tests { HasTestsOfPlan }
     ensures lacking { DoesOrLacks }
+    ensures planned { RunsAsPlanned }
     ensures each_node { RunsEachNode }
     ensures runs { RunsNode }
     ensures body { RunsBody }

@@ -6,6 +6,7 @@ use Rattle.ext_plain.proofs.Seals.{node-free, node-sealed}
 use Rattle.ext_plain.proofs.KeptFaults.{kept_fault_stands, no_fault_stays, node-faultless}
 use Rattle.ext_plain.proofs.Lacking.{does_or_lacks}
 use Rattle.ext_plain.proofs.Skipping.{skips_below}
+use Rattle.ext_plain.proofs.Unfailed.{runs_as_planned}
 use Rattle.ext_plain.proofs.Values.{node-values, put_is_found}
 use Rattle.ext_plain.proofs.laws.plain_run_laws.Goals as goal
 
@@ -14,6 +15,7 @@ returns c = record {
   results = result_of_each_node;
   tests = tests_of_plan;
   lacking = does_or_lacks;
+  planned = runs_as_planned;
   each_node = each_node_runs;
   runs = runs_node;
   body = runs_body;

@@ -1,10 +1,14 @@
 use Rattle.std.proofs.Common.{◌≡◌, ◌∙◌, ◌<◌, [], ◌∷◌, length, All, refl, ap, sym, subst}
 use Rattle.std.proofs.lemmas.List.{length-map}
 use Rattle.ext_lifecycle.specs.FaultTexts.{results_view}
+use Rattle.ext_tree.specs.Trees.{IsTree}
+use Rattle.ext_plan_model.specs.Laws.{ids_of_nodes}
 use Rattle.ext_plan_model.specs.Plans.{node_view, nodes_view, plan_view}
+use Rattle.ext_plan_model.proofs.NodeIds.{ids-map}
 use Rattle.ext_plain.specs.Helpers.{state_view}
-use Rattle.ext_plain.specs.PlainRun.{RunState, node_run, plain_run_by, run_opening, skipped_from, ArePlain}
+use Rattle.ext_plain.specs.PlainRun.{RunState, node_run, plain_run_by, run_opening, skipped_from, ArePlain, HasNoFailed}
 use Rattle.ext_plain.specs.ValueStates.{with_memory}
+use Rattle.ext_plain.proofs.Unfailed.{runs_as_planned}
 use Rattle.ext_plain.proofs.Sound.{results_within}
 use Rattle.ext_plain.proofs.plain.run_plain.Goals as goal
 
@@ -22,7 +26,12 @@ returns g c =
     let levels = c.len-levels.ensures ∙ sym c.as_slice.ensures.len ∙ ap length c.as_slice.ensures.value ∙ sym (length-map nodes node_view) in
     let is : results_view c.run_node.new.self.results.items ≡ plain_run_by memory plan =
     ap (λ (r : RunState). r.results) (ran.1 ∙ ap (λ p. node_run p c.len-levels.result (0 ∷ []) opening) c.of.ensures.plan ∙ ap (λ n. node_run plan n (0 ∷ []) opening) levels ∙ ap (node_run plan (length plan.nodes) (0 ∷ [])) opened) in
-    let are : ArePlain plan (results_view c.run_node.new.self.results.items) = record { memory = memory; exact = is } in
+    let tree_is : c.args.tree.now ≡ ids_of_nodes plan.nodes = c.requires.nodes ∙ ids-map nodes in
+    let are : ArePlain plan (results_view c.run_node.new.self.results.items) = record {
+      memory = memory;
+      exact = is;
+      planned = λ unfailed. is ∙ runs_as_planned memory plan (subst IsTree tree_is c.requires.tree) (subst HasNoFailed is unfailed);
+    } in
     let count : length plan.nodes ≡ length c.args.tree.now = length-map nodes node_view ∙ sym (ap length c.requires.nodes ∙ length-map nodes (λ n. n.id)) in
     record {
       results = are;

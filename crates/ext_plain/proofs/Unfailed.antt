@@ -1,0 +1,366 @@
+-- Where no node failed no step lacked memory, so that the run is the one whose steps all find enough.
+use Rattle.std.proofs.Common.{◌≡◌, ◌≢◌, ◌<◌, ℕ, zero, suc, Bool, true, false, List, [], ◌∷◌, ◌++◌, length, map, get_or, Option, Some, None, is_some, refl, ap, sym, subst, ◌∙◌, arith, append_assoc, length-append, ⊎_elim, inl, inr, ◌⊎◌}
+use Rattle.std.specs.Prelude.{fold, slice_get, slice_set, IsSomeAnd, if◌then◌else◌}
+use Rattle.std.specs.List.{AllByRecursion}
+use Rattle.std.proofs.lemmas.Bool.{cases_eq}
+use Rattle.std.proofs.lemmas.List.{length-map}
+use Rattle.ext_tree.specs.Trees.{Id, IsTree}
+use Rattle.ext_tree.specs.Paths.{IsParentOf, IsPathOf, IsWalk, children_of}
+use Rattle.ext_tree.proofs.TreeLaws.{paths_are_unique}
+use Rattle.ext_lifecycle.specs.declared.call.Call.{Call}
+use Rattle.ext_lifecycle.specs.declared.status.Status.TheVariants as statuses
+use Rattle.ext_lifecycle.specs.Callbacks.{afters_of, befores_of, test_call}
+use Rattle.ext_lifecycle.specs.Endings.{all_successful, fault_in, first_abort, first_fault, or_else, successful, aborted, failed, total_by, unsuccessful}
+use Rattle.ext_lifecycle.specs.FaultTexts.{NodeOutcome, VerdictText}
+use Rattle.ext_lifecycle.specs.Modes.{in_run_order}
+use Rattle.ext_lifecycle.specs.Results.{close_ending}
+use Rattle.ext_plan_model.specs.Plans.{KeyText, PlanText, StepText}
+use Rattle.ext_plan_model.specs.PlanCalls.{concurrent_of, registered, steps_of_call, test_of}
+use Rattle.ext_plan_model.specs.Laws.{ids_of_nodes, NodesAreTree}
+use Rattle.ext_plain.specs.ValueStates.{Memory, ValueState, enough, found_later, next_found, with_memory}
+use Rattle.ext_plain.specs.Steps.{StepEnd, and_then, next_step, no_memory, step_by, step_run, steps_run, unless_ended}
+use Rattle.ext_plain.specs.NodeCalls.{CallsEnd, and_call, befores_run, call_run, make, make_all, make_befores, make_if_successful, no_calls, test_run}
+use Rattle.ext_plain.specs.Closes.{seal_keys, closes}
+use Rattle.ext_plain.specs.Helpers.{run_with}
+use Rattle.ext_plain.specs.PlainRun.{HasNoFailed, RunState, body_run, container_run, key_count, node_end, node_run, outcome_of, plain_run, plain_run_by, run_opening, test_node_run}
+use Rattle.ext_plain.proofs.Below.{children-all}
+use Rattle.ext_plain.proofs.Ends.{body_end, container_end, test_end}
+use Rattle.ext_plain.proofs.Lacking.{does_or_lacks}
+use Rattle.ext_plain.proofs.Memories.{end_with, seal_keys-with, step_by-with}
+use Rattle.ext_plain.proofs.Reached.{Stands, set-elsewhere}
+use Rattle.ext_plain.proofs.Skipping.{Distinct, distinct-below, distinct-ordered, walk_within}
+use Rattle.ext_plain.proofs.Sound.{tests_of_plan}
+
+-- ---- faults of calls
+
+or_none : (first second : Option (List ℕ)) → or_else first second ≡ None → (first ≡ None) × (second ≡ None)
+or_none None second is = (refl, is)
+or_none (Some fault) second is = absurd cc
+
+none-append : (xs ys : List VerdictText) → first_fault (xs ++ ys) ≡ None → (first_fault xs ≡ None) × (first_fault ys ≡ None)
+none-append [] ys is = (refl, is)
+none-append (x ∷ xs) ys is =
+    let both = or_none (fault_in x) (first_fault (xs ++ ys)) is in
+    let rest = none-append xs ys both.1 in
+    (ap (λ f. or_else f (first_fault xs)) both.0 ∙ rest.0, rest.1)
+
+none-last : (v : VerdictText) → first_fault (v ∷ []) ≡ None → fault_in v ≡ None
+none-last v is = (or_none (fault_in v) None is).0
+
+total-unfailed : (fault abort : Option (List ℕ)) (count : ℕ) → (total_by fault abort count).status ≢ statuses.Failed → fault ≡ None
+total-unfailed (Some fault) abort count h = absurd (h refl)
+total-unfailed None (Some abort) count h = refl
+total-unfailed None None count h = refl
+
+outcome-unfailed : (at : ℕ) (is_test : Bool) (end : CallsEnd) (closed : List (Option (List ℕ))) → (outcome_of at is_test end closed).status ≢ statuses.Failed → first_fault end.calls ≡ None
+outcome-unfailed at is_test end closed h =
+    let all = end.calls ++ map close_ending closed in
+    (none-append end.calls (map close_ending closed) (total-unfailed (first_fault all) (first_abort all) (unsuccessful all) h)).0
+
+-- ---- steps
+
+step-enough : (keys : List KeyText) (found : Memory) (path : List ℕ) (step : StepText) (s : ValueState) → fault_in (step_by keys found path step s).verdict ≡ None → step_by keys found path step s ≡ step_run keys path step s
+step-enough keys found path step s none =
+    ⊎_elim (λ same. same) (λ lacks. absurd (let bad : fault_in no_memory ≡ None = sym (ap fault_in lacks) ∙ none in cc)) (does_or_lacks keys found path step s)
+
+next-forgets : (keys : List KeyText) (path : List ℕ) (step : StepText) (s : ValueState) → fault_in (next_step keys path step s).verdict ≡ None → end_with [] (next_step keys path step s) ≡ next_step keys path step (with_memory [] s)
+next-forgets keys path step s none =
+    let later = with_memory (found_later s.memory) s in
+    ap (end_with []) (step-enough keys (next_found s.memory) path step later none) ∙ step_by-with [] keys enough path step later
+
+unless-forgets : (v : VerdictText) (first clean : StepEnd) (go_on : ValueState → StepEnd) → first.verdict ≡ v → (fault_in v ≡ None → end_with [] first ≡ clean)
+    → ((s : ValueState) → fault_in (go_on s).verdict ≡ None → end_with [] (go_on s) ≡ go_on (with_memory [] s))
+    → fault_in (unless_ended v first go_on).verdict ≡ None → end_with [] (unless_ended v first go_on) ≡ unless_ended clean.verdict clean go_on
+unless-forgets successful first clean go_on is cleans each none =
+    ap (and_then (end_with [] first)) (each first.state none)
+    ∙ ap (λ v. unless_ended v (end_with [] first) go_on) (sym is)
+    ∙ ap (λ (c : StepEnd). unless_ended c.verdict c go_on) (cleans refl)
+unless-forgets (aborted text) first clean go_on is cleans each none =
+    let same = cleans refl in
+    same ∙ sym (ap (λ w. unless_ended w clean go_on) (ap (λ (c : StepEnd). c.verdict) (sym same) ∙ is))
+unless-forgets (failed text) first clean go_on is cleans each none = absurd (let bad : Some text ≡ None = sym (ap fault_in is) ∙ none in cc)
+
+steps-forget : (keys : List KeyText) (path : List ℕ) (steps : List StepText) (s : ValueState) → fault_in (steps_run keys path steps s).verdict ≡ None → end_with [] (steps_run keys path steps s) ≡ steps_run keys path steps (with_memory [] s)
+unfolding steps_run
+steps-forget keys path [] s none = refl
+steps-forget keys path (step ∷ more) s none =
+    let first = next_step keys path step s in
+    unless-forgets first.verdict first (next_step keys path step (with_memory [] s)) (steps_run keys path more) refl (next-forgets keys path step s) (steps-forget keys path more) none
+
+-- ---- calls
+
+abbrev forgotten : CallsEnd → CallsEnd
+forgotten end = record { state = with_memory [] end.state; calls = end.calls; computed = end.computed; found = end.found }
+
+module _ (plan : PlanText) (path : List ℕ) where
+  abbrev does : Call → ValueState → StepEnd
+  does = call_run plan path
+
+  call-forgets : (call : Call) (s : ValueState) → fault_in (does call s).verdict ≡ None → end_with [] (does call s) ≡ does call (with_memory [] s)
+  call-forgets call s none = steps-forget plan.keys path (steps_of_call plan call) s none
+
+  make-earlier : (before : CallsEnd) (call : Call) → first_fault (make does before call).calls ≡ None → first_fault before.calls ≡ None
+  make-earlier before call none = (none-append before.calls ((does call before.state).verdict ∷ []) none).0
+
+  make-forgets : (before : CallsEnd) (call : Call) → first_fault (make does before call).calls ≡ None → forgotten (make does before call) ≡ make does (forgotten before) call
+  make-forgets before call none =
+      let last = none-last (does call before.state).verdict (none-append before.calls ((does call before.state).verdict ∷ []) none).1 in
+      ap (and_call (forgotten before)) (call-forgets call before.state last)
+
+  all-earlier : (calls : List Call) (before : CallsEnd) → first_fault (make_all does calls before).calls ≡ None → first_fault before.calls ≡ None
+  all-earlier [] before none = none
+  all-earlier (call ∷ calls) before none = make-earlier before call (all-earlier calls (make does before call) none)
+
+  all-forgets : (calls : List Call) (before : CallsEnd) → first_fault (make_all does calls before).calls ≡ None → forgotten (make_all does calls before) ≡ make_all does calls (forgotten before)
+  all-forgets [] before none = refl
+  all-forgets (call ∷ calls) before none =
+      all-forgets calls (make does before call) none ∙ ap (make_all does calls) (make-forgets before call (all-earlier calls (make does before call) none))
+
+  if-earlier : (go : Bool) (before : CallsEnd) (call : Call) → first_fault (if go then make does before call else before).calls ≡ None → first_fault before.calls ≡ None
+  if-earlier true before call none = make-earlier before call none
+  if-earlier false before call none = none
+
+  if-forgets : (go : Bool) (before : CallsEnd) (call : Call) → first_fault (if go then make does before call else before).calls ≡ None
+      → forgotten (if go then make does before call else before) ≡ (if go then make does (forgotten before) call else forgotten before)
+  if-forgets true before call none = make-forgets before call none
+  if-forgets false before call none = refl
+
+  befores-earlier : (calls : List Call) (before : CallsEnd) → first_fault (make_befores does calls before).calls ≡ None → first_fault before.calls ≡ None
+  befores-earlier [] before none = none
+  befores-earlier (call ∷ calls) before none = if-earlier (all_successful before.calls) before call (befores-earlier calls (make_if_successful does before call) none)
+
+  befores-forget : (calls : List Call) (before : CallsEnd) → first_fault (make_befores does calls before).calls ≡ None → forgotten (make_befores does calls before) ≡ make_befores does calls (forgotten before)
+  befores-forget [] before none = refl
+  befores-forget (call ∷ calls) before none =
+      let next = make_if_successful does before call in
+      befores-forget calls next none ∙ ap (make_befores does calls) (if-forgets (all_successful before.calls) before call (befores-earlier calls next none))
+
+  test-forgets : (at : ℕ) (run : RunState) → first_fault (test_end plan at path run).calls ≡ None → forgotten (test_end plan at path run) ≡ test_end plan at path (run_with [] run)
+  test-forgets at run none =
+      let firsts = befores_of (registered plan) true at path in
+      let lasts = afters_of (registered plan) true at path in
+      let before = befores_run plan true at path run.state in
+      let body = test_run plan at path before in
+      let body_none = all-earlier lasts body none in
+      let before_none = if-earlier (all_successful before.calls) before (test_call at) body_none in
+      all-forgets lasts body none
+      ∙ ap (make_all does lasts) (if-forgets (all_successful before.calls) before (test_call at) body_none ∙ ap (λ e. make_if_successful does e (test_call at)) (befores-forget firsts (no_calls run.state) before_none))
+
+-- ---- the end of a node
+
+end-forgets : (keys at : ℕ) (is_test : Bool) (end : CallsEnd) (results : List NodeOutcome) → run_with [] (node_end keys at is_test end results) ≡ node_end keys at is_test (forgotten end) results
+end-forgets keys at is_test end results =
+    ap (λ s. record { state = s; results = slice_set results at (outcome_of at is_test end (closes keys at s)) }) (seal_keys-with [] keys at end.state)
+
+abbrev Unfailed : NodeOutcome → Type 0
+Unfailed r = r.status ≢ statuses.Failed
+
+set-at : (results : List NodeOutcome) (at : ℕ) (x : NodeOutcome) → IsSomeAnd (slice_get (slice_set results at x) at) Unfailed → Unfailed x
+set-at [] at x h = absurd h
+set-at (y ∷ ys) zero x h = h
+set-at (y ∷ ys) (suc at) x h = set-at ys at x h
+
+-- ---- which results a node changes: its own, and those of the nodes below it
+
+same-end : (xs ys : List ℕ) (x y : ℕ) (above : List ℕ) → xs ++ x ∷ above ≡ ys ++ y ∷ above → x ≡ y
+same-end [] [] x y above is = cc
+same-end [] (b ∷ ys) x y above is =
+    let lengths : length (x ∷ above) ≡ length (b ∷ (ys ++ y ∷ above)) = ap length is in
+    let more = length-append ys (y ∷ above) in
+    absurd (omega (arith, lengths, more))
+same-end (a ∷ xs) [] x y above is =
+    let lengths : length (a ∷ (xs ++ x ∷ above)) ≡ length (y ∷ above) = ap length is in
+    let more = length-append xs (x ∷ above) in
+    absurd (omega (arith, lengths, more))
+same-end (a ∷ xs) (b ∷ ys) x y above is =
+    let rest : xs ++ x ∷ above ≡ ys ++ y ∷ above = cc in
+    same-end xs ys x y above rest
+
+longer : (xs : List ℕ) (x : ℕ) (above : List ℕ) → xs ++ x ∷ above ≡ above → ⊥
+longer xs x above is =
+    let lengths : length (xs ++ x ∷ above) ≡ length above = ap length is in
+    let more = length-append xs (x ∷ above) in
+    omega (arith, lengths, more)
+
+-- the result of this node is the same in both, or the node stands at the end of this path or below
+abbrev Elsewhere : List Id → List ℕ → List NodeOutcome → List NodeOutcome → ℕ → Type 0
+Elsewhere ids path new old k = (slice_get new k ≡ slice_get old k) ⊎ ((below : List ℕ) × IsPathOf ids k (below ++ path))
+
+-- no node at the end of this path or below has failed
+record AreUnfailed (ids : List Id) (path : List ℕ) (results : List NodeOutcome) : Type 0 where
+  each : (k : ℕ) (below : List ℕ) → IsPathOf ids k (below ++ path) → IsSomeAnd (slice_get results k) Unfailed
+
+set-outside : (ids : List Id) (at : ℕ) (above : List ℕ) (results : List NodeOutcome) (x : NodeOutcome) (k : ℕ) → IsWalk ids at above → Elsewhere ids (at ∷ above) (slice_set results at x) results k
+set-outside ids at above results x k walk =
+    ⊎_elim (λ same. inr ([], (sym same, subst (λ c. IsWalk ids c above) (sym same) walk))) (λ differ. inl (set-elsewhere results at k x differ)) (cases_eq k at)
+
+then-outside : (ids : List Id) (path : List ℕ) (new between old : List NodeOutcome) (k : ℕ) → Elsewhere ids path new between k → Elsewhere ids path between old k → Elsewhere ids path new old k
+then-outside ids path new between old k first second = ⊎_elim (λ same. ⊎_elim (λ also. inl (same ∙ also)) (λ under. inr under) second) (λ under. inr under) first
+
+fold-outside : (ids : List Id) (path : List ℕ) (k : ℕ) (P : ℕ → Type 0) (each : RunState → ℕ → RunState) → ((run : RunState) (child : ℕ) → P child → Elsewhere ids path (each run child).results run.results k)
+    → (children : List ℕ) (run : RunState) → AllByRecursion P children → Elsewhere ids path (fold each run children).results run.results k
+fold-outside ids path k P each one [] run all = inl refl
+fold-outside ids path k P each one (child ∷ more) run all =
+    then-outside ids path (fold each (each run child) more).results (each run child).results run.results k (fold-outside ids path k P each one more (each run child) all.1) (one run child all.0)
+
+under-parent : (ids : List Id) (child : ℕ) (path : List ℕ) (new old : List NodeOutcome) (k : ℕ) → Elsewhere ids (child ∷ path) new old k → Elsewhere ids path new old k
+under-parent ids child path new old k is =
+    ⊎_elim (λ same. inl same) (λ under. inr (under.0 ++ child ∷ [], subst (IsPathOf ids k) (sym (append_assoc under.0 (child ∷ []) path)) under.1)) is
+
+module _ (plan : PlanText) (tree : NodesAreTree plan) where
+  abbrev ids : List Id
+  ids = ids_of_nodes plan.nodes
+
+  either-outside : (path : List ℕ) (old : List NodeOutcome) (k : ℕ) (b : Bool) (x y : RunState) → Elsewhere ids path x.results old k → Elsewhere ids path y.results old k → Elsewhere ids path (if b then x else y).results old k
+  either-outside path old k true x y p q = p
+  either-outside path old k false x y p q = q
+
+  body-outside : (levels at : ℕ) (above : List ℕ) (k : ℕ) → at < length ids
+      → ((run : RunState) (child : ℕ) → IsParentOf ids at child → Elsewhere ids (at ∷ above) (node_run plan levels (child ∷ at ∷ above) run).results run.results k)
+      → (go : Bool) (run : RunState) → Elsewhere ids (at ∷ above) (body_run plan (node_run plan levels) go (at ∷ above) run).results run.results k
+  body-outside levels at above k within one true run =
+      fold-outside ids (at ∷ above) k (IsParentOf ids at) (λ r child. node_run plan levels (child ∷ at ∷ above) r) one (in_run_order (concurrent_of plan) (children_of ids at)) run (children-all ids (concurrent_of plan) at within)
+  body-outside levels at above k within one false run = inl refl
+
+  outside : (levels at : ℕ) (above : List ℕ) (k : ℕ) (run : RunState) → IsWalk ids at above → at < length ids → Elsewhere ids (at ∷ above) (node_run plan levels (at ∷ above) run).results run.results k
+  unfolding node_run
+  outside zero at above k run walk within = inl refl
+  outside (suc levels) at above k run walk within =
+      let path = at ∷ above in
+      let tested = test_end plan at path run in
+      let contained = container_end plan (node_run plan levels) at path run in
+      let before = befores_run plan false at path run.state in
+      let opened : RunState = record { state = before.state; results = run.results } in
+      let body = body_end plan (node_run plan levels) at path run in
+      let x = outcome_of at true tested (closes (key_count plan) at (seal_keys (key_count plan) at tested.state)) in
+      let y = outcome_of at false contained (closes (key_count plan) at (seal_keys (key_count plan) at contained.state)) in
+      let one : (r : RunState) (child : ℕ) → IsParentOf ids at child → Elsewhere ids path (node_run plan levels (child ∷ path) r).results r.results k =
+      λ r child is. under-parent ids child path (node_run plan levels (child ∷ path) r).results r.results k (outside levels child path k r (is, walk) is.child_within) in
+      either-outside path run.results k (is_some (test_of plan at)) (test_node_run plan at path run) (container_run plan (node_run plan levels) at path run)
+      (set-outside ids at above run.results x k walk)
+      (then-outside ids path (slice_set body.results at y) body.results run.results k (set-outside ids at above body.results y k walk) (body-outside levels at above k within one (all_successful before.calls) opened))
+
+  -- ---- siblings change no result below one another
+
+  one-path : (k : ℕ) (path other : List ℕ) → IsPathOf ids k path → IsPathOf ids k other → path ≡ other
+  one-path k path other is also = paths_are_unique.one_path ids k path other tree is also
+
+  sibling-keeps : (levels at other child : ℕ) (above : List ℕ) (run : RunState) → IsWalk ids at above → IsParentOf ids at other → child ≢ other
+      → AreUnfailed ids (child ∷ at ∷ above) (node_run plan levels (other ∷ at ∷ above) run).results → AreUnfailed ids (child ∷ at ∷ above) run.results
+  sibling-keeps levels at other child above run walk parent differ after = record {
+    each = λ k below is.
+        let path = at ∷ above in
+        ⊎_elim (λ same. subst (λ o. IsSomeAnd o Unfailed) same (after.each k below is))
+        (λ under. absurd (differ (same-end below under.0 child other path (one-path k (below ++ child ∷ path) (under.0 ++ other ∷ path) is under.1))))
+        (outside levels other path k run (parent, walk) parent.child_within);
+  }
+
+  siblings-keep : (levels at child : ℕ) (above others : List ℕ) (run : RunState) → IsWalk ids at above → AllByRecursion (IsParentOf ids at) others → (¬ Stands child others)
+      → AreUnfailed ids (child ∷ at ∷ above) (fold (λ r other. node_run plan levels (other ∷ at ∷ above) r) run others).results → AreUnfailed ids (child ∷ at ∷ above) run.results
+  siblings-keep levels at child above [] run walk all fresh after = after
+  siblings-keep levels at child above (other ∷ more) run walk all fresh after =
+      sibling-keeps levels at other child above run walk all.0 (λ same. fresh (inl same))
+      (siblings-keep levels at child above more (node_run plan levels (other ∷ at ∷ above) run) walk all.1 (λ there. fresh (inr there)) after)
+
+  -- ---- each node
+
+  abbrev Forgets : ℕ → ℕ → List ℕ → Type 0
+  Forgets levels at above =
+      (run : RunState) → AreUnfailed ids (at ∷ above) (node_run plan levels (at ∷ above) run).results → run_with [] (node_run plan levels (at ∷ above) run) ≡ node_run plan levels (at ∷ above) (run_with [] run)
+
+  fold-forgets : (levels at : ℕ) (above children : List ℕ) (run : RunState) → IsWalk ids at above → ((child : ℕ) → IsParentOf ids at child → Forgets levels child (at ∷ above))
+      → Distinct children → AllByRecursion (IsParentOf ids at) children
+      → ((child : ℕ) → IsParentOf ids at child → AreUnfailed ids (child ∷ at ∷ above) (fold (λ r other. node_run plan levels (other ∷ at ∷ above) r) run children).results)
+      → run_with [] (fold (λ r other. node_run plan levels (other ∷ at ∷ above) r) run children) ≡ fold (λ r other. node_run plan levels (other ∷ at ∷ above) r) (run_with [] run) children
+  fold-forgets levels at above [] run walk one distinct all after = refl
+  fold-forgets levels at above (child ∷ more) run walk one distinct all after =
+      let next = node_run plan levels (child ∷ at ∷ above) run in
+      fold-forgets levels at above more next walk one distinct.1 all.1 after
+      ∙ ap (λ r. fold (λ r other. node_run plan levels (other ∷ at ∷ above) r) r more) (one child all.0 run (siblings-keep levels at child above more next walk all.1 distinct.0 (after child all.0)))
+
+  body-forgets : (levels at : ℕ) (above : List ℕ) (go : Bool) (run : RunState) → IsWalk ids at above → at < length ids → ((child : ℕ) → IsParentOf ids at child → Forgets levels child (at ∷ above))
+      → ((child : ℕ) → IsParentOf ids at child → AreUnfailed ids (child ∷ at ∷ above) (body_run plan (node_run plan levels) go (at ∷ above) run).results)
+      → run_with [] (body_run plan (node_run plan levels) go (at ∷ above) run) ≡ body_run plan (node_run plan levels) go (at ∷ above) (run_with [] run)
+  body-forgets levels at above true run walk within one after =
+      let children = children_of ids at in
+      fold-forgets levels at above (in_run_order (concurrent_of plan) children) run walk one (distinct-ordered (concurrent_of plan) children (distinct-below ids at (length ids))) (children-all ids (concurrent_of plan) at within) after
+  body-forgets levels at above false run walk within one after = refl
+
+  test-node-forgets : (at : ℕ) (above : List ℕ) (run : RunState) → IsWalk ids at above → AreUnfailed ids (at ∷ above) (test_node_run plan at (at ∷ above) run).results
+      → run_with [] (test_node_run plan at (at ∷ above) run) ≡ test_node_run plan at (at ∷ above) (run_with [] run)
+  test-node-forgets at above run walk after =
+      let path = at ∷ above in
+      let end = test_end plan at path run in
+      let closed = closes (key_count plan) at (seal_keys (key_count plan) at end.state) in
+      let none = outcome-unfailed at true end closed (set-at run.results at (outcome_of at true end closed) (after.each at [] (refl, walk))) in
+      end-forgets (key_count plan) at true end run.results ∙ ap (λ e. node_end (key_count plan) at true e run.results) (test-forgets plan path at run none)
+
+  container-forgets : (levels at : ℕ) (above : List ℕ) (run : RunState) → IsWalk ids at above → at < length ids → ((child : ℕ) → IsParentOf ids at child → Forgets levels child (at ∷ above))
+      → AreUnfailed ids (at ∷ above) (container_run plan (node_run plan levels) at (at ∷ above) run).results
+      → run_with [] (container_run plan (node_run plan levels) at (at ∷ above) run) ≡ container_run plan (node_run plan levels) at (at ∷ above) (run_with [] run)
+  container-forgets levels at above run walk within one after =
+      let path = at ∷ above in
+      let path_run = node_run plan levels in
+      let lasts = afters_of (registered plan) false at path in
+      let end = container_end plan path_run at path run in
+      let body = body_end plan path_run at path run in
+      let before = befores_run plan false at path run.state in
+      let opened : RunState = record { state = before.state; results = run.results } in
+      let closed = closes (key_count plan) at (seal_keys (key_count plan) at end.state) in
+      let outcome = outcome_of at false end closed in
+      let none = outcome-unfailed at false end closed (set-at body.results at outcome (after.each at [] (refl, walk))) in
+      let closing : CallsEnd = record before { state = body.state } in
+      let before_none : first_fault before.calls ≡ None = all-earlier plan path lasts closing none in
+      let clean = befores_run plan false at path (with_memory [] run.state) in
+      let before_is : forgotten before ≡ clean = befores-forget plan path (befores_of (registered plan) false at path) (no_calls run.state) before_none in
+      let in_body : (child : ℕ) → IsParentOf ids at child → AreUnfailed ids (child ∷ path) body.results =
+      λ child is. record {
+        each = λ k below under.
+            let whole = subst (IsPathOf ids k) (sym (append_assoc below (child ∷ []) path)) under in
+            let differ : k ≢ at = λ same. longer below child path (one-path k (below ++ child ∷ path) path under (sym same, subst (λ c. IsWalk ids c above) (sym same) walk)) in
+            subst (λ o. IsSomeAnd o Unfailed) (set-elsewhere body.results at k outcome differ) (after.each k (below ++ child ∷ []) whole);
+      } in
+      let body_is : run_with [] body ≡ body_end plan path_run at path (run_with [] run) =
+      body-forgets levels at above (all_successful before.calls) opened walk within one in_body
+      ∙ ap (λ (e : CallsEnd). body_run plan path_run (all_successful e.calls) path (record { state = e.state; results = run.results })) before_is in
+      let closing_is : forgotten closing ≡ record clean { state = (body_end plan path_run at path (run_with [] run)).state } =
+      ap (λ (e : CallsEnd). record e { state = with_memory [] body.state }) before_is ∙ ap (λ (r : RunState). record clean { state = r.state }) body_is in
+      let end_is : forgotten end ≡ container_end plan path_run at path (run_with [] run) = all-forgets plan path lasts closing none ∙ ap (make_all (call_run plan path) lasts) closing_is in
+      end-forgets (key_count plan) at false end body.results
+      ∙ ap (λ e. node_end (key_count plan) at false e body.results) end_is
+      ∙ ap (λ (r : RunState). node_end (key_count plan) at false (container_end plan path_run at path (run_with [] run)) r.results) body_is
+
+  either-forgets : (path : List ℕ) (b : Bool) (x y clean other : RunState) → (AreUnfailed ids path x.results → run_with [] x ≡ clean) → (AreUnfailed ids path y.results → run_with [] y ≡ other)
+      → AreUnfailed ids path (if b then x else y).results → run_with [] (if b then x else y) ≡ (if b then clean else other)
+  either-forgets path true x y clean other p q after = p after
+  either-forgets path false x y clean other p q after = q after
+
+  node-forgets : (levels at : ℕ) (above : List ℕ) → IsWalk ids at above → at < length ids → Forgets levels at above
+  unfolding node_run
+  node-forgets zero at above walk within run after = refl
+  node-forgets (suc levels) at above walk within run after =
+      let path = at ∷ above in
+      either-forgets path (is_some (test_of plan at)) (test_node_run plan at path run) (container_run plan (node_run plan levels) at path run) (test_node_run plan at path (run_with [] run))
+      (container_run plan (node_run plan levels) at path (run_with [] run))
+      (test-node-forgets at above run walk)
+      (container-forgets levels at above run walk within (λ child is. node-forgets levels child path (is, walk) is.child_within))
+      after
+
+-- ---- the whole run
+
+some-at : (results : List NodeOutcome) (k : ℕ) → k < length results → ((d : NodeOutcome) → Unfailed (get_or results k d)) → IsSomeAnd (slice_get results k) Unfailed
+some-at [] k within h = absurd (omega (arith, within))
+some-at (r ∷ results) zero within h = h r
+some-at (r ∷ results) (suc k) within h = some-at results k (omega (arith, within)) h
+
+path-within : (contexts : List Id) (k : ℕ) (path : List ℕ) → IsTree contexts → IsPathOf contexts k path → k < length contexts
+path-within contexts k [] tree is = absurd is
+path-within contexts k (first ∷ walk) tree is = walk_within contexts k walk tree is.1
+
+pub runs_as_planned : (memory : List Memory) (plan : PlanText) → NodesAreTree plan → HasNoFailed (plain_run_by memory plan) → plain_run_by memory plan ≡ plain_run plan
+runs_as_planned memory plan tree unfailed =
+    let nodes : length (ids_of_nodes plan.nodes) ≡ length plan.nodes = length-map plan.nodes (λ n. n.id) in
+    let results : length (plain_run_by memory plan) ≡ length plan.nodes = sym (length-map (plain_run_by memory plan) (λ r. r.is_test)) ∙ ap length (tests_of_plan memory plan) ∙ length-map plan.nodes (λ n. is_some n.test) in
+    ap (λ (r : RunState). r.results)
+    (node-forgets plan tree (length plan.nodes) 0 [] refl tree.first.some (run_opening memory plan)
+    (record { each = λ k below is. (let inside = path-within (ids_of_nodes plan.nodes) k (below ++ 0 ∷ []) tree is in let within : k < length (plain_run_by memory plan) = omega (arith, nodes, results, inside) in some-at (plain_run_by memory plan) k within (λ d. unfailed k d within)) }))
