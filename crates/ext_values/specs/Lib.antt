@@ -1,3 +1,4 @@
+pub mod Flags
 pub mod Known
 pub mod Laws
 pub mod Places

@@ -4,12 +4,13 @@
 //! value it has, `Notes` tell it of each number that one lane knows. All notes of one number tell one value.
 //!
 //! Memory is taken by the two makers alone, `Values::new` and `Notes::new`: one pointer a number for the places, and
-//! one byte a number for each lane's notes. `SilentNotes`, which nobody can ask whether they know a number, take none. The
-//! values themselves stand in boxes that the caller hands in. No call takes a runtime or waits.
+//! one bit a number, rounded up to 8 bytes, for each lane's notes. `SilentNotes`, which nobody can ask whether they know a
+//! number, take none. The values themselves stand in boxes that the caller hands in. No call takes a runtime or waits.
 #![tactic(auto)]
 
 mod entry;
 mod fault;
+mod flag_bits;
 mod laws;
 mod note;
 mod notes;

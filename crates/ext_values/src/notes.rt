@@ -3,17 +3,18 @@ ghost use Rattle.std.specs.Prelude.{◌≡◌, IfErr, IfNone, IfOk, IfSome, OnEr
 ghost use Rattle.ext_values.specs.Places.{IsNumber};
 ghost use Rattle.ext_values.specs.Known.{AllAgree, AreNotesOf, KeepsKnown, Learns, known_at, nothing_known, places_of};
 
+use crate::flag_bits::FlagBits;
 use crate::{SilentNotes, Values, ValuesFault};
 use std::alloc::Global;
 use std::marker::Model;
 
 /// What one lane knows of the values of all numbers of a `Values`: those that it placed, and those that it was shown.
-/// A known value stays known. Takes one byte a number, however large the values are. Own rule.
+/// A known value stays known. Takes one bit a number, rounded up to 8 bytes, however large the values are. Own rule.
 #[derive(Drop)]
 pub struct Notes<V> {
     notes: SilentNotes<V>,
     // Whether the value is known, of each number in order.
-    flags: Vec<bool>,
+    flags: FlagBits,
 }
 
 impl<V> Model for Notes<V> {
@@ -24,7 +25,7 @@ impl<V> Model for Notes<V> {
 
     ghost view = { λ n. n.notes };
 
-    ghost invariant = { λ n. n.flags.items ≡ are_known n.notes };
+    ghost invariant = { λ n. n.flags ≡ are_known n.notes };
 }
 
 impl<V> Notes<V> {
@@ -36,7 +37,7 @@ impl<V> Notes<V> {
         ensures of { IfOk result (λ n. AreNotesOf values.now n) }
     {
         let notes = SilentNotes::new(alloc, values)?;
-        let flags = vec![in alloc; false; values.capacity() as usize]?;
+        let flags = FlagBits::new(alloc, values.capacity() as usize)?;
         Ok(Notes { notes, flags })
     }
 
@@ -45,7 +46,7 @@ impl<V> Notes<V> {
     pub fn knows(&self, number: u32) -> bool
         ensures { result ≡ is_some (known_at self.now number) }
     {
-        number > 0 && number as usize <= self.flags.len() && self.flags[number as usize - 1]
+        number > 0 && number as usize <= self.flags.len() && self.flags.get(number as usize - 1)
     }
 
     /// The number's value, which is known from now on: always where it was known, and else where this thread finds it.
@@ -63,7 +64,7 @@ impl<V> Notes<V> {
         ensures of { AreNotesOf values.now self.new }
     {
         let value = self.notes.get(values, number)?;
-        self.flags[number as usize - 1] = true;
+        self.flags.set(number as usize - 1);
         Some(value)
     }
 
@@ -98,7 +99,7 @@ impl<V: Drop> Notes<V> {
             Ok(()) => {}
             Err(back) => return Err(back),
         }
-        self.flags[number as usize - 1] = true;
+        self.flags.set(number as usize - 1);
         Ok(())
     }
 }

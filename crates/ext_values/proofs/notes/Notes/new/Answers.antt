@@ -5,7 +5,7 @@ use Rattle.ext_values.proofs.notes.Notes.new.Goals as goal
 
 pub invariant_of-result : goal.invariant_of-result
 invariant_of-result g c =
-    c.in_ok-flags.ensures.items_if_clones_equal (λ y same. same)
+    c.in_ok-flags.ensures
     ∙ ap (λ n. replicate n false) c.capacity.ensures.count
     ∙ sym (none_known g.row.V.Denot c.args.values.now)
     ∙ sym (ap (λ l. are_known l) c.in_ok-notes.ensures.nothing)
