@@ -19,8 +19,12 @@ pub(crate) enum Case {
     PutRemove,
     /// A value computed where none is, and closed with its context: 16 keys a context.
     ComputeFreshAndClose,
-    /// A store of 256 contexts and 16 keys opened.
+    /// A store of 256 contexts opened, with 16 lanes.
     Open256x16,
+    /// A key named that no lane has named: 64 keys a store.
+    NameNew,
+    /// A context closed in which nothing stands: 256 contexts a store.
+    Close256,
     /// A look-up of a value at the root from the third context, while one more thread puts values under another key there.
     GetBesideOther,
     /// The same while it puts values under the same key.
@@ -31,7 +35,7 @@ pub(crate) enum Case {
 
 impl Case {
     /// All cases, in the order of the table.
-    pub(crate) const ALL: [Case; 12] = [
+    pub(crate) const ALL: [Case; 14] = [
         Case::GetOwn3,
         Case::GetRoot3,
         Case::GetRoot16,
@@ -41,6 +45,8 @@ impl Case {
         Case::PutRemove,
         Case::ComputeFreshAndClose,
         Case::Open256x16,
+        Case::NameNew,
+        Case::Close256,
         Case::GetBesideOther,
         Case::GetBesideSame,
         Case::ComputeHot,
@@ -58,6 +64,8 @@ impl Case {
             Case::PutRemove => "put-remove",
             Case::ComputeFreshAndClose => "compute-fresh-and-close",
             Case::Open256x16 => "open-256x16",
+            Case::NameNew => "name-new",
+            Case::Close256 => "close-256",
             Case::GetBesideOther => "get-root-3-beside-other",
             Case::GetBesideSame => "get-root-3-beside-same",
             Case::ComputeHot => "compute-hot",
@@ -84,7 +92,10 @@ impl Case {
 
     /// Whether it runs on one thread and on no more.
     pub(crate) fn is_of_one_thread(self) -> bool {
-        matches!(self, Case::ComputeFreshAndClose | Case::Open256x16)
+        matches!(
+            self,
+            Case::ComputeFreshAndClose | Case::Open256x16 | Case::NameNew | Case::Close256
+        )
     }
 
     /// Whether one more thread writes meanwhile, whose time is not counted.

@@ -1,11 +1,11 @@
-//! What a case opens: contexts, keys, and a store of them.
+//! What a case opens: contexts and a store of them; and keys.
 ghost use Rattle.std.specs.Prelude.{◌<◌, All, IfOk, length};
 ghost use Rattle.ext_store.specs.Stores.{IsCloserOf, IsLaneOf};
 
 use crate::fault::BenchFault;
 use ext_ids::UniqueId;
 use ext_store::{Closer, Lane, Limits, Store, StoreValue};
-use ext_tree::{Directory, Key, Namespace, Tree};
+use ext_tree::{Key, Namespace, Tree};
 use std::alloc::Global;
 
 /// A value: a number, and whether it is closeable.
@@ -98,26 +98,8 @@ fn add_names(alloc: Global, names: &mut Vec<Key>, count: u32) -> Option<()> {
     Some(())
 }
 
-/// So many keys, declared in their order.
-pub(crate) fn keys(alloc: Global, count: u32) -> Option<Directory> {
-    let mut directory = Directory::new(alloc);
-    declare(alloc, &mut directory, count).and(Some(directory))
-}
-
-fn declare(alloc: Global, directory: &mut Directory, count: u32) -> Option<()> {
-    for number in 0..count {
-        directory.declare(key(alloc, number)?).ok()?;
-    }
-    Some(())
-}
-
-/// A store of these contexts and keys, with so many lanes.
-pub(crate) fn open(
-    alloc: Global,
-    tree: Option<Tree>,
-    keys: Option<Directory>,
-    lanes: usize,
-) -> Result<Opened, BenchFault>
+/// A store of these contexts, with so many lanes.
+pub(crate) fn open(alloc: Global, tree: Option<Tree>, lanes: usize) -> Result<Opened, BenchFault>
     ensures lanes { IfOk result (λ r. All (IsLaneOf r.0.id) r.1.items) }
     ensures closers { IfOk result (λ r. All (IsCloserOf r.0) r.2.items) }
 {
@@ -127,10 +109,10 @@ pub(crate) fn open(
         numbers: NUMBERS,
         keep_faults: false,
     };
-    let Some((tree, keys)) = tree.zip(keys) else {
+    let Some(tree) = tree else {
         return Err(BenchFault::Opening);
     };
-    match Store::open(alloc, tree, keys, limits) {
+    match Store::open(alloc, tree, limits) {
         Ok(opened) => Ok(opened),
         Err(_) => Err(BenchFault::Opening),
     }

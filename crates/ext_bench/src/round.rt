@@ -4,15 +4,16 @@ ghost use Rattle.ext_store.specs.Stores.{IsCloserOf, IsLaneOf};
 
 use crate::case::Case;
 use crate::fault::BenchFault;
-use crate::opening::{NUMBERS, Opened, Payload, chain, keys, names, open, wide};
+use crate::opening::{NUMBERS, Opened, Payload, chain, names, open, wide};
 use crate::spent::{Span, Spent, Started};
 use crate::work::{
-    compute_all, compute_often, look_up, look_up_numbered, put_and_remove, put_one, put_over,
+    compute_all, compute_often, look_up, look_up_numbered, name_all, put_and_remove, put_one,
+    put_over,
 };
 use ext_closing::{CloseAction, close};
 use ext_model::{ContextNo, Fault};
 use ext_store::{Closer, Lane, Store};
-use ext_tree::{Directory, Key, Tree};
+use ext_tree::{Key, Tree};
 use std::alloc::Global;
 use std::thread::{Threads, map_vec};
 use std::time::{Clock, CpuClock};
@@ -20,8 +21,11 @@ use std::time::{Clock, CpuClock};
 /// How often a key is looked up in a batch.
 const LOOKS: u32 = 200_000;
 
-/// How many keys there are, and how many are computed in a context.
+/// How many keys are computed in a context.
 const KEYS: u32 = 16;
+
+/// How many keys are named in a store.
+const NAMES: u32 = 64;
 
 /// Batches of the case until so many milliseconds of the wall's time were spent on operations.
 pub(crate) fn round_of<R: Threads + Sync + Clock + CpuClock + AllocGlobal>(
@@ -50,6 +54,8 @@ fn spent_after<R: Threads + Sync + Clock + CpuClock + AllocGlobal>(
     match case {
         Case::Open256x16 => and_one(spent, opening(rt)),
         Case::ComputeFreshAndClose => and_one(spent, computing(rt)),
+        Case::NameNew => and_one(spent, naming(rt)),
+        Case::Close256 => and_one(spent, closing(rt)),
         _ => match batch(rt, case, threads) {
             Ok(spans) => Ok(spent.and(spans.as_slice())),
             Err(fault) => Err(fault),
@@ -63,12 +69,11 @@ fn and_one(spent: Spent, span: Result<Span, BenchFault>) -> Result<Spent, BenchF
 
 // ---- cases of one thread
 
-/// A store of 256 contexts and 16 keys opened.
+/// A store of 256 contexts opened, with 16 lanes.
 fn opening<R: Clock + CpuClock + AllocGlobal>(rt: &R) -> Result<Span, BenchFault> {
     let tree = wide(rt.alloc());
-    let keys = keys(rt.alloc(), KEYS);
     let started = Started::now(rt);
-    let opened = open(rt.alloc(), tree, keys, 16);
+    let opened = open(rt.alloc(), tree, 16);
     let span = ended(rt, started, 1);
     match opened.err() {
         None => span,
@@ -104,7 +109,7 @@ impl CloseAction<Payload> for Counting {
 /// All keys computed in each of 255 contexts, which are closed.
 fn computing<R: Clock + CpuClock + AllocGlobal>(rt: &R) -> Result<Span, BenchFault> {
     let alloc = rt.alloc();
-    match open(alloc, wide(alloc), keys(alloc, KEYS), 1) {
+    match open(alloc, wide(alloc), 1) {
         Ok(opened) => computed_in(rt, opened),
         Err(fault) => Err(fault),
     }
@@ -204,6 +209,87 @@ fn one_context(
     computed && close(store, closer, lanes, counting).is_ok()
 }
 
+/// Keys named that no lane has named, in a store of their own.
+fn naming<R: Clock + CpuClock + AllocGlobal>(rt: &R) -> Result<Span, BenchFault> {
+    let alloc = rt.alloc();
+    match (open(alloc, chain(alloc, 2), 1), names(alloc, NAMES)) {
+        (Ok(opened), Some(names)) => named_in(rt, opened, names.as_slice()),
+        _ => Err(BenchFault::Opening),
+    }
+}
+
+/// These keys named by the last lane of this store.
+fn named_in<R: Clock + CpuClock>(rt: &R, opened: Opened, names: &[Key]) -> Result<Span, BenchFault>
+    requires { All (IsLaneOf opened.0.id) opened.1.items }
+{
+    let (store, mut lanes, _closers) = opened;
+    match lanes.pop() {
+        Some(lane) => named_by(rt, &store, lane, names),
+        None => Err(BenchFault::Opening),
+    }
+}
+
+/// These keys named by the lane.
+fn named_by<R: Clock + CpuClock>(
+    rt: &R,
+    store: &Store<Payload>,
+    lane: Lane<Payload>,
+    names: &[Key],
+) -> Result<Span, BenchFault>
+    requires { IsLaneOf store.now.id lane }
+{
+    let mut lane = lane;
+    let started = Started::now(rt)?;
+    let named = name_all(store, &mut lane, names);
+    let span = started.end(rt, names.len() as u64);
+    if !named {
+        return Err(BenchFault::Answer);
+    }
+    span
+}
+
+/// All 256 contexts of a store closed, in which nothing stands.
+fn closing<R: Clock + CpuClock + AllocGlobal>(rt: &R) -> Result<Span, BenchFault> {
+    let alloc = rt.alloc();
+    match open(alloc, wide(alloc), 1) {
+        Ok(opened) => closed_in(rt, opened),
+        Err(fault) => Err(fault),
+    }
+}
+
+/// All contexts of this store closed.
+fn closed_in<R: Clock + CpuClock>(rt: &R, opened: Opened) -> Result<Span, BenchFault>
+    requires lanes { All (IsLaneOf opened.0.id) opened.1.items }
+    requires closers { All (IsCloserOf opened.0) opened.2.items }
+{
+    let mut opened = opened;
+    let started = Started::now(rt);
+    let closed = close_each(&opened.0, opened.1.as_mut_slice(), &mut opened.2);
+    let span = ended(rt, started, closed);
+    if closed == 256 {
+        span
+    } else {
+        span.and(Err(BenchFault::Answer))
+    }
+}
+
+/// How many contexts are closed, where none is refused.
+fn close_each(store: &Store<Payload>, lanes: &mut [Lane<Payload>], closers: &mut Vec<Closer>) -> u64
+    requires lanes { All (IsLaneOf store.now.id) lanes.old }
+    requires closers { All (IsCloserOf store.now) closers.old.items }
+{
+    let (mut counting, mut closed) = (Counting { closed: 0 }, 0u64);
+    for _ in 0..store.tree().len() {
+        if let Some(closer) = closers.pop() {
+            if !one_context(store, lanes, closer, &[], &mut counting) {
+                return 0;
+            }
+            closed = closed.wrapping_add(1);
+        }
+    }
+    closed
+}
+
 // ---- cases of several threads
 
 /// The case's contexts.
@@ -262,7 +348,7 @@ fn open_and_run<R: Threads + Sync + Clock + CpuClock + AllocGlobal>(
     let alloc = rt.alloc();
     // One more for what stands before the batch.
     let count = job.threads.min(14) + usize::from(job.case.has_writer()) + 1;
-    match open(alloc, contexts(alloc, job.case), keys(alloc, 2), count) {
+    match open(alloc, contexts(alloc, job.case), count) {
         Ok(opened) => spans_in(rt, opened, job),
         Err(fault) => Err(fault),
     }

@@ -14,10 +14,12 @@ rounds, of MILLIS (1 to 600000) milliseconds each, on THREADS (1 to 14) threads:
 
     ext_store CASE THREADS NANOSECONDS-OF-WALL-AN-OP NANOSECONDS-OF-PROCESSOR-AN-OP
 
-compute-fresh-and-close and open-256x16 run on one thread: with them THREADS other than 1 is refused.
+compute-fresh-and-close, open-256x16, name-new and close-256 run on one thread: with them THREADS
+other than 1 is refused.
 
 Cases: get-own-3 get-root-3 get-root-16 get-root-3-numbered get-absent-3 put-over put-remove
-compute-fresh-and-close open-256x16 get-root-3-beside-other get-root-3-beside-same compute-hot
+compute-fresh-and-close open-256x16 name-new close-256 get-root-3-beside-other get-root-3-beside-same
+compute-hot
 ";
 
 /// What the words ask for.

@@ -20,7 +20,7 @@ pub(crate) fn look_up_numbered(
     requires context { context < length store.now.tree }
     ensures { IsLaneOf store.now.id lane.new }
 {
-    let Some(number) = store.directory().number_of(key) else {
+    let Ok(number) = store.number(lane, key) else {
         return Err(BenchFault::Answer);
     };
     let mut right = true;
@@ -35,7 +35,7 @@ pub(crate) fn look_up_numbered(
 fn finds(store: &Store<Payload>, lane: &mut Lane<Payload>, context: ContextNo, key: KeyNo) -> bool
     requires lane { IsLaneOf store.now.id lane.old }
     requires context { context < length store.now.tree }
-    requires key { key < length store.now.keys }
+    requires key { key < 64 }
     ensures { IsLaneOf store.now.id lane.new }
 {
     match store.get_numbered(lane, context, key) {
@@ -194,6 +194,19 @@ pub(crate) fn compute_all(
     for name in names {
         let computed = compute_one(store, lane, context, name, 1);
         right = right && computed;
+    }
+    right
+}
+
+/// Names all keys, which no lane has named before. Says whether each got a number.
+pub(crate) fn name_all(store: &Store<Payload>, lane: &mut Lane<Payload>, names: &[Key]) -> bool
+    requires { IsLaneOf store.now.id lane.old }
+    ensures { IsLaneOf store.now.id lane.new }
+{
+    let mut right = true;
+    for name in names {
+        let named = store.number(lane, name).is_ok();
+        right = right && named;
     }
     right
 }

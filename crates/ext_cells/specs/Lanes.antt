@@ -22,9 +22,9 @@ pub record Lane : Type 0 where
 
 -- ---- opening
 
--- at most 4,096 cells, 1 to 16 lanes, 1 to 64 tries, 1 to 65,535 numbers
+-- at most 16,384 cells, as 256 contexts with 64 keys each have, 1 to 16 lanes, 1 to 64 tries, 1 to 65,535 numbers
 pub record AreLimits (cells lanes tries numbers : ℕ) : Type 0 where
-  pub cells_fit : cells ≤ 4096
+  pub cells_fit : cells ≤ 16384
   pub lanes_fit : (1 ≤ lanes) × (lanes ≤ 16)
   pub tries_fit : (1 ≤ tries) × (tries ≤ 64)
   pub numbers_fit : (1 ≤ numbers) × (numbers ≤ 65535)

@@ -49,7 +49,7 @@ impl Model for Cells {
     ghost invariant = { λ s.
         (s.table.shared.table_id.words ≡ s.limits.cells + 1)
         × (s.table.shared.key ≡ s.limits)
-        × (s.limits.cells ≤ 4096)
+        × (s.limits.cells ≤ 16384)
         × (s.limits.numbers ≤ 65535)
         × (1 ≤ s.tries)
         × (s.tries ≤ 64) };
@@ -62,7 +62,7 @@ impl Cells {
     ///
     /// Faults may be kept in them: `open_for` opens cells in which none are.
     ///
-    /// Refused as `BadLimit` unless there are at most 4,096 cells, 1 to 16 lanes, 1 to 64 tries and 1 to 65,535
+    /// Refused as `BadLimit` unless there are at most 16,384 cells, 1 to 16 lanes, 1 to 64 tries and 1 to 65,535
     /// numbers, and then as `Memory`.
     pub fn open(
         alloc: Global,

@@ -8,12 +8,12 @@ use crate::rule::{CellLimits, CellTable, LaneSeat, NewLane, SharedWords};
 use ext_model::LaneNo;
 use std::alloc::{AllocError, Global};
 
-/// Whether cells of these limits may be opened: at most 4,096 cells, 1 to 16 lanes, 1 to 64 tries and 1 to 65,535
+/// Whether cells of these limits may be opened: at most 16,384 cells, 1 to 16 lanes, 1 to 64 tries and 1 to 65,535
 /// numbers. `Cells::open` refuses all others. Takes no memory (own rule).
 pub fn are_limits(cells: usize, lanes: usize, tries: u32, numbers: u32) -> bool
     ensures { IsTrue result ↔ AreLimits cells lanes tries numbers }
 {
-    cells <= 4_096
+    cells <= 16_384
         && (1..=16).contains(&lanes)
         && (1..=64).contains(&tries)
         && (1..=65_535).contains(&numbers)
@@ -31,7 +31,7 @@ pub(crate) fn open_words(
     alloc: Global,
     limits: &CellLimits,
 ) -> Result<(CellTable, LaneSeat), AllocError>
-    requires cells { limits.now.cells ≤ 4096 }
+    requires cells { limits.now.cells ≤ 16384 }
     requires lanes { 1 ≤ limits.now.lanes }
     ensures words { IfOk result (λ r. r.0.shared.table_id.words ≡ limits.now.cells + 1) }
     ensures key { IfOk result (λ r. r.0.shared.key ≡ limits.now) }

@@ -93,19 +93,19 @@ module _ (store : StoreView) (context keys : ℕ) (limits : Limits) (between aft
 
 -- ---- the events of both
 
-module _ (store : StoreView) (context keys : ℕ) (before between after : Lane) (same : between.cells ≡ before.cells) (sealed : AreSealed store context keys between) (below : keys ≤ length store.keys) where
-  seals_of_both : MakesSeals store context keys before between → MakesSeals store context (length store.keys) between after → MakesSeals store context (length store.keys) before after
+module _ (store : StoreView) (context keys : ℕ) (before between after : Lane) (same : between.cells ≡ before.cells) (sealed : AreSealed store context keys between) (below : keys ≤ length store.id.keys) where
+  seals_of_both : MakesSeals store context keys before between → MakesSeals store context (length store.id.keys) between after → MakesSeals store context (length store.id.keys) before after
   seals_of_both one two = elim two.calls [
     | inl none ↦ record {
       sealed = one.sealed ++ two.sealed;
-      in_order = some_then keys (length store.keys) one.sealed two.sealed one.in_order two.in_order below (λ key less there. contains_none key (subst (λ xs. Contains xs key) none.1 there));
+      in_order = some_then keys (length store.id.keys) one.sealed two.sealed one.in_order two.in_order below (λ key less there. contains_none key (subst (λ xs. Contains xs key) none.1 there));
       calls =
           subst (λ xs. ((after ≡ before) × (xs ≡ [])) ⊎ Calls before.cells.limits before.view after.view (seals_of store context xs)) (sym (ap (λ xs. one.sealed ++ xs) none.1 ∙ append-nil one.sealed))
           (subst (λ (lane : Lane). ((lane ≡ before) × (one.sealed ≡ [])) ⊎ Calls before.cells.limits before.view lane.view (seals_of store context one.sealed)) (sym none.0) one.calls);
     }
     | inr calls ↦ record {
       sealed = one.sealed ++ two.sealed;
-      in_order = some_then keys (length store.keys) one.sealed two.sealed one.in_order two.in_order below (none_again store context keys between.cells.limits between after two.sealed calls sealed);
+      in_order = some_then keys (length store.id.keys) one.sealed two.sealed one.in_order two.in_order below (none_again store context keys between.cells.limits between after two.sealed calls sealed);
       calls = inr (subst (Calls before.cells.limits before.view after.view) (sym (map-append (λ k. Seal (cell_in store k context)) one.sealed two.sealed))
           (further store context before between after same one.sealed (seals_of store context two.sealed) one.calls calls));
     }
@@ -113,7 +113,7 @@ module _ (store : StoreView) (context keys : ℕ) (before between after : Lane) 
 
 -- ---- the lanes
 
-keys_within : (store : StoreView) (context : ℕ) (before after : Lane) (why : CloseFault) → SealsUntil store context before after (Some why) → keys_sealed store (Some why) ≤ length store.keys
+keys_within : (store : StoreView) (context : ℕ) (before after : Lane) (why : CloseFault) → SealsUntil store context before after (Some why) → keys_sealed store (Some why) ≤ length store.id.keys
 keys_within store context before after (Busy key) seals = let less = seals.0 in omega arith
 keys_within store context before after (Contended key) seals = let less = seals.0 in omega arith
 keys_within store context before after (Unjoined number) seals = omega arith

@@ -23,9 +23,9 @@ first_is : {V : Type 0} (store : StoreView) (lanes : List (StoreLane V)) (d : St
 first_is store [] d some = absurd (omega (arith, some))
 first_is store (lane ∷ others) d some = refl
 
-others_stay : {V : Type 0} (lanes : List (StoreLane V)) (after d : StoreLane V) → 1 ≤ length lanes → after.known ≡ (get_or lanes 0 d).known → after.faults ≡ (get_or lanes 0 d).faults → set lanes 0 after ≡ with_first after.cells lanes
-others_stay [] after d some known faults = absurd (omega (arith, some))
-others_stay (lane ∷ others) after d some known faults = λ i. record { cells = after.cells; known = known i; faults = faults i } ∷ others
+others_stay : {V : Type 0} (lanes : List (StoreLane V)) (after d : StoreLane V) → 1 ≤ length lanes → after.known ≡ (get_or lanes 0 d).known → after.faults ≡ (get_or lanes 0 d).faults → after.keys ≡ (get_or lanes 0 d).keys → set lanes 0 after ≡ with_first after.cells lanes
+others_stay [] after d some known faults keys = absurd (omega (arith, some))
+others_stay (lane ∷ others) after d some known faults keys = λ i. record { cells = after.cells; known = known i; faults = faults i; keys = keys i } ∷ others
 
 others_keep : {V : Type 0} (lanes : List (StoreLane V)) (after d : StoreLane V) → 1 ≤ length lanes → StillKeeps (get_or lanes 0 d) after → AllZip StillKeeps lanes (set lanes 0 after)
 others_keep [] after d some kept = absurd (omega (arith, some))
@@ -40,8 +40,8 @@ all_changed P [] x is all = all
 all_changed P (y ∷ ys) x is all = at_each P y ys x is all
 
 module _ {V : Type 0} (lanes new : List (StoreLane V)) (after d : StoreLane V) (is : new ≡ set lanes 0 after) (some : 1 ≤ length lanes) where
-  pub only_first : after.known ≡ (get_or lanes 0 d).known → after.faults ≡ (get_or lanes 0 d).faults → OnlyFirstSteps lanes new
-  only_first known faults = (after.cells, is ∙ others_stay lanes after d some known faults)
+  pub only_first : after.known ≡ (get_or lanes 0 d).known → after.faults ≡ (get_or lanes 0 d).faults → after.keys ≡ (get_or lanes 0 d).keys → OnlyFirstSteps lanes new
+  only_first known faults keys = (after.cells, is ∙ others_stay lanes after d some known faults keys)
 
   pub still_kept : StillKeeps (get_or lanes 0 d) after → AllZip StillKeeps lanes new
   still_kept kept = subst (AllZip StillKeeps lanes) (sym is) (others_keep lanes after d some kept)

@@ -22,11 +22,11 @@ set_back [] i y d same within = absurd (omega (arith, within))
 set_back (x ∷ xs) zero y d same within = ap (λ z. z ∷ xs) same
 set_back (x ∷ xs) (suc i) y d same within = ap (λ zs. x ∷ zs) (set_back xs i y d same (omega (arith, within)))
 
-same_lane : {V : Type 0} (before after : StoreLane V) → after.cells ≡ before.cells → after.known ≡ before.known → after.faults ≡ before.faults → after ≡ before
-same_lane before after cells known faults = λ i. record { cells = cells i; known = known i; faults = faults i }
+same_lane : {V : Type 0} (before after : StoreLane V) → after.cells ≡ before.cells → after.known ≡ before.known → after.faults ≡ before.faults → after.keys ≡ before.keys → after ≡ before
+same_lane before after cells known faults keys = λ i. record { cells = cells i; known = known i; faults = faults i; keys = keys i }
 
 -- so the lanes stay as they were where one of them is shown what it knows
 pub shown_back : {V : Type 0} (lanes : List (StoreLane V)) (at : ℕ) (d after : StoreLane V) (number : ℕ) (value : V) → at < length lanes → ((lane : StoreLane V) → is_some (known_at (get_or lanes at lane).known number) ≡ true)
-    → KeepsKnown (get_or lanes at d).known after.known → Learns (get_or lanes at d).known after.known number value → after.cells ≡ (get_or lanes at d).cells → after.faults ≡ (get_or lanes at d).faults → set lanes at after ≡ lanes
-shown_back lanes at d after number value within knows keeps learns cells faults =
-    set_back lanes at after d (same_lane (get_or lanes at d) after cells (nothing_learnt (get_or lanes at d).known after.known number value (knows d) keeps learns) faults) within
+    → KeepsKnown (get_or lanes at d).known after.known → Learns (get_or lanes at d).known after.known number value → after.cells ≡ (get_or lanes at d).cells → after.faults ≡ (get_or lanes at d).faults → after.keys ≡ (get_or lanes at d).keys → set lanes at after ≡ lanes
+shown_back lanes at d after number value within knows keeps learns cells faults keys =
+    set_back lanes at after d (same_lane (get_or lanes at d) after cells (nothing_learnt (get_or lanes at d).known after.known number value (knows d) keeps learns) faults keys) within

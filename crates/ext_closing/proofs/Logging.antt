@@ -109,5 +109,5 @@ module _ {V A : Type 0} (is_closeable : V → Bool) (gives : A → ℕ → V →
   logged_by store closer before first (Ok closed) after last close = λ none.
       let numbers = numbers_left store closer.context (first_lane store after) in
       let all = all_logged is_closeable gives after log_of logs numbers first last closed close.closes none in
-      (all.0, all.1, closeable_falls is_closeable after numbers all.0 (remaining_falls (slots_seen store closer.context (first_lane store after)) (length store.keys)) all.1, all.2)
+      (all.0, all.1, closeable_falls is_closeable after numbers all.0 (remaining_falls (slots_seen store closer.context (first_lane store after)) (length store.id.keys)) all.1, all.2)
   logged_by store closer before first (Err e) after last close = tt

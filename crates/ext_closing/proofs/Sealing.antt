@@ -156,7 +156,7 @@ module _ (store : StoreView) (context : ℕ) (before between after : Lane) (same
       })
 
   -- the seal of the next key was refused
-  module _ (below : key < length store.keys) where
+  module _ (below : key < length store.id.keys) where
     quiet_end : (calls : Calls between.cells.limits between.view after.view []) → AreSealed store context key after × MakesSeals store context key before after
     quiet_end calls =
         let on = seen_goes_on calls in

@@ -44,8 +44,8 @@ module _ {V A : Type 0} (is_closeable : V → Bool) (gives : A → ℕ → V →
   -- What a caller sees of a context that is closed, by one close or by several
   pub record IsClosedBy (before : List (StoreLane V)) (first : A) (closed : report.Closes) (after : List (StoreLane V)) (last : A) : Type 0 where
     -- all keys are sealed, and the first lane's events are seals of keys in their order, each once
-    pub sealed : AreSealed store closer.context (length store.keys) (first_lane store after)
-    pub own_events : MakesSeals store closer.context (length store.keys) (first_lane store before) (first_lane store after)
+    pub sealed : AreSealed store closer.context (length store.id.keys) (first_lane store after)
+    pub own_events : MakesSeals store closer.context (length store.id.keys) (first_lane store before) (first_lane store after)
     -- the action was called for what remains and is closeable, and for nothing else
     pub closes : ClosesNumbers is_closeable gives after (numbers_left store closer.context (first_lane store after)) first last closed
     -- the lanes know and keep what they did, and the others made no step

@@ -26,7 +26,7 @@ AreSealed store context keys lane = IsClosed (slots_seen store context lane) key
 
 -- the numbers that the seals of all keys keep, the greatest first
 abbrev pub numbers_left : StoreView → ℕ → Lane → List ℕ
-numbers_left store context lane = remaining (slots_seen store context lane) (length store.keys)
+numbers_left store context lane = remaining (slots_seen store context lane) (length store.id.keys)
 
 -- ---- what the lane did
 
@@ -55,18 +55,18 @@ pub record MakesSeals (store : StoreView) (context keys : ℕ) (before after : L
 
 -- how many keys were sealed, by the fault with which the close ended, if it did
 abbrev pub keys_sealed : StoreView → Option CloseFault → ℕ
-keys_sealed store None = length store.keys
+keys_sealed store None = length store.id.keys
 keys_sealed store (Some (Busy key)) = key
 keys_sealed store (Some (Contended key)) = key
-keys_sealed store (Some (Unjoined number)) = length store.keys
+keys_sealed store (Some (Unjoined number)) = length store.id.keys
 
 -- All keys were sealed; or those before one, whose own seal was refused: as a lane computed a value for the context at a point of that seal, or as other
 -- lanes were in the way
 abbrev pub SealsUntil : StoreView → ℕ → Lane → Lane → Option CloseFault → Type 0
-SealsUntil store context before after None = SealsAll store context (length store.keys) before after
-SealsUntil store context before after (Some (Busy key)) = (key < length store.keys) × ((between : Lane) × SealsAll store context key before between × IsBusyThere store context key between after)
-SealsUntil store context before after (Some (Contended key)) = (key < length store.keys) × ((between : Lane) × SealsAll store context key before between × IsInTheWay store between after)
-SealsUntil store context before after (Some (Unjoined number)) = SealsAll store context (length store.keys) before after
+SealsUntil store context before after None = SealsAll store context (length store.id.keys) before after
+SealsUntil store context before after (Some (Busy key)) = (key < length store.id.keys) × ((between : Lane) × SealsAll store context key before between × IsBusyThere store context key between after)
+SealsUntil store context before after (Some (Contended key)) = (key < length store.id.keys) × ((between : Lane) × SealsAll store context key before between × IsInTheWay store between after)
+SealsUntil store context before after (Some (Unjoined number)) = SealsAll store context (length store.id.keys) before after
 
 -- the fault of a result, if it is one
 abbrev pub fault_of : {A : Type 0} → Result A CloseFault → Option CloseFault

@@ -15,16 +15,19 @@ use ext_lifecycle::Closes;
 use ext_model::{FallingNumbers, Fault, KeyNo};
 use ext_store::{Closer, Lane, Refusal, Store, StoreValue};
 
-/// Closes the closer's context: seals its keys, in their order, by the first of the lanes, and then closes those of
-/// its remaining values that are closeable, the one with the greatest number first, each by one call of the action. A
-/// value remains where it stood in the context when its key was sealed; a kept fault that stood there goes. A close that fails does not stop the others.
-/// Neither the parent nor the children of the context are closed. Afterwards nothing is stored or claimed in the
-/// context. Takes no memory of its own.
+/// Closes the closer's context. First the first of the lanes seals all 64 places that the context has for keys, in the order of
+/// their numbers, those without a key too. Then those of its remaining values that are closeable are closed, the one with the
+/// greatest number first, each by one call of the action. A value remains where it stood in the context when its key was
+/// sealed; a kept fault that stood there goes. A close that fails does not stop the others. Neither the parent nor the children
+/// of the context are closed. Afterwards nothing is stored or claimed in the context, whatever key is named later.
+///
+/// It costs 64 seals, however many keys have been named, a look at each value that remains, and the calls of the action. Takes
+/// no memory of its own.
 ///
 /// It is a condition that there is at least one lane, and that the lanes and the closer are of the store.
 ///
-/// Refused as `Busy` at the first key for which a lane computes a value in the context, as `Contended` at the first
-/// key whose seal is, and then as `Unjoined` with the greatest remaining number whose value no lane in hand kept or
+/// Refused as `Busy` at the first place for which a lane computes a value in the context, as `Contended` at the first
+/// place whose seal is, and then as `Unjoined` with the greatest remaining number whose value no lane in hand kept or
 /// was shown, closeable or not. The closer is then handed back and the action as it was, what was sealed stays sealed,
 /// and the close may be tried again.
 ///
@@ -42,6 +45,9 @@ pub fn close<V: StoreValue + Drop, A: CloseAction<V>>(
 
     // What the close did, and when it is refused: each as a field.
     ensures happened { closing.Closes V.is_closeable A.close_gives store.now closer lanes.old action.old result lanes.new action.new }
+
+    // How many places for keys are meant by all of them.
+    ensures all_places { length store.now.id.keys ≡ 64 }
 
     // What a next call rests on, once more.
     ensures handed_back { IfErr result (λ e. e.0 ≡ closer) }
@@ -61,7 +67,7 @@ pub fn close<V: StoreValue + Drop, A: CloseAction<V>>(
     Ok(close_all(store, lanes, remaining, action))
 }
 
-// Seals all keys of the closer's context, in their order, and answers the numbers that remain, the greatest first.
+// Seals all places for keys in the closer's context, in their order, and answers the numbers that remain, the greatest first.
 fn seal_all<V>(
     store: &Store<V>,
     closer: &Closer,
@@ -72,13 +78,15 @@ fn seal_all<V>(
     ensures ends { SealingEnds store.now closer.now.context lane.old.cells lane.new.cells (fault_of result) }
     ensures numbers { IfOk result (λ numbers. numbers ≡ numbers_left store.now closer.now.context lane.new.cells) }
     ensures refusal { IfErr result IsOfKey }
+    ensures all_places { length store.now.id.keys ≡ 64 }
     ensures known { lane.new.known ≡ lane.old.known }
     ensures faults { lane.new.faults ≡ lane.old.faults }
+    ensures keys { lane.new.keys ≡ lane.old.keys }
     ensures lane { IsLaneOf store.now.id lane.new }
     ensures kept { StillKeeps lane.old lane.new }
 {
     let mut numbers = FallingNumbers::new();
-    for key in 0..store.directory().len() {
+    for key in 0..store.key_count() {
         match seal_key(store, closer, lane, key) {
             Ok(kept) => numbers.put_in_kept(kept),
             Err(why) => return Err(why),
@@ -96,10 +104,11 @@ fn seal_key<V>(
 ) -> Result<Option<u32>, CloseFault>
     requires lane { IsLaneOf store.now.id lane.old }
     requires closer { IsCloserOf store.now closer.now }
-    requires key { key < length store.now.keys }
+    requires key { key < length store.now.id.keys }
     ensures answer { SealsNext store.now closer.now.context key lane.old.cells lane.new.cells result }
     ensures known { lane.new.known ≡ lane.old.known }
     ensures faults { lane.new.faults ≡ lane.old.faults }
+    ensures keys { lane.new.keys ≡ lane.old.keys }
     ensures lane { IsLaneOf store.now.id lane.new }
     ensures kept { StillKeeps lane.old lane.new }
 {
@@ -109,8 +118,10 @@ fn seal_key<V>(
         Err(Refusal::Contended) => Err(CloseFault::Contended(key)),
         // A seal is refused for no other reason.
         Err(Refusal::Closed(_)) => unreachable!(),
-        Err(Refusal::UnknownKey) => unreachable!(),
         Err(Refusal::Exhausted) => unreachable!(),
+        Err(Refusal::DirectoryFull) => unreachable!(),
+        Err(Refusal::Unplaced) => unreachable!(),
+        Err(Refusal::Memory) => unreachable!(),
     }
 }
 

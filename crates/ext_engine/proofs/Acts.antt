@@ -14,7 +14,7 @@ use Rattle.ext_model.specs.declared.event.Event.{Event}
 use Rattle.ext_model.specs.History.{History, lane_of, own}
 use Rattle.ext_store.specs.Stores.{StoreView, StoreLane}
 use Rattle.ext_engine.specs.Meeting.{HasSeen, HasSeenWithin, OnlyMeets, first_seen}
-use Rattle.ext_engine.specs.Order.{AllGoOn, ComesBefore, GoesOn, IsMadeBy, IsMadeIn, IsSeenByFirst}
+use Rattle.ext_engine.specs.Order.{AllGoOn, ComesBefore, LaneGoesOn, IsMadeBy, IsMadeIn, IsSeenByFirst}
 
 pub shorter : (a b : History) → IsPrefix a b → length a ≤ length b
 shorter a b on = let e = ap length on.1 in let l = length-append a on.0 in omega (arith, e, l)
@@ -52,7 +52,7 @@ module _ {V : Type 0} (h : History) where
       contains_none made.event (subst (λ (l : History). Contains l made.event) none
       (among_more n (seen_by a.cells.view) (seen_by b.cells.view) h on within place made.event made.there made.since made.until made.own_event))
 
-  made_then : (a b c : StoreLane V) (place : ℕ) → GoesOn a b → IsMadeBy h place a c → IsMadeBy h place a b ⊎ IsMadeBy h place b c
+  made_then : (a b c : StoreLane V) (place : ℕ) → LaneGoesOn a b → IsMadeBy h place a c → IsMadeBy h place a b ⊎ IsMadeBy h place b c
   made_then a b c place go made = elim (cases_lt place (length (seen_by b.cells.view))) [
     | inl below ↦ inl (record { event = made.event; there = made.there; own_event = made.own_event; since = made.since; until = below })
     | inr past ↦ inr (record { event = made.event; there = made.there; own_event = made.own_event ∙ sym go.number; since = past; until = made.until })

@@ -25,7 +25,7 @@ module _ {V A : Type 0} (t : TreeSetting V) (makes finer : ℕ → Call → Opti
     (R : StoreLane V → StoreLane V → Type 0) (same : (a : StoreLane V) → R a a) (next : (a b c : StoreLane V) → R a b → R b c → R a c)
     (moves : (node : ℕ) (call : Call) (held : Option HeldView) (a : StoreLane V) (outcome : Outcome) (b : StoreLane V) → makes node call held a outcome b → R a b)
     (meets : (a b : StoreLane V) → OnlyMeets t.store a b → R a b)
-    (seals : (context keys : ℕ) (a : StoreLane V) (cells : Lane) → MakesSeals t.store context keys a.cells cells → R a (record { cells = cells; known = a.known; faults = a.faults }))
+    (seals : (context keys : ℕ) (a : StoreLane V) (cells : Lane) → MakesSeals t.store context keys a.cells cells → R a (record { cells = cells; known = a.known; faults = a.faults; keys = a.keys }))
     (Leads : StoreLane V → Type 0) (back : (a b : StoreLane V) → R a b → Leads b → Leads a)
     (turns : (node : ℕ) (call : Call) (held : Option HeldView) (a : StoreLane V) (outcome : Outcome) (b : StoreLane V) → makes node call held a outcome b → Leads b → finer node call held a outcome b) where
   abbrev LeadsOf : Lanes V → Type 0

@@ -10,7 +10,10 @@ use Rattle.ext_history.proofs.Composed.{calls_none, seen_goes_on}
 use Rattle.ext_model.specs.History.{History, IsLegal, lane_of}
 use Rattle.ext_model.specs.Calls.{Calls}
 use Rattle.ext_model.proofs.Composed.{calls_compose}
+use Rattle.ext_tree.proofs.KeyPlacing.{keeps_all, keeps_both}
 use Rattle.ext_store.specs.Stores.{StoreView, StoreLane, IsLaneOf}
+use Rattle.ext_store.specs.Frames.{Frame}
+use Rattle.ext_store.proofs.Numbered.{frame_keys}
 use Rattle.ext_engine.specs.Meeting.{Forks, HasSeen, HasSeenWithin, Joins, OnlyMeets}
 
 module _ {V : Type 0} (store : StoreView) where
@@ -21,13 +24,14 @@ module _ {V : Type 0} (store : StoreView) where
     calls = calls_none lane_of lane.cells.view (subst (λ cells. IsLegal cells.limits (seen_by lane.cells.view)) mine.cells legal);
     known = refl;
     faults = refl;
+    keys = keeps_all lane.keys;
   }
 
   -- one that met one lane
   pub met_once : (a b : StoreLane V) → IsLaneOf store.id a → IsLaneOf store.id b → Calls a.cells.cells.limits a.cells.view b.cells.view [] → b.known ≡ a.known
-      → b.faults ≡ a.faults → OnlyMeets store a b
-  met_once a b mine still one known faults =
-      record { lane = still; calls = subst (λ cells. Calls cells.limits a.cells.view b.cells.view []) mine.cells one; known = known; faults = faults }
+      → b.faults ≡ a.faults → Frame store.id [] a b → OnlyMeets store a b
+  met_once a b mine still one known faults frame =
+      record { lane = still; calls = subst (λ cells. Calls cells.limits a.cells.view b.cells.view []) mine.cells one; known = known; faults = faults; keys = frame_keys store.id [] a b frame }
 
   pub met_then : (a b c : StoreLane V) → OnlyMeets store a b → OnlyMeets store b c → OnlyMeets store a c
   met_then a b c one two = record {
@@ -35,6 +39,7 @@ module _ {V : Type 0} (store : StoreView) where
     calls = calls_compose store.id.cells.limits a.cells.view b.cells.view c.cells.view [] [] one.calls two.calls;
     known = two.known ∙ one.known;
     faults = two.faults ∙ one.faults;
+    keys = keeps_both a.keys b.keys c.keys one.keys two.keys;
   }
 
   pub seen_more : (a b : StoreLane V) → OnlyMeets store a b → IsPrefix (seen_by a.cells.view) (seen_by b.cells.view)

@@ -13,7 +13,7 @@ use Rattle.ext_closing.specs.Closing.{Answer}
 use Rattle.ext_closing.specs.Lanes.{OnlyFirstSteps}
 use Rattle.ext_locks.specs.Sets.{HeldView}
 use Rattle.ext_engine.specs.Meeting.{HasSeen, HasSeenWithin, OnlyMeets, first_seen}
-use Rattle.ext_engine.specs.Order.{AllGoOn, CallsGoOn, ComesBefore, GoesOn, IsSeenByFirst}
+use Rattle.ext_engine.specs.Order.{AllGoOn, CallsGoOn, ComesBefore, LaneGoesOn, IsSeenByFirst}
 use Rattle.ext_engine.specs.TreeRun.{Ran, TreeSetting, Lanes, TreeRun, TestRun, ContainerRun, BodyRun, BodyMade, OnFirst, with_lanes}
 use Rattle.ext_engine.proofs.Acts.{Acts, acts_before, all_made_then, all_met_made, first_made, heads_go, same_made, shorter, shown_made}
 use Rattle.ext_engine.proofs.Going.{all_go, all_met, all_same, all_then, befores_go, calls_go, close_goes, children_dealt_go, tree_goes, turn_goes}
@@ -38,7 +38,7 @@ module _ {V : Type 0} (h : History) where
         ];
       }
 
-  pub acts_first : (R : StoreLane V → StoreLane V → Type 0) (xs ys : List (StoreLane V)) → ((a b : StoreLane V) → R a b → GoesOn a b) → OnFirst R xs ys → Acts h xs ys
+  pub acts_first : (R : StoreLane V → StoreLane V → Type 0) (xs ys : List (StoreLane V)) → ((a b : StoreLane V) → R a b → LaneGoesOn a b) → OnFirst R xs ys → Acts h xs ys
   acts_first R xs ys go on =
       let whole : Acts h (on.lane ∷ on.rest) (on.left ∷ on.rest) = record { goes = (go on.lane on.left on.change, all_same on.rest); seen = first_made h on.lane on.left on.rest } in
       subst (λ l. Acts h l ys) (sym on.first_was) (subst (λ l. Acts h (on.lane ∷ on.rest) l) (sym on.first_is) whole)
@@ -46,7 +46,7 @@ module _ {V : Type 0} (h : History) where
   pub acts_close : (xs ys : List (StoreLane V)) → OnlyFirstSteps xs ys → AllGoOn xs ys → Acts h xs ys
   acts_close [] ys steps go = subst (λ l. Acts h [] l) (sym steps.1) (acts_same [])
   acts_close (a ∷ xs) ys steps go =
-      let b : StoreLane V = record { cells = steps.0; known = a.known; faults = a.faults } in
+      let b : StoreLane V = record { cells = steps.0; known = a.known; faults = a.faults; keys = a.keys } in
       record { goes = go; seen = subst (λ l. IsSeenByFirst h (a ∷ xs) l) (sym steps.1) (first_made h a b xs) }
 
   -- lanes of which each was shown what the first had seen, then acted, and of which the first was then shown what each had seen

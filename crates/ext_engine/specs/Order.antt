@@ -12,6 +12,7 @@ use Rattle.ext_lifecycle.specs.declared.call.Kind.{Kind}
 use Rattle.ext_lifecycle.specs.declared.outcome.Outcome.{Outcome}
 use Rattle.ext_lifecycle.specs.Endings.{all_successful}
 use Rattle.ext_lifecycle.specs.Lifecycle.{endings_of}
+use Rattle.ext_tree.specs.KeyPlaces.{KeepsKeys}
 use Rattle.ext_values.specs.Known.{KeepsKnown}
 use Rattle.ext_store.specs.Stores.{StoreView, StoreLane}
 use Rattle.ext_closing.specs.Closing.{Answer}
@@ -24,16 +25,17 @@ use Rattle.ext_engine.specs.TreeRun.{Lanes, Ran, TreeSetting, BodyRun, Container
 
 -- ---- lanes that go on
 
--- the lane goes on: it is the same one, has seen what it had seen, and knows the values and the faults that it knew
-pub record GoesOn {V : Type 0} (before after : StoreLane V) : Type 0 where
+-- the lane goes on: it is the same one, has seen what it had seen, and knows the values, the faults and the keys that it knew
+pub record LaneGoesOn {V : Type 0} (before after : StoreLane V) : Type 0 where
   pub number : after.cells.view.number ≡ before.cells.view.number
   pub seen : IsPrefix (seen_by before.cells.view) (seen_by after.cells.view)
   pub known : KeepsKnown before.known after.known
   pub faults : KeepsKnown before.faults after.faults
+  pub keys : KeepsKeys before.keys after.keys
 
 -- all lanes of a share go on
 abbrev pub AllGoOn : {V : Type 0} → List (StoreLane V) → List (StoreLane V) → Type 0
-AllGoOn before after = AllZip GoesOn before after
+AllGoOn before after = AllZip LaneGoesOn before after
 
 -- all lanes of a share have seen this when a run begins, and no more than that when it ends
 pub record IsWithin {V : Type 0} (since until : History) (before after : Lanes V) : Type 0 where
@@ -68,7 +70,7 @@ IsSeenByFirst h before after = (place : ℕ) → IsMadeIn h place before after �
 
 -- a call lets its lane go on
 abbrev pub CallsGoOn : {V : Type 0} → (ℕ → Call → Option HeldView → StoreLane V → Outcome → StoreLane V → Type 0) → Type 0
-CallsGoOn {V} makes = (node : ℕ) (call : Call) (held : Option HeldView) (before : StoreLane V) (outcome : Outcome) (after : StoreLane V) → makes node call held before outcome after → GoesOn before after
+CallsGoOn {V} makes = (node : ℕ) (call : Call) (held : Option HeldView) (before : StoreLane V) (outcome : Outcome) (after : StoreLane V) → makes node call held before outcome after → LaneGoesOn before after
 
 module _ {V A : Type 0} (t : TreeSetting V) (makes : ℕ → Call → Option HeldView → StoreLane V → Outcome → StoreLane V → Type 0) (actions : ℕ → A → Type 0) (gives : A → ℕ → V → Answer → A → Type 0) where
   abbrev pub ChildRun : ℕ → ℕ → Lanes V → List Ran → Lanes V → Type 0

@@ -39,7 +39,7 @@ one_name locks name same =
 
 -- all lanes of a store, and those of the locks but for the last, of which there is one more
 pub opened_usable : {V : Type 0} (store : StoreView) (locks : LocksView) (lanes : ℕ) (first : List (StoreLane V)) (all rest : List Lane) (spare : Lane) → (1 ≤ lanes) × (lanes ≤ 15)
-    → first ≡ map (fresh_store_lane store.id.places store.id.fault_places) (fresh_lanes store.id.cells 0 lanes) → All (IsLaneOf store.id) first
+    → first ≡ map (fresh_store_lane store.id.places store.id.fault_places store.id.keys) (fresh_lanes store.id.cells 0 lanes) → All (IsLaneOf store.id) first
     → all ≡ locking.fresh_lanes locks.table (lanes + 1) (lanes + 1) → all ≡ rest ++ spare ∷ []
     → IsUsable store locks (record { first = first; second = rest }) × IsIdle locks spare
 opened_usable store locks lanes first all rest spare few is own made split =

@@ -4,10 +4,11 @@ use Rattle.std.specs.Prelude.{◌≡◌, ℕ, Ok}
 use Rattle.ext_model.specs.declared.look.Fault.{Fault}
 use Rattle.ext_lifecycle.specs.declared.outcome.Outcome.{Outcome}
 use Rattle.ext_lifecycle.specs.declared.outcome.Verdict.TheVariants.{Successful, Failed}
-use Rattle.ext_tree.specs.Keys.{KeyValue, HasNumber}
+use Rattle.ext_tree.specs.Keys.{KeyValue}
 use Rattle.ext_store.specs.declared.computed.Compute.{Compute}
 use Rattle.ext_store.specs.declared.computed.Compute.TheVariants as computes
 use Rattle.ext_store.specs.Stores.{StoreView, StoreLane}
+use Rattle.ext_store.specs.Keys.{OfKey}
 use Rattle.ext_store.specs.Computing.{Uses}
 use Rattle.ext_store.specs.Waiting.{ComputesAfterWaits}
 
@@ -29,6 +30,6 @@ EndsBy (computes.Refused why unused) outcome = HasFailed outcome
 -- A compute for the context, by a factory that gives this value, and how the test ends by it
 pub record AsksFor {V : Type 0} (given : V) (store : StoreView) (context : ℕ) (key : KeyValue) (before : StoreLane V) (outcome : Outcome) (after : StoreLane V) : Type 0 where
   pub answer : Compute V (Unit {0})
-  pub computes : (number : ℕ) → HasNumber store.keys key number → ComputesAfterWaits store context number before.cells after.cells answer
+  pub computes : OfKey before after key (λ why. answer ≡ computes.Refused why tt) (λ number. ComputesAfterWaits store context number before.cells after.cells answer)
   pub uses : Uses (λ gives. gives ≡ Ok given) before after answer
   pub ends : EndsBy answer outcome

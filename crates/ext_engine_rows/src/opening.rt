@@ -13,7 +13,7 @@ use ext_locks::{LockLane, Locks};
 use ext_model::ContextNo;
 use ext_report::report_text;
 use ext_store::{Closer, Lane, Limits, Store, StoreValue};
-use ext_tree::{Directory, Key, Namespace, Tree};
+use ext_tree::{Key, Namespace, Tree};
 use std::alloc::Global;
 use std::fmt::Debug;
 use std::process::Abort;
@@ -51,20 +51,13 @@ fn contexts(alloc: Global, texts: &[&str]) -> Option<Tree> {
     Tree::build(alloc, ids.as_slice()).ok()
 }
 
-/// The key of the tests, and no other.
-fn keys(alloc: Global) -> Option<Directory> {
-    let mut directory = Directory::new(alloc);
-    directory.declare(server_key(alloc)?).ok()?;
-    Some(directory)
-}
-
-/// A store of these contexts and the key of the tests, with so many lanes, which keeps no faults, and its closers.
+/// A store of these contexts, with so many lanes, which keeps no faults, and its closers.
 fn open_store<V: StoreValue + Drop>(
     alloc: Global,
     texts: &[&str],
     lanes: usize,
 ) -> Option<(Store<V>, Vec<Lane<V>>, Vec<Closer>)>
-    ensures fresh { IfSome result (λ o. o.1.items ≡ map (fresh_store_lane o.0.id.places o.0.id.fault_places) (fresh_lanes o.0.id.cells 0 lanes)) }
+    ensures fresh { IfSome result (λ o. o.1.items ≡ map (fresh_store_lane o.0.id.places o.0.id.fault_places o.0.id.keys) (fresh_lanes o.0.id.cells 0 lanes)) }
     ensures lanes { IfSome result (λ o. All (IsLaneOf o.0.id) o.1.items) }
     ensures closers { IfSome result (λ o. o.2.items ≡ closers_below o.0.id.cells (length o.0.tree)) }
     ensures no_faults { IfSome result (λ o. IsFalse o.0.id.cells.limits.keep_faults) }
@@ -75,9 +68,8 @@ fn open_store<V: StoreValue + Drop>(
         numbers: 100,
         keep_faults: false,
     };
-    let keys = keys(alloc)?;
     let tree = contexts(alloc, texts)?;
-    match Store::open(alloc, tree, keys, limits) {
+    match Store::open(alloc, tree, limits) {
         Ok(opened) => Some(opened),
         Err(_) => None,
     }
@@ -98,8 +90,7 @@ fn open_locks(
     Some((locks, lock_lanes, spare))
 }
 
-/// A store of these contexts and the key of the tests, with so many lanes, which keeps no faults, and locks of these names, with one
-/// lane more.
+/// A store of these contexts, with so many lanes, which keeps no faults, and locks of these names, with one lane more.
 pub(crate) fn open<V: StoreValue + Drop>(
     alloc: Global,
     texts: &[&str],

@@ -1,4 +1,5 @@
-//! Tests of what several lanes share and are run by, each by its public calls: cells, places for values, the crew.
+//! Tests of what several lanes share and are run by, each by its public calls: cells, places for
+//! values and for keys, the crew.
 #![tactic(auto)]
 
 #[cfg(test)]
@@ -9,6 +10,10 @@ mod crew;
 mod gates;
 #[cfg(test)]
 mod hand;
+#[cfg(test)]
+mod key_places;
+#[cfg(test)]
+mod key_threads;
 #[cfg(test)]
 mod same;
 #[cfg(test)]

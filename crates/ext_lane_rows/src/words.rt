@@ -123,9 +123,9 @@ fn opened(
 fn open_within_limits(rt: HostRuntime) {
     let bad = Err(CellRefusal::BadLimit);
     for (cells, lanes, tries, numbers, wanted) in [
-        (4_096, 2, 1, 8, Ok(2)),
+        (16_384, 2, 1, 8, Ok(2)),
         (0, 16, 64, 65_535, Ok(16)),
-        (4_097, 2, 1, 8, bad),
+        (16_385, 2, 1, 8, bad),
         (3, 2, 0, 8, bad),
         (3, 0, 1, 8, bad),
         (3, 17, 1, 8, bad),
@@ -141,7 +141,12 @@ fn open_within_limits(rt: HostRuntime) {
 #[test]
 fn refusals_print_their_texts(rt: HostRuntime) -> Result<(), Fail> {
     for (refusal, text) in [
+        (CellRefusal::Contended, "contended"),
         (CellRefusal::Busy, "busy"),
+        (CellRefusal::Closed, "closed"),
+        (CellRefusal::Exhausted, "exhausted"),
+        (CellRefusal::NumbersFull, "numbers full"),
+        (CellRefusal::Memory, "no memory"),
         (CellRefusal::BadLimit, "a limit is out of its range"),
     ] {
         same(&rt, refusal.to_string(rt.alloc())?.as_str(), text, text);

@@ -1,5 +1,5 @@
 -- In a run of a plan on several lanes a step that sees a value sees one that a step of the plan keeps under that key.
-use Rattle.std.proofs.Common.{◌≡◌, ◌⊎◌, inl, inr, ℕ, zero, suc, ◌+◌, ◌*◌, ◌%◌, ◌==◌, ◌<◌, ◌≤◌, true, false, List, [], ◌∷◌, ◌++◌, Contains, Option, Some, None, length, get_or, map, refl, ap, sym, subst, ◌∙◌, arith, eq-eqb}
+use Rattle.std.proofs.Common.{◌≡◌, ◌⊎◌, inl, inr, ℕ, zero, suc, ◌+◌, ◌*◌, ◌%◌, ◌==◌, ◌<◌, ◌≤◌, true, false, List, [], ◌∷◌, ◌++◌, Contains, Option, Some, None, length, get_or, map, codes, refl, ap, sym, subst, ◌∙◌, arith, eq-eqb}
 use Rattle.std.specs.Prelude.{All, AllPairs, Result, Ok, Err}
 use Rattle.std.specs.List.{AllZip}
 use mathlib.Core.List.{IsPrefix}
@@ -7,7 +7,6 @@ use base.Growing.{prefix_refl, prefix_trans}
 use Rattle.std.proofs.lemmas.List.Elements.{All-nil, All-cons, All-head, All-tail, All-contains, Contains-append_left, Contains-get_or}
 use Rattle.std.proofs.lemmas.Nat.{mod-mul-add}
 use Rattle.std.proofs.lemmas.Bool.Decides.{nat_tests}
-use Rattle.std.proofs.lemmas.Option.{slice_get_within}
 use Rattle.ext_history.specs.Views.{last_after, seen_by}
 use Rattle.ext_history.proofs.Legal.{legal_begun, legal_each}
 use Rattle.ext_history.proofs.Lists.{bools, contains_cons, contains_filter, contains_filter_map, contains_here, contains_later, contains_none}
@@ -23,35 +22,39 @@ use Rattle.ext_model.specs.Views.{LaneView}
 use Rattle.ext_lifecycle.specs.declared.call.Call.{Call}
 use Rattle.ext_lifecycle.specs.declared.outcome.Outcome.{Outcome}
 use Rattle.ext_lifecycle.specs.Endings.{is_successful}
+use Rattle.ext_lifecycle.specs.FaultTexts.{VerdictText}
 use Rattle.ext_lifecycle.specs.Lifecycle.{ending_of}
 use Rattle.ext_lifecycle.specs.Results.{ResultOf}
 use Rattle.ext_locks.specs.Sets.{HeldView}
-use Rattle.ext_tree.specs.Keys.{HasNumber, KeyValue}
+use Rattle.ext_tree.specs.Keys.{KeyValue}
+use Rattle.ext_tree.specs.KeyPlaces.{IsKeyNumber, KeepsKeys, OneKey, OneNumber, key_at}
+use Rattle.ext_tree.proofs.KeyPlaceLaws.{shared_notes_agree}
 use Rattle.ext_plan_model.specs.Plans.{PlanText, StepText, put, put_closeable, want, nothing, remove, compute, compute_closeable, compute_fail, fail, abort}
 use Rattle.ext_plan_model.specs.PlanCalls.{registered, steps_of_call}
 use Rattle.ext_values.specs.Known.{Known, AllAgree, known_at}
 use Rattle.ext_cells.specs.Lanes.{CellsId, Lane, fresh_lanes}
-use Rattle.ext_store.specs.Stores.{StoreView, StoreLane, cell_in, fresh_store_lane}
+use Rattle.ext_store.specs.Stores.{StoreView, StoreLane, IsLaneOf, cell_in, fresh_store_lane}
 use Rattle.ext_store.specs.declared.computed.Compute.{Compute}
 use Rattle.ext_store.specs.declared.computed.Compute.TheVariants as computes
 use Rattle.ext_store.specs.Calls.{Gets}
 use Rattle.ext_store.specs.Computing.{Computes, ComputesFrom}
 use Rattle.ext_store.specs.Waiting.{ComputesAfterWaits}
 use Rattle.ext_shared.specs.Claiming.{Meets}
-use Rattle.ext_steps.specs.Verdicts.{SeenText, seen_fault, seen_nothing, seen_no_memory, seen_refused, seen_value}
+use Rattle.ext_steps.specs.Calls.{CallText, label_of, start_of}
+use Rattle.ext_steps.specs.Verdicts.{SeenText, none_verdict, seen_fault, seen_nothing, seen_no_memory, seen_refused, seen_value, want_verdict}
 use Rattle.ext_store_steps.specs.declared.stored_value.StoredValue.{StoredValue}
 use Rattle.ext_store_steps.specs.StoreCalls.{EndsComputeFail, PlanLane, PlanNotes, Sees, Shows, ShowsFault, ShowsNumber, fault_seen, stored_view}
-use Rattle.ext_store_steps.specs.StoreSteps.{StepRun, StepsRun, key_of_label}
+use Rattle.ext_store_steps.specs.StoreSteps.{StepFails, StepLooks, StepRun, StepsRun, call_of}
 use Rattle.ext_suite.specs.PlanSuites.{RunsCall, suite_of}
-use Rattle.ext_engine.specs.Order.{GoesOn}
+use Rattle.ext_engine.specs.Order.{LaneGoesOn}
 use Rattle.ext_engine.specs.TreeRun.{setting_of}
 use Rattle.ext_engine.proofs.Finer.{tree_finer}
 use Rattle.ext_engine.proofs.Going.{goes_met, goes_same, goes_sealed, goes_then}
 use Rattle.ext_engine.proofs.Relates.{tree_relates}
-use Rattle.ext_parallel.specs.Finding.{CallFinds, IsKeptByPlan, IsMetOfPlan, IsSeenOfPlan, RunsFindWhatIsKept, StepFinds, StepsFind}
+use Rattle.ext_parallel.specs.Finding.{CallFinds, ComputeFinds, IsKeptByPlan, IsMetOfPlan, IsSeenOfPlan, LanesNumberAlike, LookFinds, RunsFindWhatIsKept, StepFinds, StepsFind}
 use Rattle.ext_parallel.specs.Opened.{all_known}
 use Rattle.ext_parallel.specs.ParallelRun.{ClosesValue, IsAction, MakesCall, ParallelRun}
-use Rattle.ext_parallel.proofs.Moves.{IsOwn, Moves, OwnKept, call_moves, goes_framed, moves_met, moves_same, moves_sealed, moves_then, plans_go_on, steps_go}
+use Rattle.ext_parallel.proofs.Moves.{IsOwn, Moves, OwnKept, call_moves, lane_framed, moves_met, moves_same, moves_sealed, moves_then, number_within, plans_go_on, steps_go}
 use Rattle.ext_parallel.proofs.Values.{WasStored, found_stands, own_values, value_stored, was_stored}
 
 -- ---- what two lanes know of one number
@@ -90,9 +93,9 @@ seen_part h lane all = last_part h [] lane.cells.view.fronts (h, refl) all
 
 -- ---- the lanes of a run
 
-module _ (plan : PlanText) (store : StoreView) (cells : CellsId) (places fault_places : List ℕ) where
+module _ (plan : PlanText) (store : StoreView) (cells : CellsId) (places fault_places keys : List ℕ) where
   abbrev Fresh : ℕ → ℕ → List PlanLane
-  Fresh first n = map (fresh_store_lane places fault_places) (fresh_lanes cells first n)
+  Fresh first n = map (fresh_store_lane places fault_places keys) (fresh_lanes cells first n)
 
   fresh_kept : (first n : ℕ) → All (OwnKept plan store) (Fresh first n)
   fresh_kept first zero = All-nil (OwnKept plan store)
@@ -139,11 +142,11 @@ module _ (plan : PlanText) (lanes : ℕ) (results : List (ResultOf Fault)) (run 
       tree_relates (setting_of store run.locks (suite_of plan) (registered plan) (λ (value : StoredValue). value.value.closeable)) (MakesCall plan store) IsAction ClosesValue (Moves plan store) (moves_same plan store)
       (moves_then plan store) (call_moves plan store) (moves_met plan store) (moves_sealed plan store) 16 0 run.first run.ran run.after run.run
 
-  from_fresh : AllZip (Moves plan store) (Fresh plan store store.id.cells store.id.places store.id.fault_places 0 lanes) ended
+  from_fresh : AllZip (Moves plan store) (Fresh plan store store.id.cells store.id.places store.id.fault_places store.id.keys 0 lanes) ended
   from_fresh = subst (λ (l : List PlanLane). AllZip (Moves plan store) l ended) run.fresh moved
 
   all_own : All (OwnKept plan store) ended
-  all_own = all_keep plan store store.id.cells store.id.places store.id.fault_places _ ended from_fresh (fresh_kept plan store store.id.cells store.id.places store.id.fault_places 0 lanes)
+  all_own = all_keep plan store store.id.cells store.id.places store.id.fault_places store.id.keys _ ended from_fresh (fresh_kept plan store store.id.cells store.id.places store.id.fault_places store.id.keys 0 lanes)
 
   part_of : (lane : PlanLane) → Contains ended lane → IsPrefix (seen_by lane.cells.view) h
   part_of lane there = seen_part h lane (All-contains (λ (l : PlanLane). All (λ front. IsPrefix front h) l.cells.view.fronts) ended lane run.shared.parts there)
@@ -152,9 +155,9 @@ module _ (plan : PlanText) (lanes : ℕ) (results : List (ResultOf Fault)) (run 
   record Leads (lane : PlanLane) : Type 0 where
     pub last : PlanLane
     pub among : Contains ended last
-    pub goes : GoesOn lane last
+    pub goes : LaneGoesOn lane last
 
-  leads_back : (a b : PlanLane) → GoesOn a b → Leads b → Leads a
+  leads_back : (a b : PlanLane) → LaneGoesOn a b → Leads b → Leads a
   leads_back a b go leads = record { last = leads.last; among = leads.among; goes = goes_then a b leads.last go leads.goes }
 
   -- the lane that made an event of the history knows the value that it stored
@@ -162,7 +165,7 @@ module _ (plan : PlanText) (lanes : ℕ) (results : List (ResultOf Fault)) (run 
   storer e cell number there stores =
       let below : e.lane < store.id.cells.limits.lanes = legal_each (IsAllowed store.id.cells.limits) (λ (x : Event ℕ). x.lane < store.id.cells.limits.lanes) (λ before x allowed. allowed.lane) h run.shared.legal e there in
       let few : store.id.cells.limits.lanes ≡ lanes = ap (λ (l : Limits). l.lanes) run.store_is.limits in
-      let r = numbered plan store store.id.cells store.id.places store.id.fault_places 0 lanes ended from_fresh e.lane (omega arith) (omega (arith, below, few)) in
+      let r = numbered plan store store.id.cells store.id.places store.id.fault_places store.id.keys 0 lanes ended from_fresh e.lane (omega arith) (omega (arith, below, few)) in
       let n = r.0.cells.view.number in
       let mine : Contains (own n h) e = contains_filter (λ (x : Event ℕ). lane_of x == n) h e (eq-eqb e.lane n (sym r.2)) there in
       let seen = subst (λ (l : History). Contains l e) (All-contains (λ (l : PlanLane). own l.cells.view.number h ≡ own l.cells.view.number (seen_by l.cells.view)) ended r.0 run.shared.own_events r.1) mine in
@@ -170,105 +173,122 @@ module _ (plan : PlanText) (lanes : ℕ) (results : List (ResultOf Fault)) (run 
 
   -- ---- a look-up
 
-  same_key : (context other key second : ℕ) → key < length store.keys → second < length store.keys → cell_in store key context ≡ cell_in store second other → key ≡ second
+  same_key : (context other key second : ℕ) → key < length store.id.keys → second < length store.id.keys → cell_in store key context ≡ cell_in store second other → key ≡ second
   same_key context other key second low high same =
-      sym (mod-mul-add context (length store.keys) key low) ∙ (ap (λ n. n % length store.keys) same ∙ mod-mul-add other (length store.keys) second high)
+      sym (mod-mul-add context (length store.id.keys) key low) ∙ (ap (λ n. n % length store.id.keys) same ∙ mod-mul-add other (length store.id.keys) second high)
+
+  -- all lanes number alike
+  pub alike : (lane other : PlanLane) → Contains ended lane → Contains ended other → OneNumber lane.keys other.keys × OneKey lane.keys other.keys
+  alike lane other there also =
+      let numbering = run.numbered.numbering in
+      shared_notes_agree lane.keys other.keys numbering (All-contains (λ (l : PlanLane). KeepsKeys l.keys numbering) ended lane run.numbered.parts there)
+      (All-contains (λ (l : PlanLane). KeepsKeys l.keys numbering) ended other run.numbered.parts also)
 
   -- a value that a look-up finds at a point that the lane has seen
-  kept_at : (key : ℕ) (name : KeyValue) (b : PlanLane) (at number : ℕ) (path : List ℕ) (p : History) → HasNumber store.keys name key → IsPrefix p (seen_by b.cells.view) → look_after (cell_in store key) path p ≡ look.Found at number
-      → Leads b → (value : StoredValue) → known_at b.known number ≡ Some value → IsKeptByPlan plan store key (stored_view value).text
-  kept_at key name b at number path p named until found leads value known =
-      let part = prefix_trans p (seen_by b.cells.view) h until (prefix_trans (seen_by b.cells.view) (seen_by leads.last.cells.view) h leads.goes.seen (part_of leads.last leads.among)) in
-      let stands = found_stands (cell_in store key) path p at number found in
-      let was = was_stored p (cell_in store key at) number (legal_begun p h part run.shared.legal) stands in
-      let there : Contains h was.event = subst (λ (l : History). Contains l was.event) part.1 (Contains-append_left p part.0 was.event was.among) in
-      let other = storer was.event (cell_in store key at) number there was.stores in
-      let own_one = other.2 in
-      let same : value ≡ own_one.value =
-      agree_of (all_known ended) run.shared.agree leads.last.known other.0.known (contains-map (λ (l : PlanLane). l.known) ended leads.last leads.among) (contains-map (λ (l : PlanLane). l.known) ended other.0 other.1) number value own_one.value
-      (leads.goes.known number value known) own_one.known in
-      let keys : key ≡ own_one.key = same_key at own_one.context key own_one.key (slice_get_within store.keys key name named) (slice_get_within store.keys own_one.key (key_of_label plan.keys own_one.kept.label) own_one.kept.named) own_one.cell_is in
-      subst (λ (x : ℕ × StoredValue). IsKeptByPlan plan store x.0 (stored_view x.1).text) (λ i. (sym keys i, sym same i)) own_one.kept
+  module _ (key : ℕ) (name : KeyValue) (b : PlanLane) (mine : IsLaneOf store.id b) (named : IsKeyNumber b.keys name key) (leads : Leads b) where
+    kept_at : (at number : ℕ) (path : List ℕ) (p : History) → IsPrefix p (seen_by b.cells.view) → look_after (cell_in store key) path p ≡ look.Found at number → (value : StoredValue) → known_at b.known number ≡ Some value
+        → IsKeptByPlan plan name (stored_view value).text
+    kept_at at number path p until found value known =
+        let part = prefix_trans p (seen_by b.cells.view) h until (prefix_trans (seen_by b.cells.view) (seen_by leads.last.cells.view) h leads.goes.seen (part_of leads.last leads.among)) in
+        let stands = found_stands (cell_in store key) path p at number found in
+        let was = was_stored p (cell_in store key at) number (legal_begun p h part run.shared.legal) stands in
+        let there : Contains h was.event = subst (λ (l : History). Contains l was.event) part.1 (Contains-append_left p part.0 was.event was.among) in
+        let other = storer was.event (cell_in store key at) number there was.stores in
+        let own_one = other.2 in
+        let same : value ≡ own_one.value =
+        agree_of (all_known ended) run.shared.agree leads.last.known other.0.known (contains-map (λ (l : PlanLane). l.known) ended leads.last leads.among) (contains-map (λ (l : PlanLane). l.known) ended other.0 other.1) number value own_one.value
+        (leads.goes.known number value known) own_one.known in
+        let place : key ≡ own_one.key = same_key at own_one.context key own_one.key (number_within store b name key mine named) own_one.within own_one.cell_is in
+        let theirs : key_at other.0.keys key ≡ Some own_one.name = subst (λ n. key_at other.0.keys n ≡ Some own_one.name) (sym place) own_one.named.there in
+        let keys : name ≡ own_one.name = (alike leads.last other.0 leads.among other.1).1 key name own_one.name (leads.goes.keys.keys key name named.there) theirs in
+        subst (λ (x : KeyValue × StoredValue). IsKeptByPlan plan x.0 (stored_view x.1).text) (λ i. (sym keys i, sym same i)) own_one.kept
 
-  found_kept : (context key : ℕ) (name : KeyValue) (a b : PlanLane) (at number : ℕ) → HasNumber store.keys name key → Gets store context key a.cells b.cells (Ok (look.Found at number)) → Leads b → (value : StoredValue)
-      → known_at b.known number ≡ Some value → IsKeptByPlan plan store key (stored_view value).text
-  unfolding Gets
-  found_kept context key name a b at number named gets leads value known =
-      let point = (gets.2.replied (λ is. absurd (cc is))).point in
-      let found : look_after (cell_in store key) gets.0 point.0 ≡ look.Found at number = cc point.2 in
-      kept_at key name b at number gets.0 point.0 named point.1.1 found leads value known
+    found_kept : (context : ℕ) (a : PlanLane) (at number : ℕ) → Gets store context key a.cells b.cells (Ok (look.Found at number)) → (value : StoredValue) → known_at b.known number ≡ Some value
+        → IsKeptByPlan plan name (stored_view value).text
+    unfolding Gets
+    found_kept context a at number gets value known =
+        let point = (gets.2.replied (λ is. absurd (cc is))).point in
+        let found : look_after (cell_in store key) gets.0 point.0 ≡ look.Found at number = cc point.2 in
+        kept_at at number gets.0 point.0 point.1.1 found value known
 
-  met_kept : (limits : Limits) (context key : ℕ) (ancestors : List ℕ) (name : KeyValue) (a : LaneView) (b : PlanLane) (at number : ℕ) → HasNumber store.keys name key
-      → Meets limits store context ancestors key a b.cells.view (look.Found at number) → Leads b → (value : StoredValue) → known_at b.known number ≡ Some value → IsKeptByPlan plan store key (stored_view value).text
-  unfolding Meets
-  met_kept limits context key ancestors name a b at number named (inl here) leads value known =
-      kept_at key name b at number (context ∷ ancestors) here.point.0 named here.point.1.1 here.point.2 leads value known
-  met_kept limits context key ancestors name a b at number named (inr given_up) leads value known =
-      let looked = given_up.1.looked in
-      kept_at key name b at number ancestors looked.0 named looked.1.until looked.2 leads value known
+    met_kept : (limits : Limits) (context : ℕ) (ancestors : List ℕ) (a : LaneView) (at number : ℕ) → Meets limits store context ancestors key a b.cells.view (look.Found at number) → (value : StoredValue)
+        → known_at b.known number ≡ Some value → IsKeptByPlan plan name (stored_view value).text
+    unfolding Meets
+    met_kept limits context ancestors a at number (inl here) value known = kept_at at number (context ∷ ancestors) here.point.0 here.point.1.1 here.point.2 value known
+    met_kept limits context ancestors a at number (inr given_up) value known =
+        let looked = given_up.1.looked in
+        kept_at at number ancestors looked.0 looked.1.until looked.2 value known
 
-  computes_kept : (context key : ℕ) (name : KeyValue) (a : Lane) (b : PlanLane) (at number : ℕ) (unused : Unit {0}) → HasNumber store.keys name key
-      → ComputesAfterWaits {V = StoredValue} store context key a b.cells (computes.Found at number unused) → Leads b → (value : StoredValue) → known_at b.known number ≡ Some value → IsKeptByPlan plan store key (stored_view value).text
-  unfolding ComputesAfterWaits Computes ComputesFrom
-  computes_kept context key name a b at number unused named waits leads value known =
-      met_kept a.cells.limits context key waits.then_is.0 name waits.between b at number named waits.then_is.2 leads value known
+    computes_kept : (context : ℕ) (a : Lane) (at number : ℕ) (unused : Unit {0}) → ComputesAfterWaits {V = StoredValue} store context key a b.cells (computes.Found at number unused) → (value : StoredValue)
+        → known_at b.known number ≡ Some value → IsKeptByPlan plan name (stored_view value).text
+    unfolding ComputesAfterWaits Computes ComputesFrom
+    computes_kept context a at number unused waits value known = met_kept a.cells.limits context waits.then_is.0 waits.between at number waits.then_is.2 value known
 
-  seen_kept : (key : ℕ) (seen other : SeenText) → seen ≡ other → IsSeenOfPlan plan store key other → IsSeenOfPlan plan store key seen
-  seen_kept key seen other is kept = subst (λ (s : SeenText). IsSeenOfPlan plan store key s) (sym is) kept
+  seen_kept : (key : KeyValue) (seen other : SeenText) → seen ≡ other → IsSeenOfPlan plan key other → IsSeenOfPlan plan key seen
+  seen_kept key seen other is kept = subst (λ (s : SeenText). IsSeenOfPlan plan key s) (sym is) kept
 
-  fault_kept : (key : ℕ) (fault : Fault) → IsSeenOfPlan plan store key (fault_seen fault)
+  fault_kept : (key : KeyValue) (fault : Fault) → IsSeenOfPlan plan key (fault_seen fault)
   fault_kept key (faults.Text text) = tt
   fault_kept key faults.Memory = tt
 
-  shows_fault : (key number : ℕ) (before : List (Known Fault)) (seen : SeenText) (after : List (Known Fault)) → ShowsFault number before seen after → IsSeenOfPlan plan store key seen
+  shows_fault : (key : KeyValue) (number : ℕ) (before : List (Known Fault)) (seen : SeenText) (after : List (Known Fault)) → ShowsFault number before seen after → IsSeenOfPlan plan key seen
   shows_fault key number before seen after (inl known) = seen_kept key seen _ known.2 (fault_kept key known.0)
   shows_fault key number before seen after (inr unknown) = seen_kept key seen _ unknown.2 tt
 
-  shown_kept : (key : ℕ) (before : PlanNotes) (b : PlanLane) (seen : SeenText) (number : ℕ) → ShowsNumber number before seen b.known
-      → ((value : StoredValue) → known_at b.known number ≡ Some value → IsKeptByPlan plan store key (stored_view value).text) → IsSeenOfPlan plan store key seen
+  shown_kept : (key : KeyValue) (before : PlanNotes) (b : PlanLane) (seen : SeenText) (number : ℕ) → ShowsNumber number before seen b.known
+      → ((value : StoredValue) → known_at b.known number ≡ Some value → IsKeptByPlan plan key (stored_view value).text) → IsSeenOfPlan plan key seen
   shown_kept key before b seen number (inl known) kept = seen_kept key seen _ known.2 (kept known.0 known.1.learnt)
   shown_kept key before b seen number (inr unknown) kept = seen_kept key seen _ unknown.2 tt
 
-  answer_kept : (context key : ℕ) (name : KeyValue) (a b : PlanLane) (seen : SeenText) (answer : Look) → HasNumber store.keys name key → Gets store context key a.cells b.cells (Ok answer) → Leads b → Shows answer a seen b
-      → IsSeenOfPlan plan store key seen
-  answer_kept context key name a b seen (look.Found at number) named gets leads shown =
-      shown_kept key a.known b seen number shown.1 (λ value known. found_kept context key name a b at number named gets leads value known)
-  answer_kept context key name a b seen (look.Fault at number) named gets leads shown = shows_fault key number a.faults seen b.faults shown.1
-  answer_kept context key name a b seen look.Absent named gets leads shown = seen_kept key seen _ shown.1 tt
-  answer_kept context key name a b seen (look.Busy at) named gets leads shown = absurd shown
-  answer_kept context key name a b seen (look.Closed at) named gets leads shown = seen_kept key seen _ shown.1 tt
+  module _ (key : ℕ) (name : KeyValue) (b : PlanLane) (mine : IsLaneOf store.id b) (named : IsKeyNumber b.keys name key) (leads : Leads b) where
+    answer_kept : (context : ℕ) (a : PlanLane) (seen : SeenText) (answer : Look) → Gets store context key a.cells b.cells (Ok answer) → Shows answer a seen b → IsSeenOfPlan plan name seen
+    answer_kept context a seen (look.Found at number) gets shown = shown_kept name a.known b seen number shown.1 (λ value known. found_kept key name b mine named leads context a at number gets value known)
+    answer_kept context a seen (look.Fault at number) gets shown = shows_fault name number a.faults seen b.faults shown.1
+    answer_kept context a seen look.Absent gets shown = seen_kept name seen _ shown.1 tt
+    answer_kept context a seen (look.Busy at) gets shown = absurd shown
+    answer_kept context a seen (look.Closed at) gets shown = seen_kept name seen _ shown.1 tt
 
-  sees_kept : (context key : ℕ) (name : KeyValue) (a b : PlanLane) (seen : SeenText) → HasNumber store.keys name key → Sees store context key a seen b → Leads b → IsSeenOfPlan plan store key seen
-  sees_kept context key name a b seen named sees leads = answer_kept context key name a b seen sees.answer named sees.looked leads sees.shown
+    -- a compute whose factory fails
+    made_kept : (context : ℕ) (said label text : List ℕ) (a : PlanLane) (o : Outcome) (result : Compute StoredValue (Unit {0})) (between : PlanLane) → ComputesAfterWaits store context key a.cells b.cells result
+        → (ends : EndsComputeFail said label text result between o b) → IsMetOfPlan plan name said label text result between o b ends
+    made_kept context said label text a o (computes.Computed number) between waits ends = tt
+    made_kept context said label text a o (computes.Found at number unused) between waits ends =
+        shown_kept name between.known b ends.1 number ends.2 (λ value known. computes_kept key name b mine named leads context a.cells at number unused waits value known)
+    made_kept context said label text a o (computes.Failed why) between waits ends = tt
+    made_kept context said label text a o (computes.FaultKept number) between waits ends = tt
+    made_kept context said label text a o (computes.FaultUnkept why cause) between waits ends = tt
+    made_kept context said label text a o (computes.FaultStands at number unused) between waits ends = tt
+    made_kept context said label text a o (computes.Unkept value cause) between waits ends = tt
+    made_kept context said label text a o (computes.Refused why unused) between waits ends = tt
 
-  -- a compute whose factory fails
-  made_kept : (context key : ℕ) (name : KeyValue) (said label text : List ℕ) (a : PlanLane) (o : Outcome) (b : PlanLane) → HasNumber store.keys name key → (result : Compute StoredValue (Unit {0})) (between : PlanLane)
-      → ComputesAfterWaits store context key a.cells b.cells result → (ends : EndsComputeFail store context key said label text result between o b) → Leads b
-      → IsMetOfPlan plan store context key said label text result between o b ends
-  made_kept context key name said label text a o b named (computes.Computed number) between waits ends leads = tt
-  made_kept context key name said label text a o b named (computes.Found at number unused) between waits ends leads =
-      shown_kept key between.known b ends.1 number ends.2 (λ value known. computes_kept context key name a.cells b at number unused named waits leads value known)
-  made_kept context key name said label text a o b named (computes.Failed why) between waits ends leads = tt
-  made_kept context key name said label text a o b named (computes.FaultKept number) between waits ends leads = tt
-  made_kept context key name said label text a o b named (computes.FaultUnkept why cause) between waits ends leads = tt
-  made_kept context key name said label text a o b named (computes.FaultStands at number unused) between waits ends leads = tt
-  made_kept context key name said label text a o b named (computes.Unkept value cause) between waits ends leads = tt
-  made_kept context key name said label text a o b named (computes.Refused why unused) between waits ends leads = tt
+  look_finds : (call : CallText) (verdict : SeenText → VerdictText) (a : PlanLane) (o : Outcome) (b : PlanLane) → IsLaneOf store.id b → StepLooks store call verdict a o b → Leads b → LookFinds plan store call verdict a o b
+  look_finds call verdict a o b mine (inl made) leads =
+      inl (made.0, made.1, (made.2.0, made.2.1, made.2.2, answer_kept made.0 call.key b mine made.1 leads (start_of call.path) a made.2.0 made.2.1.answer made.2.1.looked made.2.1.shown))
+  look_finds call verdict a o b mine (inr refused) leads = inr refused
+
+  fail_finds : (call : CallText) (text : List ℕ) (a : PlanLane) (o : Outcome) (b : PlanLane) → IsLaneOf store.id b → StepFails store call text a o b → Leads b → ComputeFinds plan store call text a o b
+  fail_finds call text a o b mine (inl made) leads =
+      inl (made.0, made.1, (made.2, made_kept made.0 call.key b mine made.1 leads (start_of call.path) call.name call.label text a o made.2.result made.2.between made.2.computed made.2.ends))
+  fail_finds call text a o b mine (inr refused) leads = inr refused
 
   -- ---- steps
 
-  step_finds : (path : List ℕ) (step : StepText) (a : PlanLane) (o : Outcome) (b : PlanLane) → StepRun store plan.keys path step a o b → Leads b → StepFinds plan store path step a o b
-  step_finds path (put label text up) a o b made leads = made
-  step_finds path (put_closeable label text up) a o b made leads = made
-  step_finds path (want label text up) a o b made leads = (made.0, made.1, (made.2.0, made.2.1, made.2.2, sees_kept _ made.0 _ a b made.2.0 made.1 made.2.1 leads))
-  step_finds path (nothing label up) a o b made leads = (made.0, made.1, (made.2.0, made.2.1, made.2.2, sees_kept _ made.0 _ a b made.2.0 made.1 made.2.1 leads))
-  step_finds path (remove label up) a o b made leads = made
-  step_finds path (compute label text up) a o b made leads = made
-  step_finds path (compute_closeable label text up) a o b made leads = made
-  step_finds path (compute_fail label text up) a o b (inl made) leads = inl (made.0, made.1, (made.2, made_kept _ made.0 _ _ _ _ a o b made.1 made.2.result made.2.between made.2.computed made.2.ends leads))
-  step_finds path (compute_fail label text up) a o b (inr none) leads = inr none
-  step_finds path (fail text) a o b made leads = made
-  step_finds path (abort text) a o b made leads = made
+  step_finds : (path : List ℕ) (step : StepText) (a : PlanLane) (o : Outcome) (b : PlanLane) → IsLaneOf store.id b → StepRun store plan.keys path step a o b → Leads b → StepFinds plan store path step a o b
+  step_finds path (put key text up) a o b mine made leads = made
+  step_finds path (put_closeable key text up) a o b mine made leads = made
+  step_finds path (want key text up) a o b mine (inl made) leads =
+      inl (look_finds (call_of plan.keys path (codes "want") key up) (want_verdict (codes "want") (label_of plan.keys key) text) a o b mine made leads)
+  step_finds path (want key text up) a o b mine (inr none) leads = inr none
+  step_finds path (nothing key up) a o b mine (inl made) leads =
+      inl (look_finds (call_of plan.keys path (codes "none") key up) (none_verdict (codes "none") (label_of plan.keys key)) a o b mine made leads)
+  step_finds path (nothing key up) a o b mine (inr none) leads = inr none
+  step_finds path (remove key up) a o b mine made leads = made
+  step_finds path (compute key text up) a o b mine made leads = made
+  step_finds path (compute_closeable key text up) a o b mine made leads = made
+  step_finds path (compute_fail key text up) a o b mine (inl made) leads = inl (fail_finds (call_of plan.keys path (codes "computefail") key up) text a o b mine made leads)
+  step_finds path (compute_fail key text up) a o b mine (inr none) leads = inr none
+  step_finds path (fail text) a o b mine made leads = made
+  step_finds path (abort text) a o b mine made leads = made
 
   steps_find : (path : List ℕ) (steps : List StepText) (a : PlanLane) (o : Outcome) (b : PlanLane) → StepsRun store plan.keys path steps a o b → Leads b → StepsFind plan store path steps a o b
   unfolding StepsRun
@@ -280,7 +300,7 @@ module _ (plan : PlanText) (lanes : ℕ) (results : List (ResultOf Fault)) (run 
       ] in (
         made.0,
         made.1,
-        step_finds path step a made.0 made.1 made.2 here,
+        step_finds path step a made.0 made.1 (lane_framed store a made.1 made.3) made.2 here,
         ((λ on. let r = made.4.0 on in (r.0, steps_find path more made.1 r.0 b r.1 leads, r.2)), made.4.1),
       )
 
@@ -293,5 +313,8 @@ module _ (plan : PlanText) (lanes : ℕ) (results : List (ResultOf Fault)) (run 
 pub runs_find : RunsFindWhatIsKept
 runs_find plan lanes results run =
     tree_finer (setting_of run.store run.locks (suite_of plan) (registered plan) (λ (value : StoredValue). value.value.closeable)) (MakesCall plan run.store) (CallFinds plan run.store) IsAction ClosesValue
-    GoesOn goes_same goes_then (plans_go_on plan run.store) (goes_met run.store) (goes_sealed run.store) (Leads plan lanes results run) (leads_back plan lanes results run) (call_finds plan lanes results run)
+    LaneGoesOn goes_same goes_then (plans_go_on plan run.store) (goes_met run.store) (goes_sealed run.store) (Leads plan lanes results run) (leads_back plan lanes results run) (call_finds plan lanes results run)
     16 0 run.first run.ran run.after run.run (all_lead plan lanes results run)
+
+pub lanes_number_alike : LanesNumberAlike
+lanes_number_alike plan lanes results run lane other there also = alike plan lanes results run lane other there also

@@ -68,7 +68,9 @@ refused_quiet limits store context ancestors key a b (refusal.Busy at) r = meets
 refused_quiet limits store context ancestors key a b (refusal.Closed at) r = meets_quiet limits store context ancestors key a b (look.Closed at) r
 refused_quiet limits store context ancestors key a b refusal.Contended (inl overtaken) = calls_quiet a b [] overtaken.calls refl
 refused_quiet limits store context ancestors key a b refusal.Contended (inr given_up) = calls_quiet a b (given_up_events store context key) given_up.0 refl
-refused_quiet limits store context ancestors key a b refusal.UnknownKey r = absurd r
+refused_quiet limits store context ancestors key a b refusal.DirectoryFull r = absurd r
+refused_quiet limits store context ancestors key a b refusal.Unplaced r = absurd r
+refused_quiet limits store context ancestors key a b refusal.Memory r = absurd r
 refused_quiet limits store context ancestors key a b refusal.Exhausted r = calls_quiet a b [] r.0.calls refl
 
 vain_quiet : (store : StoreView) (context key attempts : ℕ) (a b : LaneView) → VainAttempts store context key attempts a b → own_values b ≡ own_values a

@@ -1,26 +1,29 @@
--- What the steps of a run find: values that steps of the plan keep, under the same key.
+-- What the steps of a run find: values that steps of the plan keep, under the same key; and that all lanes of a run number keys alike.
 -- Javadoc `ExtensionContext.Store`, `get`: a value that was stored under the key. That nobody but the plan's steps stores any is an own rule.
 use Rattle.std.specs.Prelude.{◌≡◌, ◌⊎◌, ℕ, codes, true, false, List, [], ◌∷◌, Option, Some, None, Contains}
 use Rattle.ext_lifecycle.specs.declared.call.Call.{Call}
 use Rattle.ext_lifecycle.specs.declared.outcome.Outcome.{Outcome}
 use Rattle.ext_lifecycle.specs.Endings.{successful, is_successful}
+use Rattle.ext_lifecycle.specs.FaultTexts.{VerdictText}
 use Rattle.ext_lifecycle.specs.Lifecycle.{ending_of}
 use Rattle.ext_lifecycle.specs.Results.{ResultOf}
 use Rattle.ext_locks.specs.Sets.{HeldView}
 use Rattle.ext_model.specs.declared.look.Fault.{Fault}
-use Rattle.ext_tree.specs.Keys.{HasNumber}
+use Rattle.ext_tree.specs.Keys.{KeyValue}
+use Rattle.ext_tree.specs.KeyPlaces.{OneKey, OneNumber}
 use Rattle.ext_tree.specs.Paths.{IsPathOf}
-use Rattle.ext_plan_model.specs.Plans.{PlanText, StepText, put, put_closeable, want, nothing, remove, compute, compute_closeable, compute_fail, fail, abort}
+use Rattle.ext_plan_model.specs.Plans.{PlanText, StepKeyText, StepText, put, put_closeable, want, nothing, remove, compute, compute_closeable, compute_fail, fail, abort}
+use Rattle.ext_plan_model.specs.KeyNumbers.{key_of_step}
 use Rattle.ext_plan_model.specs.PlanCalls.{registered, steps_of_call}
 use Rattle.ext_store.specs.declared.computed.Compute.{Compute}
 use Rattle.ext_store.specs.declared.computed.Compute.TheVariants as computes
 use Rattle.ext_store.specs.Stores.{StoreView}
-use Rattle.ext_steps.specs.Calls.{label_of}
+use Rattle.ext_steps.specs.Calls.{CallText, start_of}
 use Rattle.ext_steps.specs.Values.{ValueText}
 use Rattle.ext_steps.specs.Verdicts.{SeenText, seen_value, seen_fault, seen_no_memory, seen_nothing, seen_refused, want_verdict, none_verdict}
 use Rattle.ext_store_steps.specs.Saying.{Ends}
 use Rattle.ext_store_steps.specs.StoreCalls.{ComputesFault, EndsComputeFail, PlanLane, Sees}
-use Rattle.ext_store_steps.specs.StoreSteps.{AddsUp, FindsNoMemory, OfNumber, StepRun, context_up, key_of_label}
+use Rattle.ext_store_steps.specs.StoreSteps.{AddsUp, FindsNoMemory, OfCall, OfCallKey, StepRun, call_of}
 use Rattle.ext_store_steps.specs.declared.stored_value.StoredValue.{StoredValue}
 use Rattle.ext_suite.specs.PlanSuites.{suite_of}
 use Rattle.ext_engine.specs.Order.{CallsGoOn}
@@ -29,8 +32,8 @@ use Rattle.ext_parallel.specs.ParallelRun.{ClosesValue, IsAction, MakesCall, Par
 
 -- ---- what a plan keeps
 
--- what a step keeps, if it keeps a value: the place of its key's label, and the value
-abbrev pub kept_by : StepText → Option (ℕ × ValueText)
+-- what a step keeps, if it keeps a value: its key, as the step names it, and the value
+abbrev pub kept_by : StepText → Option (StepKeyText × ValueText)
 kept_by (put key text up) = Some (key, record { text = text; closeable = false })
 kept_by (put_closeable key text up) = Some (key, record { text = text; closeable = true })
 kept_by (want key text up) = None
@@ -42,38 +45,51 @@ kept_by (compute_fail key text up) = None
 kept_by (fail text) = None
 kept_by (abort text) = None
 
--- a step of the plan puts or computes a value of this text, under the key that has this number in the store
-pub record IsKeptByPlan (plan : PlanText) (store : StoreView) (key : ℕ) (text : List ℕ) : Type 0 where
+-- a step of the plan puts or computes a value of this text under this key, by a label of it or by its name
+pub record IsKeptByPlan (plan : PlanText) (key : KeyValue) (text : List ℕ) : Type 0 where
   pub call : Call
   pub step : StepText
   pub among : Contains (steps_of_call plan call) step
-  pub label : ℕ
+  pub names : StepKeyText
   pub value : ValueText
-  pub keeps : kept_by step ≡ Some (label, value)
+  pub keeps : kept_by step ≡ Some (names, value)
   pub text_is : value.text ≡ text
-  pub named : HasNumber store.keys (key_of_label plan.keys label) key
+  pub key_is : key_of_step plan.keys names ≡ key
 
 -- where a value is seen, it is one that the plan keeps under the key
-abbrev pub IsSeenOfPlan : PlanText → StoreView → ℕ → SeenText → Type 0
-IsSeenOfPlan plan store key (seen_value text) = IsKeptByPlan plan store key text
-IsSeenOfPlan plan store key (seen_fault text) = Unit {0}
-IsSeenOfPlan plan store key seen_no_memory = Unit {0}
-IsSeenOfPlan plan store key seen_nothing = Unit {0}
-IsSeenOfPlan plan store key (seen_refused why) = Unit {0}
+abbrev pub IsSeenOfPlan : PlanText → KeyValue → SeenText → Type 0
+IsSeenOfPlan plan key (seen_value text) = IsKeptByPlan plan key text
+IsSeenOfPlan plan key (seen_fault text) = Unit {0}
+IsSeenOfPlan plan key seen_no_memory = Unit {0}
+IsSeenOfPlan plan key seen_nothing = Unit {0}
+IsSeenOfPlan plan key (seen_refused why) = Unit {0}
 
 -- the same of a compute whose factory fails, which is shown the value that it found in its place
-abbrev pub IsMetOfPlan : (plan : PlanText) (store : StoreView) (context key : ℕ) (name label text : List ℕ) (result : Compute StoredValue (Unit {0})) (between : PlanLane) (outcome : Outcome) (after : PlanLane)
-    → EndsComputeFail store context key name label text result between outcome after → Type 0
-IsMetOfPlan plan store context key name label text (computes.Computed number) between outcome after ends = Unit {0}
-IsMetOfPlan plan store context key name label text (computes.Found at number unused) between outcome after ends = IsSeenOfPlan plan store key ends.1
-IsMetOfPlan plan store context key name label text (computes.Failed why) between outcome after ends = Unit {0}
-IsMetOfPlan plan store context key name label text (computes.FaultKept number) between outcome after ends = Unit {0}
-IsMetOfPlan plan store context key name label text (computes.FaultUnkept why cause) between outcome after ends = Unit {0}
-IsMetOfPlan plan store context key name label text (computes.FaultStands at number unused) between outcome after ends = Unit {0}
-IsMetOfPlan plan store context key name label text (computes.Unkept value cause) between outcome after ends = Unit {0}
-IsMetOfPlan plan store context key name label text (computes.Refused why unused) between outcome after ends = Unit {0}
+abbrev pub IsMetOfPlan : (plan : PlanText) (key : KeyValue) (name label text : List ℕ) (result : Compute StoredValue (Unit {0})) (between : PlanLane) (outcome : Outcome) (after : PlanLane)
+    → EndsComputeFail name label text result between outcome after → Type 0
+IsMetOfPlan plan key name label text (computes.Computed number) between outcome after ends = Unit {0}
+IsMetOfPlan plan key name label text (computes.Found at number unused) between outcome after ends = IsSeenOfPlan plan key ends.1
+IsMetOfPlan plan key name label text (computes.Failed why) between outcome after ends = Unit {0}
+IsMetOfPlan plan key name label text (computes.FaultKept number) between outcome after ends = Unit {0}
+IsMetOfPlan plan key name label text (computes.FaultUnkept why cause) between outcome after ends = Unit {0}
+IsMetOfPlan plan key name label text (computes.FaultStands at number unused) between outcome after ends = Unit {0}
+IsMetOfPlan plan key name label text (computes.Unkept value cause) between outcome after ends = Unit {0}
+IsMetOfPlan plan key name label text (computes.Refused why unused) between outcome after ends = Unit {0}
 
 -- ---- what the steps of a call find
+
+module _ (plan : PlanText) (store : StoreView) (call : CallText) where
+  -- a look-up, which shows a value only where the plan keeps it under the call's key
+  abbrev pub LookFinds : (SeenText → VerdictText) → PlanLane → Outcome → PlanLane → Type 0
+  LookFinds verdict before outcome after =
+      OfCallKey store call before outcome after (λ number. (seen : SeenText) × Sees store (start_of call.path) number before seen after × Ends (verdict seen) 0 0 outcome
+      × IsSeenOfPlan plan call.key seen)
+
+  -- a compute whose factory fails, and which shows a value only where the plan keeps it under the call's key
+  abbrev pub ComputeFinds : List ℕ → PlanLane → Outcome → PlanLane → Type 0
+  ComputeFinds text before outcome after =
+      OfCallKey store call before outcome after (λ number. (made : ComputesFault store (start_of call.path) number call.name call.label text before outcome after)
+      × IsMetOfPlan plan call.key call.name call.label text made.result made.between outcome after made.ends)
 
 module _ (plan : PlanText) (store : StoreView) (path : List ℕ) where
   -- a step, which sees a value only where the plan keeps it under the step's key
@@ -81,18 +97,14 @@ module _ (plan : PlanText) (store : StoreView) (path : List ℕ) where
   StepFinds (put key text up) before outcome after = StepRun store plan.keys path (put key text up) before outcome after
   StepFinds (put_closeable key text up) before outcome after = StepRun store plan.keys path (put_closeable key text up) before outcome after
   StepFinds (want key text up) before outcome after =
-      OfNumber store (key_of_label plan.keys key) (λ number. (seen : SeenText) × Sees store (context_up store plan.keys path up) number before seen after × Ends (want_verdict (codes "want") (label_of plan.keys key) text seen) 0 0 outcome
-      × IsSeenOfPlan plan store number seen)
+      OfCall plan.keys path (codes "want") key up (λ call. LookFinds plan store call (want_verdict call.name call.label text) before outcome after) before outcome after
   StepFinds (nothing key up) before outcome after =
-      OfNumber store (key_of_label plan.keys key) (λ number. (seen : SeenText) × Sees store (context_up store plan.keys path up) number before seen after × Ends (none_verdict (codes "none") (label_of plan.keys key) seen) 0 0 outcome
-      × IsSeenOfPlan plan store number seen)
+      OfCall plan.keys path (codes "none") key up (λ call. LookFinds plan store call (none_verdict call.name call.label) before outcome after) before outcome after
   StepFinds (remove key up) before outcome after = StepRun store plan.keys path (remove key up) before outcome after
   StepFinds (compute key text up) before outcome after = StepRun store plan.keys path (compute key text up) before outcome after
   StepFinds (compute_closeable key text up) before outcome after = StepRun store plan.keys path (compute_closeable key text up) before outcome after
   StepFinds (compute_fail key text up) before outcome after =
-      OfNumber store (key_of_label plan.keys key) (λ number. (made : ComputesFault store (context_up store plan.keys path up) number (codes "computefail") (label_of plan.keys key) text before outcome after)
-      × IsMetOfPlan plan store (context_up store plan.keys path up) number (codes "computefail") (label_of plan.keys key) text made.result made.between outcome after made.ends)
-      ⊎ FindsNoMemory before outcome after
+      ComputeFinds plan store (call_of plan.keys path (codes "computefail") key up) text before outcome after ⊎ FindsNoMemory before outcome after
   StepFinds (fail text) before outcome after = StepRun store plan.keys path (fail text) before outcome after
   StepFinds (abort text) before outcome after = StepRun store plan.keys path (abort text) before outcome after
 
@@ -121,3 +133,8 @@ PlansGoOn = (plan : PlanText) (store : StoreView) → CallsGoOn (MakesCall plan 
 abbrev pub RunsFindWhatIsKept : Type 0
 RunsFindWhatIsKept = (plan : PlanText) (lanes : ℕ) (results : List (ResultOf Fault)) (run : ParallelRun plan lanes results)
     → TreeRun (setting_of run.store run.locks (suite_of plan) (registered plan) (λ (value : StoredValue). value.value.closeable)) (CallFinds plan run.store) IsAction ClosesValue 16 0 run.first run.ran run.after
+
+-- Any two lanes of a run have one number for a key that both know, and know one key of a number that both know
+abbrev pub LanesNumberAlike : Type 0
+LanesNumberAlike = (plan : PlanText) (lanes : ℕ) (results : List (ResultOf Fault)) (run : ParallelRun plan lanes results) (lane other : PlanLane)
+    → Contains run.after.first lane → Contains run.after.first other → OneNumber lane.keys other.keys × OneKey lane.keys other.keys

@@ -5,9 +5,9 @@ use mathlib.Core.List.{IsPrefix}
 use Rattle.ext_model.specs.declared.look.Fault.{Fault}
 use Rattle.ext_model.specs.History.{History, IsLegal, own}
 use Rattle.ext_plan_model.specs.Plans.{PlanText}
-use Rattle.ext_plan_model.specs.KeyNumbers.{different_keys}
 use Rattle.ext_plan_model.specs.Laws.{ids_of_nodes}
 use Rattle.ext_plan_model.specs.Locks.{lock_names}
+use Rattle.ext_tree.specs.KeyPlaces.{KnownPlace, KeepsKeys}
 use Rattle.ext_history.specs.Views.{Follow, seen_by}
 use Rattle.ext_model.specs.Calls.{Calls}
 use Rattle.ext_values.specs.Known.{Known, AllAgree}
@@ -23,11 +23,11 @@ run_numbers = 65535
 abbrev pub run_tries : ℕ
 run_tries = 64
 
--- a store of the plan's contexts and different keys, for so many lanes, with a place for the value of each number, and where faults are kept one for the fault of each
+-- a store of the plan's contexts, for so many lanes, with 64 places for keys, a place for the value of each number, and where faults are kept one for the fault of each
 pub record IsStoreOf (plan : PlanText) (lanes : ℕ) (store : StoreView) : Type 0 where
   pub tree : store.tree ≡ ids_of_nodes plan.nodes
-  pub keys : store.keys ≡ different_keys plan.keys
-  pub limits : store.id.cells.limits ≡ record { cells = length plan.nodes * length (different_keys plan.keys); lanes = lanes; numbers = run_numbers; keep_faults = plan.keep_faults }
+  pub limits : store.id.cells.limits ≡ record { cells = length plan.nodes * 64; lanes = lanes; numbers = run_numbers; keep_faults = plan.keep_faults }
+  pub key_places : length store.id.keys ≡ 64
   pub places : length store.id.places ≡ run_numbers
   pub fault_places : length store.id.fault_places ≡ fault_count plan.keep_faults run_numbers
   pub tries : store.tries ≡ run_tries
@@ -43,14 +43,16 @@ pub record HasRecalled {V : Type 0} (lane : StoreLane V) : Type 0 where
   pub legal : IsLegal lane.cells.cells.limits (seen_by lane.cells.view)
   pub follow : Follow [] lane.cells.view.fronts
 
--- The lane stayed one of the store, made no event and knows what it knew. In between it saw this history, which goes on from what it had seen
-pub record Turns {V : Type 0} (store : StoreView) (h : History) (before after : StoreLane V) : Type 0 where
+-- The lane stayed one of the store, made no event and knows of values and faults what it knew. In between it saw this history, which goes on from what it had seen, and this
+-- numbering of keys has what it knew of keys
+pub record Turns {V : Type 0} (store : StoreView) (h : History) (numbering : List KnownPlace) (before after : StoreLane V) : Type 0 where
   pub lane : IsLaneOf store.id after
   pub calls : Calls store.id.cells.limits before.cells.view after.cells.view []
   pub since : IsPrefix (seen_by before.cells.view) h
   pub until : IsPrefix h (seen_by after.cells.view)
   pub known : after.known ≡ before.known
   pub faults : after.faults ≡ before.faults
+  pub keys : KeepsKeys before.keys numbering
 
 -- what each of the lanes knows of values
 abbrev pub all_known : {V : Type 0} → List (StoreLane V) → List (List (Known V))
@@ -69,3 +71,8 @@ pub record ShareHistory {V : Type 0} (store : StoreView) (lanes : List (StoreLan
   pub own_events : All (λ lane. own lane.cells.view.number history ≡ own lane.cells.view.number (seen_by lane.cells.view)) lanes
   pub agree : AllPairs AllAgree (all_known lanes)
   pub agree_faults : AllPairs AllAgree (all_faults lanes)
+
+-- All lanes of a run have numbered keys alike: what each of them knows of the places of keys is part of one numbering
+pub record ShareKeys {V : Type 0} (lanes : List (StoreLane V)) : Type 0 where
+  pub numbering : List KnownPlace
+  pub parts : All (λ lane. KeepsKeys lane.keys numbering) lanes

@@ -1,5 +1,5 @@
--- The run of a plan on several lanes: a store with the plan's contexts and keys and locks with its names are opened, the tree of its nodes is run over them, and then
--- each lane meets the next.
+-- The run of a plan on several lanes: a store with the plan's contexts and locks with its names are opened, the tree of its nodes is run over them, and then each lane
+-- meets the next.
 --
 -- JUnit 5 User Guide, "Parallel Execution", "Synchronization" and "Keeping State in Extensions", by the definitions of the engine. What numbers and tries a run's
 -- store has, and that lanes meet at its end, are own rules.
@@ -19,7 +19,7 @@ use Rattle.ext_node_run.specs.declared.fault.EngineFault.{EngineFault}
 use Rattle.ext_node_run.specs.declared.fault.EngineFault.TheVariants as faults
 use Rattle.ext_engine.specs.TreeRun.{IsUnjoined, Lanes, Ran, TreeRun, all_results, setting_of}
 use Rattle.ext_store_steps.specs.declared.stored_value.StoredValue.{StoredValue}
-use Rattle.ext_parallel.specs.Opened.{IsStoreOf, IsLocksOf, ShareHistory}
+use Rattle.ext_parallel.specs.Opened.{IsStoreOf, IsLocksOf, ShareHistory, ShareKeys}
 use Rattle.ext_steps.specs.Values.{close_fault}
 use Rattle.ext_store_steps.specs.StoreCalls.{PlanLane, stored_view}
 use Rattle.ext_suite.specs.declared.plan_action.PlanAction.{PlanAction}
@@ -46,7 +46,7 @@ pub record ParallelRun (plan : PlanText) (lanes : ℕ) (results : List (ResultOf
   pub locks_are : IsLocksOf plan lanes locks
   -- the lanes have seen nothing before the run
   pub first : Lanes StoredValue
-  pub fresh : first.first ≡ map (fresh_store_lane store.id.places store.id.fault_places) (fresh_lanes store.id.cells 0 lanes)
+  pub fresh : first.first ≡ map (fresh_store_lane store.id.places store.id.fault_places store.id.keys) (fresh_lanes store.id.cells 0 lanes)
   pub fresh_locks : first.second ≡ locking.fresh_lanes locks.table lanes lanes
   -- the run of the tree, and its results
   pub ran : List Ran
@@ -55,6 +55,8 @@ pub record ParallelRun (plan : PlanText) (lanes : ℕ) (results : List (ResultOf
   pub results_are : results ≡ all_results (suite_of plan) (length plan.nodes) ran
   -- what all lanes have seen is one history, in which each of them made just its own events, and what two of them know of a number is the same
   pub shared : ShareHistory store after.first
+  -- and a key that two of them know has one number in both
+  pub numbered : ShareKeys after.first
 
 -- ---- refusals
 

@@ -1,18 +1,21 @@
 //! Lanes that meet.
-ghost use Rattle.std.specs.Prelude.{◌≡◌, All, AllPairs};
+ghost use Rattle.std.specs.Prelude.{◌≡◌, List, All, AllPairs};
 ghost use Rattle.std.specs.List.{AllZip};
 ghost use Rattle.ext_model.specs.History.{History, IsLegal};
+ghost use Rattle.ext_tree.specs.KeyPlaces.{KnownPlace};
 ghost use Rattle.ext_values.specs.Known.{AllAgree};
 ghost use Rattle.ext_store.specs.Stores.{IsLaneOf};
-ghost use Rattle.ext_parallel.specs.Opened.{HasRecalled, ShareHistory, Turns, all_faults, all_known};
+ghost use Rattle.ext_parallel.specs.Opened.{HasRecalled, ShareHistory, ShareKeys, Turns, all_faults, all_known};
 
 use ext_store::{Lane, Store, StoreValue};
 
 /// Lets each lane meet the next one, then each the one before it, and then each all others. What they had seen is one history, and
-/// each had seen all of its own events in it. What two of them knew of a number, as a value or as a fault, was the same in both.
+/// each had seen all of its own events in it. What two of them knew of a number, as a value or as a fault, was the same in both, and
+/// what all knew of the places of keys was part of one numbering.
 pub(crate) fn meet_all<V: StoreValue + Drop>(store: &Store<V>, lanes: &mut [Lane<V>])
     requires lanes { All (IsLaneOf store.now.id) lanes.old }
     ensures shared { ShareHistory store.now lanes.old }
+    ensures numbered { ShareKeys lanes.old }
 {
     recall_all(lanes);
     turn_all(store, lanes);
@@ -23,7 +26,7 @@ pub(crate) fn meet_all<V: StoreValue + Drop>(store: &Store<V>, lanes: &mut [Lane
 fn turn_all<V: StoreValue + Drop>(store: &Store<V>, lanes: &mut [Lane<V>])
     requires lanes { All (IsLaneOf store.now.id) lanes.old }
     requires looked { All HasRecalled lanes.old }
-    ensures turned { (h : History) × IsLegal store.now.id.cells.limits h × AllZip (Turns store.now h) lanes.old lanes.new }
+    ensures turned { (h : History) × (numbering : List KnownPlace) × IsLegal store.now.id.cells.limits h × AllZip (Turns store.now h numbering) lanes.old lanes.new }
 {
     if let Some((first, rest)) = lanes.split_first_mut() {
         meet_rest(store, first, rest);
@@ -35,7 +38,7 @@ fn meet_rest<V: StoreValue + Drop>(store: &Store<V>, lane: &mut Lane<V>, others:
     requires lane { IsLaneOf store.now.id lane.old }
     requires others { All (IsLaneOf store.now.id) others.old }
     requires looked { HasRecalled lane.old × All HasRecalled others.old }
-    ensures turned { (h : History) × IsLegal store.now.id.cells.limits h × Turns store.now h lane.old lane.new × AllZip (Turns store.now h) others.old others.new }
+    ensures turned { (h : History) × (numbering : List KnownPlace) × IsLegal store.now.id.cells.limits h × Turns store.now h numbering lane.old lane.new × AllZip (Turns store.now h numbering) others.old others.new }
 {
     if let Some((next, more)) = others.split_first_mut() {
         store.meet(lane, next);

@@ -2,15 +2,14 @@
 ghost use Rattle.std.specs.Prelude.{◌≡◌, ◌≤◌, ◌*◌, map, length, All, IfOk};
 ghost use Rattle.ext_cells.specs.Lanes.{fresh_lanes};
 ghost use Rattle.ext_plan_model.specs.Plans.{plan_view};
-ghost use Rattle.ext_plan_model.specs.Laws.{HasFewCells, HasFewLocks, NamespacesHaveParts, NodesAreTree};
+ghost use Rattle.ext_plan_model.specs.Laws.{HasFewLocks, NodesAreTree};
 ghost use Rattle.ext_store.specs.Stores.{IsLaneOf, closers_below, fresh_store_lane};
 ghost use Rattle.ext_locks.specs.Opening as locking;
 ghost use Rattle.ext_parallel.specs.Opened.{IsLocksOf, IsStoreOf};
 
 use ext_locks::{LockFault, LockLane, Locks};
-use ext_plan_model::{KeyNumbers, Plan};
+use ext_plan_model::Plan;
 use ext_store::{Closer, Lane, Limits, Store, StoreFault, StoreValue};
-use ext_tree::TreeFault;
 use std::alloc::{AllocError, Global};
 
 /// How many exchanges a call makes at most before it waits or begins anew.
@@ -19,7 +18,7 @@ const TRIES: u32 = 64;
 /// How many numbers the store of a run draws at most.
 const NUMBERS: u32 = 65_535;
 
-/// A store of the plan's contexts and keys, its lanes, and a closer for each context.
+/// A store of the plan's contexts, its lanes, and a closer for each context.
 pub(crate) fn open_store<V: StoreValue + Drop>(
     alloc: Global,
     plan: &Plan,
@@ -27,31 +26,23 @@ pub(crate) fn open_store<V: StoreValue + Drop>(
 ) -> Result<(Store<V>, Vec<Lane<V>>, Vec<Closer>), AllocError>
     requires lanes { (1 ≤ lanes) × (lanes ≤ 16) }
     requires tree { NodesAreTree (plan_view plan.now) }
-    requires cells { HasFewCells (plan_view plan.now) }
-    requires namespaces { NamespacesHaveParts (plan_view plan.now) }
     ensures store { IfOk result (λ r. IsStoreOf (plan_view plan.now) lanes r.0) }
-    ensures lanes { IfOk result (λ r. r.1.items ≡ map (fresh_store_lane r.0.id.places r.0.id.fault_places) (fresh_lanes r.0.id.cells 0 lanes)) }
+    ensures lanes { IfOk result (λ r. r.1.items ≡ map (fresh_store_lane r.0.id.places r.0.id.fault_places r.0.id.keys) (fresh_lanes r.0.id.cells 0 lanes)) }
     ensures own_lanes { IfOk result (λ r. All (IsLaneOf r.0.id) r.1.items) }
     ensures closers { IfOk result (λ r. r.2.items ≡ closers_below r.0.id.cells (length r.0.tree)) }
 {
     let tree = plan.tree(alloc)?;
-    let keys = match KeyNumbers::of(alloc, plan.keys.as_slice()) {
-        Ok(keys) => keys,
-        Err(TreeFault::Memory) => return Err(AllocError),
-        // The plan has few keys.
-        Err(_) => unreachable!(),
-    };
     let limits = Limits {
         lanes,
         tries: TRIES,
         numbers: NUMBERS,
         keep_faults: plan.keep_faults,
     };
-    match Store::open(alloc, tree, keys.into_directory(), limits) {
+    match Store::open(alloc, tree, limits) {
         Ok(opened) => Ok(opened),
         Err(StoreFault::Memory) => Err(AllocError),
-        // The limits are within their ranges, and the plan has few cells.
-        Err(_) => unreachable!(),
+        // The limits are within their ranges.
+        Err(StoreFault::BadLimit) => unreachable!(),
     }
 }
 

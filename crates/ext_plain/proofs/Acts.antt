@@ -3,21 +3,22 @@ use Rattle.ext_steps.specs.declared.plan_value.PlanValue.{PlanValue}
 use Rattle.std.proofs.Common.{Bool, true, false, ◌≡◌, ℕ, ◌+◌, ◌-◌, List, [], ◌∷◌, ◌++◌, length, take, arith, Option, Some, None, Ok, Err, refl, ap, ◌∙◌}
 use Rattle.std.specs.Prelude.{if◌then◌else◌}
 use Rattle.std.proofs.lemmas.List.{take-append-le, take_all}
-use Rattle.ext_model.specs.declared.event.Act.TheVariants.{Remove}
 use Rattle.ext_model.specs.declared.plain_fault.PlainFault.{PlainFault}
 use Rattle.ext_model.specs.declared.plain_fault.PlainFault.TheVariants as plain
 use Rattle.ext_steps.specs.declared.reason.Reason.TheVariants as reasons
 use Rattle.ext_model.specs.Events.{Reply, Happens, Answers, Refuses, NumbersFull, Busy, Closed, Standing, FaultStanding, Exhausted, Barred}
-use Rattle.ext_model.specs.State.{State, lookup}
-use Rattle.ext_model.specs.Plain.{Place, number_drawn, result_of, under}
+use Rattle.ext_model.specs.State.{State}
+use Rattle.ext_model.specs.Plain.{Place, number_drawn, result_of}
 use Rattle.ext_plain.specs.ValueStates.{Memory, ValueState, refusal}
-use Rattle.ext_plain.specs.Steps.{StepEnd, act_ends, compute_by, computefail_by, put_by, said_by}
+use Rattle.ext_plain.specs.Steps.{StepEnd, compute_numbered, computefail_numbered, keeping_by, keyed_by, none_numbered, remove_numbered, want_numbered}
+use Rattle.ext_plain.specs.Helpers.{KeyedText}
+use Rattle.ext_tree.specs.Keys.{KeyValue}
 use Rattle.ext_steps.specs.Values.{ValueText, value_view}
-use Rattle.ext_steps.specs.Calls.{start_of, CallText}
 
-pub state_is : (keeps : Bool) (a b : State Place) (v w : List ValueText) → a ≡ b → v ≡ w
-    → (let old : ValueState = record { keep_faults = keeps; store = a; values = v; memory = [] } in let new : ValueState = record { keep_faults = keeps; store = b; values = w; memory = [] } in old ≡ new)
-state_is keeps a b v w e f = ap (λ s. record { keep_faults = keeps; store = s; values = v; memory = [] }) e ∙ ap (λ u. record { keep_faults = keeps; store = b; values = u; memory = [] }) f
+pub state_is : (keeps : Bool) (a b : State Place) (keys : List KeyValue) (v w : List ValueText) → a ≡ b → v ≡ w
+    → (let old : ValueState = record { keep_faults = keeps; store = a; keys = keys; values = v; memory = [] } in let new : ValueState = record { keep_faults = keeps; store = b; keys = keys; values = w; memory = [] } in old ≡ new)
+state_is keeps a b keys v w e f =
+    ap (λ s. record { keep_faults = keeps; store = s; keys = keys; values = v; memory = [] }) e ∙ ap (λ u. record { keep_faults = keeps; store = b; keys = keys; values = u; memory = [] }) f
 
 -- an answer that isn't a fault is none of the refusals
 pub reply_ok : {A : Type 0} (value : Option ℕ → A) (r : Reply) (x : A) → result_of value r ≡ Some (Ok x) → refusal r ≡ None
@@ -54,25 +55,31 @@ popped xs x n is =
     let count : n - 1 ≡ length xs = omega (arith, is) in
     ap (λ k. take k (xs ++ x ∷ [])) count ∙ take-append-le (length xs) xs (x ∷ []) (omega arith) ∙ take_all (length xs) xs (omega arith)
 
--- ---- a step by the call that it makes
+-- ---- a step by what it names
 
-abbrev pub computes_by : Memory → CallText → ValueText → ValueState → StepEnd
-computes_by found call value s = compute_by found call.name call.label (start_of call.path, call.key) value s (lookup (under s.store call.key) call.path)
+abbrev pub puts_by : Memory → KeyedText → ValueText → ValueState → StepEnd
+puts_by found k value s = keeping_by k.keys found k.name k.key k.path value s
 
-pub computes_as : (found : Memory) (a b : CallText) (v w : ValueText) (s : ValueState) → a ≡ b → v ≡ w → computes_by found a v s ≡ computes_by found b w s
-computes_as found a b v w s e f = ap (λ call. computes_by found call v s) e ∙ ap (λ value. computes_by found b value s) f
+pub puts_as : (found : Memory) (a b : KeyedText) (v w : ValueText) (s : ValueState) → a ≡ b → v ≡ w → puts_by found a v s ≡ puts_by found b w s
+puts_as found a b v w s e f = ap (λ k. puts_by found k v s) e ∙ ap (λ value. puts_by found b value s) f
 
-abbrev pub puts_by : Memory → CallText → ValueText → ValueState → StepEnd
-puts_by found call value s = put_by found call.name call.label (start_of call.path, call.key) value s
+abbrev pub computes_by : Memory → KeyedText → ValueText → ValueState → StepEnd
+computes_by found k value s = keyed_by k.keys found k.name k.key (λ label. compute_numbered found k.name label k.path value) s
 
-pub puts_as : (found : Memory) (a b : CallText) (v w : ValueText) (s : ValueState) → a ≡ b → v ≡ w → puts_by found a v s ≡ puts_by found b w s
-puts_as found a b v w s e f = ap (λ call. puts_by found call v s) e ∙ ap (λ value. puts_by found b value s) f
+pub computes_as : (found : Memory) (a b : KeyedText) (v w : ValueText) (s : ValueState) → a ≡ b → v ≡ w → computes_by found a v s ≡ computes_by found b w s
+computes_as found a b v w s e f = ap (λ k. computes_by found k v s) e ∙ ap (λ value. computes_by found b value s) f
 
-abbrev pub removes_by : Memory → CallText → ValueState → StepEnd
-removes_by found call s = said_by found (act_ends call.name call.label (Remove (start_of call.path, call.key)) s)
+abbrev pub wants_by : Memory → KeyedText → List ℕ → ValueState → StepEnd
+wants_by found k text s = keyed_by k.keys found k.name k.key (λ label. want_numbered found k.name label k.path text) s
 
-abbrev pub computefails_by : Memory → CallText → List ℕ → ValueState → StepEnd
-computefails_by found call text s = computefail_by found call.name call.label (start_of call.path, call.key) text s (lookup (under s.store call.key) call.path)
+abbrev pub finds_none_by : Memory → KeyedText → ValueState → StepEnd
+finds_none_by found k s = keyed_by k.keys found k.name k.key (λ label. none_numbered found k.name label k.path) s
+
+abbrev pub removes_by : Memory → KeyedText → ValueState → StepEnd
+removes_by found k s = keyed_by k.keys found k.name k.key (λ label. remove_numbered found k.name label k.path) s
+
+abbrev pub computefails_by : Memory → KeyedText → List ℕ → ValueState → StepEnd
+computefails_by found k text s = keyed_by k.keys found k.name k.key (λ label. computefail_numbered found k.name label k.path text) s
 
 -- ---- the value that a step gives
 

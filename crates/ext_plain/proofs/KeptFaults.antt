@@ -16,17 +16,20 @@ use Rattle.ext_model.specs.Plain.{Place, any_lane, state_by, under}
 use Rattle.ext_model.proofs.Lookups.{nearest_decides}
 use Rattle.ext_model.proofs.Steps.{abandon_undoes_claim}
 use Rattle.ext_lifecycle.specs.Endings.{failed, successful}
-use Rattle.ext_plan_model.specs.Plans.{KeyText, PlanText, compute_fail}
+use Rattle.ext_plan_model.specs.Plans.{KeyText, PlanText, StepKeyText, compute_fail}
+use Rattle.ext_plan_model.specs.KeyNumbers.{key_of_step}
+use Rattle.ext_tree.specs.Keys.{KeyValue}
 use Rattle.ext_steps.specs.declared.reason.Reason.{Reason}
-use Rattle.ext_steps.specs.Calls.{key_number, label_of, start_of}
+use Rattle.ext_steps.specs.Calls.{label_of, start_of}
 use Rattle.ext_steps.specs.StepTexts.{met_fault_text}
 use Rattle.ext_steps.specs.Values.{ValueText}
 use Rattle.ext_steps.specs.Verdicts.{seen_fault, fail_verdict, none_verdict, want_verdict}
-use Rattle.ext_plain.specs.ValueStates.{ValueState, run_numbers, reply_to, after_act, why_refused, next_number, keep_value, value_of}
-use Rattle.ext_plain.specs.Steps.{StepEnd, ended, or_refused, shown, shown_fault, seen_by, factory_failed, claim_and, compute_looked, computefail_looked, found_along, step_run}
+use Rattle.ext_plain.specs.ValueStates.{enough, ValueState, run_numbers, reply_to, after_act, why_refused, next_number, keep_value, value_of, Numbering, known, next, full, numbering_of, with_number}
+use Rattle.ext_plain.specs.Steps.{StepEnd, ended, or_refused, shown, shown_fault, seen_by, factory_failed, claim_and, compute_looked, compute_numbered, computefail_looked, computefail_numbered, found_along, none_numbered, number_by, numbered_by, step_run, want_numbered}
 use Rattle.ext_plain.specs.PlainRun.{RunState, node_run}
-use Rattle.ext_plain.specs.Laws.{HasNoFaults, HasValues, MeetsFault}
-use Rattle.ext_plain.proofs.Kept.{IsKept, node-kept}
+use Rattle.ext_plain.specs.Laws.{HasNoFaults, HasValues, MeetsFault, named_by}
+use Rattle.ext_plain.proofs.Kept.{IsKept, IsKeptNumbered, node-kept}
+use Rattle.ext_plain.proofs.Numberings.{known_then}
 use Rattle.ext_plain.proofs.Seals.{failed_here, was_empty}
 use Rattle.ext_plain.proofs.Values.{act-values, keep-drawn, last_value}
 
@@ -82,17 +85,24 @@ fault_known place text s h room =
 
 -- ---- the steps that meet it
 
-meets_fault : (keys : List KeyText) (path : List ℕ) (key up : ℕ) (text : List ℕ) (s : ValueState) (at number : ℕ) → found_along keys key (drop up path) s ≡ look.Fault at number
+meets_fault : (keys : List KeyText) (path : List ℕ) (key : StepKeyText) (up : ℕ) (text : List ℕ) (s : ValueState) (named at number : ℕ) → numbering_of s.keys (key_of_step keys key) ≡ known named → found_along named (drop up path) s ≡ look.Fault at number
     → shown_fault (value_of s.values number) ≡ seen_fault text → MeetsFault keys path key up text s
-meets_fault keys path key up text s at number found known =
+meets_fault keys path key up text s named at number has found known_text =
     let label = label_of keys key in
-    let place : Place = (start_of (drop up path), key_number keys key) in
+    let k = key_of_step keys key in
+    let place : Place = (start_of (drop up path), named) in
+    let does : (name : List ℕ) (goes_on : ℕ → ValueState → StepEnd) → numbered_by enough name label k goes_on s ≡ goes_on named s = λ name goes_on. ap (number_by enough name label k goes_on s) has in
     record {
-      computes = λ other. ap (compute_looked (codes "compute") label place (record { text = other; closeable = false }) s) found ∙ ap (λ seen. ended (none_verdict (codes "compute") label seen) s) known;
-      computes_closeable = λ other. ap (compute_looked (codes "compute!") label place (record { text = other; closeable = true }) s) found ∙ ap (λ seen. ended (none_verdict (codes "compute!") label seen) s) known;
-      fails = λ other. ap (computefail_looked (codes "computefail") label place other s) found ∙ ap (λ seen. ended (fail_verdict (codes "computefail") label other seen) s) known;
-      wants = λ other. ap (λ found. ended (want_verdict (codes "want") label other (seen_by s.values found)) s) found ∙ ap (λ seen. ended (want_verdict (codes "want") label other seen) s) known;
-      finds = ap (λ found. ended (none_verdict (codes "none") label (seen_by s.values found)) s) found ∙ ap (λ seen. ended (none_verdict (codes "none") label seen) s) known;
+      computes = λ other. does (codes "compute") (compute_numbered enough (codes "compute") label (drop up path) (record { text = other; closeable = false }))
+          ∙ ap (compute_looked (codes "compute") label place (record { text = other; closeable = false }) s) found ∙ ap (λ seen. ended (none_verdict (codes "compute") label seen) s) known_text;
+      computes_closeable = λ other. does (codes "compute!") (compute_numbered enough (codes "compute!") label (drop up path) (record { text = other; closeable = true }))
+          ∙ ap (compute_looked (codes "compute!") label place (record { text = other; closeable = true }) s) found ∙ ap (λ seen. ended (none_verdict (codes "compute!") label seen) s) known_text;
+      fails = λ other. does (codes "computefail") (computefail_numbered enough (codes "computefail") label (drop up path) other)
+          ∙ ap (computefail_looked (codes "computefail") label place other s) found ∙ ap (λ seen. ended (fail_verdict (codes "computefail") label other seen) s) known_text;
+      wants = λ other. does (codes "want") (want_numbered enough (codes "want") label (drop up path) other)
+          ∙ ap (λ found. ended (want_verdict (codes "want") label other (seen_by s.values found)) s) found ∙ ap (λ seen. ended (want_verdict (codes "want") label other seen) s) known_text;
+      finds = does (codes "none") (none_numbered enough (codes "none") label (drop up path))
+          ∙ ap (λ found. ended (none_verdict (codes "none") label (seen_by s.values found)) s) found ∙ ap (λ seen. ended (none_verdict (codes "none") label seen) s) known_text;
     }
 
 -- a value that was found lets no `computefail` pass,
@@ -112,33 +122,44 @@ same_fault name label text (Some fault) passed = ap seen_fault ((bytes_eq-Decide
 -- ---- once a `computefail` has passed
 
 -- where it found nothing
-kept_is_met : (keys : List KeyText) (path : List ℕ) (at : ℕ) (above : List ℕ) (key up : ℕ) (text : List ℕ) (s : ValueState) → drop up path ≡ at ∷ above → HasValues s
-    → IsKeptFault (codes "computefail") (label_of keys key) (start_of (drop up path), key_number keys key) text s
-    → MeetsFault keys path key up text (failing (start_of (drop up path), key_number keys key) text s)
-kept_is_met keys path at above key up text s is h kept =
-    let k = key_number keys key in
-    let place : Place = (start_of (drop up path), k) in
-    let found : lookup (under (failing place text s).store k) (drop up path) ≡ look.Fault (start_of (drop up path)) (drawing place text s).store.drawn =
-    subst (λ p. why_refused (Claim (start_of p, k)) s ≡ None → lookup (under (failing (start_of p, k) text s).store k) p ≡ look.Fault (start_of p) (drawing (start_of p, k) text s).store.drawn) (sym is) (fault_found at k above text s) kept.won in
-    meets_fault keys path key up text (failing place text s) (start_of (drop up path)) (drawing place text s).store.drawn found (ap shown_fault (fault_known place text s h kept.room))
+kept_is_met : (keys : List KeyText) (path : List ℕ) (at : ℕ) (above : List ℕ) (key : StepKeyText) (up : ℕ) (text : List ℕ) (s : ValueState) (named : ℕ) → drop up path ≡ at ∷ above → HasValues s
+    → numbering_of s.keys (key_of_step keys key) ≡ known named → IsKeptFault (codes "computefail") (label_of keys key) (start_of (drop up path), named) text s
+    → MeetsFault keys path key up text (failing (start_of (drop up path), named) text s)
+kept_is_met keys path at above key up text s named is h has kept =
+    let place : Place = (start_of (drop up path), named) in
+    let found : lookup (under (failing place text s).store named) (drop up path) ≡ look.Fault (start_of (drop up path)) (drawing place text s).store.drawn =
+    subst (λ p. why_refused (Claim (start_of p, named)) s ≡ None → lookup (under (failing (start_of p, named) text s).store named) p ≡ look.Fault (start_of p) (drawing (start_of p, named) text s).store.drawn) (sym is) (fault_found at named above text s) kept.won in
+    meets_fault keys path key up text (failing place text s) named (start_of (drop up path)) (drawing place text s).store.drawn has found (ap shown_fault (fault_known place text s h kept.room))
 
 -- by what it found
-passed_meets : (keys : List KeyText) (path : List ℕ) (at : ℕ) (above : List ℕ) (key up : ℕ) (text : List ℕ) (s : ValueState) (found : Look) → drop up path ≡ at ∷ above → HasValues s → s.keep_faults ≡ true
-    → found_along keys key (drop up path) s ≡ found
-    → (let end = computefail_looked (codes "computefail") (label_of keys key) (start_of (drop up path), key_number keys key) text s found in end.verdict ≡ successful → MeetsFault keys path key up text end.state)
-passed_meets keys path at above key up text s (look.Found in_context number) is h keeps found = λ passed. absurd (value_fails (codes "computefail") (label_of keys key) (value_of s.values number) passed)
-passed_meets keys path at above key up text s (look.Fault in_context number) is h keeps found = λ passed.
-    meets_fault keys path key up text s in_context number found (same_fault (codes "computefail") (label_of keys key) text (value_of s.values number) passed)
-passed_meets keys path at above key up text s look.Absent is h keeps found = λ passed.
-    let kept = is_kept (codes "computefail") (label_of keys key) (start_of (drop up path), key_number keys key) text s keeps passed in
-    subst (λ (t : ValueState). MeetsFault keys path key up text t) (sym (ap (λ (e : StepEnd). e.state) kept.end)) (kept_is_met keys path at above key up text s is h kept)
-passed_meets keys path at above key up text s (look.Busy in_context) is h keeps found = λ passed. absurd cc
-passed_meets keys path at above key up text s (look.Closed in_context) is h keeps found = λ passed. absurd cc
+passed_meets : (keys : List KeyText) (path : List ℕ) (at : ℕ) (above : List ℕ) (key : StepKeyText) (up : ℕ) (text : List ℕ) (s : ValueState) (named : ℕ) (found : Look) → drop up path ≡ at ∷ above → HasValues s → s.keep_faults ≡ true
+    → numbering_of s.keys (key_of_step keys key) ≡ known named → found_along named (drop up path) s ≡ found
+    → (let end = computefail_looked (codes "computefail") (label_of keys key) (start_of (drop up path), named) text s found in end.verdict ≡ successful → MeetsFault keys path key up text end.state)
+passed_meets keys path at above key up text s named (look.Found in_context number) is h keeps has found = λ passed. absurd (value_fails (codes "computefail") (label_of keys key) (value_of s.values number) passed)
+passed_meets keys path at above key up text s named (look.Fault in_context number) is h keeps has found = λ passed.
+    meets_fault keys path key up text s named in_context number has found (same_fault (codes "computefail") (label_of keys key) text (value_of s.values number) passed)
+passed_meets keys path at above key up text s named look.Absent is h keeps has found = λ passed.
+    let kept = is_kept (codes "computefail") (label_of keys key) (start_of (drop up path), named) text s keeps passed in
+    subst (λ (t : ValueState). MeetsFault keys path key up text t) (sym (ap (λ (e : StepEnd). e.state) kept.end)) (kept_is_met keys path at above key up text s named is h has kept)
+passed_meets keys path at above key up text s named (look.Busy in_context) is h keeps has found = λ passed. absurd cc
+passed_meets keys path at above key up text s named (look.Closed in_context) is h keeps has found = λ passed. absurd cc
 
-pub kept_fault_stands : (keys : List KeyText) (path : List ℕ) (at : ℕ) (above : List ℕ) (key up : ℕ) (text : List ℕ) (s : ValueState) → drop up path ≡ at ∷ above → HasValues s → s.keep_faults ≡ true
+-- by what its key had
+named_meets : (keys : List KeyText) (path : List ℕ) (at : ℕ) (above : List ℕ) (key : StepKeyText) (up : ℕ) (text : List ℕ) (s : ValueState) (numbering : Numbering) → drop up path ≡ at ∷ above → HasValues s → s.keep_faults ≡ true
+    → numbering_of s.keys (key_of_step keys key) ≡ numbering
+    → (let label = label_of keys key in let end = number_by enough (codes "computefail") label (key_of_step keys key) (computefail_numbered enough (codes "computefail") label (drop up path) text) s numbering in
+    end.verdict ≡ successful → MeetsFault keys path key up text end.state)
+named_meets keys path at above key up text s (known named) is h keeps has = passed_meets keys path at above key up text s named (found_along named (drop up path) s) is h keeps has refl
+named_meets keys path at above key up text s (next named) is h keeps has =
+    let k = key_of_step keys key in
+    let t = with_number k s in
+    passed_meets keys path at above key up text t named (found_along named (drop up path) t) is h keeps (known_then s.keys k named has) refl
+named_meets keys path at above key up text s full is h keeps has = λ passed. absurd cc
+
+pub kept_fault_stands : (keys : List KeyText) (path : List ℕ) (at : ℕ) (above : List ℕ) (key : StepKeyText) (up : ℕ) (text : List ℕ) (s : ValueState) → drop up path ≡ at ∷ above → HasValues s → s.keep_faults ≡ true
     → (step_run keys path (compute_fail key text up) s).verdict ≡ successful
     → MeetsFault keys path key up text (step_run keys path (compute_fail key text up) s).state
-kept_fault_stands keys path at above key up text s is h keeps passed = passed_meets keys path at above key up text s (found_along keys key (drop up path) s) is h keeps refl passed
+kept_fault_stands keys path at above key up text s is h keeps passed = named_meets keys path at above key up text s (numbering_of s.keys (key_of_step keys key)) is h keeps refl passed
 
 -- ---- where faults are not kept
 
@@ -162,8 +183,15 @@ looked-same name label place text s look.Absent keeps =
 looked-same name label place text s (look.Busy at) keeps = refl
 looked-same name label place text s (look.Closed at) keeps = refl
 
-pub no_fault_stays : (keys : List KeyText) (path : List ℕ) (key up : ℕ) (text : List ℕ) (s : ValueState) → s.keep_faults ≡ false → (step_run keys path (compute_fail key text up) s).state ≡ s
-no_fault_stays keys path key up text s keeps = looked-same (codes "computefail") (label_of keys key) (start_of (drop up path), key_number keys key) text s (found_along keys key (drop up path) s) keeps
+named-same : (name label : List ℕ) (key : KeyValue) (path text : List ℕ) (s : ValueState) (numbering : Numbering) → s.keep_faults ≡ false
+    → (number_by enough name label key (computefail_numbered enough name label path text) s numbering).state ≡ named_by numbering key s
+named-same name label key path text s (known number) keeps = looked-same name label (start_of path, number) text s (found_along number path s) keeps
+named-same name label key path text s (next number) keeps = looked-same name label (start_of path, number) text (with_number key s) (found_along number path (with_number key s)) keeps
+named-same name label key path text s full keeps = refl
+
+pub no_fault_stays : (keys : List KeyText) (path : List ℕ) (key : StepKeyText) (up : ℕ) (text : List ℕ) (s : ValueState) → s.keep_faults ≡ false
+    → (let k = key_of_step keys key in (step_run keys path (compute_fail key text up) s).state ≡ named_by (numbering_of s.keys k) k s)
+no_fault_stays keys path key up text s keeps = named-same (codes "computefail") (label_of keys key) (key_of_step keys key) (drop up path) text s (numbering_of s.keys (key_of_step keys key)) keeps
 
 -- ---- where faults are not kept, none stands
 
@@ -206,5 +234,8 @@ faultless = record {
   fails = λ place value s keeps won room h. absurd (let both : true ≡ false = sym keeps ∙ h.never in cc);
 }
 
+faultless-numbered : IsKeptNumbered IsFaultless
+faultless-numbered = record { numbers = λ key number s is h. record { never = h.never; nowhere = h.nowhere } }
+
 pub node-faultless : (plan : PlanText) (levels : ℕ) (path : List ℕ) (run : RunState) → run.state.keep_faults ≡ false → HasNoFaults run.state → HasNoFaults (node_run plan levels path run).state
-node-faultless plan levels path run keeps h = (node-kept IsFaultless faultless plan levels path run (record { never = keeps; nowhere = h })).nowhere
+node-faultless plan levels path run keeps h = (node-kept IsFaultless faultless faultless-numbered plan levels path run (record { never = keeps; nowhere = h })).nowhere

@@ -1,18 +1,22 @@
 -- A step that finds no memory does what it does where it finds enough, or says so.
 use Rattle.std.proofs.Common.{◌≡◌, ℕ, Bool, true, false, List, drop, Option, Some, None, refl, inl, inr, ◌⊎◌}
-use Rattle.std.specs.Prelude.{if◌then◌else◌}
-use Rattle.ext_model.specs.declared.event.Act.TheVariants.{Abandon, Claim}
+use Rattle.std.specs.Prelude.{◌&&◌, if◌then◌else◌, codes}
+use Rattle.ext_model.specs.declared.event.Act.TheVariants.{Abandon, Claim, Remove}
 use Rattle.ext_model.specs.declared.look.Look.{Look}
 use Rattle.ext_model.specs.declared.look.Look.TheVariants as look
 use Rattle.ext_model.specs.declared.slot.Slot.{Slot}
 use Rattle.ext_model.specs.Plain.{Place}
-use Rattle.ext_plan_model.specs.Plans.{KeyText, StepText, put, put_closeable, want, nothing, remove, compute, compute_closeable, compute_fail, fail, abort}
+use Rattle.ext_plan_model.specs.Plans.{KeyText, StepKeyText, StepText, put, put_closeable, want, nothing, remove, compute, compute_closeable, compute_fail, fail, abort}
 use Rattle.ext_lifecycle.specs.Endings.{successful, aborted, failed}
 use Rattle.ext_lifecycle.specs.FaultTexts.{VerdictText}
 use Rattle.ext_steps.specs.declared.reason.Reason.{Reason}
 use Rattle.ext_steps.specs.Values.{ValueText}
-use Rattle.ext_plain.specs.ValueStates.{Memory, enough, no_value, no_place, no_words, ValueState, after_act, why_refused, next_number, keep_value}
-use Rattle.ext_plain.specs.Steps.{StepEnd, ended, no_memory, without_words, said_by, or_refused, put_step, put_kept, put_by, factory_gave, factory_failed, if_empty, if_absent, claim_and, compute_looked, compute_by, computefail_looked, computefail_by, found_along, step_by, step_run}
+use Rattle.ext_steps.specs.Calls.{is_made, label_of, start_of}
+use Rattle.ext_tree.specs.Keys.{KeyValue}
+use Rattle.ext_plan_model.specs.KeyNumbers.{key_of_step}
+use Rattle.ext_plain.specs.ValueStates.{Memory, enough, no_key, no_value, no_number, no_place, no_words, ValueState, after_act, why_refused, next_number, keep_value, Numbering, known, next, full, numbering_of, with_number}
+use Rattle.ext_steps.specs.Verdicts.{none_verdict, want_verdict}
+use Rattle.ext_plain.specs.Steps.{StepEnd, ended, no_memory, without_words, said_by, lacks_key, lacks_value, lacks_number, made_by, number_by, numbered_by, or_refused, kept_or_refused, put_kept, put_in, put_by, factory_gave, factory_failed, if_empty, if_absent, claim_and, compute_looked, compute_by, computefail_looked, computefail_by, found_along, keeping_by, keyed_by, step_by, step_run, act_ends, want_numbered, none_numbered, remove_numbered, compute_numbered, computefail_numbered, seen_by}
 
 abbrev Either : StepEnd → StepEnd → Type 0
 Either end whole = (end ≡ whole) ⊎ (end.verdict ≡ no_memory)
@@ -27,7 +31,9 @@ unsaid end = unsaid-by end.verdict end refl
 
 said : (found : Memory) (end : StepEnd) → Either (said_by found end) end
 said enough end = inl refl
+said no_key end = inl refl
 said no_value end = inl refl
+said no_number end = inl refl
 said no_place end = inl refl
 said no_words end = unsaid end
 
@@ -36,24 +42,57 @@ refused-or : (name label : List ℕ) (why : Option Reason) (s : ValueState) (lac
 refused-or name label None s lacks goes_on is = inr is
 refused-or name label (Some why) s lacks goes_on is = inl refl
 
-or-either : (name label : List ℕ) (why : Option Reason) (s : ValueState) (end whole : StepEnd) → Either end whole → Either (or_refused name label why s end) (or_refused name label why s whole)
-or-either name label None s end whole is = is
-or-either name label (Some why) s end whole is = inl refl
-
 empty-either : (stands : Option Slot) (empty other : StepEnd) → empty.verdict ≡ no_memory → Either (if_empty stands empty other) other
 empty-either None empty other is = inr is
 empty-either (Some slot) empty other is = inl refl
 
-put-either : (found : Memory) (name label : List ℕ) (place : Place) (value : ValueText) (s : ValueState) → Either (put_by found name label place value s) (put_step name label place value s)
-put-either enough name label place value s = inl refl
-put-either no_value name label place value s = inr refl
-put-either no_place name label place value s =
-    let stored = put_kept name label place (keep_value value s) in
-    or-either name label (why_refused (next_number s) s) s (if_empty (s.store.slots place) (ended no_memory (keep_value value s)) stored) stored (empty-either (s.store.slots place) (ended no_memory (keep_value value s)) stored refl)
-put-either no_words name label place value s = unsaid (put_step name label place value s)
+if-either : (b : Bool) (end whole : StepEnd) → Either end whole → Either (if b then end else whole) whole
+if-either true end whole is = is
+if-either false end whole is = inl refl
+
+lacks-either : (b : Bool) (lacks end whole : StepEnd) → lacks.verdict ≡ no_memory → Either end whole → Either (if b then lacks else end) whole
+lacks-either true lacks end whole is other = inr is
+lacks-either false lacks end whole is other = other
+
+-- a key that is made, and one that gets its number
+made-either : (found : Memory) (made : Bool) (s : ValueState) (end whole : StepEnd) → Either end whole → Either (made_by found made s end) (made_by enough made s whole)
+made-either found made s end whole is = lacks-either (lacks_key found && made) (ended no_memory s) end whole refl is
+
+number-either : (found : Memory) (name label : List ℕ) (key : KeyValue) (lacks goes_on : ℕ → ValueState → StepEnd) (s : ValueState) (numbering : Numbering) → ((number : ℕ) (t : ValueState) → Either (lacks number t) (goes_on number t))
+    → Either (number_by found name label key lacks s numbering) (number_by enough name label key goes_on s numbering)
+number-either found name label key lacks goes_on s (known number) each = each number s
+number-either found name label key lacks goes_on s (next number) each = lacks-either (lacks_number found) (ended no_memory s) (lacks number (with_number key s)) (goes_on number (with_number key s)) refl (each number (with_number key s))
+number-either found name label key lacks goes_on s full each = said found _
+
+-- ---- a step that puts
+
+put_in-either : (found : Memory) (name label : List ℕ) (place : Place) (kept : ValueState) → Either (put_in found name label place kept) (put_in enough name label place kept)
+put_in-either enough name label place kept = inl refl
+put_in-either no_key name label place kept = inl refl
+put_in-either no_value name label place kept = inl refl
+put_in-either no_number name label place kept = inl refl
+put_in-either no_place name label place kept = empty-either (kept.store.slots place) (ended no_memory kept) (put_kept name label place kept) refl
+put_in-either no_words name label place kept = unsaid (put_kept name label place kept)
+
+kept-either : (found : Memory) (name label : List ℕ) (why : Option Reason) (s : ValueState) (end whole : StepEnd) → Either end whole → Either (kept_or_refused found name label why s end) (kept_or_refused enough name label why s whole)
+kept-either found name label None s end whole is = is
+kept-either found name label (Some why) s end whole is = said found _
+
+put-either : (found : Memory) (name label : List ℕ) (at : ℕ) (key : KeyValue) (value : ValueText) (s : ValueState) → Either (put_by found name label at key value s) (put_by enough name label at key value s)
+put-either found name label at key value s =
+    let kept = keep_value value s in
+    let lacks : ℕ → ValueState → StepEnd = λ number. put_in found name label (at, number) in
+    let puts : ℕ → ValueState → StepEnd = λ number. put_in enough name label (at, number) in
+    lacks-either (lacks_value found) (ended no_memory s) (kept_or_refused found name label (why_refused (next_number s) s) s (numbered_by found name label key lacks kept)) (kept_or_refused enough name label (why_refused (next_number s) s) s (numbered_by enough name label key puts kept)) refl
+    (kept-either found name label (why_refused (next_number s) s) s (numbered_by found name label key lacks kept) (numbered_by enough name label key puts kept)
+    (number-either found name label key lacks puts kept (numbering_of kept.keys key) (λ number t. put_in-either found name label (at, number) t)))
+
+-- ---- a step that computes
 
 compute-either : (memory : Memory) (name label : List ℕ) (place : Place) (value : ValueText) (s : ValueState) (found : Look) → Either (compute_by memory name label place value s found) (compute_looked name label place value s found)
 compute-either enough name label place value s found = inl refl
+compute-either no_key name label place value s found = inl refl
+compute-either no_number name label place value s found = inl refl
 compute-either no_value name label place value s (look.Found at number) = inl refl
 compute-either no_value name label place value s (look.Fault at number) = inl refl
 compute-either no_value name label place value s look.Absent =
@@ -67,10 +106,6 @@ compute-either no_place name label place value s (look.Busy at) = inl refl
 compute-either no_place name label place value s (look.Closed at) = inl refl
 compute-either no_words name label place value s found = unsaid (compute_looked name label place value s found)
 
-if-either : (b : Bool) (end whole : StepEnd) → Either end whole → Either (if b then end else whole) whole
-if-either true end whole is = is
-if-either false end whole is = inl refl
-
 fail-lacks : (name label : List ℕ) (place : Place) (text : List ℕ) (s : ValueState) (found : Look)
     → Either (if_absent found (claim_and name label place (λ claimed. ended no_memory (after_act (Abandon place) claimed)) s) (computefail_looked name label place text s found)) (computefail_looked name label place text s found)
 fail-lacks name label place text s (look.Found at number) = inl refl
@@ -82,6 +117,8 @@ fail-lacks name label place text s (look.Closed at) = inl refl
 
 computefail-either : (memory : Memory) (name label : List ℕ) (place : Place) (text : List ℕ) (s : ValueState) (found : Look) → Either (computefail_by memory name label place text s found) (computefail_looked name label place text s found)
 computefail-either enough name label place text s found = inl refl
+computefail-either no_key name label place text s found = inl refl
+computefail-either no_number name label place text s found = inl refl
 computefail-either no_value name label place text s found =
     let lost = claim_and name label place (λ claimed. ended no_memory (after_act (Abandon place) claimed)) s in
     if-either s.keep_faults (if_absent found lost (computefail_looked name label place text s found)) (computefail_looked name label place text s found) (fail-lacks name label place text s found)
@@ -92,15 +129,27 @@ computefail-either no_place name label place text s (look.Busy at) = inl refl
 computefail-either no_place name label place text s (look.Closed at) = inl refl
 computefail-either no_words name label place text s found = unsaid (computefail_looked name label place text s found)
 
+-- ---- each step
+
+keeping-either : (keys : List KeyText) (found : Memory) (name : List ℕ) (key : StepKeyText) (path : List ℕ) (value : ValueText) (s : ValueState)
+    → Either (keeping_by keys found name key path value s) (keeping_by keys enough name key path value s)
+keeping-either keys found name key path value s = made-either found (is_made keys key) s _ _ (put-either found name (label_of keys key) (start_of path) (key_of_step keys key) value s)
+
+keyed-either : (keys : List KeyText) (found : Memory) (name : List ℕ) (key : StepKeyText) (lacks goes_on : List ℕ → ℕ → ValueState → StepEnd) (s : ValueState)
+    → ((label : List ℕ) (number : ℕ) (t : ValueState) → Either (lacks label number t) (goes_on label number t)) → Either (keyed_by keys found name key lacks s) (keyed_by keys enough name key goes_on s)
+keyed-either keys found name key lacks goes_on s each =
+    let label = label_of keys key in
+    made-either found (is_made keys key) s _ _ (number-either found name label (key_of_step keys key) (lacks label) (goes_on label) s (numbering_of s.keys (key_of_step keys key)) (each label))
+
 pub does_or_lacks : (keys : List KeyText) (found : Memory) (path : List ℕ) (step : StepText) (s : ValueState)
     → (step_by keys found path step s ≡ step_run keys path step s) ⊎ ((step_by keys found path step s).verdict ≡ no_memory)
-does_or_lacks keys found path (put key text up) s = put-either found _ _ _ _ s
-does_or_lacks keys found path (put_closeable key text up) s = put-either found _ _ _ _ s
-does_or_lacks keys found path (want key text up) s = said found _
-does_or_lacks keys found path (nothing key up) s = said found _
-does_or_lacks keys found path (remove key up) s = said found _
-does_or_lacks keys found path (compute key text up) s = compute-either found _ _ _ _ s (found_along keys key (drop up path) s)
-does_or_lacks keys found path (compute_closeable key text up) s = compute-either found _ _ _ _ s (found_along keys key (drop up path) s)
-does_or_lacks keys found path (compute_fail key text up) s = computefail-either found _ _ _ _ s (found_along keys key (drop up path) s)
-does_or_lacks keys found path (fail text) s = said found _
-does_or_lacks keys found path (abort text) s = said found _
+does_or_lacks keys found path (put key text up) s = keeping-either keys found (codes "put") key (drop up path) (record { text = text; closeable = false }) s
+does_or_lacks keys found path (put_closeable key text up) s = keeping-either keys found (codes "put!") key (drop up path) (record { text = text; closeable = true }) s
+does_or_lacks keys found path (want key text up) s = keyed-either keys found (codes "want") key (λ label. want_numbered found (codes "want") label (drop up path) text) (λ label. want_numbered enough (codes "want") label (drop up path) text) s (λ label number t. said found (ended (want_verdict (codes "want") label text (seen_by t.values (found_along number (drop up path) t))) t))
+does_or_lacks keys found path (nothing key up) s = keyed-either keys found (codes "none") key (λ label. none_numbered found (codes "none") label (drop up path)) (λ label. none_numbered enough (codes "none") label (drop up path)) s (λ label number t. said found (ended (none_verdict (codes "none") label (seen_by t.values (found_along number (drop up path) t))) t))
+does_or_lacks keys found path (remove key up) s = keyed-either keys found (codes "remove") key (λ label. remove_numbered found (codes "remove") label (drop up path)) (λ label. remove_numbered enough (codes "remove") label (drop up path)) s (λ label number t. said found (act_ends (codes "remove") label (Remove (start_of (drop up path), number)) t))
+does_or_lacks keys found path (compute key text up) s = keyed-either keys found (codes "compute") key (λ label. compute_numbered found (codes "compute") label (drop up path) (record { text = text; closeable = false })) (λ label. compute_numbered enough (codes "compute") label (drop up path) (record { text = text; closeable = false })) s (λ label number t. compute-either found (codes "compute") label (start_of (drop up path), number) (record { text = text; closeable = false }) t (found_along number (drop up path) t))
+does_or_lacks keys found path (compute_closeable key text up) s = keyed-either keys found (codes "compute!") key (λ label. compute_numbered found (codes "compute!") label (drop up path) (record { text = text; closeable = true })) (λ label. compute_numbered enough (codes "compute!") label (drop up path) (record { text = text; closeable = true })) s (λ label number t. compute-either found (codes "compute!") label (start_of (drop up path), number) (record { text = text; closeable = true }) t (found_along number (drop up path) t))
+does_or_lacks keys found path (compute_fail key text up) s = keyed-either keys found (codes "computefail") key (λ label. computefail_numbered found (codes "computefail") label (drop up path) text) (λ label. computefail_numbered enough (codes "computefail") label (drop up path) text) s (λ label number t. computefail-either found (codes "computefail") label (start_of (drop up path), number) text t (found_along number (drop up path) t))
+does_or_lacks keys found path (fail text) s = said found (ended (failed text) s)
+does_or_lacks keys found path (abort text) s = said found (ended (aborted text) s)

@@ -4,7 +4,7 @@ use Rattle.std.specs.Prelude.{if◌then◌else◌}
 use Rattle.std.specs.Result.{IsErrAnd}
 use Rattle.std.proofs.lemmas.Result.{err_from_is_err_and}
 use Rattle.ext_model.specs.declared.event.Act.{Act}
-use Rattle.ext_model.specs.declared.event.Act.TheVariants.{Abandon, Claim, Fill, Fail, Put}
+use Rattle.ext_model.specs.declared.event.Act.TheVariants.{Abandon, Claim, Fill, Fail}
 use Rattle.ext_model.specs.declared.event.Event.{Event}
 use Rattle.ext_model.specs.Events.{Reply, Happens, Answers, Refuses}
 use Rattle.ext_model.specs.Plain.{Place, state_by}
@@ -18,8 +18,8 @@ use Rattle.ext_steps.specs.Verdicts.{refused, unless_refused}
 use Rattle.ext_model.specs.declared.look.Look.TheVariants as look
 use Rattle.ext_plain.specs.declared.lack.Lack.{Lack}
 use Rattle.ext_plain.specs.declared.lack.Lack.TheVariants as lacks
-use Rattle.ext_plain.specs.ValueStates.{Memory, enough, no_value, no_place, no_words, ValueState, after_act, refusal, why_refused, next_number, keep_value}
-use Rattle.ext_plain.specs.Steps.{StepEnd, act_ends, claim_and, compute_by, compute_looked, computefail_by, computefail_looked, factory_gave, factory_failed, ended, if_empty, no_memory, or_refused, put_kept, put_step, said_by, without_words}
+use Rattle.ext_plain.specs.ValueStates.{Memory, enough, no_key, no_value, no_number, no_place, no_words, ValueState, after_act, refusal, why_refused, next_number, keep_value}
+use Rattle.ext_plain.specs.Steps.{StepEnd, act_ends, claim_and, compute_by, compute_looked, computefail_by, computefail_looked, factory_gave, factory_failed, ended, no_memory, or_refused, said_by, without_words}
 use Rattle.ext_plain.specs.Helpers.{Fails, Gives, IsKeptAs, LacksFailed, LacksGiven, Says, answer_end, counted_found, lack_end, lacking, memory_of, step_end}
 
 -- a call answers that it lacked this
@@ -191,6 +191,8 @@ same-if false end = refl
 pub computefail-found : (found : Memory) (name label : List ℕ) (place : Place) (text : List ℕ) (s : ValueState) (at number : ℕ)
     → said_by found (computefail_looked name label place text s (look.Found at number)) ≡ computefail_by found name label place text s (look.Found at number)
 computefail-found enough name label place text s at number = refl
+computefail-found no_key name label place text s at number = refl
+computefail-found no_number name label place text s at number = refl
 computefail-found no_value name label place text s at number = same-if s.keep_faults (computefail_looked name label place text s (look.Found at number))
 computefail-found no_place name label place text s at number = refl
 computefail-found no_words name label place text s at number = refl
@@ -199,6 +201,8 @@ computefail-found no_words name label place text s at number = refl
 pub computefail-met : (found : Memory) (name label : List ℕ) (place : Place) (text : List ℕ) (s : ValueState) (at number : ℕ)
     → said_by found (computefail_looked name label place text s (look.Fault at number)) ≡ computefail_by found name label place text s (look.Fault at number)
 computefail-met enough name label place text s at number = refl
+computefail-met no_key name label place text s at number = refl
+computefail-met no_number name label place text s at number = refl
 computefail-met no_value name label place text s at number = same-if s.keep_faults (computefail_looked name label place text s (look.Fault at number))
 computefail-met no_place name label place text s at number = refl
 computefail-met no_words name label place text s at number = refl
@@ -206,6 +210,8 @@ computefail-met no_words name label place text s at number = refl
 pub compute-met : (found : Memory) (name label : List ℕ) (place : Place) (value : ValueText) (s : ValueState) (at number : ℕ)
     → said_by found (compute_looked name label place value s (look.Fault at number)) ≡ compute_by found name label place value s (look.Fault at number)
 compute-met enough name label place value s at number = refl
+compute-met no_key name label place value s at number = refl
+compute-met no_number name label place value s at number = refl
 compute-met no_value name label place value s at number = refl
 compute-met no_place name label place value s at number = refl
 compute-met no_words name label place value s at number = refl
@@ -215,22 +221,3 @@ pub refused-same : (r : Reply) (s : ValueState) (e : Event Place) (why : Reason)
 refused-same (Happens answer) s e why is = absurd cc
 refused-same (Answers answer) s e why is = absurd cc
 refused-same (Refuses reason) s e why is = refl
-
--- ---- a step that puts
-
--- the value is kept, and its number is put or refused
-pub put-is : (name label : List ℕ) (place : Place) (value : ValueText) (old mid : ValueState) (number : ℕ) → IsKeptAs value old mid number → put_step name label place value old ≡ act_ends name label (Put place number) mid
-put-is name label place value old mid number kept =
-    ap (λ w. or_refused name label w old (put_kept name label place (keep_value value old))) kept.allowed
-    ∙ ap (put_kept name label place) (sym kept.state)
-    ∙ ap (λ n. act_ends name label (Put place n) mid) (sym kept.drawn)
-
--- the value is kept, and where nothing stands there was no memory for its place
-pub put-unplaced : (name label : List ℕ) (place : Place) (value : ValueText) (old mid new : ValueState) (number : ℕ) → IsKeptAs value old mid number → mid.store.slots place ≡ None → new ≡ mid
-    → ended no_memory new ≡ or_refused name label (why_refused (next_number old) old) old (if_empty (old.store.slots place) (ended no_memory (keep_value value old)) (put_kept name label place (keep_value value old)))
-put-unplaced name label place value old mid new number kept vacant same =
-    let lacks = ended no_memory (keep_value value old) in
-    let stored = put_kept name label place (keep_value value old) in
-    ap (ended no_memory) (same ∙ kept.state)
-    ∙ sym (ap (λ stands. if_empty stands lacks stored) (sym (kept.slots place) ∙ vacant))
-    ∙ sym (ap (λ w. or_refused name label w old (if_empty (old.store.slots place) lacks stored)) kept.allowed)

@@ -4,6 +4,10 @@ pub mod Stepping
 pub mod Sealing
 pub mod Acts
 pub mod Lacks
+pub mod KeyedSteps
+pub mod Numberings
+pub mod Named
+pub mod Rooms
 pub mod Few
 pub mod NodeCalls
 pub mod CallsDone

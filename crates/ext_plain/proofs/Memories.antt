@@ -1,19 +1,23 @@
 -- What the steps after it find of memory goes through each step of a plain run, and through the end of a context.
 use Rattle.std.proofs.Common.{◌≡◌, ℕ, zero, suc, Bool, true, false, List, ◌∷◌, drop, Option, Some, None, refl, ap, ◌∙◌}
-use Rattle.std.specs.Prelude.{if◌then◌else◌}
-use Rattle.ext_model.specs.declared.event.Act.TheVariants.{Seal}
+use Rattle.std.specs.Prelude.{◌&&◌, if◌then◌else◌, codes}
+use Rattle.ext_model.specs.declared.event.Act.TheVariants.{Seal, Remove}
 use Rattle.ext_model.specs.declared.look.Look.{Look}
 use Rattle.ext_model.specs.declared.look.Look.TheVariants as look
 use Rattle.ext_model.specs.declared.slot.Slot.{Slot}
 use Rattle.ext_model.specs.Plain.{Place}
 use Rattle.ext_model.specs.declared.event.Act.TheVariants.{Abandon, Claim, Fail}
 use Rattle.ext_lifecycle.specs.declared.outcome.Outcome.{Outcome}
-use Rattle.ext_lifecycle.specs.Endings.{successful}
-use Rattle.ext_plan_model.specs.Plans.{KeyText, StepText, put, put_closeable, want, nothing, remove, compute, compute_closeable, compute_fail, fail, abort}
+use Rattle.ext_lifecycle.specs.Endings.{successful, aborted, failed}
+use Rattle.ext_plan_model.specs.Plans.{KeyText, StepKeyText, StepText, put, put_closeable, want, nothing, remove, compute, compute_closeable, compute_fail, fail, abort}
 use Rattle.ext_steps.specs.declared.reason.Reason.{Reason}
 use Rattle.ext_steps.specs.Values.{ValueText}
-use Rattle.ext_plain.specs.ValueStates.{Memory, enough, no_value, no_place, no_words, ValueState, with_memory, after_act, why_refused, next_number, keep_value}
-use Rattle.ext_plain.specs.Steps.{StepEnd, ended, no_memory, said_by, or_refused, put_step, put_kept, put_by, factory_gave, factory_failed, if_empty, if_absent, claim_and, compute_looked, compute_by, computefail_looked, computefail_by, found_along, step_by, next_step}
+use Rattle.ext_steps.specs.Calls.{is_made, label_of, start_of}
+use Rattle.ext_tree.specs.Keys.{KeyValue}
+use Rattle.ext_plan_model.specs.KeyNumbers.{key_of_step}
+use Rattle.ext_plain.specs.ValueStates.{Memory, enough, no_key, no_value, no_number, no_place, no_words, ValueState, with_memory, after_act, why_refused, next_number, keep_value, Numbering, known, next, full, numbering_of, with_number}
+use Rattle.ext_steps.specs.Verdicts.{none_verdict, want_verdict}
+use Rattle.ext_plain.specs.Steps.{StepEnd, ended, no_memory, said_by, lacks_key, lacks_value, lacks_number, lacks_place, made_by, number_by, numbered_by, or_refused, kept_or_refused, put_kept, put_in, put_by, factory_gave, factory_failed, if_empty, if_absent, claim_and, compute_looked, compute_by, computefail_looked, computefail_by, found_along, keeping_by, keyed_by, step_by, next_step, act_ends, want_numbered, none_numbered, remove_numbered, compute_numbered, computefail_numbered, seen_by}
 use Rattle.ext_plain.specs.Closes.{seal_keys}
 use Rattle.ext_plain.specs.Helpers.{step_end}
 
@@ -27,7 +31,9 @@ module _ (m : List Memory) where
 
   said_by-with : (found : Memory) (end : StepEnd) → end_with m (said_by found end) ≡ said_by found (end_with m end)
   said_by-with enough end = refl
+  said_by-with no_key end = refl
   said_by-with no_value end = refl
+  said_by-with no_number end = refl
   said_by-with no_place end = refl
   said_by-with no_words end = refl
 
@@ -44,18 +50,46 @@ module _ (m : List Memory) where
 
   -- ---- each step
 
-  put_step-with : (name label : List ℕ) (place : Place) (value : ValueText) (s : ValueState) → end_with m (put_step name label place value s) ≡ put_step name label place value (with_memory m s)
-  put_step-with name label place value s = or_refused-with name label (why_refused (next_number s) s) s (put_kept name label place (keep_value value s))
+  if-with : (b : Bool) (x y : StepEnd) → end_with m (if b then x else y) ≡ (if b then end_with m x else end_with m y)
+  if-with true x y = refl
+  if-with false x y = refl
 
-  put_by-with : (found : Memory) (name label : List ℕ) (place : Place) (value : ValueText) (s : ValueState) → end_with m (put_by found name label place value s) ≡ put_by found name label place value (with_memory m s)
-  put_by-with enough name label place value s = put_step-with name label place value s
-  put_by-with no_value name label place value s = refl
-  put_by-with no_place name label place value s =
-      let lacks = ended no_memory (keep_value value s) in
-      let stored = put_kept name label place (keep_value value s) in
-      or_refused-with name label (why_refused (next_number s) s) s (if_empty (s.store.slots place) lacks stored)
-      ∙ ap (or_refused name label (why_refused (next_number s) s) (with_memory m s)) (if_empty-with (s.store.slots place) lacks stored)
-  put_by-with no_words name label place value s = said_by-with no_words (put_step name label place value s) ∙ ap (said_by no_words) (put_step-with name label place value s)
+  made_by-with : (found : Memory) (made : Bool) (s : ValueState) (goes_on : StepEnd) → end_with m (made_by found made s goes_on) ≡ made_by found made (with_memory m s) (end_with m goes_on)
+  made_by-with found made s goes_on = if-with (lacks_key found && made) (ended no_memory s) goes_on
+
+  number_by-with : (found : Memory) (name label : List ℕ) (key : KeyValue) (goes_on : ℕ → ValueState → StepEnd) (s : ValueState) (numbering : Numbering) → ((number : ℕ) (t : ValueState) → end_with m (goes_on number t) ≡ goes_on number (with_memory m t))
+      → end_with m (number_by found name label key goes_on s numbering) ≡ number_by found name label key goes_on (with_memory m s) numbering
+  number_by-with found name label key goes_on s (known number) each = each number s
+  number_by-with found name label key goes_on s (next number) each =
+      if-with (lacks_number found) (ended no_memory s) (goes_on number (with_number key s))
+      ∙ ap (λ e. if lacks_number found then ended no_memory (with_memory m s) else e) (each number (with_number key s))
+  number_by-with found name label key goes_on s full each = said_by-with found _
+
+  numbered_by-with : (found : Memory) (name label : List ℕ) (key : KeyValue) (goes_on : ℕ → ValueState → StepEnd) (s : ValueState) → ((number : ℕ) (t : ValueState) → end_with m (goes_on number t) ≡ goes_on number (with_memory m t))
+      → end_with m (numbered_by found name label key goes_on s) ≡ numbered_by found name label key goes_on (with_memory m s)
+  numbered_by-with found name label key goes_on s each = number_by-with found name label key goes_on s (numbering_of s.keys key) each
+
+  put_in-with : (found : Memory) (name label : List ℕ) (place : Place) (kept : ValueState) → end_with m (put_in found name label place kept) ≡ put_in found name label place (with_memory m kept)
+  put_in-with found name label place kept =
+      let lacks = ended no_memory kept in
+      let stored = put_kept name label place kept in
+      said_by-with found (if lacks_place found then if_empty (kept.store.slots place) lacks stored else stored)
+      ∙ ap (said_by found) (if-with (lacks_place found) (if_empty (kept.store.slots place) lacks stored) stored ∙ ap (λ e. if lacks_place found then e else end_with m stored) (if_empty-with (kept.store.slots place) lacks stored))
+
+  kept_or_refused-with : (found : Memory) (name label : List ℕ) (why : Option Reason) (s : ValueState) (goes_on : StepEnd)
+      → end_with m (kept_or_refused found name label why s goes_on) ≡ kept_or_refused found name label why (with_memory m s) (end_with m goes_on)
+  kept_or_refused-with found name label None s goes_on = refl
+  kept_or_refused-with found name label (Some why) s goes_on = said_by-with found _
+
+  put_by-with : (found : Memory) (name label : List ℕ) (at : ℕ) (key : KeyValue) (value : ValueText) (s : ValueState) → end_with m (put_by found name label at key value s) ≡ put_by found name label at key value (with_memory m s)
+  put_by-with found name label at key value s =
+      let puts : ℕ → ValueState → StepEnd = λ number. put_in found name label (at, number) in
+      let stored = numbered_by found name label key puts (keep_value value s) in
+      if-with (lacks_value found) (ended no_memory s) (kept_or_refused found name label (why_refused (next_number s) s) s stored)
+      ∙ ap (λ e. if lacks_value found then ended no_memory (with_memory m s) else e) (
+      kept_or_refused-with found name label (why_refused (next_number s) s) s stored
+      ∙ ap (kept_or_refused found name label (why_refused (next_number s) s) (with_memory m s)) (numbered_by-with found name label key puts (keep_value value s) (λ number t. put_in-with found name label (at, number) t))
+      )
 
   claim_and-with : (name label : List ℕ) (place : Place) (factory : ValueState → StepEnd) (s : ValueState) → end_with m (factory (after_act (Claim place) s)) ≡ factory (after_act (Claim place) (with_memory m s))
       → end_with m (claim_and name label place factory s) ≡ claim_and name label place factory (with_memory m s)
@@ -74,6 +108,8 @@ module _ (m : List Memory) where
   compute_by-with : (memory : Memory) (name label : List ℕ) (place : Place) (value : ValueText) (s : ValueState) (found : Look)
       → end_with m (compute_by memory name label place value s found) ≡ compute_by memory name label place value (with_memory m s) found
   compute_by-with enough name label place value s found = compute_looked-with name label place value s found
+  compute_by-with no_key name label place value s found = compute_looked-with name label place value s found
+  compute_by-with no_number name label place value s found = compute_looked-with name label place value s found
   compute_by-with no_value name label place value s found =
       let gone : ValueState → StepEnd = λ claimed. ended no_memory (after_act (Abandon place) claimed) in
       if_absent-with found (claim_and name label place gone s) (compute_looked name label place value s found)
@@ -84,10 +120,6 @@ module _ (m : List Memory) where
       ∙ ap (λ e. if_absent found e (end_with m (compute_looked name label place value s found))) (or_refused-with name label (why_refused (Claim place) s) s (ended no_memory s))
       ∙ ap (if_absent found (or_refused name label (why_refused (Claim place) s) (with_memory m s) (ended no_memory (with_memory m s)))) (compute_looked-with name label place value s found)
   compute_by-with no_words name label place value s found = said_by-with no_words (compute_looked name label place value s found) ∙ ap (said_by no_words) (compute_looked-with name label place value s found)
-
-  if-with : (b : Bool) (x y : StepEnd) → end_with m (if b then x else y) ≡ (if b then end_with m x else end_with m y)
-  if-with true x y = refl
-  if-with false x y = refl
 
   factory_failed-with : (name label : List ℕ) (place : Place) (text : List ℕ) (s : ValueState) → end_with m (factory_failed name label place text s) ≡ factory_failed name label place text (with_memory m s)
   factory_failed-with name label place text s =
@@ -108,6 +140,8 @@ module _ (m : List Memory) where
   computefail_by-with : (memory : Memory) (name label : List ℕ) (place : Place) (text : List ℕ) (s : ValueState) (found : Look)
       → end_with m (computefail_by memory name label place text s found) ≡ computefail_by memory name label place text (with_memory m s) found
   computefail_by-with enough name label place text s found = computefail_looked-with name label place text s found
+  computefail_by-with no_key name label place text s found = computefail_looked-with name label place text s found
+  computefail_by-with no_number name label place text s found = computefail_looked-with name label place text s found
   computefail_by-with no_value name label place text s found =
       let gone : ValueState → StepEnd = λ claimed. ended no_memory (after_act (Abandon place) claimed) in
       let whole = computefail_looked name label place text s found in
@@ -124,17 +158,31 @@ module _ (m : List Memory) where
       ∙ ap (if_absent found (or_refused name label (why_refused (Claim place) s) (with_memory m s) (ended no_memory (with_memory m s)))) (computefail_looked-with name label place text s found)
   computefail_by-with no_words name label place text s found = said_by-with no_words (computefail_looked name label place text s found) ∙ ap (said_by no_words) (computefail_looked-with name label place text s found)
 
+  keeping_by-with : (keys : List KeyText) (found : Memory) (name : List ℕ) (key : StepKeyText) (path : List ℕ) (value : ValueText) (s : ValueState)
+      → end_with m (keeping_by keys found name key path value s) ≡ keeping_by keys found name key path value (with_memory m s)
+  keeping_by-with keys found name key path value s =
+      let puts : ValueState → StepEnd = put_by found name (label_of keys key) (start_of path) (key_of_step keys key) value in
+      made_by-with found (is_made keys key) s (puts s) ∙ ap (made_by found (is_made keys key) (with_memory m s)) (put_by-with found name (label_of keys key) (start_of path) (key_of_step keys key) value s)
+
+  keyed_by-with : (keys : List KeyText) (found : Memory) (name : List ℕ) (key : StepKeyText) (goes_on : List ℕ → ℕ → ValueState → StepEnd) (s : ValueState)
+      → ((label : List ℕ) (number : ℕ) (t : ValueState) → end_with m (goes_on label number t) ≡ goes_on label number (with_memory m t))
+      → end_with m (keyed_by keys found name key goes_on s) ≡ keyed_by keys found name key goes_on (with_memory m s)
+  keyed_by-with keys found name key goes_on s each =
+      let label = label_of keys key in
+      let k = key_of_step keys key in
+      made_by-with found (is_made keys key) s (numbered_by found name label k (goes_on label) s) ∙ ap (made_by found (is_made keys key) (with_memory m s)) (numbered_by-with found name label k (goes_on label) s (each label))
+
   pub step_by-with : (keys : List KeyText) (found : Memory) (path : List ℕ) (step : StepText) (s : ValueState) → end_with m (step_by keys found path step s) ≡ step_by keys found path step (with_memory m s)
-  step_by-with keys found path (put key text up) s = put_by-with found _ _ _ _ s
-  step_by-with keys found path (put_closeable key text up) s = put_by-with found _ _ _ _ s
-  step_by-with keys found path (want key text up) s = said_by-with found _
-  step_by-with keys found path (nothing key up) s = said_by-with found _
-  step_by-with keys found path (remove key up) s = said_by-with found _
-  step_by-with keys found path (compute key text up) s = compute_by-with found _ _ _ _ s (found_along keys key (drop up path) s)
-  step_by-with keys found path (compute_closeable key text up) s = compute_by-with found _ _ _ _ s (found_along keys key (drop up path) s)
-  step_by-with keys found path (compute_fail key text up) s = computefail_by-with found _ _ _ _ s (found_along keys key (drop up path) s)
-  step_by-with keys found path (fail text) s = said_by-with found _
-  step_by-with keys found path (abort text) s = said_by-with found _
+  step_by-with keys found path (put key text up) s = keeping_by-with keys found (codes "put") key (drop up path) (record { text = text; closeable = false }) s
+  step_by-with keys found path (put_closeable key text up) s = keeping_by-with keys found (codes "put!") key (drop up path) (record { text = text; closeable = true }) s
+  step_by-with keys found path (want key text up) s = keyed_by-with keys found (codes "want") key (λ label. want_numbered found (codes "want") label (drop up path) text) s (λ label number t. said_by-with found (ended (want_verdict (codes "want") label text (seen_by t.values (found_along number (drop up path) t))) t))
+  step_by-with keys found path (nothing key up) s = keyed_by-with keys found (codes "none") key (λ label. none_numbered found (codes "none") label (drop up path)) s (λ label number t. said_by-with found (ended (none_verdict (codes "none") label (seen_by t.values (found_along number (drop up path) t))) t))
+  step_by-with keys found path (remove key up) s = keyed_by-with keys found (codes "remove") key (λ label. remove_numbered found (codes "remove") label (drop up path)) s (λ label number t. said_by-with found (act_ends (codes "remove") label (Remove (start_of (drop up path), number)) t))
+  step_by-with keys found path (compute key text up) s = keyed_by-with keys found (codes "compute") key (λ label. compute_numbered found (codes "compute") label (drop up path) (record { text = text; closeable = false })) s (λ label number t. compute_by-with found (codes "compute") label (start_of (drop up path), number) (record { text = text; closeable = false }) t (found_along number (drop up path) t))
+  step_by-with keys found path (compute_closeable key text up) s = keyed_by-with keys found (codes "compute!") key (λ label. compute_numbered found (codes "compute!") label (drop up path) (record { text = text; closeable = true })) s (λ label number t. compute_by-with found (codes "compute!") label (start_of (drop up path), number) (record { text = text; closeable = true }) t (found_along number (drop up path) t))
+  step_by-with keys found path (compute_fail key text up) s = keyed_by-with keys found (codes "computefail") key (λ label. computefail_numbered found (codes "computefail") label (drop up path) text) s (λ label number t. computefail_by-with found (codes "computefail") label (start_of (drop up path), number) text t (found_along number (drop up path) t))
+  step_by-with keys found path (fail text) s = said_by-with found (ended (failed text) s)
+  step_by-with keys found path (abort text) s = said_by-with found (ended (aborted text) s)
 
   -- ---- the end of a context
 

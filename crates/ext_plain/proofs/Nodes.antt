@@ -19,7 +19,7 @@ use Rattle.ext_plain.specs.Helpers.{calls_end}
 use Rattle.ext_plan_model.specs.PlanCalls.{test_of}
 use Rattle.ext_plain.specs.NodeCalls.{CallsEnd}
 use Rattle.ext_plain.specs.PlainRun.{RunState, container_run, outcome_of, with_result, node_end, node_run, test_node_run}
-use Rattle.ext_plain.specs.ValueStates.{ValueState}
+use Rattle.ext_plain.specs.ValueStates.{key_limit, ValueState}
 
 -- ---- levels
 
@@ -67,9 +67,9 @@ outcome_is at is_test s closed outcomes faults r is closes =
     ∙ sym (result_of-to fault_text at is_test (endings_of outcomes) (computed_in outcomes) (found_in outcomes) faults)
     ∙ ap (outcome_of at is_test (calls_end s outcomes)) closes
 
-pub end_is : (keys at : ℕ) (is_test : Bool) (end : CallsEnd) (results : List NodeOutcome) (sealed : ValueState) (closed : List (Option (List ℕ))) (o : NodeOutcome)
-    → sealed ≡ seal_keys keys at end.state → closed ≡ closes keys at sealed → o ≡ outcome_of at is_test end closed
-    → (let run : RunState = record { state = sealed; results = with_result o results } in run ≡ node_end keys at is_test end results)
-end_is keys at is_test end results sealed closed o is told shown =
+pub end_is : (at : ℕ) (is_test : Bool) (end : CallsEnd) (results : List NodeOutcome) (sealed : ValueState) (closed : List (Option (List ℕ))) (o : NodeOutcome)
+    → sealed ≡ seal_keys key_limit at end.state → closed ≡ closes key_limit at sealed → o ≡ outcome_of at is_test end closed
+    → (let run : RunState = record { state = sealed; results = with_result o results } in run ≡ node_end at is_test end results)
+end_is at is_test end results sealed closed o is told shown =
     ap (λ o. record { state = sealed; results = with_result o results }) (shown ∙ ap (outcome_of at is_test end) told)
-    ∙ ap (λ s. record { state = s; results = with_result (outcome_of at is_test end (closes keys at s)) results }) is
+    ∙ ap (λ s. record { state = s; results = with_result (outcome_of at is_test end (closes key_limit at s)) results }) is

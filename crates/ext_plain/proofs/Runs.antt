@@ -21,7 +21,7 @@ use Rattle.ext_plain.specs.Helpers.{DoesCall, EndsNode, RunsAs, calls_end, chose
 use Rattle.ext_plan_model.specs.PlanCalls.{registered, test_of}
 use Rattle.ext_plain.specs.NodeCalls.{CallsEnd, afters_run, befores_run, call_run, make_all, make_befores, make_if_successful}
 use Rattle.ext_plan_model.specs.PlanCalls.{concurrent_of}
-use Rattle.ext_plain.specs.PlainRun.{RunState, body_run, container_run, key_count, node_end, node_run, test_node_run}
+use Rattle.ext_plain.specs.PlainRun.{RunState, body_run, container_run, node_end, node_run, test_node_run}
 use Rattle.ext_plain.specs.ValueStates.{Memory, ValueState, with_memory}
 use Rattle.ext_lifecycle.specs.Modes.{in_run_order}
 use Rattle.ext_plan_model.specs.Laws.{ids_of_nodes}
@@ -77,8 +77,7 @@ test-runs setting at p one two befores afters c d os tally results new tree is_p
       ∙ ap (λ l. make_all run (afters_of (registered plan) true at path) (make_if_successful run (make_befores run l start) (test_call at))) firsts in (
         exact.0,
         ended.each os tallied later
-            ∙ ap (λ (s : Setting). node_end (key_count (plan_in s)) at true (calls_end (store_of later d) os) results) after.setting_is
-            ∙ ap (λ e. node_end (key_count plan) at true e results) calls,
+            ∙ ap (λ e. node_end at true e results) calls,
       );
 }
 
@@ -111,15 +110,14 @@ container-runs setting at p one two befores afters c d e f g first third tally r
       let bodied : run_with closed.0 (between e left) ≡ body_run plan (path_run setting) (all_successful (calls_end (store_of middle.0 d) first).calls) path (run_with middle.0 (between d results)) =
       middle.1 ∙ ap (λ (s : Setting). body_run (plan_in s) (path_run s) go path (run_with middle.0 (between d results))) opened.setting_is
       ∙ ap (λ b. body_run plan (path_run setting) b path (run_with middle.0 (between d results))) (sym go_on) in
-      let ends : CallsEnd → RunState → RunState = λ before b. node_end (key_count plan) at false (afters_run plan false at path (record { state = b.state; calls = before.calls; computed = before.computed; found = before.found })) b.results in
+      let ends : CallsEnd → RunState → RunState = λ before b. node_end at false (afters_run plan false at path (record { state = b.state; calls = before.calls; computed = before.computed; found = before.found })) b.results in
       let whole : CallsEnd → RunState = λ before. ends before (body_run plan (path_run setting) (all_successful before.calls) path (record { state = before.state; results = results })) in
       let calls : calls_end (store_of later g) (first ++ third) ≡ make_all run (afters_of (registered plan) false at path) (calls_end (store_of closed.0 e) first) =
       sym closed.1
       ∙ ap (λ l. make_all run l (calls_end (store_of closed.0 f) first)) lasts ∙ ap (λ st. make_all run (afters_of (registered plan) false at path) (calls_end (with_memory closed.0 (state_view st)) first)) stored in (
         begin.0,
         ended.each (first ++ third) tallied later
-            ∙ ap (λ (s : Setting). node_end (key_count (plan_in s)) at false (calls_end (store_of later g) (first ++ third)) left) last.setting_is
-            ∙ ap (λ x. node_end (key_count plan) at false x left) calls
+            ∙ ap (λ x. node_end at false x left) calls
             ∙ ap (ends (calls_end (store_of middle.0 d) first)) bodied
             ∙ ap whole begun,
       );

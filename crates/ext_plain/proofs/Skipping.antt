@@ -17,11 +17,11 @@ use Rattle.ext_lifecycle.specs.Modes.{in_run_order}
 use Rattle.ext_plan_model.specs.Plans.{PlanText}
 use Rattle.ext_plan_model.specs.PlanCalls.{concurrent_of, test_of}
 use Rattle.ext_plan_model.specs.Laws.{ids_of_nodes, NodesAreTree, TestsHaveNoChildren}
-use Rattle.ext_plain.specs.ValueStates.{Memory}
+use Rattle.ext_plain.specs.ValueStates.{key_limit, Memory}
 use Rattle.ext_plain.specs.Closes.{seal_keys, closes}
 use Rattle.ext_plain.specs.Laws.{HasRun}
 use Rattle.ext_plain.specs.Ancestors.{before_node, begins, levels_left, opened, ordered, went_on, IsSkipped, SkipsOn}
-use Rattle.ext_plain.specs.PlainRun.{RunState, body_run, container_run, key_count, node_run, outcome_of, plain_run_by, run_opening, test_node_run}
+use Rattle.ext_plain.specs.PlainRun.{RunState, body_run, container_run, node_run, outcome_of, plain_run_by, run_opening, test_node_run}
 use Rattle.ext_plain.proofs.Below.{children-all, not_yet}
 use Rattle.ext_plain.proofs.Ends.{body_end, container_end, test_end}
 use Rattle.ext_plain.proofs.Reached.{Stands, container-ran, either-part, fold-stays, no_test, node-ran, set-elsewhere, stands-at, stands-second, stays}
@@ -244,8 +244,8 @@ module _ (memory : List Memory) (plan : PlanText) where
         let body : Only (body_end plan (node_run plan levels) at path run).results =
         subst (λ n. Only (body_end plan (node_run plan n) at path run).results) left (only-body at above (went_on memory plan path) refl within step h) in
         either-only (is_some (test_of plan at)) (test_node_run plan at path run) (container_run plan (node_run plan levels) at path run)
-        (only-set at above run.results (outcome_of at true tested (closes (key_count plan) at (seal_keys (key_count plan) at tested.state))) walk on h)
-        (only-set at above (body_end plan (node_run plan levels) at path run).results (outcome_of at false contained (closes (key_count plan) at (seal_keys (key_count plan) at contained.state))) walk on body)
+        (only-set at above run.results (outcome_of at true tested (closes key_limit at (seal_keys key_limit at tested.state))) walk on h)
+        (only-set at above (body_end plan (node_run plan levels) at path run).results (outcome_of at false contained (closes key_limit at (seal_keys key_limit at contained.state))) walk on body)
 
     only-opening : (child : ℕ) (above : List ℕ) → IsWalk (ids_of_nodes plan.nodes) child above → HasRun child (run_opening memory plan).results → AllOn above
     only-opening child [] is has = tt

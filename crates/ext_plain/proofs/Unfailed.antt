@@ -17,12 +17,12 @@ use Rattle.ext_lifecycle.specs.Results.{close_ending}
 use Rattle.ext_plan_model.specs.Plans.{KeyText, PlanText, StepText}
 use Rattle.ext_plan_model.specs.PlanCalls.{concurrent_of, registered, steps_of_call, test_of}
 use Rattle.ext_plan_model.specs.Laws.{ids_of_nodes, NodesAreTree}
-use Rattle.ext_plain.specs.ValueStates.{Memory, ValueState, enough, found_later, next_found, with_memory}
+use Rattle.ext_plain.specs.ValueStates.{key_limit, Memory, ValueState, enough, found_later, next_found, with_memory}
 use Rattle.ext_plain.specs.Steps.{StepEnd, and_then, next_step, no_memory, step_by, step_run, steps_run, unless_ended}
 use Rattle.ext_plain.specs.NodeCalls.{CallsEnd, and_call, befores_run, call_run, make, make_all, make_befores, make_if_successful, no_calls, test_run}
 use Rattle.ext_plain.specs.Closes.{seal_keys, closes}
 use Rattle.ext_plain.specs.Helpers.{run_with}
-use Rattle.ext_plain.specs.PlainRun.{HasNoFailed, RunState, body_run, container_run, key_count, node_end, node_run, outcome_of, plain_run, plain_run_by, run_opening, test_node_run}
+use Rattle.ext_plain.specs.PlainRun.{HasNoFailed, RunState, body_run, container_run, node_end, node_run, outcome_of, plain_run, plain_run_by, run_opening, test_node_run}
 use Rattle.ext_plain.proofs.Below.{children-all}
 use Rattle.ext_plain.proofs.Ends.{body_end, container_end, test_end}
 use Rattle.ext_plain.proofs.Lacking.{does_or_lacks}
@@ -148,9 +148,9 @@ module _ (plan : PlanText) (path : List ℕ) where
 
 -- ---- the end of a node
 
-end-forgets : (keys at : ℕ) (is_test : Bool) (end : CallsEnd) (results : List NodeOutcome) → run_with [] (node_end keys at is_test end results) ≡ node_end keys at is_test (forgotten end) results
-end-forgets keys at is_test end results =
-    ap (λ s. record { state = s; results = slice_set results at (outcome_of at is_test end (closes keys at s)) }) (seal_keys-with [] keys at end.state)
+end-forgets : (at : ℕ) (is_test : Bool) (end : CallsEnd) (results : List NodeOutcome) → run_with [] (node_end at is_test end results) ≡ node_end at is_test (forgotten end) results
+end-forgets at is_test end results =
+    ap (λ s. record { state = s; results = slice_set results at (outcome_of at is_test end (closes key_limit at s)) }) (seal_keys-with [] key_limit at end.state)
 
 abbrev Unfailed : NodeOutcome → Type 0
 Unfailed r = r.status ≢ statuses.Failed
@@ -232,8 +232,8 @@ module _ (plan : PlanText) (tree : NodesAreTree plan) where
       let before = befores_run plan false at path run.state in
       let opened : RunState = record { state = before.state; results = run.results } in
       let body = body_end plan (node_run plan levels) at path run in
-      let x = outcome_of at true tested (closes (key_count plan) at (seal_keys (key_count plan) at tested.state)) in
-      let y = outcome_of at false contained (closes (key_count plan) at (seal_keys (key_count plan) at contained.state)) in
+      let x = outcome_of at true tested (closes key_limit at (seal_keys key_limit at tested.state)) in
+      let y = outcome_of at false contained (closes key_limit at (seal_keys key_limit at contained.state)) in
       let one : (r : RunState) (child : ℕ) → IsParentOf ids at child → Elsewhere ids path (node_run plan levels (child ∷ path) r).results r.results k =
       λ r child is. under-parent ids child path (node_run plan levels (child ∷ path) r).results r.results k (outside levels child path k r (is, walk) is.child_within) in
       either-outside path run.results k (is_some (test_of plan at)) (test_node_run plan at path run) (container_run plan (node_run plan levels) at path run)
@@ -291,9 +291,9 @@ module _ (plan : PlanText) (tree : NodesAreTree plan) where
   test-node-forgets at above run walk after =
       let path = at ∷ above in
       let end = test_end plan at path run in
-      let closed = closes (key_count plan) at (seal_keys (key_count plan) at end.state) in
+      let closed = closes key_limit at (seal_keys key_limit at end.state) in
       let none = outcome-unfailed at true end closed (set-at run.results at (outcome_of at true end closed) (after.each at [] (refl, walk))) in
-      end-forgets (key_count plan) at true end run.results ∙ ap (λ e. node_end (key_count plan) at true e run.results) (test-forgets plan path at run none)
+      end-forgets at true end run.results ∙ ap (λ e. node_end at true e run.results) (test-forgets plan path at run none)
 
   container-forgets : (levels at : ℕ) (above : List ℕ) (run : RunState) → IsWalk ids at above → at < length ids → ((child : ℕ) → IsParentOf ids at child → Forgets levels child (at ∷ above))
       → AreUnfailed ids (at ∷ above) (container_run plan (node_run plan levels) at (at ∷ above) run).results
@@ -306,7 +306,7 @@ module _ (plan : PlanText) (tree : NodesAreTree plan) where
       let body = body_end plan path_run at path run in
       let before = befores_run plan false at path run.state in
       let opened : RunState = record { state = before.state; results = run.results } in
-      let closed = closes (key_count plan) at (seal_keys (key_count plan) at end.state) in
+      let closed = closes key_limit at (seal_keys key_limit at end.state) in
       let outcome = outcome_of at false end closed in
       let none = outcome-unfailed at false end closed (set-at body.results at outcome (after.each at [] (refl, walk))) in
       let closing : CallsEnd = record before { state = body.state } in
@@ -326,9 +326,9 @@ module _ (plan : PlanText) (tree : NodesAreTree plan) where
       let closing_is : forgotten closing ≡ record clean { state = (body_end plan path_run at path (run_with [] run)).state } =
       ap (λ (e : CallsEnd). record e { state = with_memory [] body.state }) before_is ∙ ap (λ (r : RunState). record clean { state = r.state }) body_is in
       let end_is : forgotten end ≡ container_end plan path_run at path (run_with [] run) = all-forgets plan path lasts closing none ∙ ap (make_all (call_run plan path) lasts) closing_is in
-      end-forgets (key_count plan) at false end body.results
-      ∙ ap (λ e. node_end (key_count plan) at false e body.results) end_is
-      ∙ ap (λ (r : RunState). node_end (key_count plan) at false (container_end plan path_run at path (run_with [] run)) r.results) body_is
+      end-forgets at false end body.results
+      ∙ ap (λ e. node_end at false e body.results) end_is
+      ∙ ap (λ (r : RunState). node_end at false (container_end plan path_run at path (run_with [] run)) r.results) body_is
 
   either-forgets : (path : List ℕ) (b : Bool) (x y clean other : RunState) → (AreUnfailed ids path x.results → run_with [] x ≡ clean) → (AreUnfailed ids path y.results → run_with [] y ≡ other)
       → AreUnfailed ids path (if b then x else y).results → run_with [] (if b then x else y) ≡ (if b then clean else other)

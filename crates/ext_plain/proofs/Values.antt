@@ -11,14 +11,16 @@ use Rattle.ext_model.specs.State.{State, lookup}
 use Rattle.ext_model.specs.Events.{Reply, Happens, Answers, Refuses, NumbersFull, put_reply, drawn_after}
 use Rattle.ext_model.specs.Plain.{Place, under, any_lane, state_by}
 use Rattle.ext_model.proofs.Lookups.{put_found}
-use Rattle.ext_plan_model.specs.Plans.{KeyText, PlanText, put, want}
+use Rattle.ext_plan_model.specs.Plans.{KeyText, PlanText, StepKeyText, put, want}
+use Rattle.ext_plan_model.specs.KeyNumbers.{key_of_step}
 use Rattle.ext_lifecycle.specs.Endings.{successful, failed}
-use Rattle.ext_plain.specs.ValueStates.{run_numbers, ValueState, refusal, reply_to, after_act, why_refused, next_number, keep_value, value_of}
-use Rattle.ext_plain.specs.Steps.{or_refused, put_kept, put_step, seen_by, shown, step_run}
+use Rattle.ext_plain.specs.ValueStates.{run_numbers, enough, ValueState, refusal, reply_to, after_act, why_refused, next_number, keep_value, value_of, Numbering, known, next, full, numbering_of, with_number}
+use Rattle.ext_plain.specs.Steps.{StepEnd, kept_or_refused, number_by, numbered_by, put_in, put_kept, seen_by, shown, step_run, want_numbered}
 use Rattle.ext_plain.specs.PlainRun.{RunState, node_run}
 use Rattle.ext_plain.specs.Laws.{HasValues}
-use Rattle.ext_plain.proofs.Kept.{IsKept, node-kept}
-use Rattle.ext_steps.specs.Calls.{label_of, start_of, key_number}
+use Rattle.ext_plain.proofs.Kept.{IsKept, IsKeptNumbered, node-kept}
+use Rattle.ext_steps.specs.Calls.{label_of, start_of}
+use Rattle.ext_plain.proofs.Numberings.{known_then}
 use Rattle.ext_steps.specs.declared.reason.Reason.{Reason}
 use Rattle.ext_steps.specs.StepTexts.{other_text}
 use Rattle.ext_steps.specs.Values.{ValueText}
@@ -69,8 +71,11 @@ valued = record {
       act-values (Fail place kept.store.drawn) kept refl (keep-values value claimed room (act-values (Claim place) s refl h));
 }
 
+valued-numbered : IsKeptNumbered HasValues
+valued-numbered = record { numbers = λ key number s is h. h }
+
 pub node-values : (plan : PlanText) (levels : ℕ) (path : List ℕ) (run : RunState) → HasValues run.state → HasValues (node_run plan levels path run).state
-node-values = node-kept HasValues valued
+node-values = node-kept HasValues valued valued-numbered
 
 -- ---- what was put is found
 
@@ -89,12 +94,12 @@ put-happens (Some (slot.Claim lane)) name label passed = absurd cc
 put-happens (Some (slot.Sealed kept)) name label passed = absurd cc
 
 -- from the state that has kept the value
-kept-wanted : (label : List ℕ) (at key : ℕ) (above : List ℕ) (text : List ℕ) (kept : ValueState) (values : List ValueText) → kept.values ≡ values ++ record { text = text; closeable = false } ∷ [] → kept.store.drawn ≡ suc (length values)
-    → (put_kept (codes "put") label (at, key) kept).verdict ≡ successful
+kept-wanted : (own label : List ℕ) (at key : ℕ) (above : List ℕ) (text : List ℕ) (kept : ValueState) (values : List ValueText) → kept.values ≡ values ++ record { text = text; closeable = false } ∷ [] → kept.store.drawn ≡ suc (length values)
+    → (put_kept (codes "put") own (at, key) kept).verdict ≡ successful
     → want_verdict (codes "want") label text (seen_by kept.values (lookup (under (after_act (Put (at, key) kept.store.drawn) kept).store key) (at ∷ above))) ≡ successful
-kept-wanted label at key above text kept values are drawn passed =
+kept-wanted own label at key above text kept values are drawn passed =
     let number = kept.store.drawn in
-    let stored = put-happens (kept.store.slots (at, key)) (codes "put") label passed in
+    let stored = put-happens (kept.store.slots (at, key)) (codes "put") own passed in
     let found : lookup (under (after_act (Put (at, key) number) kept).store key) (at ∷ above) ≡ look.Found at number =
     put_found run_numbers kept.store any_lane at key number stored.0 [] above (λ k d within. absurd (omega (arith, within))) stored.1 in
     ap (λ found. want_verdict (codes "want") label text (seen_by kept.values found)) found
@@ -103,20 +108,42 @@ kept-wanted label at key above text kept values are drawn passed =
     ∙ ap (λ v. want_verdict (codes "want") label text (shown v)) (last_value values (record { text = text; closeable = false }))
     ∙ wanted (codes "want") label text false
 
-put-wanted : (label : List ℕ) (at key : ℕ) (above : List ℕ) (text : List ℕ) (s : ValueState) (why : Option Reason) → why_refused (next_number s) s ≡ why → HasValues s
-    → (let value : ValueText = record { text = text; closeable = false } in let end = or_refused (codes "put") label why s (put_kept (codes "put") label (at, key) (keep_value value s)) in
-    end.verdict ≡ successful → want_verdict (codes "want") label text (seen_by end.state.values (lookup (under end.state.store key) (at ∷ above))) ≡ successful)
-put-wanted label at key above text s None room h =
-    let value : ValueText = record { text = text; closeable = false } in
-    λ passed. kept-wanted label at key above text (keep_value value s) s.values refl (keep-drawn value s room ∙ ap suc (sym h)) passed
-put-wanted label at key above text s (Some why) room h = λ passed. absurd cc
+-- the steps of a key that has its number
 
-pub put_is_found : (keys : List KeyText) (path : List ℕ) (at : ℕ) (above : List ℕ) (key up : ℕ) (text : List ℕ) (s : ValueState) → drop up path ≡ at ∷ above → HasValues s
-    → (step_run keys path (put key text up) s).verdict ≡ successful
-    → (step_run keys path (want key text up) (step_run keys path (put key text up) s).state).verdict ≡ successful
-put_is_found keys path at above key up text s is h =
+put-known : (keys : List KeyText) (path : List ℕ) (at : ℕ) (above : List ℕ) (key other : StepKeyText) (up : ℕ) (text : List ℕ) (kept : ValueState) (values : List ValueText) (number : ℕ) → key_of_step keys other ≡ key_of_step keys key
+    → drop up path ≡ at ∷ above → numbering_of kept.keys (key_of_step keys key) ≡ known number → kept.values ≡ values ++ record { text = text; closeable = false } ∷ [] → kept.store.drawn ≡ suc (length values)
+    → (let end = put_kept (codes "put") (label_of keys key) (start_of (drop up path), number) kept in end.verdict ≡ successful → (step_run keys path (want other text up) end.state).verdict ≡ successful)
+put-known keys path at above key other up text kept values number same is knows are drawn = λ passed.
+    let own = label_of keys key in
+    let label = label_of keys other in
+    let after = (put_kept (codes "put") own (start_of (drop up path), number) kept).state in
+    let wants : ℕ → ValueState → StepEnd = want_numbered enough (codes "want") label (drop up path) text in
+    ap (λ (e : StepEnd). e.verdict) (ap (number_by enough (codes "want") label (key_of_step keys other) wants after) (ap (numbering_of kept.keys) same ∙ knows))
+    ∙ subst (λ p. (put_kept (codes "put") own (start_of p, number) kept).verdict ≡ successful
+    → want_verdict (codes "want") label text (seen_by kept.values (lookup (under (after_act (Put (start_of p, number) kept.store.drawn) kept).store number) p)) ≡ successful) (sym is) (kept-wanted own label at number above text kept values are drawn) passed
+
+put-named : (keys : List KeyText) (path : List ℕ) (at : ℕ) (above : List ℕ) (key other : StepKeyText) (up : ℕ) (text : List ℕ) (kept : ValueState) (values : List ValueText) (numbering : Numbering) → key_of_step keys other ≡ key_of_step keys key
+    → drop up path ≡ at ∷ above → numbering_of kept.keys (key_of_step keys key) ≡ numbering → kept.values ≡ values ++ record { text = text; closeable = false } ∷ [] → kept.store.drawn ≡ suc (length values)
+    → (let label = label_of keys key in let puts : ℕ → ValueState → StepEnd = λ number. put_in enough (codes "put") label (start_of (drop up path), number) in let end = number_by enough (codes "put") label (key_of_step keys key) puts kept numbering in
+    end.verdict ≡ successful → (step_run keys path (want other text up) end.state).verdict ≡ successful)
+put-named keys path at above key other up text kept values (known number) same is has are drawn = put-known keys path at above key other up text kept values number same is has are drawn
+put-named keys path at above key other up text kept values (next number) same is has are drawn =
+    let k = key_of_step keys key in
+    put-known keys path at above key other up text (with_number k kept) values number same is (known_then kept.keys k number has) are drawn
+put-named keys path at above key other up text kept values full same is has are drawn = λ passed. absurd cc
+
+put-wanted : (keys : List KeyText) (path : List ℕ) (at : ℕ) (above : List ℕ) (key other : StepKeyText) (up : ℕ) (text : List ℕ) (s : ValueState) (why : Option Reason) → key_of_step keys other ≡ key_of_step keys key
+    → drop up path ≡ at ∷ above → why_refused (next_number s) s ≡ why → HasValues s
+    → (let value : ValueText = record { text = text; closeable = false } in let label = label_of keys key in let puts : ℕ → ValueState → StepEnd = λ number. put_in enough (codes "put") label (start_of (drop up path), number) in
+    let end = kept_or_refused enough (codes "put") label why s (numbered_by enough (codes "put") label (key_of_step keys key) puts (keep_value value s)) in
+    end.verdict ≡ successful → (step_run keys path (want other text up) end.state).verdict ≡ successful)
+put-wanted keys path at above key other up text s None same is room h =
     let value : ValueText = record { text = text; closeable = false } in
-    let label = label_of keys key in
-    let k = key_number keys key in
-    subst (λ p. (put_step (codes "put") label (start_of p, k) value s).verdict ≡ successful → want_verdict (codes "want") label text (seen_by (put_step (codes "put") label (start_of p, k) value s).state.values (lookup (under (put_step (codes "put") label (start_of p, k) value s).state.store k) p)) ≡ successful) (sym is)
-    (put-wanted label at k above text s (why_refused (next_number s) s) refl h)
+    let kept = keep_value value s in
+    put-named keys path at above key other up text kept s.values (numbering_of kept.keys (key_of_step keys key)) same is refl refl (keep-drawn value s room ∙ ap suc (sym h))
+put-wanted keys path at above key other up text s (Some why) same is room h = λ passed. absurd cc
+
+pub put_is_found : (keys : List KeyText) (path : List ℕ) (at : ℕ) (above : List ℕ) (key other : StepKeyText) (up : ℕ) (text : List ℕ) (s : ValueState) → key_of_step keys other ≡ key_of_step keys key → drop up path ≡ at ∷ above → HasValues s
+    → (step_run keys path (put key text up) s).verdict ≡ successful
+    → (step_run keys path (want other text up) (step_run keys path (put key text up) s).state).verdict ≡ successful
+put_is_found keys path at above key other up text s same is h = put-wanted keys path at above key other up text s (why_refused (next_number s) s) same is refl h

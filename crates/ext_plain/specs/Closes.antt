@@ -1,4 +1,5 @@
--- The end of a context: all its keys are sealed, in order, and then those of the values that the seals kept that are closeable are closed, the latest first, each once.
+-- The end of a context: its places of all numbers that keys can have are sealed, in order, so that nothing is stored there afterwards,
+-- whatever key is named later. Then those of the values that the seals kept that are closeable are closed, the latest first, each once.
 -- A close that fails does not stop the others.
 --
 -- JUnit 5 User Guide, "Keeping State in Extensions", and Javadoc `ExtensionContext.Store.CloseableResource`. Which numbers remain, and in which order, is the

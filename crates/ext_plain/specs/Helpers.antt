@@ -1,5 +1,5 @@
 -- What the contracts of private functions cite, and nothing else: no public clause needs it.
-use Rattle.std.specs.Prelude.{◌≡◌, ◌<◌, ◌≤◌, ℕ, Bool, true, false, not, List, [], codes, drop, length, map, Option, Some, None, option_map, Result, Ok, Err, if◌then◌else◌}
+use Rattle.std.specs.Prelude.{◌≡◌, ◌<◌, ◌≤◌, ◌⊎◌, ℕ, Bool, true, false, not, List, [], drop, length, map, Option, Some, None, option_map, Result, Ok, Err, if◌then◌else◌}
 use Rattle.ext_model.specs.declared.look.Fault.{Fault}
 use Rattle.ext_model.specs.declared.event.Act.TheVariants.{Abandon}
 use Rattle.ext_model.specs.declared.plain_fault.PlainFault.{PlainFault}
@@ -14,28 +14,33 @@ use Rattle.ext_lifecycle.specs.Endings.{is_successful, with_fault}
 use Rattle.ext_lifecycle.specs.FaultTexts.{VerdictText, fault_text, results_view, verdict_text}
 use Rattle.ext_lifecycle.specs.Lifecycle.{computed_in, endings_of, found_in, tally_of}
 use Rattle.ext_lifecycle.specs.Results.{closes_of}
-use Rattle.ext_plan_model.specs.Plans.{KeyText, PlanText, StepText, plan_view, put, put_closeable, want, nothing, remove, compute, compute_closeable, compute_fail, fail, abort}
+use Rattle.ext_tree.specs.Keys.{KeyValue}
+use Rattle.ext_plan_model.specs.Plans.{KeyText, PlanText, StepKeyText, step_key_view, plan_view}
 use Rattle.ext_steps.specs.declared.reason.Reason.{Reason}
-use Rattle.ext_steps.specs.declared.step_keys.StepCall.{StepCall}
-use Rattle.ext_steps.specs.Calls.{CallText, key_number, label_of, start_of}
+use Rattle.ext_steps.specs.declared.reason.Reason.TheVariants as reasons
+use Rattle.ext_steps.specs.declared.step_call.StepCall.{StepCall}
+use Rattle.ext_steps.specs.Calls.{keys_in, start_of}
 use Rattle.ext_steps.specs.Values.{ValueText, value_view}
 use Rattle.ext_plain.specs.declared.callers.NodeCaller.{NodeCaller}
 use Rattle.ext_plain.specs.declared.lack.Lack.{Lack}
 use Rattle.ext_plain.specs.declared.lack.Lack.TheVariants as lacks
+use Rattle.ext_plain.specs.declared.lack.StepLack.{StepLack}
+use Rattle.ext_plain.specs.declared.lack.StepLack.TheVariants as step_lacks
+use Rattle.ext_plain.specs.declared.keyed_step.KeyedStep.{KeyedStep}
 use Rattle.ext_plain.specs.declared.plain.PlainRunner.{PlainRunner}
 use Rattle.ext_plain.specs.declared.setting.Setting.{Setting}
 use Rattle.ext_plain.specs.declared.value_store.ValueStore.{ValueStore}
 use Rattle.ext_plain.specs.NodeCalls.{CallsEnd, call_run}
 use Rattle.ext_tree.specs.Trees.{IsTree}
 use Rattle.ext_tree.specs.Paths.{IsPathOf}
-use Rattle.ext_plain.specs.PlainRun.{RunState, key_count, node_end}
+use Rattle.ext_plain.specs.PlainRun.{RunState, node_end}
 use Rattle.ext_plain.specs.Steps.{StepEnd, ended, factory_gave, factory_failed, no_memory, said_by}
-use Rattle.ext_plain.specs.ValueStates.{Memory, enough, no_value, no_place, no_words, ValueState, after_act, reason, why_refused, next_number, keep_value, with_memory}
+use Rattle.ext_plain.specs.ValueStates.{Memory, enough, no_key, no_value, no_number, no_place, no_words, ValueState, after_act, reason, why_refused, next_number, keep_value, with_memory, known, next, full, numbering_of, with_number}
 
 -- ---- the store and its values
 
 abbrev pub state_view : ValueStore → ValueState
-state_view s = record { keep_faults = s.keep_faults; store = state_of s.store; values = map value_view s.values.items; memory = [] }
+state_view s = record { keep_faults = s.keep_faults; store = state_of s.store; keys = s.keys; values = map value_view s.values.items; memory = [] }
 
 -- why a call of the store was refused, where it was not for want of memory
 abbrev pub IsReasonOf : PlainFault → Reason → Type 0
@@ -72,10 +77,35 @@ abbrev pub Keeps : ValueText → ValueState → ValueState → Result ℕ Reason
 Keeps value old new (Ok number) = IsKeptAs value old new number
 Keeps value old new (Err why) = IsNotKept old new why
 
+-- ---- the numbers of keys
+
+-- the key has this number from now on: it had it, or it got it
+abbrev pub HasBeenNumbered : KeyValue → ValueState → ValueState → ℕ → Type 0
+HasBeenNumbered key old new number = ((numbering_of old.keys key ≡ known number) × (new ≡ old)) ⊎ ((numbering_of old.keys key ≡ next number) × (new ≡ with_number key old))
+
+-- all numbers are those of other keys
+pub record HasNoNumber (key : KeyValue) (old new : ValueState) (why : Reason) : Type 0 where
+  pub numbering : numbering_of old.keys key ≡ full
+  pub reason : why ≡ reasons.DirectoryFull
+  pub state : new ≡ old
+
+-- the key would have got a number, but for memory
+pub record WantsNumber (key : KeyValue) (old new : ValueState) (lack : StepLack) : Type 0 where
+  pub number : ℕ
+  pub numbering : numbering_of old.keys key ≡ next number
+  pub lacks : lack ≡ step_lacks.Number
+  pub state : new ≡ old
+
+abbrev pub Numbers : KeyValue → ValueState → ValueState → Result (Result ℕ Reason) StepLack → Type 0
+Numbers key old new (Ok (Ok number)) = HasBeenNumbered key old new number
+Numbers key old new (Ok (Err why)) = HasNoNumber key old new why
+Numbers key old new (Err lack) = WantsNumber key old new lack
+
 -- ---- the steps
 
-abbrev pub place_of_call : StepCall → Place
-place_of_call c = (start_of c.path.now, c.key)
+-- the place of a call's context and of the number of its key
+abbrev pub place_of_call : StepCall → ℕ → Place
+place_of_call c number = (start_of c.path.now, number)
 
 abbrev pub step_end : ValueState → Outcome → StepEnd
 step_end s o = record { state = s; verdict = verdict_text o.verdict; computed = o.computed; found = o.found }
@@ -108,26 +138,46 @@ abbrev pub memory_of : Result Outcome Lack → Memory
 memory_of (Ok outcome) = enough
 memory_of (Err lack) = lacking lack
 
+-- an answer that lacks memory lacks it for what is done once the key has its number
+abbrev pub lifted : Result Outcome Lack → Result Outcome StepLack
+lifted (Ok outcome) = Ok outcome
+lifted (Err lack) = Err (step_lacks.Act lack)
+
+-- what a whole step found of memory that answered this,
+abbrev pub memory_of_step : Result Outcome StepLack → Memory
+memory_of_step (Ok outcome) = enough
+memory_of_step (Err step_lacks.Key) = no_key
+memory_of_step (Err step_lacks.Number) = no_number
+memory_of_step (Err (step_lacks.Act lack)) = lacking lack
+
+-- how many values it had found,
+abbrev pub step_found : StepLack → ℕ
+step_found step_lacks.Key = 0
+step_found step_lacks.Number = 0
+step_found (step_lacks.Act lack) = found_lacking lack
+
+-- and what it leaves
+abbrev pub end_of_step : ValueState → Result Outcome StepLack → StepEnd
+end_of_step s (Ok outcome) = step_end s outcome
+end_of_step s (Err lack) = record { state = s; verdict = no_memory; computed = 0; found = step_found lack }
+
 -- a step ends with this verdict that found a value where it would have computed one
 abbrev pub counted_found : VerdictText → ValueState → StepEnd
 counted_found verdict s = record { state = s; verdict = verdict; computed = 0; found = 1 }
 
--- what a step of this name calls the store with, under a label's key, on the path of an ancestor so many contexts up
-abbrev pub called : List KeyText → List ℕ → List ℕ → ℕ → ℕ → CallText
-called keys path name key up = record { name = name; label = label_of keys key; path = drop up path; key = key_number keys key }
+-- a step before its key is made: the declared keys of its plan, its first word, the key that it names, and the path of the context that it acts on
+pub record KeyedText : Type 0 where
+  pub keys : List KeyText
+  pub name : List ℕ
+  pub key : StepKeyText
+  pub path : List ℕ
 
--- what a step calls the store with; `fail` and `abort` don't call it
-abbrev pub call_of : List KeyText → List ℕ → StepText → CallText
-call_of keys path (put key text up) = called keys path (codes "put") key up
-call_of keys path (put_closeable key text up) = called keys path (codes "put!") key up
-call_of keys path (want key text up) = called keys path (codes "want") key up
-call_of keys path (nothing key up) = called keys path (codes "none") key up
-call_of keys path (remove key up) = called keys path (codes "remove") key up
-call_of keys path (compute key text up) = called keys path (codes "compute") key up
-call_of keys path (compute_closeable key text up) = called keys path (codes "compute!") key up
-call_of keys path (compute_fail key text up) = called keys path (codes "computefail") key up
-call_of keys path (fail text) = called keys path (codes "fail") 0 0
-call_of keys path (abort text) = called keys path (codes "abort") 0 0
+abbrev pub keyed_view : KeyedStep → KeyedText
+keyed_view k = record { keys = keys_in k.keys.now; name = k.name.now; key = step_key_view k.key.now; path = drop k.up k.path.now }
+
+-- a step of this name, on the path of an ancestor so many contexts up
+abbrev pub keyed : List KeyText → List ℕ → List ℕ → StepKeyText → ℕ → KeyedText
+keyed keys path name key up = record { keys = keys; name = name; key = key; path = drop up path }
 
 -- a step that does nothing more ends with this verdict; it lacks memory only for the words of one that isn't a success
 abbrev pub Says : VerdictText → Result Outcome Lack → Type 0
@@ -216,4 +266,4 @@ pub record RunsAs (setting : Setting) (at : ℕ) (by : List ℕ → RunState →
 -- the end of a node whose calls came to this tally, whatever later steps find of memory
 pub record EndsNode (setting : Setting) (at : ℕ) (is_test : Bool) (tally : Tally) (old new : RunState) : Type 0 where
   pub each : (outcomes : List Outcome) → tally ≡ tally_of outcomes → (later : List Memory)
-      → run_with later new ≡ node_end (key_count (plan_in setting)) at is_test (calls_end (with_memory later old.state) outcomes) old.results
+      → run_with later new ≡ node_end at is_test (calls_end (with_memory later old.state) outcomes) old.results

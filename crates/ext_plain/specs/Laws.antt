@@ -1,25 +1,29 @@
 -- What is true of the plain run of every plan, whatever memory its steps find: sentences by which a reader may judge its definition.
 -- JUnit 5 User Guide, "Keeping State in Extensions": a context's store is closed at the end of the context.
 -- That results stand in the order of the plan, and which nodes are skipped, are own rules.
-use Rattle.std.specs.Prelude.{ℕ, ◌≡◌, ◌≢◌, ◌⊎◌, ◌+◌, ◌<◌, codes, Bool, true, false, if◌then◌else◌, List, [], ◌∷◌, Some, All, IfSome, map, length, drop, is_some, slice_get}
+use Rattle.std.specs.Prelude.{ℕ, ◌≡◌, ◌≢◌, ◌⊎◌, ◌+◌, ◌<◌, ◌≤◌, codes, Bool, true, false, if◌then◌else◌, List, [], ◌∷◌, Option, Some, None, All, Contains, IfSome, map, length, drop, is_some, slice_get}
 use Rattle.std.specs.List.{range_with_len}
 use Rattle.std.specs.Str.{bytes_eq}
 use Rattle.ext_model.specs.declared.slot.Slot.TheVariants as slot
 use Rattle.ext_model.specs.State.{IsClaimed, IsSealed}
 use Rattle.ext_model.specs.Plain.{Place}
+use Rattle.ext_tree.specs.Keys.{KeyValue, AreDifferent, HasNumber}
 use Rattle.ext_tree.specs.Paths.{IsParentOf}
+use Rattle.ext_lifecycle.specs.declared.call.Call.{Call}
 use Rattle.ext_lifecycle.specs.declared.status.Status.TheVariants as statuses
 use Rattle.ext_lifecycle.specs.Endings.{all_successful, failed, successful}
 use Rattle.ext_lifecycle.specs.FaultTexts.{NodeOutcome}
-use Rattle.ext_plan_model.specs.Plans.{KeyText, PlanText, StepText, put, want, nothing, compute, compute_closeable, compute_fail}
-use Rattle.ext_plan_model.specs.KeyNumbers.{different_keys}
-use Rattle.ext_plan_model.specs.Laws.{ids_of_nodes, NodesAreTree, TestsHaveNoChildren}
+use Rattle.ext_plan_model.specs.Plans.{KeyText, PlanText, StepKeyText, StepText, put, put_closeable, want, nothing, remove, compute, compute_closeable, compute_fail, fail, abort}
+use Rattle.ext_plan_model.specs.KeyNumbers.{is_there, key_of_step}
+use Rattle.ext_plan_model.specs.Laws.{ids_of_nodes, NodesAreTree, OfAllSteps, TestsHaveNoChildren}
+use Rattle.ext_plan_model.specs.Steps.{step_key}
 use Rattle.ext_steps.specs.Calls.{label_of, start_of}
 use Rattle.ext_steps.specs.StepTexts.{met_fault_text, other_fault_text}
-use Rattle.ext_plain.specs.ValueStates.{Memory, ValueState, value_opening}
-use Rattle.ext_plain.specs.Steps.{ended, no_memory, step_by, step_run}
+use Rattle.ext_steps.specs.Values.{ValueText}
+use Rattle.ext_plain.specs.ValueStates.{key_limit, Memory, Numbering, known, next, full, numbering_of, ValueState, value_opening, keep_value, with_number}
+use Rattle.ext_plain.specs.Steps.{ended, no_memory, step_by, step_run, steps_run}
 use Rattle.ext_plan_model.specs.PlanCalls.{test_of}
-use Rattle.ext_plain.specs.NodeCalls.{befores_run}
+use Rattle.ext_plain.specs.NodeCalls.{befores_run, call_run}
 use Rattle.ext_plain.specs.PlainRun.{HasNoFailed, RunState, node_run, plain_run, plain_run_by}
 
 -- ---- the results
@@ -100,36 +104,112 @@ HasValues s = length s.values ≡ s.store.drawn
 abbrev pub HasNoFaults : ValueState → Type 0
 HasNoFaults s = (place : Place) (number : ℕ) → s.store.slots place ≢ Some (slot.Fault number)
 
--- all three hold before the first node, whether faults are kept or not
+-- no key has two numbers, and no more than the limit have one; that no two keys have one number follows, since a key's number is its place
+pub record NumbersKeys (s : ValueState) : Type 0 where
+  pub different : AreDifferent s.keys
+  pub few : length s.keys ≤ key_limit
+
+-- all four hold before the first node, whether faults are kept or not
 abbrev pub OpensClear : Type 0
-OpensClear = (keeps : Bool) → HasNoClaims (value_opening keeps) × HasValues (value_opening keeps) × HasNoFaults (value_opening keeps)
+OpensClear = (keeps : Bool) → HasNoClaims (value_opening keeps) × HasValues (value_opening keeps) × HasNoFaults (value_opening keeps) × NumbersKeys (value_opening keeps)
 
 -- where there was no claim, there is none after a node
 abbrev pub MakesNoClaims : Type 0
 MakesNoClaims = (plan : PlanText) (levels : ℕ) (path : List ℕ) (run : RunState) → HasNoClaims run.state → HasNoClaims (node_run plan levels path run).state
 
--- and all keys are then sealed in the node's context
+-- and the places of all keys are then sealed in the node's context, also of those that have no number yet
 abbrev pub SealsContexts : Type 0
 SealsContexts =
-    (plan : PlanText) (levels key : ℕ) (path : List ℕ) (run : RunState) → HasNoClaims run.state → key < length (different_keys plan.keys)
+    (plan : PlanText) (levels key : ℕ) (path : List ℕ) (run : RunState) → HasNoClaims run.state → key < key_limit
     → IsSealed ((node_run plan (levels + 1) path run).state.store.slots (start_of path, key))
 
 -- where each number had a value, each has one after a node
 abbrev pub KeepsValues : Type 0
 KeepsValues = (plan : PlanText) (levels : ℕ) (path : List ℕ) (run : RunState) → HasValues run.state → HasValues (node_run plan levels path run).state
 
--- once a `put` has passed, a `want` of the same text under the same key passes in the same context
+-- ---- the numbers of keys
+
+-- where no key has two numbers, none has after a step, after the steps of a call, and after a node and all below it
+pub record NumbersOnce : Type 0 where
+  pub step : (keys : List KeyText) (found : Memory) (path : List ℕ) (step : StepText) (s : ValueState) → NumbersKeys s → NumbersKeys (step_by keys found path step s).state
+  pub steps : (keys : List KeyText) (path : List ℕ) (steps : List StepText) (s : ValueState) → NumbersKeys s → NumbersKeys (steps_run keys path steps s).state
+  pub node : (plan : PlanText) (levels : ℕ) (path : List ℕ) (run : RunState) → NumbersKeys run.state → NumbersKeys (node_run plan levels path run).state
+
+-- a key that has a number keeps it, whatever a step, the steps of a call, or a node and all below it do
+pub record KeepsNumber (key : KeyValue) (number : ℕ) : Type 0 where
+  pub step : (keys : List KeyText) (found : Memory) (path : List ℕ) (step : StepText) (s : ValueState) → HasNumber s.keys key number → HasNumber (step_by keys found path step s).state.keys key number
+  pub steps : (keys : List KeyText) (path : List ℕ) (steps : List StepText) (s : ValueState) → HasNumber s.keys key number → HasNumber (steps_run keys path steps s).state.keys key number
+  pub node : (plan : PlanText) (levels : ℕ) (path : List ℕ) (run : RunState) → HasNumber run.state.keys key number → HasNumber (node_run plan levels path run).state.keys key number
+
+abbrev pub KeepsNumbers : Type 0
+KeepsNumbers = (key : KeyValue) (number : ℕ) → KeepsNumber key number
+
+-- and each step that names it is answered this number
+abbrev pub KnowsNumbers : Type 0
+KnowsNumbers = (keys : List KeyValue) (key : KeyValue) (number : ℕ) → AreDifferent keys → HasNumber keys key number → numbering_of keys key ≡ known number
+
+-- the value that a step keeps before its key is numbered
+abbrev pub kept_first : StepText → Option ValueText
+kept_first (put key text up) = Some (record { text = text; closeable = false })
+kept_first (put_closeable key text up) = Some (record { text = text; closeable = true })
+kept_first (want key text up) = None
+kept_first (nothing key up) = None
+kept_first (remove key up) = None
+kept_first (compute key text up) = None
+kept_first (compute_closeable key text up) = None
+kept_first (compute_fail key text up) = None
+kept_first (fail text) = None
+kept_first (abort text) = None
+
+-- nothing is changed, but that such a value may have been kept, which drew its number
+abbrev pub IsUnchangedButKept : Option ValueText → ValueState → ValueState → Type 0
+IsUnchangedButKept None old new = new ≡ old
+IsUnchangedButKept (Some value) old new = (new ≡ old) ⊎ (new ≡ keep_value value old)
+
+-- a step whose key has no number afterwards has changed nothing else
+abbrev pub ChangesNothingUnnumbered : Type 0
+ChangesNothingUnnumbered =
+    (keys : List KeyText) (found : Memory) (path : List ℕ) (step : StepText) (key : StepKeyText) (s : ValueState) → step_key step ≡ Some key
+    → is_there (step_by keys found path step s).state.keys (key_of_step keys key) ≡ false → IsUnchangedButKept (kept_first step) s (step_by keys found path step s).state
+
+-- the step names one of these keys, or none
+abbrev pub NamesOneOf : List KeyValue → List KeyText → StepText → Type 0
+NamesOneOf names keys step = IfSome (step_key step) (λ key. Contains names (key_of_step keys key))
+
+-- and so does each step of the plan
+abbrev pub NamesOnly : List KeyValue → PlanText → Type 0
+NamesOnly names plan = All (OfAllSteps (All (NamesOneOf names plan.keys))) plan.nodes
+
+-- then only these get numbers, whatever step is made, whatever call of the plan, and whatever node is run,
+pub record NumbersOnly (names : List KeyValue) (plan : PlanText) : Type 0 where
+  pub step : (found : Memory) (path : List ℕ) (step : StepText) (s : ValueState) → NamesOneOf names plan.keys step → All (Contains names) s.keys → All (Contains names) (step_by plan.keys found path step s).state.keys
+  pub call : (path : List ℕ) (call : Call) (s : ValueState) → All (Contains names) s.keys → All (Contains names) (call_run plan path call s).state.keys
+  pub node : (levels : ℕ) (path : List ℕ) (run : RunState) → All (Contains names) run.state.keys → All (Contains names) (node_run plan levels path run).state.keys
+
+abbrev pub NumbersOnlyNamed : Type 0
+NumbersOnlyNamed = (names : List KeyValue) (plan : PlanText) → NamesOnly names plan → NumbersOnly names plan
+
+-- and where they are no more than the limit there is a number for each of them: no step of the plan ends with `directory full`
+abbrev pub HasRoom : Type 0
+HasRoom =
+    (names keys : List KeyValue) (key : KeyValue) → length names ≤ key_limit → AreDifferent keys → All (Contains names) keys → Contains names key → numbering_of keys key ≢ full
+
+-- ---- what was put
+
+-- once a `put` has passed, a `want` of the same text under the same key passes in the same context, by whatever word it names the key: its label, another label of it,
+-- or its name
 abbrev pub FindsWhatWasPut : Type 0
 FindsWhatWasPut =
-    (keys : List KeyText) (path : List ℕ) (at : ℕ) (above : List ℕ) (key up : ℕ) (text : List ℕ) (s : ValueState) → drop up path ≡ at ∷ above → HasValues s
+    (keys : List KeyText) (path : List ℕ) (at : ℕ) (above : List ℕ) (key other : StepKeyText) (up : ℕ) (text : List ℕ) (s : ValueState) → key_of_step keys other ≡ key_of_step keys key
+    → drop up path ≡ at ∷ above → HasValues s
     → (step_run keys path (put key text up) s).verdict ≡ successful
-    → (step_run keys path (want key text up) (step_run keys path (put key text up) s).state).verdict ≡ successful
+    → (step_run keys path (want other text up) (step_run keys path (put key text up) s).state).verdict ≡ successful
 
 -- ---- kept faults
 
 -- Each step that meets the kept fault of this text says so, and changes nothing: no factory runs, and nothing is computed or found. A `computefail` passes where its
 -- own text is the same
-pub record MeetsFault (keys : List KeyText) (path : List ℕ) (key up : ℕ) (text : List ℕ) (s : ValueState) : Type 0 where
+pub record MeetsFault (keys : List KeyText) (path : List ℕ) (key : StepKeyText) (up : ℕ) (text : List ℕ) (s : ValueState) : Type 0 where
   pub computes : (other : List ℕ) → step_run keys path (compute key other up) s ≡ ended (failed (met_fault_text (codes "compute") (label_of keys key) text)) s
   pub computes_closeable : (other : List ℕ) → step_run keys path (compute_closeable key other up) s ≡ ended (failed (met_fault_text (codes "compute!") (label_of keys key) text)) s
   pub fails : (other : List ℕ)
@@ -140,13 +220,21 @@ pub record MeetsFault (keys : List KeyText) (path : List ℕ) (key up : ℕ) (te
 -- where faults are kept, once a `computefail` has passed, the steps after it meet a fault of its text under the same key in the same context: its own, or one that it met
 abbrev pub KeepsFault : Type 0
 KeepsFault =
-    (keys : List KeyText) (path : List ℕ) (at : ℕ) (above : List ℕ) (key up : ℕ) (text : List ℕ) (s : ValueState) → drop up path ≡ at ∷ above → HasValues s → s.keep_faults ≡ true
+    (keys : List KeyText) (path : List ℕ) (at : ℕ) (above : List ℕ) (key : StepKeyText) (up : ℕ) (text : List ℕ) (s : ValueState) → drop up path ≡ at ∷ above → HasValues s → s.keep_faults ≡ true
     → (step_run keys path (compute_fail key text up) s).verdict ≡ successful
     → MeetsFault keys path key up text (step_run keys path (compute_fail key text up) s).state
 
--- and where they are not, a `computefail` leaves the store as it was: the steps after it do what they would have done without it
+-- the store once a key has been named: it has a number, where there is one for it
+abbrev pub named_by : Numbering → KeyValue → ValueState → ValueState
+named_by (known number) key s = s
+named_by (next number) key s = with_number key s
+named_by full key s = s
+
+-- and where they are not, a `computefail` leaves the store as it was, but that its key was named: the steps after it do what they would have done after a look-up in its place
 abbrev pub KeepsNoFault : Type 0
-KeepsNoFault = (keys : List KeyText) (path : List ℕ) (key up : ℕ) (text : List ℕ) (s : ValueState) → s.keep_faults ≡ false → (step_run keys path (compute_fail key text up) s).state ≡ s
+KeepsNoFault =
+    (keys : List KeyText) (path : List ℕ) (key : StepKeyText) (up : ℕ) (text : List ℕ) (s : ValueState) → s.keep_faults ≡ false
+    → (let k = key_of_step keys key in (step_run keys path (compute_fail key text up) s).state ≡ named_by (numbering_of s.keys k) k s)
 
 -- and no kept fault stands after a node, where none stood before it
 abbrev pub NeverFaults : Type 0

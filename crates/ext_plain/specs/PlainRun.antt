@@ -12,11 +12,10 @@ use Rattle.ext_lifecycle.specs.FaultTexts.{NodeOutcome}
 use Rattle.ext_lifecycle.specs.Modes.{in_run_order}
 use Rattle.ext_lifecycle.specs.Results.{result_of, skipped_result}
 use Rattle.ext_plan_model.specs.Plans.{NodeText, PlanText}
-use Rattle.ext_plan_model.specs.KeyNumbers.{different_keys}
 use Rattle.ext_plan_model.specs.Laws.{ids_of_nodes}
 use Rattle.ext_steps.specs.Calls.{start_of}
 use Rattle.ext_tree.specs.Paths.{children_of}
-use Rattle.ext_plain.specs.ValueStates.{Memory, ValueState, value_opening, with_memory}
+use Rattle.ext_plain.specs.ValueStates.{key_limit, Memory, ValueState, value_opening, with_memory}
 use Rattle.ext_plain.specs.Closes.{seal_keys, closes}
 use Rattle.ext_plan_model.specs.PlanCalls.{concurrent_of, test_of}
 use Rattle.ext_plain.specs.NodeCalls.{CallsEnd, befores_run, test_run, afters_run}
@@ -36,19 +35,15 @@ outcome_of at is_test end closed = result_of at is_test end.calls end.computed e
 abbrev pub with_result : NodeOutcome → List NodeOutcome → List NodeOutcome
 with_result outcome results = slice_set results outcome.node outcome
 
--- all keys are sealed in the node's context, its closeable values are closed, and its result stands in its place
-abbrev pub node_end : ℕ → ℕ → Bool → CallsEnd → List NodeOutcome → RunState
-node_end keys at is_test end results =
-    let sealed = seal_keys keys at end.state in
-    record { state = sealed; results = with_result (outcome_of at is_test end (closes keys at sealed)) results }
+-- the places of all keys are sealed in the node's context, also of those that have no number yet; its closeable values are closed, and its result stands in its place
+abbrev pub node_end : ℕ → Bool → CallsEnd → List NodeOutcome → RunState
+node_end at is_test end results =
+    let sealed = seal_keys key_limit at end.state in
+    record { state = sealed; results = with_result (outcome_of at is_test end (closes key_limit at sealed)) results }
 
 -- ---- the tree
 
 module _ (plan : PlanText) where
-  -- how many different keys there are
-  abbrev pub key_count : ℕ
-  key_count = length (different_keys plan.keys)
-
   -- the children of the path's first context, in the order of one lane, each by what runs a path
   abbrev pub children_run : (List ℕ → RunState → RunState) → List ℕ → RunState → RunState
   children_run path_run path run = fold (λ r child. path_run (child ∷ path) r) run (in_run_order (concurrent_of plan) (children_of (ids_of_nodes plan.nodes) (start_of path)))
@@ -62,11 +57,11 @@ module _ (plan : PlanText) where
   container_run path_run at path run =
       let before = befores_run plan false at path run.state in
       let body = body_run path_run (all_successful before.calls) path (record { state = before.state; results = run.results }) in
-      node_end key_count at false (afters_run plan false at path (record before { state = body.state })) body.results
+      node_end at false (afters_run plan false at path (record before { state = body.state })) body.results
 
   -- a test, whose body is one of its calls
   abbrev pub test_node_run : ℕ → List ℕ → RunState → RunState
-  test_node_run at path run = node_end key_count at true (afters_run plan true at path (test_run plan at path (befores_run plan true at path run.state))) run.results
+  test_node_run at path run = node_end at true (afters_run plan true at path (test_run plan at path (befores_run plan true at path run.state))) run.results
 
   -- the node that a path to the root begins with, and what is below it, so many levels deep
   unfoldable pub node_run : ℕ → List ℕ → RunState → RunState

@@ -1,11 +1,13 @@
--- The store of a run and the values of its numbers, and what an act does to it. Javadoc `NamespacedHierarchicalStore`, for one thread, by the definitions of the
--- store's state; that values are seen by numbers is an own rule.
-use Rattle.std.specs.Prelude.{ℕ, Bool, zero, suc, ◌+◌, List, [], ◌∷◌, ◌++◌, Option, Some, None, slice_get}
+-- The store of a run, the keys and the values of its numbers, and what an act does to it. Javadoc `NamespacedHierarchicalStore`, for one thread, by the definitions
+-- of the store's state; that keys and values are seen by numbers is an own rule.
+use Rattle.std.specs.Prelude.{ℕ, Bool, zero, suc, ◌+◌, List, [], ◌∷◌, ◌++◌, length, nat_lt, Option, Some, None, slice_get, if◌then◌else◌}
 use Rattle.ext_model.specs.declared.event.Act.{Act}
 use Rattle.ext_model.specs.declared.event.Act.TheVariants.{Keep}
 use Rattle.ext_model.specs.State.{State, opening}
 use Rattle.ext_model.specs.Events.{Reply, Happens, Answers, Refuses, Refusal, NumbersFull, Busy, Closed, Standing, FaultStanding, Exhausted, Barred}
 use Rattle.ext_model.specs.Plain.{Place, any_lane, plain_reply, next_state}
+use Rattle.ext_tree.specs.Keys.{KeyValue}
+use Rattle.ext_plan_model.specs.KeyNumbers.{is_there, place_of_key}
 use Rattle.ext_steps.specs.declared.reason.Reason.{Reason}
 use Rattle.ext_steps.specs.declared.reason.Reason.TheVariants as reasons
 use Rattle.ext_steps.specs.Values.{ValueText}
@@ -14,19 +16,27 @@ use Rattle.ext_steps.specs.Values.{ValueText}
 abbrev pub run_numbers : ℕ
 run_numbers = 65535
 
--- what a step finds of the memory that it asks for: enough; or none for a value that it keeps, none for a place of the store, or none for the words of its fault
+-- how many keys have numbers at most
+abbrev pub key_limit : ℕ
+key_limit = 64
+
+-- what a step finds of the memory that it asks for: enough; or none for the key that is made for it, none for a value that it keeps, none for the number of a new key,
+-- none for a place of the store, or none for the words of its fault
 pub data Memory : Type 0 where
   enough : Memory
+  no_key : Memory
   no_value : Memory
+  no_number : Memory
   no_place : Memory
   no_words : Memory
 
--- the store of a run: whether it keeps faults, as it does from its opening on or never; its state; the values that were kept, the first of which has number 1, and among
--- them the text of each kept fault, as a value that isn't closeable; and what the next steps find of memory, in the order in which they are made; steps past the end of
--- that list find enough
+-- the store of a run: whether it keeps faults, as it does from its opening on or never; its state; the keys that have a number, in the order in which steps first named
+-- them, where the place of each is its number; the values that were kept, the first of which has number 1, and among them the text of each kept fault, as a value that
+-- isn't closeable; and what the next steps find of memory, in the order in which they are made; steps past the end of that list find enough
 pub record ValueState : Type 0 where
   pub keep_faults : Bool
   pub store : State Place
+  pub keys : List KeyValue
   pub values : List ValueText
   pub memory : List Memory
 
@@ -34,7 +44,7 @@ pub record ValueState : Type 0 where
 
 -- the store at its opening, which keeps faults or not
 abbrev pub value_opening : Bool → ValueState
-value_opening keeps = record { keep_faults = keeps; store = opening; values = []; memory = [] }
+value_opening keeps = record { keep_faults = keeps; store = opening; keys = []; values = []; memory = [] }
 
 -- the same, where the next steps find this of memory
 abbrev pub with_memory : List Memory → ValueState → ValueState
@@ -90,3 +100,18 @@ keep_value value s = record s { store = next_state run_numbers s.store any_lane 
 abbrev pub value_of : List ValueText → ℕ → Option ValueText
 value_of values zero = None
 value_of values (suc n) = slice_get values n
+
+-- ---- the number of a key
+
+-- what a key that a step names has: a number; the next number, which it gets; or none, where all numbers are those of other keys
+pub data Numbering : Type 0 where
+  known : ℕ → Numbering
+  next : ℕ → Numbering
+  full : Numbering
+
+abbrev pub numbering_of : List KeyValue → KeyValue → Numbering
+numbering_of keys key = if is_there keys key then known (place_of_key keys key) else if nat_lt (length keys) key_limit then next (length keys) else full
+
+-- the key gets the next number
+abbrev pub with_number : KeyValue → ValueState → ValueState
+with_number key s = record s { keys = s.keys ++ key ∷ [] }

@@ -1,11 +1,9 @@
 //! Steps that look whether a value is found, and what it is.
 ghost use Rattle.std.specs.Prelude.{◌≡◌, option_map};
-ghost use Rattle.ext_model.specs.State.{lookup};
-ghost use Rattle.ext_model.specs.Plain.{under};
 ghost use Rattle.ext_steps.specs.Calls.{call_view};
 ghost use Rattle.ext_steps.specs.Values.{value_view};
 ghost use Rattle.ext_steps.specs.Verdicts.{fail_verdict, none_verdict, seen_view, want_verdict};
-ghost use Rattle.ext_plain.specs.Steps.{ended, said_by, seen_by, shown, shown_fault};
+ghost use Rattle.ext_plain.specs.Steps.{ended, found_along, none_numbered, said_by, seen_by, shown, shown_fault, want_numbered};
 ghost use Rattle.ext_plain.specs.ValueStates.{value_of};
 ghost use Rattle.ext_plain.specs.Helpers.{answer_end, counted_found, memory_of, state_view};
 
@@ -13,25 +11,31 @@ use crate::lack::Lack;
 use crate::said::said;
 use crate::value_store::ValueStore;
 use ext_lifecycle::Outcome;
-use ext_model::Look;
+use ext_model::{KeyNo, Look};
 use ext_steps::{PlanValue, Reason, Seen, StepCall, fail_verdict, none_verdict, want_verdict};
 use std::alloc::Global;
 
 impl<'a> ValueStore<'a> {
-    /// A step `want`: looks up along the path, and compares the text of the value found.
-    pub fn want(&self, alloc: Global, call: &StepCall<'_>, text: &str) -> Result<Outcome, Lack>
-        ensures { answer_end (state_view self.now) result ≡ said_by (memory_of result) (ended (want_verdict (call_view call.now).name (call_view call.now).label text.now
-            (seen_by (state_view self.now).values (lookup (under (state_view self.now).store (call_view call.now).key) (call_view call.now).path))) (state_view self.now)) }
+    /// A step `want`, whose key has this number: looks up along the path, and compares the text of the value found.
+    pub fn want(
+        &self,
+        alloc: Global,
+        call: &StepCall<'_>,
+        key: KeyNo,
+        text: &str,
+    ) -> Result<Outcome, Lack>
+        ensures { answer_end (state_view self.now) result ≡ want_numbered (memory_of result) (call_view call.now).name (call_view call.now).label
+            (call_view call.now).path text.now key (state_view self.now) }
     {
-        said(want_verdict(alloc, call, text, self.see(call)))
+        said(want_verdict(alloc, call, text, self.see(call, key)))
     }
 
-    /// A step `none`: looks up along the path, where nothing is to be found.
-    pub fn none(&self, alloc: Global, call: &StepCall<'_>) -> Result<Outcome, Lack>
-        ensures { answer_end (state_view self.now) result ≡ said_by (memory_of result) (ended (none_verdict (call_view call.now).name (call_view call.now).label
-            (seen_by (state_view self.now).values (lookup (under (state_view self.now).store (call_view call.now).key) (call_view call.now).path))) (state_view self.now)) }
+    /// A step `none`, whose key has this number: looks up along the path, where nothing is to be found.
+    pub fn none(&self, alloc: Global, call: &StepCall<'_>, key: KeyNo) -> Result<Outcome, Lack>
+        ensures { answer_end (state_view self.now) result ≡ none_numbered (memory_of result) (call_view call.now).name (call_view call.now).label
+            (call_view call.now).path key (state_view self.now) }
     {
-        said(none_verdict(alloc, call, self.see(call)))
+        said(none_verdict(alloc, call, self.see(call, key)))
     }
 
     /// A step `computefail` that finds the value of this number: says which, and counts it.
@@ -83,10 +87,10 @@ impl<'a> ValueStore<'a> {
     }
 
     /// What a look-up along the path shows.
-    fn see(&self, call: &StepCall<'_>) -> Seen<'a>
-        ensures { seen_view result ≡ seen_by (state_view self.now).values (lookup (under (state_view self.now).store (call_view call.now).key) (call_view call.now).path) }
+    fn see(&self, call: &StepCall<'_>, key: KeyNo) -> Seen<'a>
+        ensures { seen_view result ≡ seen_by (state_view self.now).values (found_along key (call_view call.now).path (state_view self.now)) }
     {
-        match self.look(call.path, call.key) {
+        match self.look(call.path, key) {
             Look::Found { number, .. } => shown(self.value_of(number)),
             Look::Fault { number, .. } => shown_fault(self.value_of(number)),
             Look::Absent => Seen::Nothing,

@@ -7,7 +7,7 @@ use ext_lifecycle::{Outcome, Verdict};
 use ext_model::Fault;
 use std::alloc::{AllocError, AllocFailed};
 
-/// What a step found no memory for. The step then fails with `no memory`, and the run goes on.
+/// What a step found no memory for, but for its key. The step then fails with `no memory`, and the run goes on.
 #[derive(Clone, Copy)]
 pub enum Lack {
     /// A value that was to be kept.
@@ -19,6 +19,17 @@ pub enum Lack {
         /// How many values the step had found where it would have computed one.
         found: u32,
     },
+}
+
+/// What a whole step found no memory for.
+#[derive(Clone, Copy)]
+pub enum StepLack {
+    /// The key of the store that is made for it.
+    Key,
+    /// The number of its key.
+    Number,
+    /// What it does besides.
+    Act(Lack),
 }
 
 impl<T: Drop> From<AllocFailed<T>> for Lack {
@@ -45,26 +56,51 @@ impl From<AllocError> for Lack {
     }
 }
 
-impl Lack {
-    ghost use Rattle.ext_plain.specs.Helpers.{found_lacking};
+impl StepLack {
+    ghost use Rattle.ext_plain.specs.Helpers.{lifted, step_found};
+
+    /// The same answer, of a whole step.
+    pub fn of(answer: Result<Outcome, Lack>) -> Result<Outcome, StepLack>
+        ensures { result ≡ lifted answer }
+    {
+        match answer {
+            Ok(outcome) => Ok(outcome),
+            Err(lack) => Err(StepLack::Act(lack)),
+        }
+    }
 
     /// How a step ends that lacks memory.
     pub fn outcome(self) -> Outcome
         ensures { result ≡ record {
           verdict = verdicts.Failed faults.Memory;
           computed = 0;
-          found = found_lacking self;
+          found = step_found self;
         } }
     {
         let found = match self {
-            Lack::Value => 0,
-            Lack::Place => 0,
-            Lack::Words { found } => found,
+            StepLack::Key => 0,
+            StepLack::Number => 0,
+            StepLack::Act(lack) => lack.found(),
         };
         Outcome {
             verdict: Verdict::Failed(Fault::Memory),
             computed: 0,
             found,
+        }
+    }
+}
+
+impl Lack {
+    ghost use Rattle.ext_plain.specs.Helpers.{found_lacking};
+
+    /// How many values the step had found where it would have computed one.
+    fn found(self) -> u32
+        ensures { result ≡ found_lacking self }
+    {
+        match self {
+            Lack::Value => 0,
+            Lack::Place => 0,
+            Lack::Words { found } => found,
         }
     }
 }

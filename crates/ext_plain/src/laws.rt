@@ -1,6 +1,6 @@
 //! What is true of the plain run of every plan, whatever memory its steps find, as the contract of a function that does nothing.
 ghost use Rattle.ext_plain.specs.Ancestors.{SkipsBelow};
-ghost use Rattle.ext_plain.specs.Laws.{HasResultOfEachNode, HasTestsOfPlan, RunsEachNode, DoesOrLacks, RunsAsPlanned, RunsNode, RunsBody, SkipsBody, RunsParents, OpensClear, MakesNoClaims, SealsContexts, KeepsValues, FindsWhatWasPut, KeepsFault, KeepsNoFault, NeverFaults};
+ghost use Rattle.ext_plain.specs.Laws.{HasResultOfEachNode, HasTestsOfPlan, RunsEachNode, DoesOrLacks, RunsAsPlanned, RunsNode, RunsBody, SkipsBody, RunsParents, OpensClear, MakesNoClaims, SealsContexts, KeepsValues, NumbersOnce, KeepsNumbers, KnowsNumbers, ChangesNothingUnnumbered, NumbersOnlyNamed, HasRoom, FindsWhatWasPut, KeepsFault, KeepsNoFault, NeverFaults};
 
 /// Proves laws of the plain run. It does nothing when it runs.
 ///
@@ -21,6 +21,12 @@ pub fn plain_run_laws()
     ensures unclaimed { MakesNoClaims }
     ensures sealed { SealsContexts }
     ensures values { KeepsValues }
+    ensures numbered_once { NumbersOnce }
+    ensures numbers { KeepsNumbers }
+    ensures known { KnowsNumbers }
+    ensures unnumbered { ChangesNothingUnnumbered }
+    ensures named_alone { NumbersOnlyNamed }
+    ensures room { HasRoom }
     ensures found { FindsWhatWasPut }
     ensures kept_fault { KeepsFault }
     ensures no_fault { KeepsNoFault }

@@ -1,7 +1,7 @@
 //! The plain run of a plan: on one thread, over the one-thread store.
 //!
 //! `run_plain` goes through the tree from its root: a node's before-callbacks, its body and its after-callbacks, and then
-//! its context is closed. Each call is the steps that the plan has for it, run in the context of the node. What steps do
+//! its context is closed. A key gets its number where a step first names it. Each call is the steps that the plan has for it, run in the context of the node. What steps do
 //! stands in `specs/Steps.antt`, which calls a node has in `specs/NodeCalls.antt`, how its context is closed in
 //! `specs/Closes.antt`, the run of a plan in `specs/PlainRun.antt`, and what is true of every plain run in
 //! `specs/Laws.antt` and `specs/Ancestors.antt`, which `plain_run_laws` proves. A step that finds no memory fails with
@@ -12,6 +12,8 @@ mod callers;
 mod closing;
 mod computes;
 mod found;
+mod keyed;
+mod keyed_step;
 mod lack;
 mod laws;
 mod plain;

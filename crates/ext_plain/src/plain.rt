@@ -4,21 +4,20 @@ ghost use Rattle.ext_lifecycle.specs.FaultTexts.{result_view, results_view};
 ghost use Rattle.ext_lifecycle.specs.Lifecycle.{IsRoomy};
 ghost use Rattle.ext_tree.specs.Trees.{IsTree};
 ghost use Rattle.ext_tree.specs.Paths.{children_of};
-ghost use Rattle.ext_plan_model.specs.Plans.{keys_view, plan_view};
-ghost use Rattle.ext_plan_model.specs.KeyNumbers.{numbering};
-ghost use Rattle.ext_plan_model.specs.Laws.{CallbacksAreFew, StepListsAreShort};
+ghost use Rattle.ext_plan_model.specs.Plans.{plan_view};
+ghost use Rattle.ext_plan_model.specs.Laws.{CallbacksAreFew, NamespacesHaveParts, StepListsAreShort};
 ghost use Rattle.ext_plain.specs.PlainRun.{ArePlain};
 
 use crate::callers::NodeCaller;
 use crate::setting::Setting;
 use crate::skipped::skipped;
-use crate::value_store::ValueStore;
+use crate::value_store::{KEYS, ValueStore};
 use ext_lifecycle::{
     Call, Kind, NodeResult, RunListener, Tally, afters_of, befores_of, run_afters, run_befores,
     run_calls,
 };
 use ext_model::ContextNo;
-use ext_plan_model::{KeyNumbers, Plan};
+use ext_plan_model::Plan;
 use ext_tree::Tree;
 use std::alloc::{AllocError, Global};
 
@@ -37,18 +36,20 @@ pub struct PlainRunner<'a, L> {
 /// Where the plan keeps faults, the fault of a factory that failed stands in its place until it is removed or replaced, and
 /// the steps that meet it say so; it is never closed. Where the plan does not, the fault comes back, and the place is empty.
 ///
-/// Takes memory for the lists of calls, the store, the values, the texts of faults and the results. A step that finds none
+/// A key gets its number where a step first names it, and keeps it to the end of the run. At most 64 keys have one: a step that names a further one fails with
+/// `directory full`. A step that puts has kept its value before, which drew a number. The end of a node seals all 64 places of its context.
+///
+/// Takes memory for the keys, the lists of calls, the store, the values, the texts of faults and the results. A step that finds none
 /// fails with `Fault::Memory`, and the run goes on: the results are those of the plain run in which these steps found none.
-/// `AllocError` comes only where memory is refused elsewhere, as for results or for the end of a context. Source: JUnit 5 User Guide, sections "Keeping State in Extensions" and "Relative
+/// `AllocError` comes only where memory is refused elsewhere, as for the declared keys, for results or for the end of a context. Source: JUnit 5 User Guide, sections "Keeping State in Extensions" and "Relative
 /// Execution Order of User Code and Extensions"; what is run in which order, and what is told of a node, are own rules.
-pub fn run_plain<L: RunListener>(
+pub fn run_plain<'x, L: RunListener>(
     alloc: Global,
-    plan: &Plan,
-    keys: &KeyNumbers,
-    tree: &Tree,
-    listener: &L,
+    plan: &'x Plan,
+    tree: &'x Tree,
+    listener: &'x L,
 ) -> Result<Vec<NodeResult>, AllocError>
-    requires keys { keys.now ≡ numbering (keys_view plan.now.keys.items) }
+    requires namespaces { NamespacesHaveParts (plan_view plan.now) }
     requires tree { IsTree tree.now }
     requires nodes { tree.now ≡ map (λ n. n.id) plan.now.nodes.items }
     requires short { StepListsAreShort (plan_view plan.now) }
@@ -56,9 +57,10 @@ pub fn run_plain<L: RunListener>(
     ensures results { IfOk result (λ results. ArePlain (plan_view plan.now) (results_view results.items)) }
     ensures in_tree { IfOk result (λ results. All (λ r. r.node < length tree.now) results.items) }
 {
+    let made = plan.store_keys(alloc)?;
     let caller = NodeCaller {
         alloc,
-        setting: Setting::of(plan, keys, tree),
+        setting: Setting::of(plan, made.as_slice(), tree),
         store: ValueStore::new(alloc, plan.keep_faults),
         node: 0,
     };
@@ -195,7 +197,7 @@ impl<'a, L: RunListener> PlainRunner<'a, L> {
         Ok(())
     }
 
-    /// Seals all keys in the context of a node, closes the closeable values that the seals kept, and puts the node's result
+    /// Seals the places of all keys in the context of a node, also of those that have no number yet. Closes the closeable values that the seals kept, and puts the node's result
     /// in its place. Then tells the listener that the node has ended.
     fn end_node(
         &mut self,
@@ -208,8 +210,7 @@ impl<'a, L: RunListener> PlainRunner<'a, L> {
         ensures end { OnOk result (EndsNode self.old.caller.setting at is_test tally (run_view self.old) (run_view self.new)) }
         ensures setting { OnOk result (self.new.caller.setting ≡ self.old.caller.setting) }
     {
-        let keys = self.caller.setting.key_count;
-        let numbers = self.caller.store.seal_keys(keys, at)?;
+        let numbers = self.caller.store.seal_keys(KEYS, at)?;
         let closes = self.caller.store.close_values(alloc, numbers.as_slice())?;
         self.set_result(tally.result(at, is_test, closes));
         self.listener.ended(at, self.results.len());

@@ -1,28 +1,25 @@
 //! What a plain run reads of its plan.
-ghost use Rattle.std.specs.Prelude.{◌≡◌, ◌≤◌, Some, is_some, length, map};
+ghost use Rattle.std.specs.Prelude.{◌≡◌, ◌≤◌, is_some, length, map};
 ghost use Rattle.std.proofs.Props.{props};
-ghost use Rattle.ext_plan_model.specs.Plans.{keys_view, node_view, plan_view, step_view};
-ghost use Rattle.ext_plan_model.specs.KeyNumbers.{different_keys, numbering};
+ghost use Rattle.ext_plan_model.specs.Plans.{keys_view, plan_view, step_view};
+ghost use Rattle.ext_plan_model.specs.KeyNumbers.{named_key};
 ghost use Rattle.ext_plan_model.specs.Laws.{CallbacksAreFew, StepListsAreShort};
 ghost use Rattle.ext_plan_model.specs.Steps.{step_limit};
 ghost use Rattle.ext_plan_model.specs.PlanCalls.{steps_called};
 
 use ext_lifecycle::{Call, Callbacks, Kind};
 use ext_model::ContextNo;
-use ext_plan_model::{KeyNumbers, Plan, Step};
+use ext_plan_model::{Plan, Step};
 use ext_steps::StepKeys;
-use ext_tree::Tree;
+use ext_tree::{Key, Tree};
 
-/// A plan, the numbers of its keys and the tree of its nodes.
+/// A plan, its declared keys and the tree of its nodes.
 #[derive(Drop)]
 pub struct Setting<'a> {
     pub plan: &'a Plan,
     pub keys: StepKeys<'a>,
-    pub key_count: usize,
     pub tree: &'a Tree,
     ghost keyed: { keys_view keys.keys.now ≡ keys_view plan.now.keys.items },
-    ghost counted: { key_count ≡ length (different_keys (keys_view plan.now.keys.items)) },
-    ghost few: { key_count ≤ 64 },
     ghost planted: { tree.now ≡ map (λ n. n.id) plan.now.nodes.items },
     ghost short: { StepListsAreShort (plan_view plan.now) } by { Prim.hlevel props },
     ghost called: { CallbacksAreFew (plan_view plan.now) },
@@ -33,9 +30,9 @@ impl<'a> Setting<'a> {
     ghost use Rattle.ext_plan_model.specs.PlanCalls.{steps_of_call, test_of};
     ghost use Rattle.ext_plan_model.specs.PlanCalls.{concurrent_of};
 
-    /// The plan with its tree, and with its keys under their numbers.
-    pub fn of(plan: &'a Plan, keys: &'a KeyNumbers, tree: &'a Tree) -> Setting<'a>
-        requires keys { keys.now ≡ numbering (keys_view plan.now.keys.items) }
+    /// The plan with its tree, and with the keys of the store that its labels name, in order.
+    pub fn of(plan: &'a Plan, made: &'a [Key], tree: &'a Tree) -> Setting<'a>
+        requires keys { made.now ≡ map named_key (keys_view plan.now.keys.items) }
         requires nodes { tree.now ≡ map (λ n. n.id) plan.now.nodes.items }
         requires short { StepListsAreShort (plan_view plan.now) }
         requires called { CallbacksAreFew (plan_view plan.now) }
@@ -44,8 +41,7 @@ impl<'a> Setting<'a> {
     {
         Setting {
             plan,
-            keys: StepKeys::of(plan.keys.as_slice(), keys),
-            key_count: keys.len(),
+            keys: StepKeys::of(plan.keys.as_slice(), made),
             tree,
         }
     }

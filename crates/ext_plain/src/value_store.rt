@@ -9,14 +9,18 @@ ghost use Rattle.ext_steps.specs.Values.{value_view};
 ghost use Rattle.ext_plain.specs.declared.lack.Lack.TheVariants as lacks;
 ghost use Rattle.ext_plain.specs.ValueStates.{after_act, why_refused, value_of, value_opening};
 
-use crate::lack::Lack;
+use crate::lack::{Lack, StepLack};
 use crate::reasons::told;
 use ext_model::{ContextNo, KeyNo, LaneNo, Look, PlainFault, PlainStore};
 use ext_steps::{PlanValue, Reason};
+use ext_tree::{Directory, Key};
 use std::alloc::{AllocError, Global};
 
 /// How many numbers a run's store draws at most.
 const NUMBERS: u32 = 65_535;
+
+/// How many keys have numbers at most: as many as a directory has.
+pub const KEYS: usize = 64;
 
 /// The one lane of a plain run.
 const LANE: LaneNo = 0;
@@ -26,6 +30,8 @@ const LANE: LaneNo = 0;
 pub struct ValueStore<'a> {
     keep_faults: bool,
     store: PlainStore,
+    /// The keys that have a number.
+    keys: Directory,
     /// The values that were kept: the first has number 1. A kept fault's text stands among them, as a value that is not
     /// closeable.
     values: Vec<PlanValue<'a>>,
@@ -33,7 +39,7 @@ pub struct ValueStore<'a> {
 }
 
 impl<'a> ValueStore<'a> {
-    ghost use Rattle.ext_plain.specs.Helpers.{state_view, Keeps};
+    ghost use Rattle.ext_plain.specs.Helpers.{state_view, Keeps, Numbers};
 
     /// An empty store, which keeps the faults of factories or not.
     pub fn new(alloc: Global, keep_faults: bool) -> ValueStore<'a>
@@ -42,6 +48,7 @@ impl<'a> ValueStore<'a> {
         ValueStore {
             keep_faults,
             store: PlainStore::new(alloc, NUMBERS),
+            keys: Directory::new(alloc),
             values: Vec::new(alloc),
         }
     }
@@ -51,6 +58,25 @@ impl<'a> ValueStore<'a> {
         ensures { result ≡ (state_view self.now).keep_faults }
     {
         self.keep_faults
+    }
+
+    /// The number of a key from now on: its own where it has one, or else the next; or why it gets none.
+    pub fn number(&mut self, key: &Key) -> Result<Result<KeyNo, Reason>, StepLack>
+        ensures { Numbers key.now (state_view self.old) (state_view self.new) result }
+    {
+        if let Some(number) = self.keys.number_of(key) {
+            return Ok(Ok(number));
+        }
+        if self.keys.len() >= KEYS {
+            return Ok(Err(Reason::DirectoryFull));
+        }
+        let Ok(copy) = key.clone() else {
+            return Err(StepLack::Number);
+        };
+        match self.keys.declare(copy) {
+            Ok(number) => Ok(Ok(number)),
+            Err(_) => Err(StepLack::Number),
+        }
     }
 
     /// Keeps a value, and answers the number that is drawn for it.

@@ -29,22 +29,22 @@ test = []
 const NODES: &str = "[engine:x] SameThread
 [engine:x]/[class:A] SameThread
 BeforeAll
-Put { key: 0, text: \"1\", up: 0 }
-None { key: 0, up: 1 }
+Put { key: Label(0), text: \"1\", up: 0 }
+None { key: Label(0), up: 1 }
 BeforeAll
 BeforeEach
-Put { key: 0, text: \"2\", up: 0 }
+Put { key: Label(0), text: \"2\", up: 0 }
 BeforeEach
 Fail { text: \"f\" }
 AfterEach
 Abort { text: \"g\" }
 AfterEach
-Want { key: 0, text: \"2\", up: 2 }
+Want { key: Label(0), text: \"2\", up: 2 }
 AfterAll
-Remove { key: 0, up: 0 }
+Remove { key: Label(0), up: 0 }
 [engine:x]/[class:A]/[method:m()] Concurrent
 BeforeEach
-None { key: 0, up: 2 }
+None { key: Label(0), up: 2 }
 ";
 
 const KINDS: [Kind; 5] = [

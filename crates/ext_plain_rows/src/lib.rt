@@ -1,5 +1,5 @@
 //! Tests of the crates that know one thread alone, each by its public calls: ids, the plain store, trees and keys, plans,
-//! reports.
+//! plain runs, reports.
 #![tactic(auto)]
 
 #[cfg(test)]
@@ -13,6 +13,8 @@ mod ids;
 #[cfg(test)]
 mod keys;
 #[cfg(test)]
+mod plain_runs;
+#[cfg(test)]
 mod plain_store;
 #[cfg(test)]
 mod plans;
@@ -20,5 +22,7 @@ mod plans;
 mod reports;
 #[cfg(test)]
 mod same;
+#[cfg(test)]
+mod step_keys;
 #[cfg(test)]
 mod trees;

@@ -1,8 +1,6 @@
 //! Plans of the format's own examples: each text with what is read of it.
-ghost use Rattle.std.specs.Prelude.{◌≤◌, length};
-
 use crate::same::same;
-use ext_plan::{KeyNumbers, Plan, PlanNode, read_plan};
+use ext_plan::{Plan, PlanNode, read_plan};
 use std::alloc::{AllocError, Global};
 use std::test::Fail;
 
@@ -56,8 +54,8 @@ fn reads_the_chain(rt: HostRuntime) -> Result<(), Fail> {
          [engine:x]\n\
          [engine:x]/[class:A]\n\
          [engine:x]/[class:A]/[method:m()] test\n\
-         Put { key: 0, text: \"x\", up: 0 }\n\
-         Want { key: 0, text: \"x\", up: 0 }\n";
+         Put { key: Label(0), text: \"x\", up: 0 }\n\
+         Want { key: Label(0), text: \"x\", up: 0 }\n";
     let read = told(rt.alloc(), CHAIN)?;
     same(&rt, read.as_str(), wanted, "the plan");
     Ok(())
@@ -71,39 +69,58 @@ fn steps_read(alloc: Global, texts: &str) -> Result<String, Fail> {
     Ok(String::from_str(alloc, steps)?)
 }
 
-/// Each step, each with `up`, and words that could be taken for `up`.
-const STEPS: [(&str, &str); 3] = [
+/// Each step, each with `up`, words that could be taken for `up`, and each step with a key that is no label.
+const STEPS: [(&str, &str); 5] = [
     (
         "\"put up x\", \"put! a x\", \"want a x\", \"none up\", \"remove a\", \"compute a x\", \"compute! a x\", \"computefail a x\", \"fail x\", \"abort x\"",
-        "Put { key: 1, text: \"x\", up: 0 }\n\
-         PutCloseable { key: 0, text: \"x\", up: 0 }\n\
-         Want { key: 0, text: \"x\", up: 0 }\n\
-         None { key: 1, up: 0 }\n\
-         Remove { key: 0, up: 0 }\n\
-         Compute { key: 0, text: \"x\", up: 0 }\n\
-         ComputeCloseable { key: 0, text: \"x\", up: 0 }\n\
-         ComputeFail { key: 0, text: \"x\", up: 0 }\n\
+        "Put { key: Label(1), text: \"x\", up: 0 }\n\
+         PutCloseable { key: Label(0), text: \"x\", up: 0 }\n\
+         Want { key: Label(0), text: \"x\", up: 0 }\n\
+         None { key: Label(1), up: 0 }\n\
+         Remove { key: Label(0), up: 0 }\n\
+         Compute { key: Label(0), text: \"x\", up: 0 }\n\
+         ComputeCloseable { key: Label(0), text: \"x\", up: 0 }\n\
+         ComputeFail { key: Label(0), text: \"x\", up: 0 }\n\
          Fail { text: \"x\" }\n\
          Abort { text: \"x\" }\n",
     ),
     (
         "\"put a x up 1\", \"put! a x up 2\", \"want a x up 1\", \"none a up 2\", \"remove a up 1\", \"compute a x up 2\", \"compute! a x up 1\", \"computefail a x up 2\"",
-        "Put { key: 0, text: \"x\", up: 1 }\n\
-         PutCloseable { key: 0, text: \"x\", up: 2 }\n\
-         Want { key: 0, text: \"x\", up: 1 }\n\
-         None { key: 0, up: 2 }\n\
-         Remove { key: 0, up: 1 }\n\
-         Compute { key: 0, text: \"x\", up: 2 }\n\
-         ComputeCloseable { key: 0, text: \"x\", up: 1 }\n\
-         ComputeFail { key: 0, text: \"x\", up: 2 }\n",
+        "Put { key: Label(0), text: \"x\", up: 1 }\n\
+         PutCloseable { key: Label(0), text: \"x\", up: 2 }\n\
+         Want { key: Label(0), text: \"x\", up: 1 }\n\
+         None { key: Label(0), up: 2 }\n\
+         Remove { key: Label(0), up: 1 }\n\
+         Compute { key: Label(0), text: \"x\", up: 2 }\n\
+         ComputeCloseable { key: Label(0), text: \"x\", up: 1 }\n\
+         ComputeFail { key: Label(0), text: \"x\", up: 2 }\n",
     ),
     (
         "\"put up 1\", \"none up up 1\", \"none up\", \"want up up up 2\", \"fail up\"",
-        "Put { key: 1, text: \"1\", up: 0 }\n\
-         None { key: 1, up: 1 }\n\
-         None { key: 1, up: 0 }\n\
-         Want { key: 1, text: \"up\", up: 2 }\n\
+        "Put { key: Label(1), text: \"1\", up: 0 }\n\
+         None { key: Label(1), up: 1 }\n\
+         None { key: Label(1), up: 0 }\n\
+         Want { key: Label(1), text: \"up\", up: 2 }\n\
          Fail { text: \"up\" }\n",
+    ),
+    (
+        "\"put q x\", \"put! b x\", \"want ab x\", \"none A\", \"remove 'a'\", \"compute a\\tb x\", \"compute! größe x\", \"computefail 0 x\"",
+        "Put { key: Named(\"q\"), text: \"x\", up: 0 }\n\
+         PutCloseable { key: Named(\"b\"), text: \"x\", up: 0 }\n\
+         Want { key: Named(\"ab\"), text: \"x\", up: 0 }\n\
+         None { key: Named(\"A\"), up: 0 }\n\
+         Remove { key: Named(\"'a'\"), up: 0 }\n\
+         Compute { key: Named(\"a\\tb\"), text: \"x\", up: 0 }\n\
+         ComputeCloseable { key: Named(\"größe\"), text: \"x\", up: 0 }\n\
+         ComputeFail { key: Named(\"0\"), text: \"x\", up: 0 }\n",
+    ),
+    (
+        "\"put q x up 1\", \"none u up 2\", \"none q\", \"want x up\", \"remove put\"",
+        "Put { key: Named(\"q\"), text: \"x\", up: 1 }\n\
+         None { key: Named(\"u\"), up: 2 }\n\
+         None { key: Named(\"q\"), up: 0 }\n\
+         Want { key: Named(\"x\"), text: \"up\", up: 0 }\n\
+         Remove { key: Named(\"put\"), up: 0 }\n",
     ),
 ];
 
@@ -146,39 +163,58 @@ fn reads_names_namespaces_and_trees(rt: HostRuntime) -> Result<(), Fail> {
     Ok(())
 }
 
-/// Four labels, the first and the third of which name one key.
-const FOUR_LABELS: &str =
-    "[[key]]\nlabel = \"a\"\n[[key]]\nlabel = \"b\"\nname = \"a\"\nnamespace = [\"x\", \"y\"]\n[[key]]\nlabel = \"c\"\nname = \"a\"\n[[key]]\nlabel = \"d\"\nname = \"a\"\nnamespace = [\"y\", \"x\"]\n[[node]]\nid = \"[a:b]\"";
-
-/// Writes the number of each of so many labels' key, and then how many keys there are, whether there is none, and how many the
-/// directory has.
-fn write_labels(numbers: &KeyNumbers, labels: usize, told: &mut String) -> Result<(), AllocError>
-    requires { labels ≤ length numbers.now.numbers }
-{
-    for label in 0..labels {
-        let number = numbers.get(label);
-        write!(told, "{number} ")?;
+/// A plan with the labels `k0`, `k1` and so on, so many, with further keys, and with one node, a test with these steps.
+fn plan_of_keys(
+    alloc: Global,
+    count: usize,
+    more: &str,
+    steps: &str,
+) -> Result<String, AllocError> {
+    let mut text = String::new(alloc);
+    for number in 0..count {
+        write!(text, "[[key]]\nlabel = \"k{number}\"\n")?;
     }
-    let (count, empty) = (numbers.len(), numbers.is_empty());
-    let lent = numbers.directory().len();
-    write!(told, "{count} {empty} {lent}")
+    write!(text, "{more}[[node]]\nid = \"[a:b]\"\ntest = [{steps}]")?;
+    Ok(text)
 }
 
-/// Writes the number of each label's key, and how many keys there are, by the number of keys and by their directory.
-fn write_numbers(alloc: Global, text: &str, told: &mut String) -> Result<(), Fail> {
-    let plan = read_plan(alloc, text)?;
-    let numbers = KeyNumbers::of(alloc, plan.keys.as_slice())?;
-    write_labels(&numbers, plan.keys.len(), told)?;
-    let own = numbers.into_directory().len();
-    write!(told, " {own}")?;
-    Ok(())
+/// How many keys a plan declares, behind that the word `keys`; or the line of its fault.
+fn keys_told(alloc: Global, text: &str) -> Result<String, AllocError> {
+    match read_plan(alloc, text) {
+        Ok(plan) => format!(in alloc; "{} keys", plan.keys.len()),
+        Err(fault) => fault.to_string(alloc),
+    }
 }
+
+/// The seventh key by another label.
+const AGAIN: &str = "[[key]]\nlabel = \"again\"\nname = \"k7\"\n";
+
+/// A key that only its namespace tells from the seventh.
+const OTHER: &str = "[[key]]\nlabel = \"other\"\nname = \"k7\"\nnamespace = [\"k7\"]\n";
+
+/// Numbers of declared keys, with further keys and with steps, and what is told of a plan of them.
+const DECLARED: [(usize, &str, &str, &str); 7] = [
+    (64, "", "", "64 keys"),
+    (
+        64,
+        "",
+        "\"none k63\", \"none other\", \"none another\"",
+        "64 keys",
+    ),
+    (64, AGAIN, "\"none again\"", "65 keys"),
+    (64, OTHER, "", "plan: P11"),
+    (65, "", "", "plan: P11"),
+    (65, "", "\"none k64\"", "plan: P11"),
+    (65, "", "\"no step\"", "plan: P8 node 0"),
+];
 
 #[test]
-fn numbers_keys_by_name_and_namespace(rt: HostRuntime) -> Result<(), Fail> {
-    let mut told = String::new(rt.alloc());
-    write_numbers(rt.alloc(), FOUR_LABELS, &mut told)?;
-    same(&rt, told.as_str(), "0 1 0 2 3 false 3 3", "the numbers");
+fn declared_keys_are_64_at_most(rt: HostRuntime) -> Result<(), Fail> {
+    for (count, more, steps, wanted) in &DECLARED {
+        let text = plan_of_keys(rt.alloc(), *count, more, steps)?;
+        let told = keys_told(rt.alloc(), text.as_str())?;
+        same(&rt, told.as_str(), *wanted, text.as_str());
+    }
     Ok(())
 }
 

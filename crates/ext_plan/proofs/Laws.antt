@@ -1,8 +1,8 @@
 -- The laws of plans that were read, from the definition of reading.
-use Rattle.std.proofs.Common.{◌≡◌, ◌*◌, ◌<◌, ◌≤◌, ℕ, true, get_or, map, List, [], length, Option, Some, None, Result, Ok, Err, IfOk, All, IfSome, arith, refl, ap, sym, subst, ◌∙◌}
+use Rattle.std.proofs.Common.{◌≡◌, ◌<◌, ◌≤◌, ℕ, true, get_or, map, List, [], length, Option, Some, None, Result, Ok, Err, IfOk, All, IfSome, arith, refl, ap, sym, subst, ◌∙◌}
 use Rattle.std.specs.Prelude.{nat_le, codes, is_some}
 use Rattle.std.proofs.lemmas.Simd.{map-map}
-use Rattle.std.proofs.lemmas.Bool.{and_parts, leb-true}
+use Rattle.std.proofs.lemmas.Bool.{leb-true}
 use Rattle.std.proofs.lemmas.List.{get_or-map, length-map}
 use Rattle.std.proofs.lemmas.List.Elements.{All-nil}
 use Rattle.toml.specs.Data.{Members, get_member}
@@ -17,7 +17,7 @@ use Rattle.ext_plan_model.specs.Plans.{StepText, NodeText, PlanText, callbacks_o
 use Rattle.ext_plan_model.specs.Steps.{height, step_limit, callback_limit}
 use Rattle.ext_plan_model.specs.KeyNumbers.{different_keys}
 use Rattle.ext_plan_model.specs.Keys.{labels_of}
-use Rattle.ext_plan_model.specs.Laws.{NodesAreTree, TestsHaveNoChildren, HasFewCells, HasFewLocks, HasOwnLabels, NamespacesHaveParts, StepsNameLabels, StepsStayBelowRoot, StepListsAreShort, CallbacksAreFew, TestsHaveNoContainerCallbacks, HasNoContainerCallbacks, NamesLabelBelow, IsAtOrBelow, ids_of_nodes, OfAllSteps, StaysOnOwnPath, StaysOnPathOf, StayOnPath}
+use Rattle.ext_plan_model.specs.Laws.{NodesAreTree, TestsHaveNoChildren, HasFewKeys, HasFewLocks, HasOwnLabels, NamespacesHaveParts, StepsNameLabels, StepsStayBelowRoot, StepListsAreShort, CallbacksAreFew, TestsHaveNoContainerCallbacks, HasNoContainerCallbacks, NamesLabelBelow, IsAtOrBelow, ids_of_nodes, OfAllSteps, StaysOnOwnPath, StaysOnPathOf, StayOnPath}
 use Rattle.ext_plan_model.specs.Locks.{lock_names, lock_limit}
 use Rattle.ext_plan_tables.specs.declared.fault.PlanFault.{PlanFault}
 use Rattle.ext_plan_tables.specs.declared.fault.PlanFault.TheVariants as faults
@@ -26,8 +26,8 @@ use Rattle.ext_plan_tables.specs.Depths.{Outline, least_test_depth}
 use Rattle.ext_plan_tables.specs.Faults.{check, Gives}
 use Rattle.ext_plan_tables.specs.Fields.{has_only, tables_or_none, truth_or_false}
 use Rattle.ext_plan_tables.specs.Keys.{keys_after}
-use Rattle.ext_plan_tables.specs.Nodes.{Sketch, ids_of, outline_of, outlines_of, has_children, sketches_after, nodes_after, nodes_of_tables}
-use Rattle.ext_plan.specs.Reading.{top_fields, are_few, plan_of, plan_of_tables}
+use Rattle.ext_plan_tables.specs.Nodes.{Sketch, ids_of, outline_of, outlines_of, has_children, sketches_after, nodes_of_tables}
+use Rattle.ext_plan.specs.Reading.{top_fields, plan_of, plan_of_tables}
 use Rattle.ext_plan_tables.proofs.Gave.{ok_value, both_gave, passed}
 use Rattle.ext_plan_tables.proofs.KeyReading.{keys_are_own, no_keys}
 use Rattle.ext_plan_tables.proofs.NodeReading.{NodeFits, IsAlone, KindFits, FitsIn, outline_of_node, outlines_of_nodes, if_is_test, nodes_are_read, childless}
@@ -37,7 +37,7 @@ use Rattle.ext_plan_tables.proofs.TestDepths.{least_is_below}
 pub record ArePlanLaws (plan : PlanText) : Type 0 where
   pub tree : NodesAreTree plan
   pub tests : TestsHaveNoChildren plan
-  pub cells : HasFewCells plan
+  pub different : HasFewKeys plan
   pub labels : HasOwnLabels plan
   pub namespaces : NamespacesHaveParts plan
   pub keys : StepsNameLabels plan
@@ -129,7 +129,7 @@ plan_laws top plan h =
     let nodes = both_gave (nodes_of_tables (labels_of keys.0) node_tables.0) _ _ keys.2 in
     let sketches = both_gave (sketches_after [] node_tables.0) _ _ nodes.1 in
     let tree = both_gave (check faults.BadTree (is_tree (ids_of sketches.0))) _ _ sketches.2 in
-    let few = both_gave (check faults.TooMany (are_few (length (different_keys keys.0)) (length nodes.0))) _ _ nodes.2 in
+    let few = both_gave (check faults.TooMany (nat_le (length (different_keys keys.0)) 64)) _ _ nodes.2 in
     let few_locks = both_gave (check faults.TooMany (nat_le (length (lock_names nodes.0)) lock_limit)) _ _ few.2 in
     let own = keys_are_own [] key_tables.0 keys.0 keys.1 no_keys in
     let read = nodes_are_read (labels_of keys.0) sketches.0 [] sketches.0 nodes.0 (All-nil (FitsIn (length (labels_of keys.0)) (outlines_of sketches.0))) (λ k less d. absurd (omega (arith, less))) tree.2 in
@@ -137,12 +137,11 @@ plan_laws top plan h =
     let fit : All (FitsIn (length keys.0) (outlines_of_nodes nodes.0)) nodes.0 =
     subst (λ outlines. All (FitsIn (length keys.0) outlines) nodes.0) (sym read.of_sketches) (subst (λ n. All (FitsIn n (outlines_of sketches.0)) nodes.0) count read.fit) in
     let ids : ids_of_nodes nodes.0 ≡ ids_of sketches.0 = sym (ids_in-nodes nodes.0) ∙ ap (map (λ o. o.0)) read.of_sketches ∙ ids_in-sketches sketches.0 in
-    let limits = and_parts (nat_le (length (different_keys keys.0)) 64) (nat_le (length nodes.0 * length (different_keys keys.0)) 4096) (passed _ (are_few (length (different_keys keys.0)) (length nodes.0)) few.0 few.1) in
     rw (← ok_value (record { keep_faults = keep_faults.0; keys = keys.0; nodes = nodes.0 }) plan _ refl few_locks.2) (record {
       tree = subst IsTree (sym ids) ((test_tells (ids_of sketches.0)).0 (passed _ (is_tree (ids_of sketches.0)) tree.0 tree.1));
       tests = λ k less d. in_test _ (λ _. IsAlone (has_children (ids_of sketches.0) k) (get_or nodes.0 k d)) (λ _. children_of (ids_of_nodes nodes.0) k ≡ []) (λ steps alone. subst (λ ids. children_of ids k ≡ []) (sym ids) (childless (ids_of sketches.0) k alone.childless)) (read.alone k less d);
       containers = λ k d less. in_test _ (λ _. IsAlone (has_children (ids_of sketches.0) k) (get_or nodes.0 k d)) (λ _. HasNoContainerCallbacks (get_or nodes.0 k d)) (λ steps alone. alone.callbacks) (read.alone k less d);
-      cells = record { keys = leb-true _ _ limits.0; cells = leb-true _ _ limits.1 };
+      different = leb-true _ _ (passed _ (nat_le (length (different_keys keys.0)) 64) few.0 few.1);
       labels = record { words = own.words; different = own.different };
       namespaces = own.parts;
       keys = λ k d less. of_all_steps (All (NamesLabelBelow (length keys.0))) _ _ _ (fit k d less) (λ depth steps fits. fits.names);

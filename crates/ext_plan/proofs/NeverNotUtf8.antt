@@ -25,7 +25,7 @@ use Rattle.ext_plan_tables.specs.Locks.{lock_at, lock_of, locks_after, locks_at}
 use Rattle.ext_plan_tables.specs.Keys.{key_fields, has_parts, key_at, keys_after}
 use Rattle.ext_plan_tables.specs.Nodes.{Sketch, node_fields, id_or, sketch_at, sketches_after, ids_of, outlines_of, has_children, is_bad_test, test_at, node_at, nodes_after, nodes_of_tables}
 use Rattle.ext_plan_tables.specs.Steps.{step_of, step_at, steps_after, steps_at}
-use Rattle.ext_plan.specs.Reading.{top_fields, are_few, plan_of, plan_of_tables}
+use Rattle.ext_plan.specs.Reading.{top_fields, plan_of, plan_of_tables}
 
 -- the reading has another end than the fault `NotUtf8`
 abbrev IsOther : {A : Type 0} → Result A PlanFault → Type 0
@@ -227,7 +227,7 @@ plan_other top =
     then_other (tables_or_none (faults.BadField places.Whole) (get_member (codes "node") top)) _ (tables_other (get_member (codes "node") top)) (λ node_tables.
     then_other (keys_after [] key_tables) _ (keys_other [] key_tables) (λ keys.
     then_other (nodes_of_tables (labels_of keys) node_tables) _ (all_nodes_other _ node_tables) (λ nodes.
-    then_other (check faults.TooMany (are_few (length (different_keys keys)) (length nodes))) _ (checked _ _ (λ h. absurd cc)) (λ _.
+    then_other (check faults.TooMany (nat_le (length (different_keys keys)) 64)) _ (checked _ _ (λ h. absurd cc)) (λ _.
     then_other (check faults.TooMany (nat_le (length (lock_names nodes)) lock_limit)) _ (checked _ _ (λ h. absurd cc)) (λ _. value _))))))))
 
 -- what gives the plan of a document doesn't answer `NotUtf8`

@@ -1,5 +1,5 @@
 -- Which texts are plans, and of which keys and nodes: the text's TOML document, read in order with the first fault that is met. Own rule.
-use Rattle.std.specs.Prelude.{ℕ, ◌*◌, nat_le, Bool, ◌&&◌, codes, List, [], ◌∷◌, length, Result, Ok}
+use Rattle.std.specs.Prelude.{ℕ, nat_le, Bool, codes, List, [], ◌∷◌, length, Result, Ok}
 use Rattle.toml.specs.Data.{Members, get_member}
 use Rattle.toml.specs.Parse.{parse_document}
 use Rattle.ext_plan_model.specs.Plans.{PlanText}
@@ -17,16 +17,12 @@ use Rattle.ext_plan_tables.specs.Nodes.{nodes_of_tables}
 abbrev pub top_fields : List (List ℕ)
 top_fields = codes "keep_faults" ∷ codes "key" ∷ codes "node" ∷ []
 
--- at most 64 different keys and 4,096 cells, of which each node has one for each different key
-abbrev pub are_few : ℕ → ℕ → Bool
-are_few keys nodes = nat_le keys 64 && nat_le (nodes * keys) 4096
-
 -- the plan of the tables of its keys and its nodes, whose store keeps faults or not
 unfoldable pub plan_of_tables : Bool → List Members → List Members → Result PlanText PlanFault
 plan_of_tables keep_faults key_tables node_tables = do
   keys ← keys_after [] key_tables
   nodes ← nodes_of_tables (labels_of keys) node_tables
-  _ ← check faults.TooMany (are_few (length (different_keys keys)) (length nodes))
+  _ ← check faults.TooMany (nat_le (length (different_keys keys)) 64)
   _ ← check faults.TooMany (nat_le (length (lock_names nodes)) lock_limit)
   Ok (record { keep_faults = keep_faults; keys = keys; nodes = nodes })
 

@@ -2,13 +2,12 @@
 //! fault that it has.
 //!
 //! `read_plan` reads, `Plan` is what was read, `PlanFault` is why a text was refused, and `explain` says what is meant by it. What a plan is stands in
-//! `ext_plan_model`, whose public names stand here too: `KeyNumbers` numbers the keys of the store that a plan's labels
-//! name. What the tables of the document hold is read by `ext_plan_tables`, which explains
-//! their faults. Own rule.
+//! `ext_plan_model`, whose public names stand here too. What the tables of the document hold is read by `ext_plan_tables`,
+//! which explains their faults. Own rule.
 #![tactic(auto)]
 
 mod read;
 
-pub use ext_plan_model::{KeyNumbers, LabelNo, Plan, PlanKey, PlanLock, PlanNode, Step};
+pub use ext_plan_model::{LabelNo, Plan, PlanKey, PlanLock, PlanNode, Step, StepKey};
 pub use ext_plan_tables::{Place, PlanFault, explain};
 pub use read::read_plan;

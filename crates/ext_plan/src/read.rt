@@ -1,18 +1,16 @@
 //! Reading a plan from its text.
-ghost use Rattle.std.specs.Prelude.{◌≡◌, ◌≢◌, ◌≤◌, Err, All, length, map, IfOk};
+ghost use Rattle.std.specs.Prelude.{◌≡◌, ◌≢◌, Err, map, IfOk};
 ghost use Rattle.toml.specs.View.{table_view};
-ghost use Rattle.ext_plan_model.specs.Plans.{keys_view, plan_view};
-ghost use Rattle.ext_plan_model.specs.KeyNumbers.{different_keys, HasParts};
-ghost use Rattle.ext_plan_model.specs.Laws.{NodesAreTree, TestsHaveNoChildren, HasFewCells, HasFewLocks, HasOwnLabels, NamespacesHaveParts, StepsNameLabels, StepsStayBelowRoot, StepListsAreShort, CallbacksAreFew, TestsHaveNoContainerCallbacks};
-ghost use Rattle.ext_plan_tables.specs.Faults.{Gives, GivesAll};
-ghost use Rattle.ext_plan.specs.Reading.{are_few, plan_of, plan_of_tables, plan_of_text};
+ghost use Rattle.ext_plan_model.specs.Plans.{plan_view};
+ghost use Rattle.ext_plan_model.specs.Laws.{NodesAreTree, TestsHaveNoChildren, HasFewKeys, HasFewLocks, HasOwnLabels, NamespacesHaveParts, StepsNameLabels, StepsStayBelowRoot, StepListsAreShort, CallbacksAreFew, TestsHaveNoContainerCallbacks};
+ghost use Rattle.ext_plan_tables.specs.Faults.{Gives};
+ghost use Rattle.ext_plan.specs.Reading.{plan_of, plan_of_tables, plan_of_text};
 
-use ext_plan_model::{KeyNumbers, Plan, PlanKey};
+use ext_plan_model::{Plan, keys_are_few};
 use ext_plan_tables::{
     Place, PlanFault, TOP_FIELDS, has_only, keys_of, locks_are_few, nodes_of_tables, tables_at,
     truth_at,
 };
-use ext_tree::TreeFault;
 use std::alloc::Global;
 use toml::Table;
 
@@ -22,7 +20,7 @@ use toml::Table;
 /// tables, which may be left out.
 ///
 /// Each `key` has a `label` and, where they are given, a `name`, in place of the label, and a `namespace`, an array of
-/// texts.
+/// texts. At most 64 of them are different.
 ///
 /// Each `node` has an `id` and, where it is a test, `test`, an array of steps. It may have `mode`, which is `same_thread`
 /// or `concurrent` and else `SameThread`; `isolated`, true or false; `locks`, an array of texts `READ NAME` or
@@ -36,8 +34,8 @@ use toml::Table;
 /// remove KEY    put! KEY TEXT     compute KEY TEXT    compute! KEY TEXT         abort TEXT
 /// ```
 ///
-/// with one space between two words, where KEY is a label of the plan and TEXT a word; all but `fail` and `abort` may
-/// end with ` up N`. There N is from 1 to 15, and less than the number of segments of the node's id; in `before_each` and
+/// with one space between two words, where KEY and TEXT are words. A KEY is a label of the plan, or else the name of a key in the
+/// global namespace, which needs no declaration. All but `fail` and `abort` may end with ` up N`. There N is from 1 to 15, and less than the number of segments of the node's id; in `before_each` and
 /// `after_each` it is less than that of the id of each test at or below the node, which are the ones that these callbacks
 /// run round. A test and a callback have at most 2^32 - 1 steps.
 ///
@@ -47,7 +45,7 @@ use toml::Table;
 /// was refused. `NotUtf8` is never answered, since a `&str` is UTF-8.
 ///
 /// Memory is taken for the TOML document, for the lists of its tables and texts, for the set of labels, for the tree of
-/// the ids, for the words of one step at a time, for the numbers of the keys and for the plan, all in proportion to the
+/// the ids, for the words of one step at a time, for the different keys and for the plan, all in proportion to the
 /// text; all but the plan is given back before the call returns. It waits for nobody.
 #[tactic(auto, unfolding(crate::specs::Reading::plan_of_text))]
 pub fn read_plan(alloc: Global, text: &str) -> Result<Plan, PlanFault>
@@ -57,7 +55,7 @@ pub fn read_plan(alloc: Global, text: &str) -> Result<Plan, PlanFault>
     // What holds of every plan, whatever the text was.
     ensures tree { IfOk result (λ p. NodesAreTree (plan_view p)) }
     ensures tests { IfOk result (λ p. TestsHaveNoChildren (plan_view p)) }
-    ensures cells { IfOk result (λ p. HasFewCells (plan_view p)) }
+    ensures different { IfOk result (λ p. HasFewKeys (plan_view p)) }
     ensures labels { IfOk result (λ p. HasOwnLabels (plan_view p)) }
     ensures namespaces { IfOk result (λ p. NamespacesHaveParts (plan_view p)) }
     ensures keys { IfOk result (λ p. StepsNameLabels (plan_view p)) }
@@ -105,7 +103,7 @@ fn plan_of_tables(
 {
     let keys = keys_of(alloc, key_tables)?;
     let nodes = nodes_of_tables(alloc, &keys.labels, node_tables)?;
-    if !are_few(alloc, keys.keys.as_slice(), nodes.len())? {
+    if !keys_are_few(alloc, keys.keys.as_slice())? {
         return Err(PlanFault::TooMany);
     }
     if !locks_are_few(alloc, nodes.as_slice())? {
@@ -116,21 +114,4 @@ fn plan_of_tables(
         keys: keys.keys,
         nodes,
     })
-}
-
-/// Tests whether there are at most 64 different keys and 4,096 cells.
-fn are_few(alloc: Global, keys: &[PlanKey], nodes: usize) -> Result<bool, PlanFault>
-    requires parts { All HasParts (keys_view keys.now) }
-    requires few { nodes ≤ 256 }
-    ensures { GivesAll (λ b. b) result (are_few (length (different_keys (keys_view keys.now))) nodes) }
-{
-    match KeyNumbers::of(alloc, keys) {
-        Ok(numbers) => Ok(nodes * numbers.len() <= 4096),
-        Err(fault) => match fault {
-            TreeFault::Memory => Err(PlanFault::Memory),
-            TreeFault::TooMany => Ok(false),
-            // Keys alone are never refused for the fault of a tree.
-            _ => unreachable!(),
-        },
-    }
 }

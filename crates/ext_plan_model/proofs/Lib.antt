@@ -1,8 +1,9 @@
 pub mod Lists
 pub mod PlanCalls
-mod KeyLists
-mod Declared
-mod Numberings
+pub mod KeyLists
+pub mod Declared
+pub mod KeysMade
+mod Counted
 pub mod Named
 pub mod NodeIds
 pub mod Names

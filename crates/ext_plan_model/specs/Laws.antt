@@ -1,13 +1,13 @@
 -- What holds of each plan that was read, whatever its text. Own rule.
-use Rattle.std.specs.Prelude.{◌≡◌, ◌≢◌, ◌≤◌, ◌<◌, ◌*◌, ◌++◌, ℕ, true, List, [], All, AllPairs, HoldsAt, IfSome, length, map}
+use Rattle.std.specs.Prelude.{◌≡◌, ◌≢◌, ◌≤◌, ◌<◌, ◌++◌, ℕ, true, List, [], All, AllPairs, HoldsAt, IfSome, length, map}
 use Rattle.ext_lifecycle.specs.declared.call.Kind.{Kind}
 use Rattle.ext_tree.specs.Paths.{children_of}
 use Rattle.ext_tree.specs.Trees.{Id, IsTree}
-use Rattle.ext_plan_model.specs.Plans.{StepText, NodeText, PlanText, callbacks_of}
+use Rattle.ext_plan_model.specs.Plans.{StepKeyText, label, named, StepText, NodeText, PlanText, callbacks_of}
 use Rattle.ext_plan_model.specs.Keys.{is_word, labels_of}
 use Rattle.ext_plan_model.specs.KeyNumbers.{different_keys, HasParts}
 use Rattle.ext_plan_model.specs.Locks.{lock_names, lock_limit}
-use Rattle.ext_plan_model.specs.Steps.{label_of_step, height, step_limit, callback_limit}
+use Rattle.ext_plan_model.specs.Steps.{step_key, height, step_limit, callback_limit}
 
 -- ---- nodes
 
@@ -38,11 +38,16 @@ pub record OfAllSteps (P : List StepText → Type 0) (node : NodeText) : Type 0 
   pub callbacks : (kind : Kind) → All P (callbacks_of kind node)
   pub test : IfSome node.test P
 
+-- a label is one of so many; of a name nothing is said
+abbrev pub IsLabelBelow : ℕ → StepKeyText → Type 0
+IsLabelBelow count (label number) = number < count
+IsLabelBelow count (named name) = Unit {0}
+
 -- a label that the step names is one of so many
 abbrev pub NamesLabelBelow : ℕ → StepText → Type 0
-NamesLabelBelow count step = IfSome (label_of_step step) (λ label. label < count)
+NamesLabelBelow count step = IfSome (step_key step) (IsLabelBelow count)
 
--- each step names a label of the plan, or none
+-- each label that a step names is one of the plan
 abbrev pub StepsNameLabels : PlanText → Type 0
 StepsNameLabels plan = All (OfAllSteps (All (NamesLabelBelow (length plan.keys)))) plan.nodes
 
@@ -83,10 +88,9 @@ pub record StepsStayBelowRoot (plan : PlanText) : Type 0 where
 
 -- ---- keys and locks
 
--- there are at most 64 different keys, and 4,096 cells, of which each node has one for each different key
-pub record HasFewCells (plan : PlanText) : Type 0 where
-  pub keys : length (different_keys plan.keys) ≤ 64
-  pub cells : length plan.nodes * length (different_keys plan.keys) ≤ 4096
+-- at most 64 different keys are declared
+abbrev pub HasFewKeys : PlanText → Type 0
+HasFewKeys plan = length (different_keys plan.keys) ≤ 64
 
 -- the locks have at most 63 different names
 abbrev pub HasFewLocks : PlanText → Type 0

@@ -12,23 +12,30 @@ use Rattle.ext_plan_model.specs.declared.plan.PlanLock.TheVariants as locks
 use Rattle.ext_plan_model.specs.declared.plan.PlanNode.{PlanNode}
 use Rattle.ext_plan_model.specs.declared.plan.Step.{Step}
 use Rattle.ext_plan_model.specs.declared.plan.Step.TheVariants as steps
+use Rattle.ext_plan_model.specs.declared.plan.StepKey.{StepKey}
+use Rattle.ext_plan_model.specs.declared.plan.StepKey.TheVariants as step_keys
 
--- the label by which steps name the key, the key's name, and the parts of its namespace where that was created
+-- a declared key: the label by which steps name it, its name, and the parts of its namespace where that was created
 pub record KeyText : Type 0 where
   pub label : List ℕ
   pub name : List ℕ
   pub namespace : Option (List (List ℕ))
 
--- A step: the place of its label among the plan's keys, its text, and to which ancestor of its context it goes up
+-- the key that a step names: by the place of its label among the plan's keys, or by its name in the global namespace
+pub data StepKeyText : Type 0 where
+  label : ℕ → StepKeyText
+  named : List ℕ → StepKeyText
+
+-- A step: its key, its text, and to which ancestor of its context it goes up
 pub data StepText : Type 0 where
-  put : ℕ → List ℕ → ℕ → StepText
-  put_closeable : ℕ → List ℕ → ℕ → StepText
-  want : ℕ → List ℕ → ℕ → StepText
-  nothing : ℕ → ℕ → StepText
-  remove : ℕ → ℕ → StepText
-  compute : ℕ → List ℕ → ℕ → StepText
-  compute_closeable : ℕ → List ℕ → ℕ → StepText
-  compute_fail : ℕ → List ℕ → ℕ → StepText
+  put : StepKeyText → List ℕ → ℕ → StepText
+  put_closeable : StepKeyText → List ℕ → ℕ → StepText
+  want : StepKeyText → List ℕ → ℕ → StepText
+  nothing : StepKeyText → ℕ → StepText
+  remove : StepKeyText → ℕ → StepText
+  compute : StepKeyText → List ℕ → ℕ → StepText
+  compute_closeable : StepKeyText → List ℕ → ℕ → StepText
+  compute_fail : StepKeyText → List ℕ → ℕ → StepText
   fail : List ℕ → StepText
   abort : List ℕ → StepText
 
@@ -71,15 +78,19 @@ texts_view v = map string_bytes v.items
 abbrev pub key_view : PlanKey → KeyText
 key_view k = record { label = string_bytes k.label; name = string_bytes k.name; namespace = option_map texts_view k.namespace }
 
+abbrev pub step_key_view : StepKey → StepKeyText
+step_key_view (step_keys.Label number) = label number
+step_key_view (step_keys.Named name) = named (string_bytes name)
+
 abbrev pub step_view : Step → StepText
-step_view (steps.Put key text up) = put key (string_bytes text) up
-step_view (steps.PutCloseable key text up) = put_closeable key (string_bytes text) up
-step_view (steps.Want key text up) = want key (string_bytes text) up
-step_view (steps.None key up) = nothing key up
-step_view (steps.Remove key up) = remove key up
-step_view (steps.Compute key text up) = compute key (string_bytes text) up
-step_view (steps.ComputeCloseable key text up) = compute_closeable key (string_bytes text) up
-step_view (steps.ComputeFail key text up) = compute_fail key (string_bytes text) up
+step_view (steps.Put key text up) = put (step_key_view key) (string_bytes text) up
+step_view (steps.PutCloseable key text up) = put_closeable (step_key_view key) (string_bytes text) up
+step_view (steps.Want key text up) = want (step_key_view key) (string_bytes text) up
+step_view (steps.None key up) = nothing (step_key_view key) up
+step_view (steps.Remove key up) = remove (step_key_view key) up
+step_view (steps.Compute key text up) = compute (step_key_view key) (string_bytes text) up
+step_view (steps.ComputeCloseable key text up) = compute_closeable (step_key_view key) (string_bytes text) up
+step_view (steps.ComputeFail key text up) = compute_fail (step_key_view key) (string_bytes text) up
 step_view (steps.Fail text) = fail (string_bytes text)
 step_view (steps.Abort text) = abort (string_bytes text)
 

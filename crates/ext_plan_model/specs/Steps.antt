@@ -1,19 +1,19 @@
--- What a step names and how far up it goes, and how many steps and callbacks there may be. Own rule.
+-- Which key a step names and how far up it goes, and how many steps and callbacks there may be. Own rule.
 use Rattle.std.specs.Prelude.{ℕ, Option, Some, None}
-use Rattle.ext_plan_model.specs.Plans.{StepText, put, put_closeable, want, nothing, remove, compute, compute_closeable, compute_fail, fail, abort}
+use Rattle.ext_plan_model.specs.Plans.{StepKeyText, StepText, put, put_closeable, want, nothing, remove, compute, compute_closeable, compute_fail, fail, abort}
 
--- the number of the label that a step names, if it names one
-abbrev pub label_of_step : StepText → Option ℕ
-label_of_step (put key text up) = Some key
-label_of_step (put_closeable key text up) = Some key
-label_of_step (want key text up) = Some key
-label_of_step (nothing key up) = Some key
-label_of_step (remove key up) = Some key
-label_of_step (compute key text up) = Some key
-label_of_step (compute_closeable key text up) = Some key
-label_of_step (compute_fail key text up) = Some key
-label_of_step (fail text) = None
-label_of_step (abort text) = None
+-- the key that a step names, if it names one
+abbrev pub step_key : StepText → Option StepKeyText
+step_key (put key text up) = Some key
+step_key (put_closeable key text up) = Some key
+step_key (want key text up) = Some key
+step_key (nothing key up) = Some key
+step_key (remove key up) = Some key
+step_key (compute key text up) = Some key
+step_key (compute_closeable key text up) = Some key
+step_key (compute_fail key text up) = Some key
+step_key (fail text) = None
+step_key (abort text) = None
 
 -- to which ancestor a step goes up
 abbrev pub height : StepText → ℕ

@@ -10,13 +10,13 @@ use ext_model::ContextNo;
 /// The number of a label: the place of its key in `Plan::keys`, from 0. Two labels may name one key of the store. Own rule.
 pub type LabelNo = usize;
 
-/// What a run does: whether its store keeps the faults of factories, the keys that steps name, and the nodes of the tree with their
-/// callbacks and tests. There are at most 4,096 cells, of which each node has one for each different key. Own rule.
+/// What a run does: whether its store keeps the faults of factories, the keys that are declared, and the nodes of the tree with their
+/// callbacks and tests. Own rule.
 #[derive(Debug, Drop)]
 pub struct Plan {
     /// Whether the store keeps the faults of factories that fail.
     pub keep_faults: bool,
-    /// The keys by their labels, in the order of the plan. At most 64 of them are different.
+    /// The declared keys by their labels, in the order of the plan. At most 64 of them are different.
     pub keys: Vec<PlanKey>,
     /// The nodes, in the order of the plan: 1 to 256, of which the first is the root, and each further one a child of
     /// one before it.
@@ -115,7 +115,7 @@ fn steps_in(node: &PlanNode, kind: Kind, index: usize) -> &[Step]
     }
 }
 
-/// A key of the store (the key of `ExtensionContext.Store`), by the word that names it in steps. Own rule.
+/// A declared key of the store (the key of `ExtensionContext.Store`), by the word that names it in steps. Own rule.
 #[derive(Debug, Drop)]
 pub struct PlanKey {
     /// The word that names the key in steps: not empty, without a space, and no other key's.
@@ -198,8 +198,18 @@ impl PlanLock {
     }
 }
 
-/// A step of a test or of a callback. In a plan that was read, `key` is below the number of the plan's keys, `text` is one
-/// word: not empty, and without a space, and the `up`-th ancestor of each context in which the step will run is there.
+/// The key of the store that a step names: by a label of the plan, or by its own name. Own rule.
+#[derive(Debug, Drop)]
+pub enum StepKey {
+    /// The declared key of this label. In a plan that was read the label is one of the plan's.
+    Label(LabelNo),
+    /// The key of this name in the global namespace. It may equal a declared key: then both are one key of the store. In a plan that
+    /// was read the name is one word, and no label of the plan.
+    Named(String),
+}
+
+/// A step of a test or of a callback. In a plan that was read, `text` is one word: not empty, and without a space, and the `up`-th
+/// ancestor of each context in which the step will run is there.
 ///
 /// A step acts on the context in which its test or callback runs, or on its `up`-th ancestor, which is the context itself
 /// where `up` is 0. A test, and callbacks before and after all, run in the context of their own node; callbacks before and
@@ -208,48 +218,48 @@ impl PlanLock {
 pub enum Step {
     /// `put KEY TEXT`: stores a value that has this text and isn't closeable (`put`).
     Put {
-        key: LabelNo,
+        key: StepKey,
         text: String,
         up: usize,
     },
     /// `put! KEY TEXT`: stores a closeable value that has this text (`put`).
     PutCloseable {
-        key: LabelNo,
+        key: StepKey,
         text: String,
         up: usize,
     },
     /// `want KEY TEXT`: looks up (`get`); passes where the found value has this text.
     Want {
-        key: LabelNo,
+        key: StepKey,
         text: String,
         up: usize,
     },
     /// `none KEY`: looks up (`get`); passes where nothing is found.
     None {
-        key: LabelNo,
+        key: StepKey,
         up: usize,
     },
     /// `remove KEY`: removes (`remove`); passes whether or not a value stood there.
     Remove {
-        key: LabelNo,
+        key: StepKey,
         up: usize,
     },
     /// `compute KEY TEXT`: computes (`getOrComputeIfAbsent`) with a factory that gives a value that has this text and
     /// isn't closeable; passes where it was computed or another was found.
     Compute {
-        key: LabelNo,
+        key: StepKey,
         text: String,
         up: usize,
     },
     /// `compute! KEY TEXT`: the same with a closeable value.
     ComputeCloseable {
-        key: LabelNo,
+        key: StepKey,
         text: String,
         up: usize,
     },
     /// `computefail KEY TEXT`: computes with a factory that fails with this text; passes where that fault came back.
     ComputeFail {
-        key: LabelNo,
+        key: StepKey,
         text: String,
         up: usize,
     },
@@ -261,4 +271,28 @@ pub enum Step {
     Abort {
         text: String,
     },
+}
+
+impl Step {
+    ghost use Rattle.std.specs.Prelude.{option_map};
+    ghost use Rattle.ext_plan_model.specs.Plans.{step_key_view};
+    ghost use Rattle.ext_plan_model.specs.Steps.{step_key};
+
+    /// The key that the step names; `None` of `fail` and `abort`, which name none. Takes no memory. Own rule.
+    pub fn key(&self) -> Option<&StepKey>
+        ensures { option_map (λ k. step_key_view k.now) result ≡ step_key (step_view self.now) }
+    {
+        match self {
+            Step::Put { key, .. } => Some(key),
+            Step::PutCloseable { key, .. } => Some(key),
+            Step::Want { key, .. } => Some(key),
+            Step::None { key, .. } => Some(key),
+            Step::Remove { key, .. } => Some(key),
+            Step::Compute { key, .. } => Some(key),
+            Step::ComputeCloseable { key, .. } => Some(key),
+            Step::ComputeFail { key, .. } => Some(key),
+            Step::Fail { .. } => None,
+            Step::Abort { .. } => None,
+        }
+    }
 }

@@ -6,66 +6,67 @@ use Rattle.std.specs.Str.{bytes_eq}
 use Rattle.std.proofs.lemmas.Bool.{leb-true, ltb-true}
 use Rattle.std.proofs.lemmas.List.Elements.{All-push, All-nil}
 use Rattle.std.proofs.lemmas.List.Quantifiers.{position-Some}
-use Rattle.ext_plan_model.specs.Plans.{StepText, put, put_closeable, want, nothing, remove, compute, compute_closeable, compute_fail, fail, abort}
-use Rattle.ext_plan_model.specs.Laws.{NamesLabelBelow, StayOnPath}
-use Rattle.ext_plan_model.specs.Steps.{label_of_step, height, step_limit}
+use Rattle.ext_plan_model.specs.Plans.{StepKeyText, StepText, put, put_closeable, want, nothing, remove, compute, compute_closeable, compute_fail, fail, abort}
+use Rattle.ext_plan_model.specs.Laws.{IsLabelBelow, NamesLabelBelow, StayOnPath}
+use Rattle.ext_plan_model.specs.Steps.{step_key, height, step_limit}
 use Rattle.ext_plan_tables.specs.declared.fault.PlanFault.TheVariants as faults
 use Rattle.ext_plan_tables.specs.Faults.{some_or, check}
 use Rattle.ext_plan_tables.specs.Keys.{label_number}
-use Rattle.ext_plan_tables.specs.Steps.{height_of, key_step, text_step, labelled_key_step, labelled_text_step, step_of_words, step_of, step_at, steps_after, steps_at}
+use Rattle.ext_plan_tables.specs.Steps.{height_of, key_of_word, key_or_named, key_step, text_step, worded_key_step, worded_text_step, step_of_words, step_of, step_at, steps_after, steps_at}
 use Rattle.ext_plan_tables.proofs.Gave.{ok_value, both_gave, was_some, passed}
 
--- ---- the label that a step names
+-- ---- the key that a step names
 
--- the label that a step names, if it is a step
-abbrev named : Option StepText → Option ℕ
-named o = option_and_then label_of_step o
+-- the key that a step names, if it is a step
+abbrev its_key : Option StepText → Option StepKeyText
+its_key o = option_and_then step_key o
 
-key_named_at : (a b : Bool) (key up : ℕ) (step : StepText) → (if a then Some (nothing key up) else if b then Some (remove key up) else None) ≡ Some step → label_of_step step ≡ Some key
-key_named_at true b key up step h = sym (ap named h)
-key_named_at false true key up step h = sym (ap named h)
+key_named_at : (a b : Bool) (key : StepKeyText) (up : ℕ) (step : StepText) → (if a then Some (nothing key up) else if b then Some (remove key up) else None) ≡ Some step → step_key step ≡ Some key
+key_named_at true b key up step h = sym (ap its_key h)
+key_named_at false true key up step h = sym (ap its_key h)
 key_named_at false false key up step h = absurd cc
 
-key_named : (name : List ℕ) (key up : ℕ) (step : StepText) → key_step name key up ≡ Some step → label_of_step step ≡ Some key
+key_named : (name : List ℕ) (key : StepKeyText) (up : ℕ) (step : StepText) → key_step name key up ≡ Some step → step_key step ≡ Some key
 key_named name key up step h = key_named_at _ _ key up step h
 
-text_named_at : (a b c d e f : Bool) (key : ℕ) (text : List ℕ) (up : ℕ) (step : StepText)
+text_named_at : (a b c d e f : Bool) (key : StepKeyText) (text : List ℕ) (up : ℕ) (step : StepText)
     → (if a then Some (put key text up)
     else if b then Some (put_closeable key text up)
     else if c then Some (want key text up)
     else if d then Some (compute key text up)
     else if e then Some (compute_closeable key text up)
     else if f then Some (compute_fail key text up)
-    else None) ≡ Some step → label_of_step step ≡ Some key
-text_named_at true b c d e f key text up step h = sym (ap named h)
-text_named_at false true c d e f key text up step h = sym (ap named h)
-text_named_at false false true d e f key text up step h = sym (ap named h)
-text_named_at false false false true e f key text up step h = sym (ap named h)
-text_named_at false false false false true f key text up step h = sym (ap named h)
-text_named_at false false false false false true key text up step h = sym (ap named h)
+    else None) ≡ Some step → step_key step ≡ Some key
+text_named_at true b c d e f key text up step h = sym (ap its_key h)
+text_named_at false true c d e f key text up step h = sym (ap its_key h)
+text_named_at false false true d e f key text up step h = sym (ap its_key h)
+text_named_at false false false true e f key text up step h = sym (ap its_key h)
+text_named_at false false false false true f key text up step h = sym (ap its_key h)
+text_named_at false false false false false true key text up step h = sym (ap its_key h)
 text_named_at false false false false false false key text up step h = absurd cc
 
-text_named : (name : List ℕ) (key : ℕ) (text : List ℕ) (up : ℕ) (step : StepText) → text_step name key text up ≡ Some step → label_of_step step ≡ Some key
+text_named : (name : List ℕ) (key : StepKeyText) (text : List ℕ) (up : ℕ) (step : StepText) → text_step name key text up ≡ Some step → step_key step ≡ Some key
 text_named name key text up step h = text_named_at _ _ _ _ _ _ key text up step h
 
 -- a label's number is below the number of labels
-below : (labels : List (List ℕ)) (label : List ℕ) (step_with : ℕ → Option StepText) → ((key : ℕ) (step : StepText) → step_with key ≡ Some step → label_of_step step ≡ Some key)
-    → (found : Option ℕ) (step : StepText) → label_number labels label ≡ found → option_and_then step_with found ≡ Some step → NamesLabelBelow (length labels) step
-below labels label step_with names None step e h = absurd cc
-below labels label step_with names (Some key) step e h =
-    let place = position-Some (bytes_eq label) labels key [] e in
-    rw (names key step h) place.0
+key_below : (labels : List (List ℕ)) (word : List ℕ) (found : Option ℕ) → label_number labels word ≡ found → IsLabelBelow (length labels) (key_or_named word found)
+key_below labels word None e = tt
+key_below labels word (Some number) e = (position-Some (bytes_eq word) labels number [] e).0
 
-key_step_below : (labels : List (List ℕ)) (name label : List ℕ) (up : ℕ) (step : StepText) → labelled_key_step labels name label up ≡ Some step → NamesLabelBelow (length labels) step
-key_step_below labels name label up step h = below labels label (λ key. key_step name key up) (λ key s e. key_named name key up s e) _ step refl h
+-- a step whose key is that of a word
+worded_below : (labels : List (List ℕ)) (word : List ℕ) (step : StepText) → step_key step ≡ Some (key_of_word labels word) → NamesLabelBelow (length labels) step
+worded_below labels word step e = rw e (key_below labels word _ refl)
 
-text_step_below : (labels : List (List ℕ)) (name label text : List ℕ) (up : ℕ) (step : StepText) → labelled_text_step labels name label text up ≡ Some step → NamesLabelBelow (length labels) step
-text_step_below labels name label text up step h = below labels label (λ key. text_step name key text up) (λ key s e. text_named name key text up s e) _ step refl h
+key_step_below : (labels : List (List ℕ)) (name word : List ℕ) (up : ℕ) (step : StepText) → worded_key_step labels name word up ≡ Some step → NamesLabelBelow (length labels) step
+key_step_below labels name word up step h = worded_below labels word step (key_named name (key_of_word labels word) up step h)
+
+text_step_below : (labels : List (List ℕ)) (name word text : List ℕ) (up : ℕ) (step : StepText) → worded_text_step labels name word text up ≡ Some step → NamesLabelBelow (length labels) step
+text_step_below labels name word text up step h = worded_below labels word step (text_named name (key_of_word labels word) text up step h)
 
 short_below_at : (count : ℕ) (a b : Bool) (word : List ℕ) (other : Option StepText) (step : StepText) → (other ≡ Some step → NamesLabelBelow count step)
     → (if a then Some (fail word) else if b then Some (abort word) else other) ≡ Some step → NamesLabelBelow count step
-short_below_at count true b word other step next h = let none : label_of_step step ≡ None = sym (ap named h) in rw none tt
-short_below_at count false true word other step next h = let none : label_of_step step ≡ None = sym (ap named h) in rw none tt
+short_below_at count true b word other step next h = let none : step_key step ≡ None = sym (ap its_key h) in rw none tt
+short_below_at count false true word other step next h = let none : step_key step ≡ None = sym (ap its_key h) in rw none tt
 short_below_at count false false word other step next h = next h
 
 with_height : (up : Option ℕ) (step_with : ℕ → Option StepText) (step : StepText) → option_and_then step_with up ≡ Some step → (n : ℕ) × (step_with n ≡ Some step)
@@ -78,10 +79,10 @@ words_below labels (name ∷ []) step h = absurd cc
 words_below labels (name ∷ word ∷ []) step h = short_below_at (length labels) _ _ word _ step (key_step_below labels name word 0 step) h
 words_below labels (name ∷ label ∷ text ∷ []) step h = text_step_below labels name label text 0 step h
 words_below labels (name ∷ label ∷ word ∷ number ∷ []) step h =
-    let up = with_height (height_of word number) (labelled_key_step labels name label) step h in
+    let up = with_height (height_of word number) (worded_key_step labels name label) step h in
     key_step_below labels name label up.0 step up.1
 words_below labels (name ∷ label ∷ text ∷ word ∷ number ∷ []) step h =
-    let up = with_height (height_of word number) (labelled_text_step labels name label text) step h in
+    let up = with_height (height_of word number) (worded_text_step labels name label text) step h in
     text_step_below labels name label text up.0 step up.1
 words_below labels (a ∷ b ∷ c ∷ d ∷ e ∷ f ∷ more) step h = absurd cc
 

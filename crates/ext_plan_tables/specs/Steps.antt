@@ -1,4 +1,5 @@
--- The steps of a test or a callback: texts of words with exactly one space between two. The first word is the step's name, KEY is a label of the plan, TEXT a word:
+-- The steps of a test or a callback: texts of words with exactly one space between two. The first word is the step's name, TEXT is a word, and so is KEY: a label
+-- of the plan, or else the name of a key in the global namespace:
 --
 --     none KEY      put KEY TEXT      want KEY TEXT       computefail KEY TEXT      fail TEXT
 --     remove KEY    put! KEY TEXT     compute KEY TEXT    compute! KEY TEXT         abort TEXT
@@ -8,7 +9,7 @@
 use Rattle.std.specs.Prelude.{ℕ, suc, ◌==◌, nat_le, nat_lt, codes, List, [], ◌∷◌, ◌++◌, length, position, Option, Some, None, option_map, option_and_then, Result, Ok, if◌then◌else◌}
 use Rattle.std.specs.List.{slice_split, list_any}
 use Rattle.std.specs.Str.{bytes_eq}
-use Rattle.ext_plan_model.specs.Plans.{StepText, put, put_closeable, want, nothing, remove, compute, compute_closeable, compute_fail, fail, abort}
+use Rattle.ext_plan_model.specs.Plans.{StepKeyText, label, named, StepText, put, put_closeable, want, nothing, remove, compute, compute_closeable, compute_fail, fail, abort}
 use Rattle.ext_plan_model.specs.Steps.{height, step_limit}
 use Rattle.ext_plan_tables.specs.declared.fault.PlanFault.{PlanFault}
 use Rattle.ext_plan_tables.specs.declared.fault.PlanFault.TheVariants as faults
@@ -24,15 +25,24 @@ heights =
 abbrev pub height_of : List ℕ → List ℕ → Option ℕ
 height_of word number = if bytes_eq word (codes "up") then option_map suc (position (λ height. bytes_eq height number) heights) else None
 
+-- the key of a word that is the label of this number, or no label
+abbrev pub key_or_named : List ℕ → Option ℕ → StepKeyText
+key_or_named word (Some number) = label number
+key_or_named word None = named word
+
+-- the key that a word names
+abbrev pub key_of_word : List (List ℕ) → List ℕ → StepKeyText
+key_of_word labels word = key_or_named word (label_number labels word)
+
 -- a step of this name, with a key
-abbrev pub key_step : List ℕ → ℕ → ℕ → Option StepText
+abbrev pub key_step : List ℕ → StepKeyText → ℕ → Option StepText
 key_step name key up =
     if bytes_eq name (codes "none") then Some (nothing key up)
     else if bytes_eq name (codes "remove") then Some (remove key up)
     else None
 
 -- a step of this name, with a key and a text
-abbrev pub text_step : List ℕ → ℕ → List ℕ → ℕ → Option StepText
+abbrev pub text_step : List ℕ → StepKeyText → List ℕ → ℕ → Option StepText
 text_step name key text up =
     if bytes_eq name (codes "put") then Some (put key text up)
     else if bytes_eq name (codes "put!") then Some (put_closeable key text up)
@@ -42,26 +52,26 @@ text_step name key text up =
     else if bytes_eq name (codes "computefail") then Some (compute_fail key text up)
     else None
 
--- the same with the label of the key
-abbrev pub labelled_key_step : List (List ℕ) → List ℕ → List ℕ → ℕ → Option StepText
-labelled_key_step labels name label up = option_and_then (λ key. key_step name key up) (label_number labels label)
+-- the same with the word of the key
+abbrev pub worded_key_step : List (List ℕ) → List ℕ → List ℕ → ℕ → Option StepText
+worded_key_step labels name word up = key_step name (key_of_word labels word) up
 
-abbrev pub labelled_text_step : List (List ℕ) → List ℕ → List ℕ → List ℕ → ℕ → Option StepText
-labelled_text_step labels name label text up = option_and_then (λ key. text_step name key text up) (label_number labels label)
+abbrev pub worded_text_step : List (List ℕ) → List ℕ → List ℕ → List ℕ → ℕ → Option StepText
+worded_text_step labels name word text up = text_step name (key_of_word labels word) text up
 
 -- a step of two words
 abbrev pub short_step : List (List ℕ) → List ℕ → List ℕ → Option StepText
 short_step labels name word =
     if bytes_eq name (codes "fail") then Some (fail word)
     else if bytes_eq name (codes "abort") then Some (abort word)
-    else labelled_key_step labels name word 0
+    else worded_key_step labels name word 0
 
 -- a step in words
 abbrev pub step_of_words : List (List ℕ) → List (List ℕ) → Option StepText
 step_of_words labels (name ∷ word ∷ []) = short_step labels name word
-step_of_words labels (name ∷ label ∷ text ∷ []) = labelled_text_step labels name label text 0
-step_of_words labels (name ∷ label ∷ word ∷ number ∷ []) = option_and_then (labelled_key_step labels name label) (height_of word number)
-step_of_words labels (name ∷ label ∷ text ∷ word ∷ number ∷ []) = option_and_then (labelled_text_step labels name label text) (height_of word number)
+step_of_words labels (name ∷ key ∷ text ∷ []) = worded_text_step labels name key text 0
+step_of_words labels (name ∷ key ∷ word ∷ number ∷ []) = option_and_then (worded_key_step labels name key) (height_of word number)
+step_of_words labels (name ∷ key ∷ text ∷ word ∷ number ∷ []) = option_and_then (worded_text_step labels name key text) (height_of word number)
 step_of_words labels _ = None
 
 -- the step that a text is, where these are the labels: no word of it is empty

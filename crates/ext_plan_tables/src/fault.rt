@@ -62,7 +62,7 @@ pub enum PlanFault {
     /// P7: the ids are those of no tree: there is none or more than 256, the first has more than one segment, or a
     /// further one stands twice, has one segment or has no parent before it.
     BadTree,
-    /// P8: a text in the `test` or in a callback of a node is no step, names no label of the plan, or goes up past the root
+    /// P8: a text in the `test` or in a callback of a node is no step, or goes up past the root
     /// from a test or container in which it will run; or a test or a callback has 2^32 steps or more, or a node more than
     /// 1,048,576 callbacks of a kind, which takes a text of over 12 GB or 3 MB.
     BadStep(usize),
@@ -71,8 +71,7 @@ pub enum PlanFault {
     BadLock(usize),
     /// P10: a node is a test and has children, or has `before_all` or `after_all`, be it an empty array.
     BadTest(usize),
-    /// P11: there are more than 64 different keys, or more than 4,096 cells, of which each node has one for each
-    /// different key, or more than 63 different names of locks.
+    /// P11: more than 64 different keys are declared, or there are more than 63 different names of locks.
     TooMany,
     /// P12: memory was wanted and refused.
     Memory,

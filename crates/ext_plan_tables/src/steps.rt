@@ -2,14 +2,14 @@
 ghost use Rattle.std.specs.Prelude.{◌≡◌, ◌==◌, [], map, length, option_map, IfOk, IfSome, position, ◌<◌};
 ghost use Rattle.std.specs.List.{slice_split, list_any};
 ghost use Rattle.std.specs.Str.{bytes_eq};
-ghost use Rattle.ext_plan_model.specs.Plans.{step_view, steps_view};
+ghost use Rattle.ext_plan_model.specs.Plans.{step_key_view, step_view, steps_view};
 ghost use Rattle.ext_plan_model.specs.Steps.{height};
 ghost use Rattle.ext_plan_tables.specs.Faults.{Gives, GivesAll};
-ghost use Rattle.ext_plan_tables.specs.Steps.{height_of, key_step, text_step, labelled_key_step, labelled_text_step, short_step, step_of_words, step_of, step_at, steps_after, steps_at};
+ghost use Rattle.ext_plan_tables.specs.Steps.{height_of, key_of_word, key_step, text_step, worded_key_step, worded_text_step, short_step, step_of_words, step_of, step_at, steps_after, steps_at};
 
 use crate::fault::PlanFault;
 use crate::labels::Labels;
-use ext_plan_model::{LabelNo, Step};
+use ext_plan_model::{Step, StepKey};
 use std::alloc::{AllocError, Global};
 
 /// The numbers behind `up`, as they are written: from 1 to 15, in order.
@@ -131,20 +131,20 @@ fn step_of_words(
 {
     match words {
         [name, word] => short_step(alloc, labels, name, word),
-        [name, label, text] => labelled_text_step(alloc, labels, name, label, text, 0),
-        [name, label, word, number] => match height_of(word, number) {
+        [name, key, text] => worded_text_step(alloc, labels, name, key, text, 0),
+        [name, key, word, number] => match height_of(word, number) {
             None => Ok(None),
-            Some(up) => Ok(labelled_key_step(labels, name, label, up)),
+            Some(up) => worded_key_step(alloc, labels, name, key, up),
         },
-        [name, label, text, word, number] => match height_of(word, number) {
+        [name, key, text, word, number] => match height_of(word, number) {
             None => Ok(None),
-            Some(up) => labelled_text_step(alloc, labels, name, label, text, up),
+            Some(up) => worded_text_step(alloc, labels, name, key, text, up),
         },
         _ => Ok(None),
     }
 }
 
-/// The step of two words: a name, and a text or a label.
+/// The step of two words: a name, and a text or a key.
 fn short_step(
     alloc: Global,
     labels: &Labels<'_>,
@@ -160,40 +160,52 @@ fn short_step(
         "abort" => Ok(Some(Step::Abort {
             text: String::from_str(alloc, word)?,
         })),
-        _ => Ok(labelled_key_step(labels, name, word, 0)),
+        _ => worded_key_step(alloc, labels, name, word, 0),
     }
 }
 
-/// The step of a name and a label, if the name has such steps and the label is one of the plan.
-fn labelled_key_step(labels: &Labels<'_>, name: &str, label: &str, up: usize) -> Option<Step>
-    ensures { option_map step_view result ≡ labelled_key_step labels.now name.now label.now up }
-{
-    match labels.number_of(label) {
-        None => None,
-        Some(key) => key_step(name, key, up),
-    }
-}
-
-/// The step of a name, a label and a text, if the name has such steps and the label is one of the plan.
-fn labelled_text_step(
+/// The step of a name and the word of a key, if the name has such steps.
+fn worded_key_step(
     alloc: Global,
     labels: &Labels<'_>,
     name: &str,
-    label: &str,
+    word: &str,
+    up: usize,
+) -> Result<Option<Step>, PlanFault>
+    ensures { GivesAll (option_map step_view) result (worded_key_step labels.now name.now word.now up) }
+{
+    let key = key_of_word(alloc, labels, word)?;
+    Ok(key_step(name, key, up))
+}
+
+/// The step of a name, the word of a key and a text, if the name has such steps.
+fn worded_text_step(
+    alloc: Global,
+    labels: &Labels<'_>,
+    name: &str,
+    word: &str,
     text: &str,
     up: usize,
 ) -> Result<Option<Step>, PlanFault>
-    ensures { GivesAll (option_map step_view) result (labelled_text_step labels.now name.now label.now text.now up) }
+    ensures { GivesAll (option_map step_view) result (worded_text_step labels.now name.now word.now text.now up) }
 {
-    match labels.number_of(label) {
-        None => Ok(None),
-        Some(key) => text_step(alloc, name, key, text, up),
+    let key = key_of_word(alloc, labels, word)?;
+    text_step(alloc, name, key, text, up)
+}
+
+/// The key that a word names: that of the label which it is, or else the one of this name.
+fn key_of_word(alloc: Global, labels: &Labels<'_>, word: &str) -> Result<StepKey, AllocError>
+    ensures { IfOk result (λ k. step_key_view k ≡ key_of_word labels.now word.now) }
+{
+    match labels.number_of(word) {
+        Some(label) => Ok(StepKey::Label(label)),
+        None => Ok(StepKey::Named(String::from_str(alloc, word)?)),
     }
 }
 
 /// The step of this name with a key, if the name has such steps.
-fn key_step(name: &str, key: LabelNo, up: usize) -> Option<Step>
-    ensures { option_map step_view result ≡ key_step name.now key up }
+fn key_step(name: &str, key: StepKey, up: usize) -> Option<Step>
+    ensures { option_map step_view result ≡ key_step name.now (step_key_view key) up }
 {
     match name {
         "none" => Some(Step::None { key, up }),
@@ -206,11 +218,11 @@ fn key_step(name: &str, key: LabelNo, up: usize) -> Option<Step>
 fn text_step(
     alloc: Global,
     name: &str,
-    key: LabelNo,
+    key: StepKey,
     text: &str,
     up: usize,
 ) -> Result<Option<Step>, PlanFault>
-    ensures { GivesAll (option_map step_view) result (text_step name.now key text.now up) }
+    ensures { GivesAll (option_map step_view) result (text_step name.now (step_key_view key) text.now up) }
 {
     let text = String::from_str(alloc, text)?;
     Ok(match name {

@@ -3,6 +3,7 @@ ghost use Rattle.std.specs.Prelude.{◌<◌, length};
 ghost use Rattle.ext_store.specs.Stores.{IsLaneOf};
 
 use crate::outcome::Outcome;
+use crate::stores::names;
 use ext_model::{Fault, Look};
 use ext_store::{Compute, KeepFault, Lane, Store};
 use ext_store_rows::{Letter, key, open_chain_for};
@@ -25,7 +26,7 @@ fn is_own(fault: &Fault) -> bool {
     matches!(fault, Fault::Text(text) if text.as_str() == TEXT)
 }
 
-/// Makes the fault, and computes in the method by a factory that fails with it.
+/// Names the key, makes the fault, and computes in the method by a factory that fails with it.
 fn fails_in(alloc: Global, store: &Store<Letter>, lane: &mut Lane<Letter>) -> Outcome
     requires lane { IsLaneOf store.now.id lane.old }
     requires contexts { 2 < length store.now.tree }
@@ -33,9 +34,17 @@ fn fails_in(alloc: Global, store: &Store<Letter>, lane: &mut Lane<Letter>) -> Ou
     let (Some(a), Ok(text)) = (key(alloc, "a"), String::from_str(alloc, TEXT)) else {
         return Outcome::NoMemory;
     };
-    match fail(store, lane, &a, Fault::Text(text)) {
-        Answer::Kept(number) => stands(store, lane, &a, number),
-        Answer::Unkept(back) => fails_again(store, lane, &a, back),
+    names(store, lane, &a).and(fails(store, lane, &a, text))
+}
+
+/// Computes in the method by a factory that fails with this text.
+fn fails(store: &Store<Letter>, lane: &mut Lane<Letter>, a: &Key, text: String) -> Outcome
+    requires lane { IsLaneOf store.now.id lane.old }
+    requires contexts { 2 < length store.now.tree }
+{
+    match fail(store, lane, a, Fault::Text(text)) {
+        Answer::Kept(number) => stands(store, lane, a, number),
+        Answer::Unkept(back) => fails_again(store, lane, a, back),
         Answer::Stands | Answer::Other => Outcome::Wrong("a refused compute lost its fault"),
     }
 }

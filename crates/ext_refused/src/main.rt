@@ -8,11 +8,13 @@
 mod crew;
 mod faults;
 mod ids;
+mod key_places;
 mod keys;
 mod outcome;
 mod places;
 mod plain;
 mod runs;
+mod store_keys;
 mod stores;
 mod words;
 
@@ -73,9 +75,11 @@ fn outcome_of<R: Threads + Wait + Sync>(rt: &R, alloc: Global, case: Case) -> Ou
         Case::Ids => ids::reads_and_writes(alloc),
         Case::Plain => plain::makes_calls(alloc),
         Case::Keys => keys::declares(alloc).and(keys::builds(alloc)),
+        Case::KeyPlaces => key_places::numbers(alloc),
         Case::Places => places::places(alloc),
         Case::Crew => crew::runs_jobs(rt, alloc),
         Case::Store => stores::keeps_and_computes(alloc),
+        Case::StoreKeys => store_keys::names_keys(alloc),
         Case::Faults => faults::keeps_a_fault(alloc),
         Case::Run => runs::runs(rt, alloc),
     }

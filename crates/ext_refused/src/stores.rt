@@ -4,7 +4,7 @@ ghost use Rattle.ext_store.specs.Stores.{IsKeptBy, IsLaneOf};
 
 use crate::outcome::Outcome;
 use ext_model::{Fault, Look};
-use ext_store::{Compute, KeepFault, Kept, Lane, Store};
+use ext_store::{Compute, KeepFault, Kept, Lane, Refusal, Store};
 use ext_store_rows::{Letter, key, open_chain, plain};
 use ext_tree::Key;
 use std::alloc::Global;
@@ -25,7 +25,26 @@ fn makes_calls(alloc: Global, store: &Store<Letter>, lane: &mut Lane<Letter>) ->
     let (Some(a), Some(b)) = (key(alloc, "a"), key(alloc, "b")) else {
         return Outcome::NoMemory;
     };
-    keeps(store, lane, &a).and(computes(store, lane, &b))
+    names(store, lane, &a)
+        .and(names(store, lane, &b))
+        .and(keeps(store, lane, &a))
+        .and(computes(store, lane, &b))
+}
+
+/// Names the key, so that no call by it wants memory for it afterwards.
+pub(crate) fn names(store: &Store<Letter>, lane: &mut Lane<Letter>, key: &Key) -> Outcome
+    requires { IsLaneOf store.now.id lane.old }
+    ensures { IsLaneOf store.now.id lane.new }
+{
+    match store.number(lane, key) {
+        Ok(_) => Outcome::Whole,
+        Err(Refusal::Memory) => Outcome::of(
+            store.number(lane, key).is_ok(),
+            "a key that was refused a number gets none",
+        )
+        .again(),
+        Err(_) => Outcome::Wrong("a key gets no number"),
+    }
 }
 
 /// Keeps x and puts it; where it is not kept it comes back, and is kept then.

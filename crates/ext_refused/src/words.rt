@@ -7,10 +7,11 @@ pub(crate) const USAGE: &str = "\
 usage: ext_refused CASE ALLOCATIONS
 
 Makes and drops so many ALLOCATIONS (0 to 4294967295), and then makes the calls of the CASE: ids,
-plain, keys, places, crew, store, faults, or run, which runs a plan of four tests on four lanes. It
-prints a line: ok; or no memory, where a call answered that and all was then as it has to be; or no
-memory in its report, of a run; or else what was not. The exit status is 0, or 1 where something was
-not as it has to be, 2 where the words are refused, or 3 where there was no memory before the case.";
+plain, keys, key_places, places, crew, store, store_keys, faults, or run, which runs a plan of four
+tests on four lanes. It prints a line: ok; or no memory, where a call answered that and all was then
+as it has to be; or no memory in its report, of a run; or else what was not. The exit status is 0, or
+1 where something was not as it has to be, 2 where the words are refused, or 3 where there was no
+memory before the case.";
 
 /// A case: what is called.
 #[derive(Clone, Copy)]
@@ -21,12 +22,16 @@ pub(crate) enum Case {
     Plain,
     /// Keys are made and declared, and a tree is built.
     Keys,
+    /// Keys are made, and numbered by two lanes.
+    KeyPlaces,
     /// Places for values are made, and a value is placed.
     Places,
     /// Jobs are run on several workers.
     Crew,
     /// A store is opened, a value is kept and put, and one is computed.
     Store,
+    /// A store is opened, and keys are named in it by each call.
+    StoreKeys,
     /// A store that keeps faults is opened, and a factory fails.
     Faults,
     /// A plan is run on four lanes.
@@ -40,9 +45,11 @@ impl Case {
             "ids" => Some(Case::Ids),
             "plain" => Some(Case::Plain),
             "keys" => Some(Case::Keys),
+            "key_places" => Some(Case::KeyPlaces),
             "places" => Some(Case::Places),
             "crew" => Some(Case::Crew),
             "store" => Some(Case::Store),
+            "store_keys" => Some(Case::StoreKeys),
             "faults" => Some(Case::Faults),
             "run" => Some(Case::Run),
             _ => None,

@@ -1,10 +1,8 @@
 //! The suite of a plan with an isolated root that has callbacks, and a test that names locks.
-ghost use Rattle.std.specs.Prelude.{◌≡◌, ◌<◌, ◌≤◌, All, IfSome, length};
-ghost use Rattle.ext_plan_model.specs.KeyNumbers.{different_keys};
-ghost use Rattle.ext_plan_model.specs.Laws.{CallbacksAreFew, NamespacesHaveParts, StepListsAreShort, StepsNameLabels};
+ghost use Rattle.std.specs.Prelude.{◌<◌, All, IfSome, length};
+ghost use Rattle.ext_plan_model.specs.Laws.{CallbacksAreFew, NamespacesHaveParts, StepListsAreShort};
 ghost use Rattle.ext_plan_model.specs.Plans.{plan_view};
 ghost use Rattle.ext_store.specs.Stores.{IsLaneOf};
-ghost use Rattle.ext_suite.specs.PlanSuites.{HasKeys};
 
 use ext_closing::CloseAction;
 use ext_engine::{Call, Callbacks, Kind, Mode, Outcome, Suite, Verdict};
@@ -13,12 +11,12 @@ use ext_lifecycle::NoListener;
 use ext_locks::{LockMode, LockRequest, Resource};
 use ext_model::Fault;
 use ext_plan::read_plan;
-use ext_plan_model::{KeyNumbers, Plan};
+use ext_plan_model::Plan;
 use ext_steps::PlanValue;
 use ext_store::{Lane, Limits, Store};
 use ext_store_steps::StoredValue;
 use ext_suite::{PlanAction, PlanSuite};
-use ext_tree::{Directory, Tree};
+use ext_tree::Tree;
 use std::alloc::Global;
 use std::fmt::Debug;
 use std::process::Abort;
@@ -42,21 +40,17 @@ fn fault_of(rt: &impl Abort, alloc: Global, text: &str) -> Fault {
 /// What a test does with the suite of the plan.
 trait Scenario<R> {
     /// Does it, and asserts what is answered.
-    fn play(&self, rt: &R, alloc: Global, plan: &Plan, suite: &PlanSuite<'_, NoListener>)
-        requires parts { NamespacesHaveParts (plan_view plan.now) }
-        requires suite { suite.now ≡ plan_view plan.now };
+    fn play(&self, rt: &R, alloc: Global, suite: &PlanSuite<'_, NoListener>);
 }
 
 /// Plays the scenario with the suite of the plan.
 fn lend<R, S: Scenario<R>>(rt: &R, alloc: Global, plan: &Plan, scenario: &S) -> Result<(), Fail>
-    requires keys { length (different_keys (plan_view plan.now).keys) ≤ 64 }
     requires parts { NamespacesHaveParts (plan_view plan.now) }
-    requires labels { StepsNameLabels (plan_view plan.now) }
     requires short { StepListsAreShort (plan_view plan.now) }
     requires few { CallbacksAreFew (plan_view plan.now) }
 {
     let suite = PlanSuite::new(alloc, plan, &NoListener)?;
-    scenario.play(rt, alloc, plan, &suite);
+    scenario.play(rt, alloc, &suite);
     Ok(())
 }
 
@@ -90,22 +84,11 @@ fn contexts(alloc: Global) -> Option<Tree>
     Some(tree)
 }
 
-/// The keys of the plan.
-fn directory(alloc: Global, plan: &Plan) -> Option<Directory>
-    requires { NamespacesHaveParts (plan_view plan.now) }
-    ensures { IfSome result (λ keys. keys ≡ different_keys (plan_view plan.now).keys) }
-{
-    let Ok(numbers) = KeyNumbers::of(alloc, plan.keys.as_slice()) else {
-        return None;
-    };
-    Some(numbers.into_directory())
-}
-
 /// The suite says what the plan does.
 struct SaysWhatItsPlanDoes;
 
 impl<R: Abort> Scenario<R> for SaysWhatItsPlanDoes {
-    fn play(&self, rt: &R, _alloc: Global, _plan: &Plan, suite: &PlanSuite<'_, NoListener>) {
+    fn play(&self, rt: &R, _alloc: Global, suite: &PlanSuite<'_, NoListener>) {
         says(rt, suite);
     }
 }
@@ -143,7 +126,6 @@ fn answers<'a, R: Abort + Wait>(
     index: usize,
     wanted: Outcome,
 )
-    requires keys { HasKeys suite.now store.now }
     requires lane { IsLaneOf store.now.id lane.old }
     requires contexts { 1 < length store.now.tree }
     ensures { IsLaneOf store.now.id lane.new }
@@ -168,7 +150,6 @@ fn both_answer<'a, R: Abort + Wait>(
     store: &Store<StoredValue<'a>>,
     lanes: &mut [Lane<StoredValue<'a>>],
 )
-    requires keys { HasKeys suite.now store.now }
     requires lanes { All (IsLaneOf store.now.id) lanes.old }
     requires contexts { 1 < length store.now.tree }
 {
@@ -187,16 +168,14 @@ fn both_answer<'a, R: Abort + Wait>(
     answers(rt, suite, store, lane, 1, failed);
 }
 
-/// Asserts what both callbacks of the root answer over a store of these contexts and keys, with one lane.
+/// Asserts what both callbacks of the root answer over a store of these contexts, with one lane.
 fn both_answer_in<'a, R: Abort + Wait>(
     rt: &R,
     alloc: Global,
     suite: &PlanSuite<'a, NoListener>,
     tree: Tree,
-    keys: Directory,
 )
-    requires contexts { 1 < length tree }
-    requires keys { keys ≡ different_keys suite.now.keys }
+    requires { 1 < length tree }
 {
     let limits = Limits {
         lanes: 1,
@@ -204,7 +183,7 @@ fn both_answer_in<'a, R: Abort + Wait>(
         numbers: 8,
         keep_faults: false,
     };
-    let Ok((store, mut lanes, _closers)) = Store::open(alloc, tree, keys, limits) else {
+    let Ok((store, mut lanes, _closers)) = Store::open(alloc, tree, limits) else {
         panic!(rt; "no store");
     };
     both_answer(rt, alloc, suite, &store, lanes.as_mut_slice());
@@ -214,12 +193,9 @@ fn both_answer_in<'a, R: Abort + Wait>(
 struct CallsMakeTheirSteps;
 
 impl<R: Abort + Wait> Scenario<R> for CallsMakeTheirSteps {
-    fn play(&self, rt: &R, alloc: Global, plan: &Plan, suite: &PlanSuite<'_, NoListener>) {
+    fn play(&self, rt: &R, alloc: Global, suite: &PlanSuite<'_, NoListener>) {
         let tree = contexts(alloc).expect(rt, "contexts");
-        let Some(keys) = directory(alloc, plan) else {
-            panic!(rt; "no keys");
-        };
-        both_answer_in(rt, alloc, suite, tree, keys);
+        both_answer_in(rt, alloc, suite, tree);
     }
 }
 
@@ -246,7 +222,7 @@ fn closes(
 struct ActionsFailForBadTexts;
 
 impl<R: Abort> Scenario<R> for ActionsFailForBadTexts {
-    fn play(&self, rt: &R, alloc: Global, _plan: &Plan, suite: &PlanSuite<'_, NoListener>) {
+    fn play(&self, rt: &R, alloc: Global, suite: &PlanSuite<'_, NoListener>) {
         let mut action = suite.action(1);
         let fault = fault_of(rt, alloc, "close bad2");
         closes(rt, &mut action, 1, "bad2", Err(fault));

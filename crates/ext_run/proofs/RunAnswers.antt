@@ -1,5 +1,8 @@
 -- What a run answers, from its parts.
-use Rattle.std.proofs.Common.{◌≡◌, ℕ, Bool, true, false, List, [], ◌∷◌, map, Result, Ok, Err, IfOk, IfErr, refl, ap, sym, subst, ◌∙◌}
+use Rattle.std.proofs.Common.{◌≡◌, ◌≤◌, ℕ, Bool, true, false, List, [], ◌∷◌, length, map, Option, Some, None, Result, Ok, Err, IfOk, IfErr, refl, ap, sym, subst, ◌∙◌}
+use Rattle.std.specs.Prelude.{IfSome, IsOk}
+use Rattle.std.specs.Result.{IsErrAnd}
+use Rattle.std.proofs.lemmas.Bool.{le-ltb}
 use Rattle.std.specs.Str.{IsUtf8, is_utf8}
 use Rattle.std.proofs.lemmas.Str.{IsUtf8-from_is_utf8, is_utf8-from_IsUtf8}
 use Rattle.ext_lifecycle.specs.declared.node_result.NodeResult.{NodeResult}
@@ -14,7 +17,7 @@ use Rattle.ext_run.specs.declared.fault.RunFault.{RunFault}
 use Rattle.ext_run.specs.declared.fault.RunFault.TheVariants as faults
 use Rattle.ext_run.specs.declared.options.Options.{Options}
 use Rattle.ext_run.specs.declared.runs.Output.{Output}
-use Rattle.ext_run.specs.Answers.{Answer, IsAnswerTo, plan_of_bytes, plan_or_fault, RefusedAs}
+use Rattle.ext_run.specs.Answers.{Answer, Answers, IsAnswerTo, input_limit, plan_of_bytes, plan_of_input, plan_or_fault, RefusedAs}
 use Rattle.ext_run.specs.Helpers.{output_view, AnswersAs, IsPlanFault}
 
 pub plan_of_utf8 : (input : List ℕ) → IsUtf8 input → plan_of_bytes input ≡ plan_or_fault (plan_of_text input)
@@ -65,3 +68,32 @@ answer_is report report' failed failed' e f = ap (λ r. record { report = r; fai
 pub with_texts : (results : List NodeResult) → results_view results ≡ map (with_fault_told fault_text) (map told results)
 with_texts [] = refl
 with_texts (r ∷ results) = ap (λ l. result_view r ∷ l) (with_texts results)
+
+-- ---- an input that was read whole
+
+plan_of_short : (input : List ℕ) → length input ≤ input_limit → plan_of_input input ≡ plan_of_bytes input
+unfolding plan_of_input
+plan_of_short input short = rw (le-ltb input_limit (length input) short) refl
+
+-- the report that was written of it
+pub written : (options : Options) (whole : Option (List ℕ)) (items bytes : List ℕ) (report wrote : List ℕ) (failed : Bool) (Written : List ℕ → Type 0) → IfSome whole (λ input. items ≡ input)
+    → length items ≤ input_limit → bytes ≡ items → Answers options (plan_of_bytes bytes) (record { report = report; failed = failed }) → wrote ≡ report → Written wrote
+    → IfSome whole (λ input. (x : List ℕ) × Answers options (plan_of_input input) (record { report = x; failed = failed }) × Written x)
+written options None items bytes report wrote failed Written same short read answer is done = tt
+written options (Some input) items bytes report wrote failed Written same short read answer is done =
+    let plan_is : plan_of_input input ≡ plan_of_bytes bytes = ap plan_of_input (sym same) ∙ plan_of_short items short ∙ ap plan_of_bytes (sym read) in
+    (report, subst (λ p. Answers options p (record { report = report; failed = failed })) (sym plan_is) answer, subst Written is done)
+
+answered : (options : Options) (read : Result PlanText RunFault) (answer : Answer) → Answers options read answer → IsOk read
+answered options (Ok text) answer h = refl
+answered options (Err fault) answer h = absurd h
+
+-- the write of its report failed
+pub unwritten : {A : Type 0} (options : Options) (whole : Option (List ℕ)) (items bytes : List ℕ) (answer : Answer) (r : Result A RunFault) (told : RunFault) → IfSome whole (λ input. items ≡ input)
+    → length items ≤ input_limit → bytes ≡ items → Answers options (plan_of_bytes bytes) answer → IsErrAnd r (λ e. e ≡ told) → told ≡ faults.Write
+    → IfErr r (λ fault. IfSome whole (λ input. RefusedAs options fault (plan_of_input input)))
+unwritten options whole items bytes answer (Ok x) told same short read answers errs is = tt
+unwritten options None items bytes answer (Err e) told same short read answers errs is = tt
+unwritten options (Some input) items bytes answer (Err e) told same short read answers errs is =
+    let plan_is : plan_of_input input ≡ plan_of_bytes bytes = ap plan_of_input (sym same) ∙ plan_of_short items short ∙ ap plan_of_bytes (sym read) in
+    subst (λ fault. RefusedAs options fault (plan_of_input input)) (sym (errs ∙ is)) (subst IsOk (sym plan_is) (answered options (plan_of_bytes bytes) answer answers))

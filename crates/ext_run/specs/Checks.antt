@@ -5,7 +5,6 @@ use Rattle.std.specs.Fmt.{decimal}
 use Rattle.std.specs.List.{count_by}
 use Rattle.ext_plan_model.specs.Plans.{NodeText, PlanText}
 use Rattle.ext_run.specs.declared.fault.RunFault.{RunFault}
-use Rattle.ext_run.specs.declared.options.Options.{Options}
 use Rattle.ext_run.specs.Answers.{RefusedAs}
 
 -- how many of the nodes are tests

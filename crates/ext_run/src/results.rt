@@ -1,8 +1,7 @@
 //! What a run of a plan tells of its nodes.
 ghost use Rattle.std.specs.Prelude.{◌≡◌, ◌≤◌, ◌<◌, false, length, IfOk, IfErr, All};
-ghost use Rattle.ext_plan_model.specs.KeyNumbers.{different_keys, numbering, HasParts};
-ghost use Rattle.ext_plan_model.specs.Laws.{CallbacksAreFew, HasFewCells, HasFewLocks, NamespacesHaveParts, NodesAreTree, StepListsAreShort, StepsNameLabels, TestsHaveNoChildren, ids_of_nodes};
-ghost use Rattle.ext_plan_model.specs.Plans.{keys_view, plan_view};
+ghost use Rattle.ext_plan_model.specs.Laws.{CallbacksAreFew, HasFewLocks, NamespacesHaveParts, NodesAreTree, StepListsAreShort, TestsHaveNoChildren, ids_of_nodes};
+ghost use Rattle.ext_plan_model.specs.Plans.{plan_view};
 ghost use Rattle.ext_lifecycle.specs.FaultTexts.{results_view};
 ghost use Rattle.ext_plain.specs.PlainRun.{ArePlain};
 ghost use Rattle.ext_run.specs.Answers.{IsRunAs};
@@ -13,8 +12,8 @@ use crate::options::Options;
 use ext_lifecycle::{NodeResult, RunListener};
 use ext_parallel::parallel_results;
 use ext_plain::run_plain;
-use ext_plan_model::{KeyNumbers, Plan, PlanKey};
-use ext_tree::{Tree, TreeFault};
+use ext_plan_model::Plan;
+use ext_tree::Tree;
 use std::alloc::{AllocError, Global};
 use std::sync::Wait;
 use std::thread::Threads;
@@ -32,10 +31,8 @@ pub(crate) fn results_of<R: Threads + Wait + Sync, L: RunListener + Sync>(
     requires tree { NodesAreTree (plan_view plan.now) }
     requires contexts { tree.now ≡ ids_of_nodes (plan_view plan.now).nodes }
     requires tests { TestsHaveNoChildren (plan_view plan.now) }
-    requires cells { HasFewCells (plan_view plan.now) }
     requires locks { HasFewLocks (plan_view plan.now) }
     requires namespaces { NamespacesHaveParts (plan_view plan.now) }
-    requires labels { StepsNameLabels (plan_view plan.now) }
     requires short { StepListsAreShort (plan_view plan.now) }
     requires few { CallbacksAreFew (plan_view plan.now) }
     ensures run { IfOk result (λ results. IsRunAs options (plan_view plan.now) (results_view results.items)) }
@@ -60,26 +57,11 @@ fn plain_results<L: RunListener>(
 ) -> Result<Vec<NodeResult>, AllocError>
     requires tree { NodesAreTree (plan_view plan.now) }
     requires contexts { tree.now ≡ ids_of_nodes (plan_view plan.now).nodes }
-    requires cells { HasFewCells (plan_view plan.now) }
     requires namespaces { NamespacesHaveParts (plan_view plan.now) }
     requires short { StepListsAreShort (plan_view plan.now) }
     requires few { CallbacksAreFew (plan_view plan.now) }
     ensures run { IfOk result (λ results. ArePlain (plan_view plan.now) (results_view results.items)) }
     ensures in_tree { IfOk result (λ results. All (λ r. r.node < length tree.now) results.items) }
 {
-    let keys = numbers_of(alloc, plan.keys.as_slice())?;
-    run_plain(alloc, plan, &keys, tree, listener)
-}
-
-/// The numbers of a plan's keys, which are few.
-fn numbers_of(alloc: Global, keys: &[PlanKey]) -> Result<KeyNumbers, AllocError>
-    requires parts { All HasParts (keys_view keys.now) }
-    requires few { length (different_keys (keys_view keys.now)) ≤ 64 }
-    ensures { IfOk result (λ n. n ≡ numbering (keys_view keys.now)) }
-{
-    match KeyNumbers::of(alloc, keys) {
-        Ok(numbers) => Ok(numbers),
-        Err(TreeFault::Memory) => Err(AllocError),
-        Err(_) => unreachable!(),
-    }
+    run_plain(alloc, plan, tree, listener)
 }

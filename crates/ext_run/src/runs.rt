@@ -2,7 +2,7 @@
 ghost use Rattle.std.specs.Prelude.{◌≡◌, ◌≢◌, ◌≤◌, ◌<◌, ◌+◌, ℕ, false, List, length, string_bytes, IfOk, IfErr, IfSome, OnOk, All};
 ghost use Rattle.std.specs.Io.KnownBytes.{Consumes, Appends};
 ghost use Rattle.ext_plan_model.specs.Plans.{plan_view};
-ghost use Rattle.ext_plan_model.specs.Laws.{CallbacksAreFew, HasFewCells, HasFewLocks, NamespacesHaveParts, NodesAreTree, StepListsAreShort, StepsNameLabels, TestsHaveNoChildren};
+ghost use Rattle.ext_plan_model.specs.Laws.{CallbacksAreFew, HasFewLocks, NamespacesHaveParts, NodesAreTree, StepListsAreShort, TestsHaveNoChildren};
 ghost use Rattle.ext_lifecycle.specs.FaultTexts.{results_view};
 ghost use Rattle.ext_report.specs.Report.{report_of};
 ghost use Rattle.ext_run.specs.Answers.{input_limit, Answers, IsAnswerTo, plan_of_bytes, plan_of_input, RefusedAs};
@@ -31,8 +31,8 @@ struct Output {
 /// Reads a plan, runs it and writes the report of its run, and nothing else. Own rule.
 ///
 /// With `plain` the plan is run on this thread over the one-thread store: its plain run, which has one report where memory suffices. Else it is run on so
-/// many lanes, 1 to 16, each at most by one thread, over a store for several threads (`ext_parallel::parallel_results`). A step for which memory is refused
-/// fails with `no memory`, in either run.
+/// many lanes, 1 to 16, each at most by one thread, over a store for several threads (`ext_parallel::parallel_results`). In either run a step for which memory
+/// is refused fails with `no memory`, and one that names a key beside 64 others that were named before with `directory full`.
 ///
 /// The input is read to its end, but at most 1,048,577 bytes of it, and the first read that fails ends the
 /// run. The whole report stands before its first byte is written; at last the writer is flushed.
@@ -155,10 +155,8 @@ fn output_of<R: Threads + Wait + Sync, L: RunListener + Sync>(
     requires lanes { options.plain ≡ false → (1 ≤ options.lanes) × (options.lanes ≤ 16) }
     requires tree { NodesAreTree (plan_view plan.now) }
     requires tests { TestsHaveNoChildren (plan_view plan.now) }
-    requires cells { HasFewCells (plan_view plan.now) }
     requires locks { HasFewLocks (plan_view plan.now) }
     requires namespaces { NamespacesHaveParts (plan_view plan.now) }
-    requires labels { StepsNameLabels (plan_view plan.now) }
     requires short { StepListsAreShort (plan_view plan.now) }
     requires few { CallbacksAreFew (plan_view plan.now) }
     ensures ok { IfOk result (λ o. IsAnswerTo options (plan_view plan.now) (output_view o)) }

@@ -54,5 +54,7 @@ module _ (store : StoreView) (context : ℕ) (ancestors : List ℕ) (key : ℕ) 
     | inl over ↦ quiet_acts over.calls
     | inr k ↦ given_up_acts k.0
   ]
-  claim_acts (Err (Refused refusal.UnknownKey)) m = absurd m
+  claim_acts (Err (Refused refusal.DirectoryFull)) m = absurd m
+  claim_acts (Err (Refused refusal.Unplaced)) m = absurd m
+  claim_acts (Err (Refused refusal.Memory)) m = absurd m
   claim_acts (Err (Refused refusal.Exhausted)) m = quiet_acts m.0.calls

@@ -30,7 +30,9 @@ module _ (store : StoreView) (context key : ℕ) (before after : Lane) where
   gets_quiet (Err refusal.Contended) g = (g.2.overtaken refl).calls
   gets_quiet (Err (refusal.Busy at)) g = (g.2.replied (λ e. cc e)).calls
   gets_quiet (Err (refusal.Closed at)) g = (g.2.replied (λ e. cc e)).calls
-  gets_quiet (Err refusal.UnknownKey) g = (g.2.replied (λ e. cc e)).calls
+  gets_quiet (Err refusal.DirectoryFull) g = (g.2.replied (λ e. cc e)).calls
+  gets_quiet (Err refusal.Unplaced) g = (g.2.replied (λ e. cc e)).calls
+  gets_quiet (Err refusal.Memory) g = (g.2.replied (λ e. cc e)).calls
   gets_quiet (Err refusal.Exhausted) g = (g.2.replied (λ e. cc e)).calls
 
   -- a put and a remove those that their results mean,
@@ -40,7 +42,9 @@ module _ (store : StoreView) (context key : ℕ) (before after : Lane) where
   put_calls number (Err refusal.Contended) a = (a.overtaken refl).calls
   put_calls number (Err (refusal.Busy at)) a = (a.replied (other_why number number (refusal.Busy at) refusal.Contended (λ e. cc e))).calls
   put_calls number (Err (refusal.Closed at)) a = (a.replied (other_why number number (refusal.Closed at) refusal.Contended (λ e. cc e))).calls
-  put_calls number (Err refusal.UnknownKey) a = (a.replied (other_why number number refusal.UnknownKey refusal.Contended (λ e. cc e))).calls
+  put_calls number (Err refusal.DirectoryFull) a = (a.replied (other_why number number refusal.DirectoryFull refusal.Contended (λ e. cc e))).calls
+  put_calls number (Err refusal.Unplaced) a = (a.replied (other_why number number refusal.Unplaced refusal.Contended (λ e. cc e))).calls
+  put_calls number (Err refusal.Memory) a = (a.replied (other_why number number refusal.Memory refusal.Contended (λ e. cc e))).calls
   put_calls number (Err refusal.Exhausted) a = (a.replied (other_why number number refusal.Exhausted refusal.Contended (λ e. cc e))).calls
 
   pub remove_calls : (r : Result (Option ℕ) Refusal) → Removes store context key before after r → Calls before.cells.limits before.view after.view (remove_acts (cell_in store key context) r)
@@ -50,7 +54,9 @@ module _ (store : StoreView) (context key : ℕ) (before after : Lane) where
   remove_calls (Err refusal.Contended) a = (a.overtaken refl).calls
   remove_calls (Err (refusal.Busy at)) a = (a.replied (λ e. cc e)).calls
   remove_calls (Err (refusal.Closed at)) a = (a.replied (λ e. cc e)).calls
-  remove_calls (Err refusal.UnknownKey) a = (a.replied (λ e. cc e)).calls
+  remove_calls (Err refusal.DirectoryFull) a = (a.replied (λ e. cc e)).calls
+  remove_calls (Err refusal.Unplaced) a = (a.replied (λ e. cc e)).calls
+  remove_calls (Err refusal.Memory) a = (a.replied (λ e. cc e)).calls
   remove_calls (Err refusal.Exhausted) a = (a.replied (λ e. cc e)).calls
 
 -- and the drawing of a number none, where it is refused

@@ -82,7 +82,9 @@ stands_calls store path key a b (Some (FaultStands at number)) s = s.calls
 stands_calls store path key a b (Some (Refused (refusal.Busy at))) s = s.calls
 stands_calls store path key a b (Some (Refused (refusal.Closed at))) s = s.calls
 stands_calls store path key a b (Some (Refused refusal.Contended)) s = s.calls
-stands_calls store path key a b (Some (Refused refusal.UnknownKey)) s = absurd s
+stands_calls store path key a b (Some (Refused refusal.DirectoryFull)) s = absurd s
+stands_calls store path key a b (Some (Refused refusal.Unplaced)) s = absurd s
+stands_calls store path key a b (Some (Refused refusal.Memory)) s = absurd s
 stands_calls store path key a b (Some (Refused refusal.Exhausted)) s = absurd s
 
 module _ (store : StoreView) (context key : ℕ) (rest : List ℕ) where
@@ -110,7 +112,9 @@ module _ (store : StoreView) (context key : ℕ) (rest : List ℕ) where
     first_look (Refused (refusal.Busy at)) s = meets (look.Busy at) s
     first_look (Refused (refusal.Closed at)) s = meets (look.Closed at) s
     first_look (Refused refusal.Contended) s = inl (subst (λ (z : CellsId). IsOvertaken z.limits store.tries a.view b.view) is s)
-    first_look (Refused refusal.UnknownKey) s = absurd s
+    first_look (Refused refusal.DirectoryFull) s = absurd s
+    first_look (Refused refusal.Unplaced) s = absurd s
+    first_look (Refused refusal.Memory) s = absurd s
     first_look (Refused refusal.Exhausted) s = absurd s
 
     -- or by which nothing does
@@ -232,7 +236,9 @@ module _ (store : StoreView) (context key : ℕ) (rest : List ℕ) where
             crowded_by_first store.tries (both over.calls) ended
                 (crowded_by_second store.tries won over.calls (overtaken_crowded store.tries over)),
           )
-      given_up_look (Refused refusal.UnknownKey) s = absurd s
+      given_up_look (Refused refusal.DirectoryFull) s = absurd s
+      given_up_look (Refused refusal.Unplaced) s = absurd s
+      given_up_look (Refused refusal.Memory) s = absurd s
       given_up_look (Refused refusal.Exhausted) s = absurd s
 
 -- ---- all of them, for the path that the tree tells

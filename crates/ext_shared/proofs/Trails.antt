@@ -22,16 +22,16 @@ cell_same keys key c d k same =
     let down : d < c → d * keys + key < c * keys + key = cell_grows keys key d c k in
     grind arith
 
-pub trail_within : (store : StoreView) (key limit : ℕ) (path : List ℕ) → key < length store.keys → limit ≡ length store.tree * length store.keys → IsTrail store path → All (λ cell. cell < limit) (map (cell_in store key) path)
+pub trail_within : (store : StoreView) (key limit : ℕ) (path : List ℕ) → key < length store.id.keys → limit ≡ length store.tree * length store.id.keys → IsTrail store path → All (λ cell. cell < limit) (map (cell_in store key) path)
 trail_within store key limit path k is trail =
     All-map (λ cell. cell < limit) (cell_in store key) path (λ i d within.
-    let less : cell_in store key (get_or path i d) < length store.tree * length store.keys = cell_within (length store.tree) (length store.keys) key (get_or path i d) k (trail.within i d within) in
+    let less : cell_in store key (get_or path i d) < length store.tree * length store.id.keys = cell_within (length store.tree) (length store.id.keys) key (get_or path i d) k (trail.within i d within) in
     omega (arith, is, less))
 
-pub trail_different : (store : StoreView) (key : ℕ) (path : List ℕ) → key < length store.keys → IsTrail store path → IsDistinct nat_eq (map (cell_in store key) path)
+pub trail_different : (store : StoreView) (key : ℕ) (path : List ℕ) → key < length store.id.keys → IsTrail store path → IsDistinct nat_eq (map (cell_in store key) path)
 trail_different store key path k trail =
     IsDistinct-from_AllPairs Decides-eqb (map (cell_in store key) path) (λ i j d less within same.
     let long : length (map (cell_in store key) path) ≡ length path = length-map path (cell_in store key) in
     let i_is : get_or (map (cell_in store key) path) i d ≡ cell_in store key (get_or path i 0) = get_or-map (cell_in store key) path i 0 d (omega (arith, less, within, long)) in
     let j_is : get_or (map (cell_in store key) path) j d ≡ cell_in store key (get_or path j 0) = get_or-map (cell_in store key) path j 0 d (omega (arith, within, long)) in
-    trail.different i j 0 less (omega (arith, within, long)) (cell_same (length store.keys) key (get_or path i 0) (get_or path j 0) k (sym i_is ∙ (same ∙ j_is))))
+    trail.different i j 0 less (omega (arith, within, long)) (cell_same (length store.id.keys) key (get_or path i 0) (get_or path j 0) k (sym i_is ∙ (same ∙ j_is))))

@@ -166,7 +166,9 @@ unclaimed store context ancestors key a b (Refused refusal.Contended) m = elim m
   | inl over ↦ inl over.calls
   | inr k ↦ inr k.0
 ]
-unclaimed store context ancestors key a b (Refused refusal.UnknownKey) m = absurd m
+unclaimed store context ancestors key a b (Refused refusal.DirectoryFull) m = absurd m
+unclaimed store context ancestors key a b (Refused refusal.Unplaced) m = absurd m
+unclaimed store context ancestors key a b (Refused refusal.Memory) m = absurd m
 unclaimed store context ancestors key a b (Refused refusal.Exhausted) m = inl m.0.calls
 
 -- what the lane had seen is legal, as what it has seen after the call is

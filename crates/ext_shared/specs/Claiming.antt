@@ -68,7 +68,9 @@ IsRefused limits store context ancestors key before after (refusal.Closed at) = 
 IsRefused limits store context ancestors key before after refusal.Contended =
     IsOvertaken limits store.tries before after
     ⊎ (Calls limits before after (given_up_events store context key) × Claims limits store context ancestors key before after × IsCrowded store.tries before after)
-IsRefused limits store context ancestors key before after refusal.UnknownKey = ⊥
+IsRefused limits store context ancestors key before after refusal.DirectoryFull = ⊥
+IsRefused limits store context ancestors key before after refusal.Unplaced = ⊥
+IsRefused limits store context ancestors key before after refusal.Memory = ⊥
 IsRefused limits store context ancestors key before after refusal.Exhausted =
     HoldsAtPoint limits before after [] (λ p. reply_after limits p before.number (Claim (cell_in store key context)) ≡ events.Refuses events.Exhausted)
     × LooksFirst (cell_in store key) (context ∷ ancestors) before after
@@ -92,7 +94,9 @@ Stands store path key before after (Some (FaultStands at number)) = LooksAt stor
 Stands store path key before after (Some (Refused (refusal.Busy at))) = LooksAt store path key before after (look.Busy at)
 Stands store path key before after (Some (Refused (refusal.Closed at))) = LooksAt store path key before after (look.Closed at)
 Stands store path key before after (Some (Refused refusal.Contended)) = IsOvertaken before.cells.limits store.tries before.view after.view
-Stands store path key before after (Some (Refused refusal.UnknownKey)) = ⊥
+Stands store path key before after (Some (Refused refusal.DirectoryFull)) = ⊥
+Stands store path key before after (Some (Refused refusal.Unplaced)) = ⊥
+Stands store path key before after (Some (Refused refusal.Memory)) = ⊥
 Stands store path key before after (Some (Refused refusal.Exhausted)) = ⊥
 
 -- a claim under which the look-up from the parent is absent, or why there is none

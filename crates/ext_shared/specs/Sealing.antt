@@ -6,7 +6,7 @@ use Rattle.ext_model.specs.Events as events
 use Rattle.ext_model.specs.Calls as model
 use Rattle.ext_cells.specs.Lanes.{Lane}
 use Rattle.ext_shared.specs.declared.fault.Refusal.{Refusal}
-use Rattle.ext_shared.specs.declared.fault.Refusal.TheVariants.{Busy, Closed, Contended, UnknownKey, Exhausted}
+use Rattle.ext_shared.specs.declared.fault.Refusal.TheVariants.{Busy, Closed, Contended, Exhausted, DirectoryFull, Unplaced, Memory}
 use Rattle.ext_shared.specs.Stores.{StoreView, cell_in}
 use Rattle.ext_shared.specs.Calls.{HoldsAtPoint, reply_to}
 
@@ -27,7 +27,9 @@ abbrev pub SealFails : StoreView → ℕ → ℕ → Lane → Lane → Refusal �
 SealFails store context key before after (Busy at) = (at ≡ context) × IsBusyThere store context key before after
 SealFails store context key before after (Closed at) = ⊥
 SealFails store context key before after Contended = IsInTheWay store before after
-SealFails store context key before after UnknownKey = ⊥
+SealFails store context key before after DirectoryFull = ⊥
+SealFails store context key before after Unplaced = ⊥
+SealFails store context key before after Memory = ⊥
 SealFails store context key before after Exhausted = ⊥
 
 -- what stood in the context is kept by the seal and answered, or the seal is refused

@@ -35,7 +35,9 @@ abbrev pub IsDecided : Refusal → Type 0
 IsDecided (refusal.Busy at) = ⊥
 IsDecided (refusal.Closed at) = Unit {0}
 IsDecided refusal.Contended = ⊥
-IsDecided refusal.UnknownKey = Unit {0}
+IsDecided refusal.DirectoryFull = Unit {0}
+IsDecided refusal.Unplaced = Unit {0}
+IsDecided refusal.Memory = Unit {0}
 IsDecided refusal.Exhausted = Unit {0}
 
 -- a factory is not called for another reason than these

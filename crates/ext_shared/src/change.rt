@@ -26,7 +26,7 @@ impl<V> Shared<V> {
     ) -> Result<Option<u32>, Refusal>
         requires lane { lane.old.cells ≡ self.now.id.cells }
         requires context { context < length self.now.tree }
-        requires key { key < length self.now.keys }
+        requires key { key < length self.now.id.keys }
         requires number { MayStoreNow lane.old.view number }
         ensures lane { lane.new.cells ≡ lane.old.cells }
         ensures answer { Puts self.now context key number lane.old lane.new (with_kept number result) }
@@ -55,7 +55,7 @@ impl<V> Shared<V> {
     ) -> Result<Option<u32>, Refusal>
         requires lane { lane.old.cells ≡ self.now.id.cells }
         requires context { context < length self.now.tree }
-        requires key { key < length self.now.keys }
+        requires key { key < length self.now.id.keys }
         ensures lane { lane.new.cells ≡ lane.old.cells }
         ensures answer { Removes self.now context key lane.old lane.new result }
         ensures steps { steps_of lane.old lane.new ≤ self.now.tries + 1 }
@@ -80,7 +80,7 @@ impl<V> Shared<V> {
     ) -> Result<Option<u32>, Refusal>
         requires lane { lane.old.cells ≡ self.now.id.cells }
         requires context { context < length self.now.tree }
-        requires key { key < length self.now.keys }
+        requires key { key < length self.now.id.keys }
         ensures lane { lane.new.cells ≡ lane.old.cells }
         ensures answer { SealsKey self.now context key lane.old lane.new result }
         ensures steps { steps_of lane.old lane.new ≤ self.now.tries + 1 }

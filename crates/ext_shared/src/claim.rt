@@ -57,7 +57,7 @@ impl<V> Shared<V> {
     ) -> Result<Claim, Unused>
         requires lane { lane.old.cells ≡ self.now.id.cells }
         requires context { context < length self.now.tree }
-        requires key { key < length self.now.keys }
+        requires key { key < length self.now.id.keys }
         ensures lane { lane.new.cells ≡ lane.old.cells }
         ensures claim { ClaimsMissing self.now context key lane.old.view lane.new.view result }
         ensures steps { MatchResult result (λ _. steps_of lane.old lane.new ≤ 33 * (self.now.tries + 1)) (λ _. steps_of lane.old lane.new ≤ 33 * (self.now.tries + 1) + 2) }
@@ -142,7 +142,7 @@ impl<V> Shared<V> {
     fn stands_along(&self, lane: &mut CellLane, path: &[ContextNo], key: KeyNo) -> Option<Unused>
         requires lane { lane.old.cells ≡ self.now.id.cells }
         requires path { IsTrail self.now path.now }
-        requires key { key < length self.now.keys }
+        requires key { key < length self.now.id.keys }
         ensures lane { lane.new.cells ≡ lane.old.cells }
         ensures stands { Stands self.now path.now key lane.old lane.new result }
         ensures steps { steps_of lane.old lane.new ≤ 16 * (self.now.tries + 1) }

@@ -7,9 +7,10 @@ use ext_cells::CellRefusal;
 use ext_model::ContextNo;
 use thiserror::Error;
 
-/// Why a call on the cells is refused. A `get` is refused as `UnknownKey` or `Contended` alone, since that a context is
-/// busy or closed is an answer of it; a `seal` as `Busy` or `Contended`; a `put`, a `remove` and a `compute` as any of
-/// these. Where several apply, each call says which is answered. Own rule.
+/// Why a call of a store is refused. A call by a key is refused for the key as `DirectoryFull` or `Memory`, before it
+/// makes a step on the cells. Else a `get` is refused as `Contended` alone, since that a context is busy or closed is an
+/// answer of it; a `seal` as `Busy` or `Contended`; a `put`, a `remove` and a `compute` as any of the first four. Where
+/// several apply, each call says which is answered. Own rule.
 #[derive(Clone, Copy, Debug, PartialEq, Eq, Error)]
 pub enum Refusal {
     /// A lane computes a value for this context, which decides.
@@ -21,13 +22,19 @@ pub enum Refusal {
     /// Other lanes were in the way: they made at least as many events as a call has tries.
     #[error("contended")]
     Contended,
-    /// The key was not declared.
-    #[error("unknown key")]
-    UnknownKey,
     /// There were too many events in this context under this key: more than 2^40 - 3 for a put or a remove, and more
     /// than 2^40 - 4 for the claim of a compute, which leaves one for its end.
     #[error("exhausted")]
     Exhausted,
+    /// The key has no number, and gets none from now on: all 64 places hold other keys.
+    #[error("directory full")]
+    DirectoryFull,
+    /// A place neither took a copy of the key nor showed one. It is proved of `KeyPlaces::number` that this does not come.
+    #[error("unplaced")]
+    Unplaced,
+    /// The key is new to the lane, and there was no memory for a copy of it. A later call may give the key a number.
+    #[error("no memory")]
+    Memory,
 }
 
 impl Refusal {
@@ -52,7 +59,11 @@ impl Refusal {
     {
         match self {
             Refusal::Busy(_) | Refusal::Contended => false,
-            Refusal::Closed(_) | Refusal::UnknownKey | Refusal::Exhausted => true,
+            Refusal::Closed(_)
+            | Refusal::Exhausted
+            | Refusal::DirectoryFull
+            | Refusal::Unplaced
+            | Refusal::Memory => true,
         }
     }
 }

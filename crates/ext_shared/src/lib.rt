@@ -1,8 +1,9 @@
 //! What the lanes of a store share, and what each call of the store does to a lane of its cells.
 //!
-//! `Shared` has the contexts, the declared keys, a cell for each context and key, the places of the values, and who waits.
-//! Its calls are those of the store, by the number of a declared key, in a context of the store, and for the store's lane of
-//! the cells alone: these are conditions of each. What a lane knows of the values is the store's own matter.
+//! `Shared` has the contexts, the places of the keys, a cell for each context and place of a key, the places of the values
+//! and of the kept faults, and who waits. Its calls are those of the store, by the number of a place of a key, in a context
+//! of the store, and for the store's lane of the cells alone: these are conditions of each. What a lane knows of the keys,
+//! the values and the faults is the store's own matter.
 //! `specs/Stores`, `specs/Calls`, `specs/Claiming` and `specs/Sealing` have the words of the contracts, and
 //! `specs/Waiting` those of the forms that wait.
 //!

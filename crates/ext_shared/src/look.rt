@@ -25,7 +25,7 @@ impl<V> Shared<V> {
     ) -> Result<Look, Refusal>
         requires lane { lane.old.cells ≡ self.now.id.cells }
         requires context { context < length self.now.tree }
-        requires key { key < length self.now.keys }
+        requires key { key < length self.now.id.keys }
         ensures lane { lane.new.cells ≡ lane.old.cells }
         ensures answer { Gets self.now context key lane.old lane.new result }
         ensures no_faults { IsFalse self.now.id.cells.limits.keep_faults → IfOk result IsFaultlessLook }
@@ -38,7 +38,7 @@ impl<V> Shared<V> {
     // Writes down the cells of the key on the path, in its order.
     fn cells_on(&self, path: &[ContextNo], key: KeyNo, cells: &mut [CellNo; 16])
         requires path { IsTrail self.now path.now }
-        requires key { key < length self.now.keys }
+        requires key { key < length self.now.id.keys }
         ensures { take (length path.now) cells.new ≡ map (cell_in self.now key) path.now }
     {
         for (i, context) in path.iter().enumerate() {
@@ -55,7 +55,7 @@ impl<V> Shared<V> {
     ) -> Result<Look, Refusal>
         requires lane { lane.old.cells ≡ self.now.id.cells }
         requires path { IsTrail self.now path.now }
-        requires key { key < length self.now.keys }
+        requires key { key < length self.now.id.keys }
         ensures lane { lane.new.cells ≡ lane.old.cells }
         ensures look { Looks self.now path.now key lane.old lane.new result }
         ensures steps { steps_of lane.old lane.new ≤ length path.now * (self.now.tries + 1) }

@@ -4,17 +4,17 @@ ghost use Rattle.ext_shared.specs.Stores.{IsWell, cell_in};
 
 use ext_cells::Cells;
 use ext_model::{CellNo, ContextNo, Fault, KeyNo};
-use ext_tree::{Directory, Tree};
+use ext_tree::{KeyPlaces, Tree};
 use ext_values::Values;
 use ext_waiters::Waiters;
 use std::marker::Model;
 
-/// What the lanes of a store share by reference: its contexts, its declared keys, a cell for each context and key, the
+/// What the lanes of a store share by reference: its contexts, the places of its keys, a cell for each context and place, the
 /// places of its values and of its kept faults, and who waits until a claim has ended. Own rule.
 #[derive(Drop)]
 pub struct Shared<V> {
     pub(crate) tree: Tree,
-    pub(crate) directory: Directory,
+    pub(crate) keys: KeyPlaces,
     pub(crate) cells: Cells,
     pub(crate) values: Values<V>,
     pub(crate) faults: Values<Fault>,
@@ -27,9 +27,9 @@ impl<V> Model for Shared<V> {
 
     ghost Value = { StoreView };
 
-    ghost view = { λ s. record { id = record { cells = s.cells.id; places = s.values; fault_places = s.faults }; tree = s.tree; keys = s.directory; tries = s.cells.tries } };
+    ghost view = { λ s. record { id = record { cells = s.cells.id; places = s.values; fault_places = s.faults; keys = s.keys }; tree = s.tree; tries = s.cells.tries } };
 
-    ghost invariant = { λ s. IsWell s.tree s.directory s.cells.id.limits s.values s.faults };
+    ghost invariant = { λ s. IsWell s.tree s.keys s.cells.id.limits s.values s.faults };
 }
 
 impl<V> Shared<V> {
@@ -38,17 +38,17 @@ impl<V> Shared<V> {
     /// rule.
     pub fn new(
         tree: Tree,
-        directory: Directory,
+        keys: KeyPlaces,
         cells: Cells,
         values: Values<V>,
         faults: Values<Fault>,
     ) -> Shared<V>
-        requires { IsWell tree directory cells.id.limits values faults }
-        ensures { result ≡ record { id = record { cells = cells.id; places = values; fault_places = faults }; tree = tree; keys = directory; tries = cells.tries } }
+        requires { IsWell tree keys cells.id.limits values faults }
+        ensures { result ≡ record { id = record { cells = cells.id; places = values; fault_places = faults; keys = keys }; tree = tree; tries = cells.tries } }
     {
         Shared {
             tree,
-            directory,
+            keys,
             cells,
             values,
             faults,
@@ -63,11 +63,11 @@ impl<V> Shared<V> {
         &self.tree
     }
 
-    /// The declared keys. Takes no memory. Own rule.
-    pub fn directory(&self) -> &Directory
-        ensures { result.now ≡ self.now.keys }
+    /// The places of the keys. Takes no memory. Own rule.
+    pub fn keys(&self) -> &KeyPlaces
+        ensures { result.now ≡ self.now.id.keys }
     {
-        &self.directory
+        &self.keys
     }
 
     /// The cells. A claim is ended by `fill`, `fail` or `abandon` of this store, not of the cells: these alone wake the lanes that wait
@@ -109,11 +109,12 @@ impl<V> Shared<V> {
         self.cells.tries()
     }
 
-    /// Tells a proof what is true of all that lanes share: there is a cell for each context and key, and a place for each
-    /// of at most 65,535 numbers; where faults are kept one for its fault too, and else none. It does nothing when it runs.
-    /// Own rule.
+    /// Tells a proof what is true of all that lanes share: there is a cell for each context and place of a key, of which
+    /// there are 64, and a place for each of at most 65,535 numbers; where faults are kept one for its fault too, and else
+    /// none. It does nothing when it runs. Own rule.
     pub fn recall(&self)
-        ensures cells { self.now.id.cells.limits.cells ≡ length self.now.tree * length self.now.keys }
+        ensures cells { self.now.id.cells.limits.cells ≡ length self.now.tree * length self.now.id.keys }
+        ensures keys { length self.now.id.keys ≡ 64 }
         ensures numbers { self.now.id.cells.limits.numbers ≡ length self.now.id.places }
         ensures few { self.now.id.cells.limits.numbers ≤ 65535 }
         ensures faults { IsTrue self.now.id.cells.limits.keep_faults → self.now.id.cells.limits.numbers ≡ length self.now.id.fault_places }
@@ -125,11 +126,11 @@ impl<V> Shared<V> {
     // The cell of the key in the context.
     pub(crate) fn cell(&self, context: ContextNo, key: KeyNo) -> CellNo
         requires context { context < length self.now.tree }
-        requires key { key < length self.now.keys }
+        requires key { key < length self.now.id.keys }
         ensures cell { result ≡ cell_in self.now key context }
         ensures within { result < self.now.id.cells.limits.cells }
     {
         let _contexts = self.tree.len();
-        self.directory.cell(context, key)
+        self.keys.cell(context, key)
     }
 }

@@ -38,7 +38,7 @@ impl<V> Shared<V> {
     ) -> Look
         requires lane { lane.old.cells ≡ self.now.id.cells }
         requires context { context < length self.now.tree }
-        requires key { key < length self.now.keys }
+        requires key { key < length self.now.id.keys }
         ensures lane { lane.new.cells ≡ lane.old.cells }
         ensures answer { Gets self.now context key lane.old lane.new (Ok result) }
         ensures no_faults { IsFalse self.now.id.cells.limits.keep_faults → IsFaultlessLook result }
@@ -58,7 +58,7 @@ impl<V> Shared<V> {
     ) -> Look
         requires lane { lane.old.cells ≡ self.now.id.cells }
         requires path { IsTrail self.now path.now }
-        requires key { key < length self.now.keys }
+        requires key { key < length self.now.id.keys }
         ensures lane { lane.new.cells ≡ lane.old.cells }
         ensures look { LooksAt self.now path.now key lane.old lane.new result }
         ensures decided { IsDecidedLook result }
@@ -89,7 +89,7 @@ impl<V> Shared<V> {
     ) -> Result<Option<u32>, Refusal>
         requires lane { lane.old.cells ≡ self.now.id.cells }
         requires context { context < length self.now.tree }
-        requires key { key < length self.now.keys }
+        requires key { key < length self.now.id.keys }
         requires number { MayStoreNow lane.old.view number }
         ensures lane { lane.new.cells ≡ lane.old.cells }
         ensures answer { Puts self.now context key number lane.old lane.new (with_kept number result) }
@@ -124,7 +124,7 @@ impl<V> Shared<V> {
     ) -> Result<Option<u32>, Refusal>
         requires lane { lane.old.cells ≡ self.now.id.cells }
         requires context { context < length self.now.tree }
-        requires key { key < length self.now.keys }
+        requires key { key < length self.now.id.keys }
         ensures lane { lane.new.cells ≡ lane.old.cells }
         ensures answer { Removes self.now context key lane.old lane.new result }
         ensures decided { IfErr result IsDecided }
@@ -178,7 +178,7 @@ impl<V> Shared<V> {
     ) -> Result<Claim, Unused>
         requires lane { lane.old.cells ≡ self.now.id.cells }
         requires context { context < length self.now.tree }
-        requires key { key < length self.now.keys }
+        requires key { key < length self.now.id.keys }
         ensures lane { lane.new.cells ≡ lane.old.cells }
         ensures claim { ClaimsAfterWaits self.now context key lane.old.view lane.new.view result }
         ensures decided { IfErr result IsDecidedUnused }

@@ -5,9 +5,11 @@ ghost use Rattle.ext_store.specs.Stores.{IsLaneOf};
 use crate::chance::{below, once_in};
 use crate::fault::SoakFault;
 use crate::mark::Mark;
-use crate::opening::{COMPUTED, CONTEXTS, ENGINE, KEYS, MOVED, Payload, Place, STANDING, Shared};
+use crate::opening::{
+    COMPUTED, CONTEXTS, ENGINE, KEYS, LATE, MOVED, Payload, Place, STANDING, Shared, late_key,
+};
 use crate::told::{Log, Told};
-use ext_model::{ContextNo, Fault, KeyNo, Look};
+use ext_model::{ContextNo, Fault, Look};
 use ext_store::{Compute, KeepFault, Lane, Refusal};
 use ext_tree::Key;
 use rand_pcg::Pcg32;
@@ -17,16 +19,17 @@ use std::sync::atomic::{AtomicU64, Ordering};
 /// How many calls a lane makes in a round.
 const CALLS: u32 = 400;
 
-/// Whether a call that was refused so may have been: as busy or contended only where it does not wait.
+/// Whether a call by one of the four keys that was refused so may have been: as busy or contended only where it does not wait. The four
+/// keys have numbers before any late key is named.
 fn may_refuse(refusal: Refusal, waits: bool) -> bool {
     match refusal {
         Refusal::Closed(_) => true,
         Refusal::Busy(_) | Refusal::Contended => !waits,
-        Refusal::UnknownKey | Refusal::Exhausted => false,
+        Refusal::Exhausted | Refusal::DirectoryFull | Refusal::Unplaced | Refusal::Memory => false,
     }
 }
 
-/// Makes all calls of a lane in a round.
+/// Makes all calls of a lane in a round. In the second half it names late keys, too.
 pub(crate) fn make_calls<R: Wait>(
     rt: &R,
     shared: &Shared,
@@ -37,8 +40,68 @@ pub(crate) fn make_calls<R: Wait>(
     requires { IsLaneOf shared.now.store.id lane.old }
     ensures { IsLaneOf shared.now.store.id lane.new }
 {
-    for _ in 0..CALLS {
+    for call in 0..CALLS {
         make_call(rt, shared, lane, numbers, log);
+        if call >= CALLS / 2 && once_in(numbers, 2) {
+            name_late(shared, lane, numbers, log);
+        }
+    }
+}
+
+/// Names a late key, which the lane makes.
+fn name_late(shared: &Shared, lane: &mut Lane<Payload>, numbers: &mut Pcg32, log: &mut Log)
+    requires { IsLaneOf shared.now.store.id lane.old }
+    ensures { IsLaneOf shared.now.store.id lane.new }
+{
+    let late = below(numbers, LATE);
+    let context = below(numbers, CONTEXTS);
+    match late_key(shared.alloc, late) {
+        Some(key) => ask_late(shared, lane, context, late, &key, log),
+        None => log.wrong_unless(false, SoakFault::Memory),
+    }
+}
+
+/// Looks for the late key from the context, where nothing stands under it, and asks for its number. Both are refused where all numbers
+/// are given.
+fn ask_late(
+    shared: &Shared,
+    lane: &mut Lane<Payload>,
+    context: ContextNo,
+    late: usize,
+    key: &Key,
+    log: &mut Log,
+)
+    requires lane { IsLaneOf shared.now.store.id lane.old }
+    requires context { context < 7 }
+    requires late { late < 70 }
+    ensures { IsLaneOf shared.now.store.id lane.new }
+{
+    let seen = shared.store.get(lane, context, key);
+    let number = shared.store.number(lane, key);
+    let right = match seen {
+        Ok(Look::Absent | Look::Closed(_)) | Err(Refusal::Contended) => number.is_ok(),
+        Err(Refusal::DirectoryFull) => number == Err(Refusal::DirectoryFull),
+        _ => false,
+    };
+    log.wrong_unless(right, SoakFault::Answer);
+    log.tell(Told::Named {
+        key: KEYS + late,
+        number: number.ok(),
+    });
+}
+
+/// Tells the numbers of the four keys, which this lane may name only now.
+pub(crate) fn tell_numbers(shared: &Shared, lane: &mut Lane<Payload>, log: &mut Log)
+    requires { IsLaneOf shared.now.store.id lane.old }
+    ensures { IsLaneOf shared.now.store.id lane.new }
+{
+    for key in 0..KEYS {
+        let number = shared.store.number(lane, shared.name(key));
+        log.wrong_unless(number.is_ok(), SoakFault::Answer);
+        log.tell(Told::Named {
+            key,
+            number: number.ok(),
+        });
     }
 }
 
@@ -164,7 +227,7 @@ fn found(
 fn met_fault(
     shared: &Shared,
     lane: &mut Lane<Payload>,
-    key: KeyNo,
+    key: usize,
     at: ContextNo,
     number: u32,
     log: &mut Log,

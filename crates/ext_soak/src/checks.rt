@@ -1,9 +1,13 @@
 //! What is checked once all lanes of a round have ended: each reply against those of all other lanes.
 use crate::fault::SoakFault;
 use crate::mark::Mark;
-use crate::opening::{CLASS, CONTEXTS, KEYS, LAST_IN_CLASS, MOVED, NUMBERS, Place, STANDING};
+use crate::opening::{CLASS, CONTEXTS, KEYS, LAST_IN_CLASS, LATE, MOVED, NUMBERS, Place, STANDING};
 use crate::told::{Log, Told};
+use ext_model::KeyNo;
 use std::alloc::{AllocError, Global};
+
+/// How many keys have a number.
+const NUMBERS_OF_KEYS: usize = 64;
 
 /// What became of a number.
 #[derive(Clone, Copy)]
@@ -16,11 +20,15 @@ struct Fate {
     left: bool,
 }
 
-/// The fates of all numbers, how often each place was filled and not emptied, and the first fault.
+/// The fates of all numbers, how often each place was filled and not emptied, what the lanes told of keys, and the first fault.
 #[derive(Drop)]
 pub(crate) struct Checks {
     fates: Vec<Fate>,
     standing: Vec<u32>,
+    /// What was told first of each key: its number, or that it has none.
+    named: Vec<Option<Option<KeyNo>>>,
+    /// The key of each number, as it was told first.
+    holders: Vec<Option<usize>>,
     fault: Option<SoakFault>,
 }
 
@@ -29,6 +37,15 @@ fn zeros(alloc: Global, count: usize) -> Result<Vec<u32>, AllocError> {
     let mut all = Vec::new(alloc);
     for _ in 0..count {
         all.push(0)?;
+    }
+    Ok(all)
+}
+
+/// So many times nothing.
+fn nothing<T: Copy>(alloc: Global, count: usize) -> Result<Vec<Option<T>>, AllocError> {
+    let mut all = Vec::new(alloc);
+    for _ in 0..count {
+        all.push(None)?;
     }
     Ok(all)
 }
@@ -88,11 +105,13 @@ fn is_closeable_left(fates: &[Fate]) -> bool {
 }
 
 impl Checks {
-    /// Takes memory for each number.
+    /// Takes memory for each number and each key.
     pub(crate) fn new(alloc: Global) -> Result<Checks, AllocError> {
         Ok(Checks {
             fates: unknown_fates(alloc)?,
             standing: zeros(alloc, CONTEXTS * KEYS)?,
+            named: nothing(alloc, KEYS + LATE)?,
+            holders: nothing(alloc, NUMBERS_OF_KEYS)?,
             fault: None,
         })
     }
@@ -154,6 +173,10 @@ impl Checks {
                 count(self.standing.as_mut_slice(), place, 1);
                 self.draw(number, last)
             }
+            Told::Named { key, number } => {
+                self.name(key, number);
+                last
+            }
             Told::Wrong(fault) => {
                 self.wrong_unless(false, fault);
                 last
@@ -181,6 +204,27 @@ impl Checks {
         fate.closeable = closeable;
         fate.fault = fault;
         self.wrong_unless(is_first, SoakFault::Numbers);
+    }
+
+    /// A lane told this of the key's number: as all others do, and of no other key.
+    fn name(&mut self, key: usize, number: Option<KeyNo>) {
+        let is_same = match self.named.get_mut(key) {
+            Some(first) => *first.get_or_insert(number) == number,
+            None => false,
+        };
+        self.wrong_unless(is_same, SoakFault::Keys);
+        if let Some(number) = number {
+            self.hold(key, number);
+        }
+    }
+
+    /// The key has this number, as no other key has.
+    fn hold(&mut self, key: usize, number: KeyNo) {
+        let is_own = match self.holders.get_mut(number) {
+            Some(holder) => *holder.get_or_insert(key) == key,
+            None => false,
+        };
+        self.wrong_unless(is_own, SoakFault::Keys);
     }
 
     // ---- what left, once it is known what was stored

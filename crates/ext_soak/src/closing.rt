@@ -251,15 +251,15 @@ pub(crate) fn close_all(
     }
 }
 
-/// Whether each key of the context is closed, for the first of the lanes.
+/// Whether each place of the context is closed, whether a key has its number or not, for the first of the lanes.
 fn is_closed(shared: &Shared, lane: &mut Lane<Payload>, context: ContextNo) -> bool
     requires lane { IsLaneOf shared.now.store.id lane.old }
     requires context { context < 7 }
     ensures { IsLaneOf shared.now.store.id lane.new }
 {
     let mut closed = true;
-    for key in 0..KEYS {
-        let seen = shared.store.get(lane, context, shared.name(key));
+    for number in 0..shared.store.key_count() {
+        let seen = shared.store.get_numbered(lane, context, number);
         closed = closed && seen == Ok(Look::Closed(context));
     }
     closed

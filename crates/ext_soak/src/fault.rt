@@ -37,6 +37,8 @@ pub(crate) enum SoakFault {
     Misplaced,
     /// A context that is closed has an open place.
     Open,
+    /// A key had two numbers, or one in one lane and none in another, or a number two keys.
+    Keys,
 }
 
 impl SoakFault {
@@ -59,6 +61,7 @@ impl SoakFault {
             SoakFault::Missed => "a look-up missed a value that always stood",
             SoakFault::Misplaced => "a look-up found what did not stand there",
             SoakFault::Open => "a closed context is open",
+            SoakFault::Keys => "a key has two numbers, or a number two keys",
         }
     }
 

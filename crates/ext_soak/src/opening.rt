@@ -1,12 +1,12 @@
-//! What the lanes of a round share: a store of seven contexts and four keys.
+//! What the lanes of a round share: a store of seven contexts, and the keys that they name in it.
 ghost use Rattle.std.specs.Prelude.{◌≡◌, ◌<◌, All, IfOk, length};
 ghost use Rattle.ext_store.specs.Stores.{IsCloserOf, IsLaneOf};
 
 use crate::fault::SoakFault;
 use ext_ids::UniqueId;
-use ext_model::{ContextNo, KeyNo};
+use ext_model::ContextNo;
 use ext_store::{Closer, Lane, Limits, Store, StoreValue};
-use ext_tree::{Directory, Key, Namespace, Tree};
+use ext_tree::{Key, Namespace, Tree};
 use std::alloc::Global;
 use std::sync::atomic::AtomicU64;
 
@@ -20,19 +20,23 @@ pub(crate) const CLASS: ContextNo = 1;
 /// The last context of class A.
 pub(crate) const LAST_IN_CLASS: ContextNo = 4;
 
-/// How many keys there are.
+/// How many keys there are under which something is stored. Here a key is told by its place among the names; the number that it gets in
+/// the store is another one, in another order each round.
 pub(crate) const KEYS: usize = 4;
 
+/// How many further keys the lanes name late in a round, under which nothing is stored. They are more than there are numbers.
+pub(crate) const LATE: usize = 70;
+
 /// The key under which a value stands in the engine all along.
-pub(crate) const STANDING: KeyNo = 0;
+pub(crate) const STANDING: usize = 0;
 
 /// The key whose value one lane moves from the engine to class A and back; no other lane stores under it.
-pub(crate) const MOVED: KeyNo = 1;
+pub(crate) const MOVED: usize = 1;
 
 /// The key under which values are computed and removed, and never put: so factories often run there, and faults are often kept.
-pub(crate) const COMPUTED: KeyNo = 3;
+pub(crate) const COMPUTED: usize = 3;
 
-/// The names of the keys, in their order.
+/// The names of the keys.
 const NAMES: [&str; KEYS] = ["standing", "moved", "c", "computed"];
 
 /// How many numbers a round has.
@@ -42,7 +46,7 @@ pub(crate) const NUMBERS: u32 = 16_384;
 #[derive(Clone, Copy, PartialEq, Eq)]
 pub(crate) struct Place {
     pub(crate) context: ContextNo,
-    pub(crate) key: KeyNo,
+    pub(crate) key: usize,
 }
 
 /// A value: the place that it is for, and whether it is closeable.
@@ -69,20 +73,21 @@ pub(crate) fn keeps_faults(round: u32) -> bool {
 #[derive(Drop)]
 pub(crate) struct Shared {
     pub(crate) store: Store<Payload>,
-    /// Where factories take memory for their faults.
+    keys: Vec<Key>,
+    /// Where factories take memory for their faults, and lanes for late keys.
     pub(crate) alloc: Global,
     /// The places for which a factory runs, one bit each.
     pub(crate) running: AtomicU64,
     ghost contexts: { length store.tree ≡ 7 },
-    ghost keys: { length store.keys ≡ 4 },
+    ghost names: { length keys.items ≡ 4 },
 }
 
 impl Shared {
-    /// The key of this number.
-    pub(crate) fn name(&self, key: KeyNo) -> &Key
+    /// The key of this name.
+    pub(crate) fn name(&self, key: usize) -> &Key
         requires { key < 4 }
     {
-        self.store.directory().key(key)
+        &self.keys[key]
     }
 }
 
@@ -122,54 +127,59 @@ fn add_contexts(alloc: Global, ids: &mut Vec<UniqueId>) -> Option<()> {
 }
 
 /// One more key.
-fn declare(alloc: Global, directory: &mut Directory, name: &str) -> Option<()> {
-    let key = Key::new(alloc, Namespace::global(), name).ok()?;
-    directory.declare(key).ok()?;
-    Some(())
+fn add_key(alloc: Global, keys: &mut Vec<Key>, name: &str) -> Option<()> {
+    keys.push(Key::new(alloc, Namespace::global(), name).ok()?)
+        .ok()
 }
 
-fn declare_all(alloc: Global, directory: &mut Directory) -> Option<()> {
+fn add_keys(alloc: Global, keys: &mut Vec<Key>) -> Option<()> {
     for name in NAMES {
-        declare(alloc, directory, name)?;
+        add_key(alloc, keys, name)?;
     }
     Some(())
 }
 
-/// The four keys, declared in their order.
-fn directory(alloc: Global) -> Option<Directory> {
-    let mut directory = Directory::new(alloc);
-    declare_all(alloc, &mut directory).and(Some(directory))
+/// The four keys.
+fn keys(alloc: Global) -> Option<Vec<Key>> {
+    let mut keys = Vec::new(alloc);
+    add_keys(alloc, &mut keys).and(Some(keys))
+}
+
+/// The late key of this number, made anew by each lane that names it.
+pub(crate) fn late_key(alloc: Global, late: usize) -> Option<Key> {
+    let name = format!(in alloc; "late{late}").ok()?;
+    Key::new(alloc, Namespace::global(), name.as_str()).ok()
 }
 
 /// The tree and the four keys, where they were made with so many contexts.
 fn made(
     tree: Option<Tree>,
-    directory: Option<Directory>,
+    keys: Option<Vec<Key>>,
     contexts: usize,
-) -> Result<(Tree, Directory), SoakFault>
-    ensures { IfOk result (λ r. (length r.0 ≡ contexts) × (length r.1 ≡ 4)) }
+) -> Result<(Tree, Vec<Key>), SoakFault>
+    ensures { IfOk result (λ r. (length r.0 ≡ contexts) × (length r.1.items ≡ 4)) }
 {
-    let Some((tree, directory)) = tree.zip(directory) else {
+    let Some((tree, keys)) = tree.zip(keys) else {
         return Err(SoakFault::Memory);
     };
-    if tree.len() != contexts || directory.len() != KEYS {
+    if tree.len() != contexts || keys.len() != KEYS {
         return Err(SoakFault::Answer);
     }
-    Ok((tree, directory))
+    Ok((tree, keys))
 }
 
 /// A store, its lanes and its closers.
 type Parts = (Store<Payload>, Vec<Lane<Payload>>, Vec<Closer>);
 
-/// A store of these contexts and keys, which keeps faults or not.
+/// A store of these contexts, which keeps faults or not.
 fn open_store(
     alloc: Global,
-    made: (Tree, Directory),
+    tree: Tree,
     lanes: usize,
     tries: u32,
     keep_faults: bool,
 ) -> Result<Parts, SoakFault>
-    ensures made { IfOk result (λ r. (r.0.tree ≡ made.0) × (r.0.keys ≡ made.1)) }
+    ensures tree { IfOk result (λ r. r.0.tree ≡ tree) }
     ensures lanes { IfOk result (λ r. All (IsLaneOf r.0.id) r.1.items) }
     ensures closers { IfOk result (λ r. All (IsCloserOf r.0) r.2.items) }
 {
@@ -179,8 +189,7 @@ fn open_store(
         numbers: NUMBERS,
         keep_faults,
     };
-    let (tree, directory) = made;
-    match Store::open(alloc, tree, directory, limits) {
+    match Store::open(alloc, tree, limits) {
         Ok(parts) => Ok(parts),
         Err(_) => Err(SoakFault::Memory),
     }
@@ -196,29 +205,31 @@ pub(crate) fn open(
     ensures lanes { IfOk result (λ o. All (IsLaneOf o.shared.store.id) o.lanes.items) }
     ensures closers { IfOk result (λ o. All (IsCloserOf o.shared.store) o.closers.items) }
 {
-    match made(contexts(alloc), directory(alloc), CONTEXTS) {
+    match made(contexts(alloc), keys(alloc), CONTEXTS) {
         Ok(made) => open_with(alloc, made, lanes, tries, keep_faults),
         Err(fault) => Err(fault),
     }
 }
 
-/// The store of these seven contexts and four keys.
+/// The store of these seven contexts, with the four keys.
 fn open_with(
     alloc: Global,
-    made: (Tree, Directory),
+    made: (Tree, Vec<Key>),
     lanes: usize,
     tries: u32,
     keep_faults: bool,
 ) -> Result<Opened, SoakFault>
-    requires { (length made.0 ≡ 7) × (length made.1 ≡ 4) }
+    requires { (length made.0 ≡ 7) × (length made.1.items ≡ 4) }
     ensures lanes { IfOk result (λ o. All (IsLaneOf o.shared.store.id) o.lanes.items) }
     ensures closers { IfOk result (λ o. All (IsCloserOf o.shared.store) o.closers.items) }
 {
-    match open_store(alloc, made, lanes, tries, keep_faults) {
+    let (tree, keys) = made;
+    match open_store(alloc, tree, lanes, tries, keep_faults) {
         Ok((store, lanes, closers)) => {
             let running = AtomicU64::new(0);
             let shared = Shared {
                 store,
+                keys,
                 alloc,
                 running,
             };
@@ -236,14 +247,15 @@ fn open_with(
 #[derive(Drop)]
 pub(crate) struct Deep {
     pub(crate) store: Store<Payload>,
+    keys: Vec<Key>,
     ghost contexts: { length store.tree ≡ 16 },
-    ghost keys: { length store.keys ≡ 4 },
+    ghost names: { length keys.items ≡ 4 },
 }
 
 impl Deep {
     /// The key that the races are for.
     pub(crate) fn name(&self) -> &Key {
-        self.store.directory().key(0)
+        &self.keys[0]
     }
 }
 
@@ -275,24 +287,25 @@ fn add_chain(alloc: Global, ids: &mut Vec<UniqueId>) -> Option<()> {
 pub(crate) fn open_deep(alloc: Global, keep_faults: bool) -> Result<OpenedDeep, SoakFault>
     ensures { IfOk result (λ o. All (IsLaneOf o.deep.store.id) o.lanes.items) }
 {
-    match made(chain(alloc), directory(alloc), 16) {
+    match made(chain(alloc), keys(alloc), 16) {
         Ok(made) => open_deep_with(alloc, made, keep_faults),
         Err(fault) => Err(fault),
     }
 }
 
-/// The deep store of these sixteen contexts and four keys.
+/// The deep store of these sixteen contexts, with the four keys.
 fn open_deep_with(
     alloc: Global,
-    made: (Tree, Directory),
+    made: (Tree, Vec<Key>),
     keep_faults: bool,
 ) -> Result<OpenedDeep, SoakFault>
-    requires { (length made.0 ≡ 16) × (length made.1 ≡ 4) }
+    requires { (length made.0 ≡ 16) × (length made.1.items ≡ 4) }
     ensures { IfOk result (λ o. All (IsLaneOf o.deep.store.id) o.lanes.items) }
 {
-    match open_store(alloc, made, 2, 64, keep_faults) {
+    let (tree, keys) = made;
+    match open_store(alloc, tree, 2, 64, keep_faults) {
         Ok((store, lanes, _closers)) => {
-            let deep = Deep { store };
+            let deep = Deep { store, keys };
             Ok(OpenedDeep { deep, lanes })
         }
         Err(fault) => Err(fault),

@@ -2,7 +2,7 @@
 ghost use Rattle.std.specs.Prelude.{All};
 ghost use Rattle.ext_store.specs.Stores.{IsCloserOf, IsLaneOf};
 
-use crate::calls::{make_calls, put};
+use crate::calls::{make_calls, put, tell_numbers};
 use crate::chance::{below, numbers_of, once_in};
 use crate::checks::Checks;
 use crate::closing::{Closing, are_closed, close_all, close_some};
@@ -125,7 +125,7 @@ fn call<R: Threads + Sync + Wait + AllocGlobal>(
         soak,
         round,
     );
-    meet_all(shared, hand, others);
+    tell_and_meet(shared, hand, others, &mut closing.log);
 }
 
 /// Puts a value in the engine under the key where one always stands, and one under the key whose value is moved.
@@ -246,7 +246,7 @@ fn call_all<R: Threads + Sync + Wait>(
     );
 }
 
-/// Makes a lane's calls. The first lane moves a value.
+/// Makes a lane's calls, and tells its numbers of keys then. The first lane moves a value.
 fn calls_of<R: Wait>(
     rt: &R,
     alloc: Global,
@@ -264,6 +264,7 @@ fn calls_of<R: Wait>(
     } else {
         make_calls(rt, shared, lane, &mut numbers, &mut log);
     }
+    tell_numbers(shared, lane, &mut log);
     log
 }
 
@@ -274,14 +275,20 @@ fn keep_log<R: Wait>(rt: &R, logs: &[Mutex<Log>], at: usize, log: Log) {
     }
 }
 
-/// The lane that closes, the first in hand, meets all others.
-fn meet_all(shared: &Shared, hand: &mut [Lane<Payload>], others: &mut [Lane<Payload>])
+/// The lane that closes, the first in hand, tells its numbers of keys, and meets all others then.
+fn tell_and_meet(
+    shared: &Shared,
+    hand: &mut [Lane<Payload>],
+    others: &mut [Lane<Payload>],
+    log: &mut Log,
+)
     requires hand { All (IsLaneOf shared.now.store.id) hand.old }
     requires others { All (IsLaneOf shared.now.store.id) others.old }
     ensures hand { All (IsLaneOf shared.now.store.id) hand.new }
     ensures others { All (IsLaneOf shared.now.store.id) others.new }
 {
     if let Some(lane) = hand.first_mut() {
+        tell_numbers(shared, lane, log);
         meet(shared, lane, others);
     }
 }

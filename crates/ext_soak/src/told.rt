@@ -41,22 +41,28 @@ pub(crate) enum Told {
     },
     /// A look-up from a context found it in this one or above.
     Found {
-        key: KeyNo,
+        key: usize,
         from: ContextNo,
         at: ContextNo,
         number: u32,
     },
     /// A look-up or a compute met it in this context, as that of a fault with this mark.
     FaultMet {
-        key: KeyNo,
+        key: usize,
         at: ContextNo,
         number: u32,
         mark: Mark,
     },
     /// A look-up from a context found nothing.
     Absent {
-        key: KeyNo,
+        key: usize,
         from: ContextNo,
+    },
+    /// A key's number in the store, or that it has none since all are given. The key is told by its place among the four names, and the
+    /// late ones behind them.
+    Named {
+        key: usize,
+        number: Option<KeyNo>,
     },
     /// A reply that is wrong whatever the others are.
     Wrong(SoakFault),

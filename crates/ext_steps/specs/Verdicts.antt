@@ -1,5 +1,5 @@
--- How a step ends, by what its look-up showed and by why its call of the store was refused, if it was. Steps go by the step's first word and the label of its
--- key. Own rule; a look-up is `get` of JUnit's `ExtensionContext.Store`.
+-- How a step ends, by what its look-up showed and by why its call of the store was refused, if it was. Steps go by the step's first word and the word by which
+-- it names its key. Own rule; a look-up is `get` of JUnit's `ExtensionContext.Store`.
 use Rattle.std.specs.Prelude.{ℕ, List, Option, Some, None, if◌then◌else◌}
 use Rattle.std.specs.Str.{bytes_eq}
 use Rattle.ext_lifecycle.specs.Endings.{successful, failed}

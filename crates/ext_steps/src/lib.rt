@@ -1,20 +1,24 @@
 //! Steps of plans: what they call a store with, what they make of its answers, and what they say.
 //!
-//! A step's call of the store is a `StepCall`, which `StepKeys` makes of the labels that steps name. What a look-up shows a
+//! A step's call of the store is a `StepCall`, which `StepKeys` makes with the key that the step names. What a look-up shows a
 //! step is `Seen`, and why a call was refused a `Reason`. `want_verdict`, `none_verdict`, `fail_verdict`, `unless_refused`
 //! and `refused` give the verdict that a step makes of them, with its text. `PlanValue` is a value of a run, and `close_fault`
 //! its close action. Nothing here knows a store, so that each run goes by the same words. Own rule.
 #![tactic(auto)]
 
+mod call_key;
 mod plan_value;
 mod reason;
 mod seen;
+mod step_call;
 mod step_keys;
 mod step_text;
 mod verdicts;
 
+pub use call_key::CallKey;
 pub use plan_value::{PlanValue, close_fault};
 pub use reason::Reason;
 pub use seen::{Seen, fail_verdict, none_verdict, want_verdict};
-pub use step_keys::{StepCall, StepKeys};
+pub use step_call::StepCall;
+pub use step_keys::StepKeys;
 pub use verdicts::{aborted, failed, refused, unless_refused};

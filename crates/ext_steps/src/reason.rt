@@ -13,7 +13,9 @@ pub enum Reason {
     Exhausted,
     /// All numbers of the store are drawn, printed as `numbers full`.
     NumbersFull,
-    /// The value was not taken into its place, printed as `unplaced`.
+    /// The store has 64 other keys, printed as `directory full`.
+    DirectoryFull,
+    /// The value or the key was not taken into its place, printed as `unplaced`.
     Unplaced,
     /// The value of a number that was found is not shown, printed as `not shown`.
     NotShown,
@@ -31,6 +33,7 @@ impl Reason {
             Reason::Closed => "closed",
             Reason::Exhausted => "exhausted",
             Reason::NumbersFull => "numbers full",
+            Reason::DirectoryFull => "directory full",
             Reason::Unplaced => "unplaced",
             Reason::NotShown => "not shown",
         }

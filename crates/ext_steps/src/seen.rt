@@ -28,8 +28,8 @@ pub enum Seen<'a> {
 }
 
 /// How a step `want` of this text ends: successful where a value of that text was found. It fails with
-/// `want LABEL TEXT: got OTHER`, with `want LABEL TEXT: fault OTHER`, with `want LABEL TEXT: none` or, where the look-up was
-/// refused, with `NAME LABEL: REASON`. It fails with a met fault that is want of memory.
+/// `want KEY TEXT: got OTHER`, with `want KEY TEXT: fault OTHER`, with `want KEY TEXT: none` or, where the look-up was
+/// refused, with `NAME KEY: REASON`. It fails with a met fault that is want of memory.
 ///
 /// Takes memory for the text of a failure; `AllocError` comes only where that is refused, and so never in place of a success.
 /// Own rule.
@@ -53,8 +53,8 @@ pub fn want_verdict(
 }
 
 /// How a step ends that is to find nothing, as `none`, and as `compute` where it meets a kept fault: successful where nothing
-/// was found. It fails with `NAME LABEL: got OTHER`, with `NAME LABEL: fault OTHER` or, where the look-up was refused, with
-/// `NAME LABEL: REASON`. It fails with a met fault that is want of memory.
+/// was found. It fails with `NAME KEY: got OTHER`, with `NAME KEY: fault OTHER` or, where the look-up was refused, with
+/// `NAME KEY: REASON`. It fails with a met fault that is want of memory.
 ///
 /// Takes memory for the text of a failure; `AllocError` comes only where that is refused, and so never in place of a success.
 /// Own rule.

@@ -1,102 +1,88 @@
-//! The keys of a run, by the labels that steps name.
-ghost use Rattle.std.specs.Prelude.{◌≡◌, drop};
-ghost use Rattle.ext_plan_model.specs.Plans.{keys_view};
-ghost use Rattle.ext_plan_model.specs.KeyNumbers.{numbering};
+//! The keys that steps name.
+ghost use Rattle.std.specs.Prelude.{◌≡◌, drop, map, true, IfErr, IfOk};
+ghost use Rattle.ext_plan_model.specs.Plans.{keys_view, step_key_view};
+ghost use Rattle.ext_plan_model.specs.KeyNumbers.{key_of_step, named_key};
 
-use ext_model::{ContextNo, KeyNo};
-use ext_plan_model::{KeyNumbers, LabelNo, PlanKey};
+use crate::call_key::CallKey;
+use crate::step_call::StepCall;
+use ext_model::ContextNo;
+use ext_plan_model::{PlanKey, StepKey};
+use ext_tree::Key;
+use std::alloc::{AllocError, Global};
 
-/// The keys of a plan, and their numbers. Own rule.
+/// The declared keys of a plan, and for each of them the key of the store that was made of it. Own rule.
 #[derive(Clone, Copy)]
 pub struct StepKeys<'b> {
     keys: &'b [PlanKey],
-    numbers: &'b KeyNumbers,
-    ghost numbered: { numbers.now ≡ numbering (keys_view keys.now) },
-}
-
-/// What a step calls the store with. Own rule.
-#[derive(Clone, Copy, Debug)]
-pub struct StepCall<'b> {
-    /// The step's first word.
-    pub name: &'b str,
-    /// The label of its key.
-    pub label: &'b str,
-    /// The path of the context that it acts on: that context, its parent, and so on up to the root.
-    pub path: &'b [ContextNo],
-    /// The number of its key, from 0.
-    pub key: KeyNo,
-}
-
-impl<'b> StepCall<'b> {
-    ghost use Rattle.ext_steps.specs.Calls.{call_view, start_of};
-
-    /// The context that the step acts on; 0 where the path is empty, as no path of a context is. Takes no memory. Own
-    /// rule.
-    pub fn at(&self) -> ContextNo
-        ensures { result ≡ start_of (call_view self.now).path }
-    {
-        match self.path.first() {
-            Some(at) => *at,
-            None => 0,
-        }
-    }
+    made: &'b [Key],
+    ghost all: { made.now ≡ map named_key (keys_view keys.now) },
 }
 
 impl<'b> StepKeys<'b> {
-    ghost use Rattle.ext_steps.specs.Calls.{call_view, keys_in, key_number, label_of};
+    ghost use Rattle.ext_steps.specs.Calls.{call_key, call_view, is_made, keys_in, label_of};
 
-    /// The keys with their numbers. Takes no memory. Own rule.
-    pub fn of(keys: &'b [PlanKey], numbers: &'b KeyNumbers) -> StepKeys<'b>
-        requires { numbers.now ≡ numbering (keys_view keys.now) }
+    /// The declared keys, with the key of the store of each, in order (`Plan::store_keys`). Takes no memory. Own rule.
+    pub fn of(keys: &'b [PlanKey], made: &'b [Key]) -> StepKeys<'b>
+        requires { made.now ≡ map named_key (keys_view keys.now) }
         ensures { keys_in result ≡ keys_view keys.now }
     {
-        StepKeys { keys, numbers }
+        StepKeys { keys, made }
     }
 
-    /// The call of a step of this name, which goes up so many contexts on the path of the context in which it runs. A
-    /// label that the plan doesn't have is the empty text, and its key number 0.
+    /// The key of the store that a step names: that of its label, or the one of its name in the global namespace. A label that the plan
+    /// doesn't have names the key of the empty name in the global namespace.
+    ///
+    /// Takes memory for a key that is no label's; `AllocError` comes only where that is refused. Own rule.
+    pub fn key_of(&self, alloc: Global, key: &StepKey) -> Result<CallKey<'b>, AllocError>
+        ensures key { IfOk result (λ k. call_key k ≡ key_of_step (keys_in self.now) (step_key_view key.now)) }
+        ensures made { IfErr result (λ _. is_made (keys_in self.now) (step_key_view key.now) ≡ true) }
+    {
+        match key {
+            StepKey::Label(label) => match self.made.get(*label) {
+                Some(key) => Ok(CallKey::Declared(key)),
+                None => CallKey::global(alloc, ""),
+            },
+            StepKey::Named(name) => CallKey::global(alloc, name.as_str()),
+        }
+    }
+
+    /// The call of a step of this name and this key, which goes up so many contexts on the path of the context in which it runs. `made`
+    /// is the key of the store. A label that the plan doesn't have is the empty text.
     ///
     /// Takes no memory. Own rule.
     pub fn call<'c>(
         &'c self,
         name: &'c str,
-        label: LabelNo,
+        key: &'c StepKey,
+        made: &'c Key,
         path: &'c [ContextNo],
         up: usize,
     ) -> StepCall<'c>
         ensures { call_view result ≡ record {
           name = name.now;
-          label = label_of (keys_in self.now) label;
+          label = label_of (keys_in self.now) (step_key_view key.now);
           path = drop up path.now;
-          key = key_number (keys_in self.now) label;
+          key = made.now;
         } }
     {
         StepCall {
             name,
-            label: self.label_of(label),
+            label: self.label_of(key),
             path: ancestor(path, up),
-            key: self.number_of(label),
+            key: made,
         }
     }
 
-    /// The text of a label.
-    fn label_of(&self, label: LabelNo) -> &str
-        ensures { result.now ≡ label_of (keys_in self.now) label }
+    /// The word by which a step names its key.
+    fn label_of<'c>(&'c self, key: &'c StepKey) -> &'c str
+        ensures { result.now ≡ label_of (keys_in self.now) (step_key_view key.now) }
     {
-        match self.keys.get(label) {
-            Some(key) => key.label.as_str(),
-            None => "",
-        }
-    }
-
-    /// The number of the key that a label names.
-    fn number_of(&self, label: LabelNo) -> KeyNo
-        ensures { result ≡ key_number (keys_in self.now) label }
-    {
-        if label < self.keys.len() {
-            self.numbers.get(label)
-        } else {
-            0
+        match key {
+            StepKey::Label(label) => match self.keys.get(*label) {
+                Some(key) => key.label.as_str(),
+                None => "",
+            },
+            StepKey::Named(name) => name.as_str(),
         }
     }
 }

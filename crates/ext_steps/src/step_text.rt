@@ -4,7 +4,7 @@ ghost use Rattle.ext_steps.specs.StepTexts.{refused_text, missing_text, other_te
 
 use std::alloc::{AllocError, Global};
 
-/// `NAME LABEL: REASON`, of a store call that was refused.
+/// `NAME KEY: REASON`, of a store call that was refused.
 #[tactic(auto, unfolding(crate::specs::StepTexts::refused_text))]
 pub fn refused_text(
     alloc: Global,
@@ -17,7 +17,7 @@ pub fn refused_text(
     format!(in alloc; "{name} {label}: {reason}")
 }
 
-/// `want LABEL TEXT: none`.
+/// `want KEY TEXT: none`.
 #[tactic(auto, unfolding(crate::specs::StepTexts::missing_text))]
 pub fn missing_text(alloc: Global, label: &str, text: &str) -> Result<String, AllocError>
     ensures { IfOk result (λ s. string_bytes s ≡ missing_text label.now text.now) }
@@ -25,7 +25,7 @@ pub fn missing_text(alloc: Global, label: &str, text: &str) -> Result<String, Al
     format!(in alloc; "want {label} {text}: none")
 }
 
-/// `want LABEL TEXT: got OTHER`.
+/// `want KEY TEXT: got OTHER`.
 #[tactic(auto, unfolding(crate::specs::StepTexts::other_text))]
 pub fn other_text(alloc: Global, label: &str, text: &str, other: &str) -> Result<String, AllocError>
     ensures { IfOk result (λ s. string_bytes s ≡ other_text label.now text.now other.now) }
@@ -33,7 +33,7 @@ pub fn other_text(alloc: Global, label: &str, text: &str, other: &str) -> Result
     format!(in alloc; "want {label} {text}: got {other}")
 }
 
-/// `NAME LABEL: got OTHER`, of a step that was to find nothing.
+/// `NAME KEY: got OTHER`, of a step that was to find nothing.
 #[tactic(auto, unfolding(crate::specs::StepTexts::got_text))]
 pub fn got_text(alloc: Global, name: &str, label: &str, other: &str) -> Result<String, AllocError>
     ensures { IfOk result (λ s. string_bytes s ≡ got_text name.now label.now other.now) }
@@ -41,7 +41,7 @@ pub fn got_text(alloc: Global, name: &str, label: &str, other: &str) -> Result<S
     format!(in alloc; "{name} {label}: got {other}")
 }
 
-/// `want LABEL TEXT: fault OTHER`.
+/// `want KEY TEXT: fault OTHER`.
 #[tactic(auto, unfolding(crate::specs::StepTexts::other_fault_text))]
 pub fn other_fault_text(
     alloc: Global,
@@ -54,7 +54,7 @@ pub fn other_fault_text(
     format!(in alloc; "want {label} {text}: fault {other}")
 }
 
-/// `NAME LABEL: fault OTHER`, of a step that met a kept fault.
+/// `NAME KEY: fault OTHER`, of a step that met a kept fault.
 #[tactic(auto, unfolding(crate::specs::StepTexts::met_fault_text))]
 pub fn met_fault_text(
     alloc: Global,

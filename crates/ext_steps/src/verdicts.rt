@@ -25,7 +25,7 @@ pub fn aborted(text: String) -> Verdict
     Verdict::Aborted(Fault::Text(text))
 }
 
-/// How a step ends whose call of the store was refused: failed with `NAME LABEL: REASON`.
+/// How a step ends whose call of the store was refused: failed with `NAME KEY: REASON`.
 ///
 /// Takes memory for the text; `AllocError` comes only where that is refused. Own rule.
 pub fn refused(alloc: Global, call: &StepCall<'_>, why: Reason) -> Result<Verdict, AllocError>

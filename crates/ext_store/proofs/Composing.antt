@@ -21,7 +21,7 @@ use Rattle.ext_store.specs.declared.computed.Compute.TheVariants.{Computed, Fail
 use Rattle.ext_model.specs.declared.look.Fault.{Fault}
 use Rattle.ext_tree.specs.Paths.{IsPathOf}
 use Rattle.ext_cells.specs.Lanes.{CellsId, Lane}
-use Rattle.ext_store.specs.Stores.{StoreId, StoreView, StoreLane, IsKeptBy, IsLaneOf, cell_in}
+use Rattle.ext_store.specs.Stores.{StoreId, StoreView, StoreLane, IsKeptBy, IsLaneOf, IsOnCells, cell_in}
 use Rattle.ext_store.specs.Frames.{Frame}
 use Rattle.ext_store.specs.Computing.{ClaimsAndLooks, given_up_events, Fills, Fails, IsUnkept, EndsFailed, HandsBack, IfComputed, IsFaultless, Uses, ComputesFrom, Computes, without_factory, with_factory}
 use Rattle.ext_shared.specs.Claiming.{ClaimsFrom, ClaimsMissing}
@@ -173,10 +173,10 @@ module _ {V : Type 0} (store : StoreView) (why : Fault) (claim : ℕ) (b c : Sto
 
 -- ---- the frame of a claim
 
-module _ {V : Type 0} (id : StoreId) (inside a b : StoreLane V) (is : inside ≡ a) (mine : IsLaneOf id a) (cells : b.cells.cells ≡ inside.cells.cells) (same : b.known ≡ inside.known) (also : b.faults ≡ inside.faults) where
+module _ {V : Type 0} (id : StoreId) (inside a b : StoreLane V) (is : inside ≡ a) (mine : IsLaneOf id a) (cells : b.cells.cells ≡ inside.cells.cells) (on_cells : IsOnCells inside b) where
   -- of calls that store nothing,
   pub storing_frame : (acts : List (Act ℕ)) → All StoresNone acts → Calls inside.cells.cells.limits inside.cells.view b.cells.view acts → Frame id [] a b
-  storing_frame acts none calls = frame_of id inside a b is mine cells same also acts calls (storing_none inside.cells.cells.limits inside b acts none calls same)
+  storing_frame acts none calls = frame_of id inside a b is mine cells on_cells acts calls (storing_none inside.cells.cells.limits inside b acts none calls (ap (λ (l : StoreLane V). l.known) on_cells))
 
   -- by the limits of the store's cells,
   pub storing_there : (store : StoreView) → store.id ≡ id → (acts : List (Act ℕ)) → All StoresNone acts → Calls store.id.cells.limits inside.cells.view b.cells.view acts → Frame id [] a b
@@ -191,17 +191,17 @@ module _ {V : Type 0} (id : StoreId) (inside a b : StoreLane V) (is : inside ≡
       storing_there store own made.0 made.1 made.2
 
 -- A value was kept, which has a frame, and then its number was stored in a claimed cell: it is none that was kept before
-pub fill_frame : {V : Type 0} (id : StoreId) (a inside b c : StoreLane V) → inside ≡ b → Frame id [] a b → c.cells.cells ≡ inside.cells.cells → c.known ≡ inside.known → c.faults ≡ inside.faults
+pub fill_frame : {V : Type 0} (id : StoreId) (a inside b c : StoreLane V) → inside ≡ b → Frame id [] a b → c.cells.cells ≡ inside.cells.cells → IsOnCells inside c
     → (at number : ℕ) → Calls inside.cells.cells.limits inside.cells.view c.cells.view (Fill at number ∷ []) → ((m : ℕ) → IsKeptBy a m → m ≢ number) → Frame id [] a c
-fill_frame id a inside b c is one cells same also at number calls apart =
+fill_frame {V} id a inside b c is one cells on_cells at number calls apart =
     frame_spares id number a c
-    (frames_compose id [] (number ∷ []) a b c one (but_frame id inside b c is (frame_lane id [] a b one) cells same also number (Fill at number ∷ []) calls (filled_keeps inside.cells.cells.limits inside c at number calls same)))
+    (frames_compose id [] (number ∷ []) a b c one (but_frame id inside b c is (frame_lane id [] a b one) cells on_cells number (Fill at number ∷ []) calls (filled_keeps inside.cells.cells.limits inside c at number calls (ap (λ (l : StoreLane V). l.known) on_cells))))
     apart
 
 -- and the same of a fault
-pub fail_frame : {V : Type 0} (id : StoreId) (a inside b c : StoreLane V) → inside ≡ b → Frame id [] a b → c.cells.cells ≡ inside.cells.cells → c.known ≡ inside.known → c.faults ≡ inside.faults
+pub fail_frame : {V : Type 0} (id : StoreId) (a inside b c : StoreLane V) → inside ≡ b → Frame id [] a b → c.cells.cells ≡ inside.cells.cells → IsOnCells inside c
     → (at number : ℕ) → Calls inside.cells.cells.limits inside.cells.view c.cells.view (Fail at number ∷ []) → ((m : ℕ) → IsKeptBy a m → m ≢ number) → Frame id [] a c
-fail_frame id a inside b c is one cells same also at number calls apart =
+fail_frame {V} id a inside b c is one cells on_cells at number calls apart =
     frame_spares id number a c
-    (frames_compose id [] (number ∷ []) a b c one (but_frame id inside b c is (frame_lane id [] a b one) cells same also number (Fail at number ∷ []) calls (failed_keeps inside.cells.cells.limits inside c at number calls same)))
+    (frames_compose id [] (number ∷ []) a b c one (but_frame id inside b c is (frame_lane id [] a b one) cells on_cells number (Fail at number ∷ []) calls (failed_keeps inside.cells.cells.limits inside c at number calls (ap (λ (l : StoreLane V). l.known) on_cells))))
     apart

@@ -16,6 +16,7 @@ use Rattle.ext_history.proofs.Lists.{contains_from_filter}
 use Rattle.ext_history.proofs.Legal.{legal_prefix, legal_begun}
 use Rattle.ext_history.proofs.Composed.{answer_point, point_legal}
 use Rattle.ext_model.proofs.Numbers.{bounded}
+use Rattle.ext_tree.proofs.KeyPlacing.{keeps_all}
 use Rattle.ext_values.specs.Known.{Known, KeepsKnown, known_at, places_of}
 use Rattle.ext_cells.specs.declared.refusal.CellRefusal.{CellRefusal}
 use Rattle.ext_cells.specs.Lanes.{Lane}
@@ -70,10 +71,10 @@ no_fault_memory store why back lane mine handed = record {
 
 module _ {V : Type 0} (store : StoreView) (tries : ℕ) (same : tries ≡ store.tries) (why : Fault) (a : StoreLane V) (mine : IsLaneOf store.id a) (after : Lane) (is : after.cells ≡ a.cells.cells) (notes : List (Known Fault)) where
   abbrev b : StoreLane V
-  b = record { cells = after; known = a.known; faults = notes }
+  b = record { cells = after; known = a.known; faults = notes; keys = a.keys }
 
   own_lane : places_of notes ≡ places_of a.faults → IsLaneOf store.id b
-  own_lane places = record { cells = is ∙ mine.cells; places = mine.places; fault_places = places ∙ mine.fault_places }
+  own_lane places = record { cells = is ∙ mine.cells; places = mine.places; fault_places = places ∙ mine.fault_places; keys = mine.keys }
 
   placed : (number : ℕ) → cells.Answers tries a.cells after cells.number_acts (cells.number_reply a.cells) (Ok number) → MayStoreNow after.view number → IsPlaced why a.faults notes number → FaultParts store why a b (Ok number)
   placed number answers storable is_placed =
@@ -82,7 +83,7 @@ module _ {V : Type 0} (store : StoreView) (tries : ℕ) (same : tries ≡ store.
         answer = record { drawn = drawn; learnt = is_placed.learnt; storable = storable };
         known = refl;
         apart = λ m kept. drawn_apart a.cells after number m drawn kept.storable;
-        frame = framed store.id a b mine (own_lane is_placed.learnt.places) (λ n v known. known) is_placed.known (Keep number ∷ []) drawn.calls (unplaced_keeps a.cells.cells.limits a b number drawn.calls refl);
+        frame = framed store.id a b mine (own_lane is_placed.learnt.places) (λ n v known. known) is_placed.known (keeps_all a.keys) (Keep number ∷ []) drawn.calls (unplaced_keeps a.cells.cells.limits a b number drawn.calls refl);
       }
 
   module _ (back : Fault) (handed : back ≡ why) (still : notes ≡ a.faults) where
@@ -93,7 +94,7 @@ module _ {V : Type 0} (store : StoreView) (tries : ℕ) (same : tries ≡ store.
           answer = record { handed_back = handed; faults = still; fails = fails };
           known = refl;
           apart = tt;
-          frame = framed store.id a b mine (own_lane (ap (λ l. places_of l) still)) (λ n v known. known) knows acts calls keeps;
+          frame = framed store.id a b mine (own_lane (ap (λ l. places_of l) still)) (λ n v known. known) knows (keeps_all a.keys) acts calls keeps;
         }
 
     unplaced : (number : ℕ) → cells.Answers tries a.cells after cells.number_acts (cells.number_reply a.cells) (Ok number) → FaultParts store why a b (Err (back, Unplaced))
@@ -120,9 +121,9 @@ module _ {V : Type 0} (store : StoreView) (tries : ℕ) (same : tries ≡ store.
 pub fault_by_drawn : {V : Type 0} (store : StoreView) (tries : ℕ) → tries ≡ store.tries → (why : Fault) (inside before : StoreLane V) → inside ≡ before → IsLaneOf store.id before
     → (after : Lane) → after.cells ≡ inside.cells.cells → (notes : List (Known Fault)) (drawn : Result ℕ CellRefusal)
     → cells.Answers tries inside.cells after cells.number_acts (cells.number_reply inside.cells) drawn → IfOk drawn (MayStoreNow after.view)
-    → (r : Result ℕ (Fault × KeepFault)) → PlacesDrawn why drawn inside.faults notes r → FaultParts store why before (record { cells = after; known = inside.known; faults = notes }) r
+    → (r : Result ℕ (Fault × KeepFault)) → PlacesDrawn why drawn inside.faults notes r → FaultParts store why before (record { cells = after; known = inside.known; faults = notes; keys = inside.keys }) r
 fault_by_drawn store tries same why inside before is mine after cells notes drawn answers storable r p =
-    subst (λ l. FaultParts store why l (record { cells = after; known = inside.known; faults = notes }) r) is
+    subst (λ l. FaultParts store why l (record { cells = after; known = inside.known; faults = notes; keys = inside.keys }) r) is
     (by_drawn store tries same why inside (subst (IsLaneOf store.id) (sym is) mine) after cells notes drawn answers storable r p)
 
 -- ---- a store that keeps no faults

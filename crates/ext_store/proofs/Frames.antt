@@ -13,10 +13,12 @@ use Rattle.ext_model.specs.Calls.{Calls}
 use Rattle.ext_history.proofs.Fronts.{follow_last}
 use Rattle.ext_history.proofs.Composed.{calls_none}
 use Rattle.ext_model.proofs.Composed.{calls_compose}
+use Rattle.ext_tree.specs.KeyPlaces.{KeepsKeys, key_places_of}
+use Rattle.ext_tree.proofs.KeyPlacing.{keeps_all, keeps_both}
 use Rattle.ext_values.specs.Known.{KeepsKnown, Learns, known_at, places_of}
 use Rattle.ext_cells.specs.Lanes.{CellsId, Lane}
 use Rattle.ext_shared.specs.declared.fault.Refusal.{Refusal}
-use Rattle.ext_store.specs.Stores.{StoreId, StoreView, StoreLane, IsKeptBy, IsLaneOf, StillKeeps, StillKeepsBut, cell_in}
+use Rattle.ext_store.specs.Stores.{StoreId, StoreView, StoreLane, IsKeptBy, IsLaneOf, IsOnCells, StillKeeps, StillKeepsBut, cell_in}
 use Rattle.ext_store.specs.Calls.{put_acts, remove_acts}
 use Rattle.ext_store.specs.Frames.{Frame, Makes, stored_by}
 use Rattle.ext_store.proofs.Keeping.{quiet_keeps, stored_keeps, remove_keeps, unplaced_keeps, learnt_keeps}
@@ -32,7 +34,7 @@ makes_compose limits a b c xs ys (inr one) (inr two) = (xs ++ ys, inr (calls_com
 module _ {V : Type 0} (id : StoreId) where
   pub no_frame : (lane : StoreLane V) → IsLaneOf id lane → Frame id [] lane lane
   unfolding Frame
-  no_frame lane mine = record { lane = mine; steps = ([], inl (refl, refl)); known = λ number value known. known; faults = λ number value known. known; kept = λ number other kept. kept }
+  no_frame lane mine = record { lane = mine; steps = ([], inl (refl, refl)); known = λ number value known. known; faults = λ number value known. known; keys = keeps_all lane.keys; kept = λ number other kept. kept }
 
   pub frame_keeps : (a b : StoreLane V) → Frame id [] a b → StillKeeps a b
   unfolding Frame
@@ -46,6 +48,7 @@ module _ {V : Type 0} (id : StoreId) where
     steps = makes_compose id.cells.limits a.cells b.cells c.cells one.steps.0 two.steps.0 one.steps.1 two.steps.1;
     known = λ number value known. two.known number value (one.known number value known);
     faults = λ number value known. two.faults number value (one.faults number value known);
+    keys = keeps_both a.keys b.keys c.keys one.keys two.keys;
     kept = λ number other kept. two.kept number (λ in_second. other (Contains-append_right first second number in_second)) (one.kept number (λ in_first. other (Contains-append_left first second number in_first)) kept);
   }
 
@@ -58,14 +61,14 @@ module _ {V : Type 0} (id : StoreId) where
 
   -- ---- the frame of one call
 
-  module _ (a b : StoreLane V) (before : IsLaneOf id a) (after : IsLaneOf id b) (known : KeepsKnown a.known b.known) (faults : KeepsKnown a.faults b.faults) where
+  module _ (a b : StoreLane V) (before : IsLaneOf id a) (after : IsLaneOf id b) (known : KeepsKnown a.known b.known) (faults : KeepsKnown a.faults b.faults) (keys : KeepsKeys a.keys b.keys) where
     steps_of : (acts : List (Act ℕ)) → Calls a.cells.cells.limits a.cells.view b.cells.view acts → (acts : List (Act ℕ)) × Makes id.cells.limits a.cells b.cells acts
     steps_of acts calls = (acts, inr (subst (λ (z : CellsId). Calls z.limits a.cells.view b.cells.view acts) before.cells calls))
 
     -- of one that made these events,
     pub framed : (acts : List (Act ℕ)) → Calls a.cells.cells.limits a.cells.view b.cells.view acts → StillKeeps a b → Frame id [] a b
     unfolding Frame
-    framed acts calls keeps = record { lane = after; steps = steps_of acts calls; known = known; faults = faults; kept = λ number other kept. keeps number kept }
+    framed acts calls keeps = record { lane = after; steps = steps_of acts calls; known = known; faults = faults; keys = keys; kept = λ number other kept. keeps number kept }
 
     -- and of one that stored a number
     pub framed_but : (stored : ℕ) (acts : List (Act ℕ)) → Calls a.cells.cells.limits a.cells.view b.cells.view acts → StillKeepsBut stored a b → Frame id (stored ∷ []) a b
@@ -75,13 +78,14 @@ module _ {V : Type 0} (id : StoreId) where
       steps = steps_of acts calls;
       known = known;
       faults = faults;
+      keys = keys;
       kept = λ number other kept. keeps number (λ same. other (subst (Contains (stored ∷ [])) (sym same) (Contains-push [] stored))) kept;
     }
 
     -- and of one that made no step on the cells
     pub framed_still : b.cells ≡ a.cells → StillKeeps a b → Frame id [] a b
     unfolding Frame
-    framed_still still keeps = record { lane = after; steps = ([], inl (still, refl)); known = known; faults = faults; kept = λ number other kept. keeps number kept }
+    framed_still still keeps = record { lane = after; steps = ([], inl (still, refl)); known = known; faults = faults; keys = keys; kept = λ number other kept. keeps number kept }
 
 -- a frame says that the lane is of the store
 pub frame_lane : {V : Type 0} (id : StoreId) (stored : List ℕ) (a b : StoreLane V) → Frame id stored a b → IsLaneOf id b
@@ -101,6 +105,7 @@ frame_spares id stored a b frame apart = record {
   steps = frame.steps;
   known = frame.known;
   faults = frame.faults;
+  keys = frame.keys;
   kept = λ number other kept. frame.kept number (λ in_it. elim (Contains-push_cases [] stored number in_it) [ inl at ↦ nowhere number at | inr same ↦ apart number kept (sym same) ]) kept;
 }
 
@@ -110,9 +115,18 @@ module _ {V : Type 0} (id : StoreId) (inside a b : StoreLane V) (is : inside ≡
   own = subst (IsLaneOf id) (sym is) before
 
   -- that knows what it knew,
-  module _ (same : b.known ≡ inside.known) (also : b.faults ≡ inside.faults) where
+  module _ (on_cells : IsOnCells inside b) where
+    same : b.known ≡ inside.known
+    same = ap (λ (l : StoreLane V). l.known) on_cells
+
+    also : b.faults ≡ inside.faults
+    also = ap (λ (l : StoreLane V). l.faults) on_cells
+
+    same_keys : b.keys ≡ inside.keys
+    same_keys = ap (λ (l : StoreLane V). l.keys) on_cells
+
     abbrev after : IsLaneOf id b
-    after = record { cells = cells ∙ own.cells; places = ap (λ l. places_of l) same ∙ own.places; fault_places = ap (λ l. places_of l) also ∙ own.fault_places }
+    after = record { cells = cells ∙ own.cells; places = ap (λ l. places_of l) same ∙ own.places; fault_places = ap (λ l. places_of l) also ∙ own.fault_places; keys = ap (λ l. key_places_of l) same_keys ∙ own.keys }
 
     knows : KeepsKnown inside.known b.known
     knows = λ number value known. ap (λ l. known_at l number) same ∙ known
@@ -120,11 +134,14 @@ module _ {V : Type 0} (id : StoreId) (inside a b : StoreLane V) (is : inside ≡
     knows_faults : KeepsKnown inside.faults b.faults
     knows_faults = λ number value known. ap (λ l. known_at l number) also ∙ known
 
+    knows_keys : KeepsKeys inside.keys b.keys
+    knows_keys = subst (λ l. KeepsKeys inside.keys l) (sym same_keys) (keeps_all inside.keys)
+
     pub frame_of : (acts : List (Act ℕ)) → Calls inside.cells.cells.limits inside.cells.view b.cells.view acts → StillKeeps inside b → Frame id [] a b
-    frame_of acts calls keeps = subst (λ l. Frame id [] l b) is (framed id inside b own after knows knows_faults acts calls keeps)
+    frame_of acts calls keeps = subst (λ l. Frame id [] l b) is (framed id inside b own after knows knows_faults knows_keys acts calls keeps)
 
     pub but_frame : (stored : ℕ) (acts : List (Act ℕ)) → Calls inside.cells.cells.limits inside.cells.view b.cells.view acts → StillKeepsBut stored inside b → Frame id (stored ∷ []) a b
-    but_frame stored acts calls keeps = subst (λ l. Frame id (stored ∷ []) l b) is (framed_but id inside b own after knows knows_faults stored acts calls keeps)
+    but_frame stored acts calls keeps = subst (λ l. Frame id (stored ∷ []) l b) is (framed_but id inside b own after knows knows_faults knows_keys stored acts calls keeps)
 
     -- and made no event,
     pub quiet_frame : Calls inside.cells.cells.limits inside.cells.view b.cells.view [] → Frame id [] a b
@@ -140,15 +157,15 @@ module _ {V : Type 0} (id : StoreId) (inside a b : StoreLane V) (is : inside ≡
 
   -- that drew a number, whose value it knows now or not,
   module _ (after : IsLaneOf id b) (drawn : ℕ) (calls : Calls inside.cells.cells.limits inside.cells.view b.cells.view (Keep drawn ∷ [])) where
-    pub unplaced_frame : b.known ≡ inside.known → b.faults ≡ inside.faults → Frame id [] a b
-    unplaced_frame same also = frame_of same also (Keep drawn ∷ []) calls (unplaced_keeps inside.cells.cells.limits inside b drawn calls same)
+    pub unplaced_frame : IsOnCells inside b → Frame id [] a b
+    unplaced_frame on_cells = frame_of on_cells (Keep drawn ∷ []) calls (unplaced_keeps inside.cells.cells.limits inside b drawn calls (ap (λ (l : StoreLane V). l.known) on_cells))
 
-    pub learnt_frame : (value : V) → KeepsKnown inside.known b.known → KeepsKnown inside.faults b.faults → Learns inside.known b.known drawn value → known_at inside.known drawn ≡ None → Frame id [] a b
-    learnt_frame value knows knows_faults learns free = subst (λ l. Frame id [] l b) is (framed id inside b own after knows knows_faults (Keep drawn ∷ []) calls (learnt_keeps inside.cells.cells.limits inside b drawn value calls learns free))
+    pub learnt_frame : (value : V) → KeepsKnown inside.known b.known → KeepsKnown inside.faults b.faults → KeepsKeys inside.keys b.keys → Learns inside.known b.known drawn value → known_at inside.known drawn ≡ None → Frame id [] a b
+    learnt_frame value knows knows_faults knows_keys learns free = subst (λ l. Frame id [] l b) is (framed id inside b own after knows knows_faults knows_keys (Keep drawn ∷ []) calls (learnt_keeps inside.cells.cells.limits inside b drawn value calls learns free))
 
   -- or made no step at all
-  pub still_frame : b.cells ≡ inside.cells → IsLaneOf id b → KeepsKnown inside.known b.known → KeepsKnown inside.faults b.faults → StillKeeps inside b → Frame id [] a b
-  still_frame still after knows knows_faults keeps = subst (λ l. Frame id [] l b) is (framed_still id inside b own after knows knows_faults still keeps)
+  pub still_frame : b.cells ≡ inside.cells → IsLaneOf id b → KeepsKnown inside.known b.known → KeepsKnown inside.faults b.faults → KeepsKeys inside.keys b.keys → StillKeeps inside b → Frame id [] a b
+  still_frame still after knows knows_faults knows_keys keeps = subst (λ l. Frame id [] l b) is (framed_still id inside b own after knows knows_faults knows_keys still keeps)
 
 -- ---- one history
 

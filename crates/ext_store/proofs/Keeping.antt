@@ -9,8 +9,6 @@ use Rattle.ext_model.specs.Events as events
 use Rattle.ext_model.specs.History.{Limits, state_after, stored_number}
 use Rattle.ext_model.specs.Plain.{number_drawn}
 use Rattle.ext_model.specs.Calls.{Calls}
-use Rattle.ext_tree.specs.Keys.{KeyValue, HasNumber}
-use Rattle.ext_tree.proofs.KeyLaws.{numbers_tell}
 use Rattle.ext_values.specs.Known.{Learns, known_at}
 use Rattle.ext_cells.specs.declared.refusal.CellRefusal.{CellRefusal}
 use Rattle.ext_cells.specs.declared.refusal.CellRefusal.TheVariants as cell
@@ -26,17 +24,6 @@ use Rattle.ext_store.specs.Waiting.{IsDecided}
 -- where two are there, they are one
 pub one_number : (a b : ℕ) → (let x : Option ℕ = Some a in let y : Option ℕ = Some b in x ≡ y) → a ≡ b
 one_number a b e = cc e
-
--- where none is there, there is no number
-pub no_number : (number : ℕ) → (let none : Option ℕ = None in none ≡ Some number) → ⊥
-no_number number e = absurd (cc e)
-
-pub is_number : (number : ℕ) → (let some : Option ℕ = Some number in some ≡ None) → ⊥
-is_number number e = absurd (cc e)
-
--- under one number one key was declared
-pub one_key : (declared keys : List KeyValue) (number : ℕ) (a b : KeyValue) → declared ≡ keys → HasNumber declared a number → HasNumber keys b number → a ≡ b
-one_key declared keys number a b same first second = numbers_tell.one_key keys a b number (subst (λ l. HasNumber l a number) same first) second
 
 -- a value is known or none is
 pub not_both : {V : Type 0} (o : Option V) (v : V) → o ≡ Some v → o ≡ None → ⊥

@@ -1,5 +1,6 @@
 pub mod Keeping
 pub mod Fresh
+pub mod Numbered
 pub mod Opened
 pub mod Refused
 pub mod Frames

@@ -4,6 +4,7 @@ use Rattle.std.specs.Prelude.{Result, Ok, Err, IfOk, IfErr, MatchResult}
 use Rattle.ext_model.specs.declared.event.Act.{Act}
 use Rattle.ext_model.specs.declared.event.Act.TheVariants.{Keep}
 use Rattle.ext_model.specs.Calls.{Calls, MayStoreNow}
+use Rattle.ext_tree.proofs.KeyPlacing.{keeps_all}
 use Rattle.ext_values.specs.Places.{IsNumber}
 use Rattle.ext_values.specs.Known.{Known, KeepsKnown, known_at, places_of}
 use Rattle.ext_cells.specs.declared.refusal.CellRefusal.{CellRefusal}
@@ -46,10 +47,10 @@ no_memory store value back lane mine handed = record {
 
 module _ {V : Type 0} (store : StoreView) (tries : ℕ) (same : tries ≡ store.tries) (value : V) (a : StoreLane V) (mine : IsLaneOf store.id a) (after : Lane) (is : after.cells ≡ a.cells.cells) (notes : List (Known V)) where
   abbrev b : StoreLane V
-  b = record { cells = after; known = notes; faults = a.faults }
+  b = record { cells = after; known = notes; faults = a.faults; keys = a.keys }
 
   own : places_of notes ≡ places_of a.known → IsLaneOf store.id b
-  own places = record { cells = is ∙ mine.cells; places = places ∙ mine.places; fault_places = mine.fault_places }
+  own places = record { cells = is ∙ mine.cells; places = places ∙ mine.places; fault_places = mine.fault_places; keys = mine.keys }
 
   placed : (number : ℕ) → cells.Answers tries a.cells after cells.number_acts (cells.number_reply a.cells) (Ok number) → MayStoreNow after.view number → IsPlaced value a.known notes number → KeepParts store value a b (Ok number)
   placed number answers storable is_placed =
@@ -63,7 +64,7 @@ module _ {V : Type 0} (store : StoreView) (tries : ℕ) (same : tries ≡ store.
         faults = refl;
         kept = keeps;
         apart = λ m kept at. not_both _ kept.value (ap (λ n. known_at a.known n) (sym at) ∙ kept.known) is_placed.free;
-        frame = framed store.id a b mine mine_still is_placed.known (λ number v known. known) (Keep number ∷ []) drawn.calls keeps;
+        frame = framed store.id a b mine mine_still is_placed.known (λ number v known. known) (keeps_all a.keys) (Keep number ∷ []) drawn.calls keeps;
       }
 
   module _ (back : V) (handed : back ≡ value) (still : notes ≡ a.known) where
@@ -78,7 +79,7 @@ module _ {V : Type 0} (store : StoreView) (tries : ℕ) (same : tries ≡ store.
           faults = refl;
           kept = keeps;
           apart = tt;
-          frame = framed store.id a b mine mine_still knows (λ number v known. known) acts calls keeps;
+          frame = framed store.id a b mine mine_still knows (λ number v known. known) (keeps_all a.keys) acts calls keeps;
         }
 
     unplaced : (number : ℕ) → cells.Answers tries a.cells after cells.number_acts (cells.number_reply a.cells) (Ok number) → KeepParts store value a b (Err (back, Unplaced))
@@ -105,9 +106,9 @@ module _ {V : Type 0} (store : StoreView) (tries : ℕ) (same : tries ≡ store.
 pub kept_by_drawn : {V : Type 0} (store : StoreView) (tries : ℕ) → tries ≡ store.tries → (value : V) (inside before : StoreLane V) → inside ≡ before → IsLaneOf store.id before
     → (after : Lane) → after.cells ≡ inside.cells.cells → (notes : List (Known V)) (drawn : Result ℕ CellRefusal)
     → cells.Answers tries inside.cells after cells.number_acts (cells.number_reply inside.cells) drawn → IfOk drawn (MayStoreNow after.view)
-    → (r : Result ℕ (V × KeepFault)) → PlacesDrawn value drawn inside.known notes r → KeepParts store value before (record { cells = after; known = notes; faults = inside.faults }) r
+    → (r : Result ℕ (V × KeepFault)) → PlacesDrawn value drawn inside.known notes r → KeepParts store value before (record { cells = after; known = notes; faults = inside.faults; keys = inside.keys }) r
 kept_by_drawn store tries same value inside before is mine after cells notes drawn answers storable r p =
-    subst (λ l. KeepParts store value l (record { cells = after; known = notes; faults = inside.faults }) r) is
+    subst (λ l. KeepParts store value l (record { cells = after; known = notes; faults = inside.faults; keys = inside.keys }) r) is
     (by_drawn store tries same value inside (subst (IsLaneOf store.id) (sym is) mine) after cells notes drawn answers storable r p)
 
 -- what the drawing of a number says is what the placing of it asks for

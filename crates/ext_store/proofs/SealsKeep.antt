@@ -9,7 +9,7 @@ use Rattle.ext_cells.specs.Lanes.{Lane}
 use Rattle.ext_shared.specs.declared.fault.Refusal.{Refusal}
 use Rattle.ext_shared.specs.declared.fault.Refusal.TheVariants as refusal
 use Rattle.ext_shared.specs.Sealing.{SealsKey}
-use Rattle.ext_store.specs.Stores.{StoreId, StoreView, StoreLane, IsLaneOf, cell_in}
+use Rattle.ext_store.specs.Stores.{StoreId, StoreView, StoreLane, IsLaneOf, IsOnCells, cell_in}
 use Rattle.ext_store.specs.Frames.{Frame}
 use Rattle.ext_store.proofs.Keeping.{StoresNot, one_kept}
 use Rattle.ext_store.proofs.Frames.{frame_of, quiet_frame}
@@ -22,14 +22,16 @@ seal_acts store context key before after (Ok kept) (inr found) = inr found.calls
 seal_acts store context key before after (Err refusal.Contended) over = inr over.calls
 seal_acts store context key before after (Err (refusal.Busy at)) held = inr held.1.calls
 seal_acts store context key before after (Err (refusal.Closed at)) never = absurd never
-seal_acts store context key before after (Err refusal.UnknownKey) never = absurd never
+seal_acts store context key before after (Err refusal.DirectoryFull) never = absurd never
+seal_acts store context key before after (Err refusal.Unplaced) never = absurd never
+seal_acts store context key before after (Err refusal.Memory) never = absurd never
 seal_acts store context key before after (Err refusal.Exhausted) never = absurd never
 
 -- so it has a frame
-pub seal_frame : {V : Type 0} (id : StoreId) (store : StoreView) (inside a b : StoreLane V) → inside ≡ a → IsLaneOf id a → b.cells.cells ≡ inside.cells.cells → b.known ≡ inside.known → b.faults ≡ inside.faults
+pub seal_frame : {V : Type 0} (id : StoreId) (store : StoreView) (inside a b : StoreLane V) → inside ≡ a → IsLaneOf id a → b.cells.cells ≡ inside.cells.cells → IsOnCells inside b
     → (context key : ℕ) (r : Result (Option ℕ) Refusal) → SealsKey store context key inside.cells b.cells r → Frame id [] a b
-seal_frame id store inside a b is mine cells same also context key r sealed = elim (seal_acts store context key inside.cells b.cells r sealed) [
-  | inl made ↦ frame_of id inside a b is mine cells same also (Seal (cell_in store key context) ∷ []) made
-      (λ number kept. one_kept inside.cells.cells.limits inside b (Seal (cell_in store key context) ∷ []) number made (All-cons (StoresNot number) (Seal (cell_in store key context)) [] (λ e. cc e) (All-nil (StoresNot number))) (ap (λ l. known_at l number) same) kept)
-  | inr found ↦ quiet_frame id inside a b is mine cells same also found
+seal_frame {V} id store inside a b is mine cells on_cells context key r sealed = elim (seal_acts store context key inside.cells b.cells r sealed) [
+  | inl made ↦ frame_of id inside a b is mine cells on_cells (Seal (cell_in store key context) ∷ []) made
+      (λ number kept. one_kept inside.cells.cells.limits inside b (Seal (cell_in store key context) ∷ []) number made (All-cons (StoresNot number) (Seal (cell_in store key context)) [] (λ e. cc e) (All-nil (StoresNot number))) (ap (λ (x : StoreLane V). known_at x.known number) on_cells) kept)
+  | inr found ↦ quiet_frame id inside a b is mine cells on_cells found
 ]

@@ -10,7 +10,7 @@ use Rattle.ext_shared.specs.declared.claim.Unused.{Unused}
 use Rattle.ext_shared.proofs.Claimed.{StoresNone, none_stored, nor_this, claim_acts}
 use Rattle.ext_shared.proofs.Waited.{claims_given_up, begun_legal, gave_up}
 use Rattle.ext_store.specs.declared.computed.Compute.{Compute}
-use Rattle.ext_store.specs.Stores.{StoreId, StoreView, StoreLane, IsLaneOf, cell_in}
+use Rattle.ext_store.specs.Stores.{StoreId, StoreView, StoreLane, IsLaneOf, IsOnCells, cell_in}
 use Rattle.ext_store.specs.Frames.{Frame}
 use Rattle.ext_store.specs.Computing.{given_up_events, ComputesFrom}
 use Rattle.ext_store.specs.Waiting.{ClaimsAfterWaits, ComputesAfterWaits}
@@ -35,12 +35,12 @@ giving_up_stores store context key (suc rounds) =
     All-append StoresNone (claims_given_up store context key rounds) (given_up_events store context key) (giving_up_stores store context key rounds)
     (nor_this (Claim (cell_in store key context)) (Abandon (cell_in store key context) ∷ []) refl (nor_this (Abandon (cell_in store key context)) [] refl none_stored))
 
-pub waits_frame : {V : Type 0} (id : StoreId) (inside a b : StoreLane V) → inside ≡ a → IsLaneOf id a → b.cells.cells ≡ inside.cells.cells → b.known ≡ inside.known → b.faults ≡ inside.faults
+pub waits_frame : {V : Type 0} (id : StoreId) (inside a b : StoreLane V) → inside ≡ a → IsLaneOf id a → b.cells.cells ≡ inside.cells.cells → IsOnCells inside b
     → (store : StoreView) → store.id ≡ id → (context key : ℕ) (r : Result ℕ Unused) → ClaimsAfterWaits store context key inside.cells.view b.cells.view r → Frame id [] a b
-waits_frame id inside a b is mine cells same also store own context key r w =
+waits_frame id inside a b is mine cells on_cells store own context key r w =
     let m = w.then_is in
     let made = claim_acts store context m.0 key w.between b.cells.view r m.2 in
     let before = gave_up store context key w.attempts inside.cells.view w.between (begun_legal store context key w.between b.cells.view r m) w.in_vain in
     let given = claims_given_up store context key before.0 in
     let all = calls_compose store.id.cells.limits inside.cells.view w.between b.cells.view given made.0 before.1 made.2 in
-    storing_there id inside a b is mine cells same also store own (given ++ made.0) (All-append StoresNone given made.0 (giving_up_stores store context key before.0) made.1) all
+    storing_there id inside a b is mine cells on_cells store own (given ++ made.0) (All-append StoresNone given made.0 (giving_up_stores store context key before.0) made.1) all

@@ -4,6 +4,7 @@ use Rattle.std.specs.Prelude.{ℕ, ◌≡◌, ◌⊎◌, List, [], ◌∷◌, Co
 use Rattle.ext_model.specs.declared.event.Act.{Act}
 use Rattle.ext_model.specs.History.{Limits}
 use Rattle.ext_model.specs.Calls.{Calls}
+use Rattle.ext_tree.specs.KeyPlaces.{KeepsKeys}
 use Rattle.ext_values.specs.Known.{KeepsKnown}
 use Rattle.ext_cells.specs.Lanes.{Lane}
 use Rattle.ext_store.specs.Stores.{StoreId, StoreLane, IsLaneOf, IsKeptBy}
@@ -21,6 +22,7 @@ pub record FrameParts {V : Type 0} (id : StoreId) (stored : List ℕ) (before af
   -- it knows what it knew, of values and of faults
   pub known : KeepsKnown before.known after.known
   pub faults : KeepsKnown before.faults after.faults
+  pub keys : KeepsKeys before.keys after.keys
   -- it keeps what it kept, but for what was stored
   pub kept : (number : ℕ) → ¬ Contains stored number → IsKeptBy before number → IsKeptBy after number
 

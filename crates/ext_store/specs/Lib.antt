@@ -4,6 +4,7 @@ pub mod Frames
 pub mod FrameLaws
 pub mod Calls
 pub mod Keeping
+pub mod Keys
 pub mod Computing
 pub mod Waiting
 pub use Rattle.ext_shared.specs.Sealing

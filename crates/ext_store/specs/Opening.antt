@@ -3,7 +3,7 @@
 use Rattle.std.specs.Prelude.{ℕ, ◌≡◌, Bool, if◌then◌else◌, List, length, map}
 use Rattle.ext_cells.specs.Lanes.{CellsView, AreLimits, fresh_lanes}
 use Rattle.ext_store.specs.declared.limits.StoreFault.{StoreFault}
-use Rattle.ext_store.specs.declared.limits.StoreFault.TheVariants.{BadLimit, TooManyCells, Memory}
+use Rattle.ext_store.specs.declared.limits.StoreFault.TheVariants.{BadLimit, Memory}
 use Rattle.ext_store.specs.Stores.{StoreLane, CloserView, AreStoreLimits, closers_below, fresh_store_lane}
 
 -- how many places there are for faults: one for each number where faults are kept, and else none
@@ -11,21 +11,21 @@ abbrev pub fault_count : Bool → ℕ → ℕ
 fault_count keeps numbers = if keeps then numbers else 0
 
 -- cells, places of values and of faults, lanes and closers of one store, of these limits and so many contexts
-pub record AreParts {V : Type 0} (count contexts lane_count exchanges number_count : ℕ) (keeps : Bool) (cells : CellsView) (names fault_names : List ℕ) (store_lanes : List (StoreLane V)) (store_closers : List CloserView) : Type 0 where
+pub record AreParts {V : Type 0} (count contexts lane_count exchanges number_count : ℕ) (keeps : Bool) (cells : CellsView) (names fault_names key_names : List ℕ) (store_lanes : List (StoreLane V)) (store_closers : List CloserView) : Type 0 where
   pub limits : cells.id.limits ≡ record { cells = count; lanes = lane_count; numbers = number_count; keep_faults = keeps }
   pub tries : cells.tries ≡ exchanges
   pub places : length names ≡ number_count
   pub fault_places : length fault_names ≡ fault_count keeps number_count
-  pub lanes : store_lanes ≡ map (fresh_store_lane names fault_names) (fresh_lanes cells.id 0 lane_count)
+  pub key_places : length key_names ≡ 64
+  pub lanes : store_lanes ≡ map (fresh_store_lane names fault_names key_names) (fresh_lanes cells.id 0 lane_count)
   pub closers : store_closers ≡ closers_below cells.id contexts
 
 -- such parts, where the limits are within their ranges
-pub record AreOpened {V : Type 0} (count contexts lanes tries numbers : ℕ) (keeps : Bool) (cells : CellsView) (places fault_names : List ℕ) (store_lanes : List (StoreLane V)) (closers : List CloserView) : Type 0 where
+pub record AreOpened {V : Type 0} (count contexts lanes tries numbers : ℕ) (keeps : Bool) (cells : CellsView) (places fault_names key_places : List ℕ) (store_lanes : List (StoreLane V)) (closers : List CloserView) : Type 0 where
   pub within : AreLimits count lanes tries numbers
-  pub parts : AreParts count contexts lanes tries numbers keeps cells places fault_names store_lanes closers
+  pub parts : AreParts count contexts lanes tries numbers keeps cells places fault_names key_places store_lanes closers
 
--- a limit is out of its range, there are too many cells, or memory is refused
+-- a limit is out of its range, or memory is refused
 abbrev pub IsNotOpened : ℕ → ℕ → ℕ → ℕ → StoreFault → Type 0
 IsNotOpened count lanes tries numbers BadLimit = ¬ AreStoreLimits lanes tries numbers
-IsNotOpened count lanes tries numbers TooManyCells = AreStoreLimits lanes tries numbers × (¬ AreLimits count lanes tries numbers)
 IsNotOpened count lanes tries numbers Memory = AreLimits count lanes tries numbers

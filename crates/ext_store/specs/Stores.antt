@@ -3,15 +3,17 @@
 use Rattle.std.specs.Prelude.{ℕ, zero, suc, ◌≡◌, ◌≢◌, ◌<◌, List, [], ◌∷◌, ◌++◌, length, Some}
 use Rattle.ext_model.specs.declared.look.Fault.{Fault}
 use Rattle.ext_model.specs.Calls.{MayStoreNow}
+use Rattle.ext_tree.specs.KeyPlaces as keys
 use Rattle.ext_values.specs.Known.{Known, AreNotesOf, known_at, nothing_known}
 use Rattle.ext_cells.specs.Lanes.{CellsId, Lane, AreLimits}
 pub use Rattle.ext_shared.specs.Stores.{StoreId, StoreView, cell_in}
 
--- A lane: its steps on the cells, and what it knows of the value and of the kept fault of each number
+-- A lane: its steps on the cells, what it knows of the value and of the kept fault of each number, and what it knows of the places of keys
 pub record StoreLane (V : Type 0) : Type 0 where
   pub cells : Lane
   pub known : List (Known V)
   pub faults : List (Known Fault)
+  pub keys : List keys.KnownPlace
 
 -- A closer: the cells of its store, and the context that it closes
 pub record CloserView : Type 0 where
@@ -25,6 +27,7 @@ pub record IsLaneOf {V : Type 0} (id : StoreId) (lane : StoreLane V) : Type 0 wh
   pub cells : lane.cells.cells ≡ id.cells
   pub places : AreNotesOf id.places lane.known
   pub fault_places : AreNotesOf id.fault_places lane.faults
+  pub keys : keys.AreKeyNotesOf id.keys lane.keys
 
 -- the closer is of this store, and so is its context
 pub record IsCloserOf (store : StoreView) (closer : CloserView) : Type 0 where
@@ -47,11 +50,17 @@ StillKeeps before after = (number : ℕ) → IsKeptBy before number → IsKeptBy
 abbrev pub StillKeepsBut : {V : Type 0} → ℕ → StoreLane V → StoreLane V → Type 0
 StillKeepsBut stored before after = (number : ℕ) → number ≢ stored → IsKeptBy before number → IsKeptBy after number
 
+-- ---- steps on the cells alone
+
+-- the lane is another one in its steps on the cells alone
+abbrev pub IsOnCells : {V : Type 0} → StoreLane V → StoreLane V → Type 0
+IsOnCells before after = after ≡ record { cells = after.cells; known = before.known; faults = before.faults; keys = before.keys }
+
 -- ---- opening
 
--- a lane that has made no step and knows no value and no fault
-abbrev pub fresh_store_lane : {V : Type 0} → List ℕ → List ℕ → Lane → StoreLane V
-fresh_store_lane places fault_places lane = record { cells = lane; known = nothing_known places; faults = nothing_known fault_places }
+-- a lane that has made no step and knows no value, no fault and no key
+abbrev pub fresh_store_lane : {V : Type 0} → List ℕ → List ℕ → List ℕ → Lane → StoreLane V
+fresh_store_lane places fault_places key_places lane = record { cells = lane; known = nothing_known places; faults = nothing_known fault_places; keys = keys.no_key_known key_places }
 
 -- a closer for each of the contexts below n, in order
 abbrev pub closers_below : CellsId → ℕ → List CloserView

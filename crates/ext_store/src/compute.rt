@@ -1,12 +1,13 @@
 //! Values that are computed where none is found.
-ghost use Rattle.std.specs.Prelude.{ℕ, ◌≡◌, ◌≢◌, ◌+◌, ◌*◌, ◌<◌, ◌≤◌, [], length, Contains, IfOk, IsFalse, IsTrue, MatchResult};
+ghost use Rattle.std.specs.Prelude.{ℕ, ◌≡◌, ◌≢◌, ◌+◌, ◌*◌, ◌<◌, ◌≤◌, [], length, Contains, IfOk, IsFalse, IsTrue, MatchResult, IsSome, Some};
 ghost use Rattle.std.specs.Fn.{FnOnceReturnsAt};
 ghost use Rattle.ext_model.specs.Calls.{IsHeld};
-ghost use Rattle.ext_tree.specs.Keys.{HasNumber, KeyValue};
+ghost use Rattle.ext_tree.specs.Keys.{KeyValue};
+ghost use Rattle.ext_tree.specs.KeyPlaces.{IsKeyNumber, key_at};
 ghost use Rattle.ext_values.specs.Known.{KeepsKnown, Learns};
-ghost use Rattle.ext_shared.specs.declared.fault.Refusal.TheVariants.{UnknownKey};
 ghost use Rattle.ext_store.specs.declared.computed.Compute.TheVariants.{Refused};
 ghost use Rattle.ext_store.specs.Stores.{IsKeptBy, IsLaneOf, StillKeeps};
+ghost use Rattle.ext_store.specs.Keys.{OfKey};
 ghost use Rattle.ext_store.specs.Frames.{Frame};
 ghost use Rattle.ext_store.specs.Calls.{KeepsFault, KeepsNoFault, steps_of};
 ghost use Rattle.ext_store.specs.Computing.{Computes, EndsFailed, Fails, Fills, HandsBack, IfComputed, IsFaultless, IsUnkept, Uses, without_factory};
@@ -23,16 +24,16 @@ impl<V: StoreValue + Drop> Store<V> {
     /// lane has claimed the context's cell and has looked at the ancestors again. It claims only where a first look-up
     /// along the whole path found nothing: while the claim stands, calls of other lanes on the cell are refused as
     /// `Busy`. A value that an ancestor gets after the second look does not stop the factory. Takes memory for the
-    /// value.
+    /// value, and may take it for a key that is new to the lane.
     ///
     /// `Found` where a value stands in the context or in an ancestor, the nearest first. Between two values that were
     /// computed for one place a remove of the place stands, as `history_laws` of ext_model says.
     ///
-    /// Refused, step by step, as `UnknownKey` where the key was not declared, which is no step of the lane; at the
-    /// first look-up as `Contended`, or as `Busy` or `Closed` where that decides it; at the claim also as `Exhausted`,
-    /// where there were more than 2^40 - 4 events in the context under the key; and at the second look-up as at the
-    /// first: then the lane has claimed the cell and given it up, two events there. Where the answer is `Found` or
-    /// `Refused`, the factory was not called, and comes back.
+    /// Refused, step by step, for the key as `number` is, as `DirectoryFull` or `Memory`, which is no step on the cells;
+    /// at the first look-up as `Contended`, or as `Busy` or `Closed` where that decides it; at the claim also as
+    /// `Exhausted`, where there were more than 2^40 - 4 events in the context under the key; and at the second look-up
+    /// as at the first: then the lane has claimed the cell and given it up, two events there. Where the answer is
+    /// `Found` or `Refused`, the factory was not called, and comes back.
     ///
     /// `Unkept`, with the factory's value, where it is not kept, with the causes of `keep`; nothing is stored then. Where the
     /// factory fails, `Failed` with its fault, and nothing is stored; in a store that keeps faults `FaultKept`: the fault
@@ -52,8 +53,7 @@ impl<V: StoreValue + Drop> Store<V> {
         requires lane { IsLaneOf self.now.id lane.old }
         requires context { context < length self.now.tree }
         requires factory { F.IsAlwaysCallable factory }
-        ensures unknown { ¬ Contains self.now.keys key.now → (result ≡ Refused UnknownKey factory) × (lane.new ≡ lane.old) }
-        ensures answer { (number : ℕ) → HasNumber self.now.keys key.now number → Computes self.now context number lane.old.cells lane.new.cells (without_factory result) }
+        ensures answer { OfKey lane.old lane.new key.now (λ why. result ≡ Refused why factory) (λ number. Computes self.now context number lane.old.cells lane.new.cells (without_factory result)) }
         ensures factory { Uses (λ answer. FnOnceReturnsAt F.FnOnce factory key.now answer) lane.old lane.new (without_factory result) }
         ensures handed_back { HandsBack factory result }
         ensures no_faults { IsFalse self.now.id.cells.limits.keep_faults → IsFaultless result }
@@ -64,18 +64,19 @@ impl<V: StoreValue + Drop> Store<V> {
         ensures frame { Frame self.now.id [] lane.old lane.new }
         ensures steps { steps_of lane.old.cells lane.new.cells ≤ 34 * (self.now.tries + 1) + 2 }
     {
-        let Some(number) = self.directory().number_of(key) else {
-            return Compute::Refused {
-                refusal: Refusal::UnknownKey,
+        match self.number(lane, key) {
+            Ok(number) => self.compute_named(lane, context, number, key, factory),
+            Err(refusal) => Compute::Refused {
+                refusal,
                 unused: factory,
-            };
-        };
-        self.compute_numbered(lane, context, number, factory)
+            },
+        }
     }
 
-    /// As `compute`, for the declared key of this number, as `Directory::number_of` gives it: nothing is hashed. The factory
-    /// is called with the key as it was declared. It is a condition that the number is a declared key's; refused as
-    /// `compute` is, save as `UnknownKey`. Takes memory for the value. Own rule.
+    /// As `compute`, for the key of this number, as `number` gives it: nothing is hashed. The factory is called with the key
+    /// that stands in the place of this number. It is a condition that the number is below 64, and that the lane knows the
+    /// key of this number, which `Lane::knows_key` tests; refused as `compute` is, save for the key. Takes memory for the
+    /// value. Own rule.
     #[tactic(auto, unfolding(crate::specs::Frames::Frame))]
     pub fn compute_numbered<F: FnOnce(&Key) -> Result<V, Fault>>(
         &self,
@@ -86,10 +87,11 @@ impl<V: StoreValue + Drop> Store<V> {
     ) -> Compute<V, F>
         requires lane { IsLaneOf self.now.id lane.old }
         requires context { context < length self.now.tree }
-        requires key { key < length self.now.keys }
+        requires key { key < 64 }
+        requires named { IsSome (key_at lane.old.keys key) }
         requires factory { F.IsAlwaysCallable factory }
         ensures answer { Computes self.now context key lane.old.cells lane.new.cells (without_factory result) }
-        ensures factory { (name : KeyValue) → HasNumber self.now.keys name key → Uses (λ answer. FnOnceReturnsAt F.FnOnce factory name answer) lane.old lane.new (without_factory result) }
+        ensures factory { (name : KeyValue) → key_at lane.old.keys key ≡ Some name → Uses (λ answer. FnOnceReturnsAt F.FnOnce factory name answer) lane.old lane.new (without_factory result) }
         ensures handed_back { HandsBack factory result }
         ensures no_faults { IsFalse self.now.id.cells.limits.keep_faults → IsFaultless result }
         ensures known { KeepsKnown lane.old.known lane.new.known }
@@ -99,11 +101,41 @@ impl<V: StoreValue + Drop> Store<V> {
         ensures frame { Frame self.now.id [] lane.old lane.new }
         ensures steps { steps_of lane.old.cells lane.new.cells ≤ 34 * (self.now.tries + 1) + 2 }
     {
+        let name = self.shared.keys().key(&mut lane.keys, key);
+        self.compute_named(lane, context, key, name, factory)
+    }
+
+    // The same with the key itself, with which the factory is called.
+    #[tactic(auto, unfolding(crate::specs::Frames::Frame))]
+    fn compute_named<F: FnOnce(&Key) -> Result<V, Fault>>(
+        &self,
+        lane: &mut Lane<V>,
+        context: ContextNo,
+        key: KeyNo,
+        name: &Key,
+        factory: F,
+    ) -> Compute<V, F>
+        requires lane { IsLaneOf self.now.id lane.old }
+        requires context { context < length self.now.tree }
+        requires key { key < 64 }
+        requires factory { F.IsAlwaysCallable factory }
+        ensures answer { Computes self.now context key lane.old.cells lane.new.cells (without_factory result) }
+        ensures factory { Uses (λ answer. FnOnceReturnsAt F.FnOnce factory name.now answer) lane.old lane.new (without_factory result) }
+        ensures handed_back { HandsBack factory result }
+        ensures no_faults { IsFalse self.now.id.cells.limits.keep_faults → IsFaultless result }
+        ensures known { KeepsKnown lane.old.known lane.new.known }
+        ensures lane { IsLaneOf self.now.id lane.new }
+        ensures kept { StillKeeps lane.old lane.new }
+        ensures apart { IfComputed result (λ number. (m : ℕ) → IsKeptBy lane.old m → m ≢ number) }
+        ensures frame { Frame self.now.id [] lane.old lane.new }
+        ensures steps { steps_of lane.old.cells lane.new.cells ≤ 34 * (self.now.tries + 1) + 2 }
+    {
+        self.shared.recall();
         let claim = match self.shared.claim_missing(&mut lane.cells, context, key) {
             Ok(claim) => claim,
             Err(why) => return hand_back(why, factory),
         };
-        let value = match factory(self.directory().key(key)) {
+        let value = match factory(name) {
             Ok(value) => value,
             Err(fault) => return self.end_failed(lane, claim, fault),
         };

@@ -1,22 +1,26 @@
 //! A lane of a store, which a thread owns.
-ghost use Rattle.std.specs.Prelude.{◌≡◌, []};
+ghost use Rattle.std.specs.Prelude.{◌≡◌, [], is_some};
 ghost use Rattle.ext_model.specs.History.{IsLegal};
 ghost use Rattle.ext_history.specs.Views.{Follow, seen_by};
+ghost use Rattle.ext_tree.specs.KeyPlaces.{key_at};
 
 use ext_cells::CellLane;
-use ext_model::{Fault, LaneNo};
+use ext_model::{Fault, KeyNo, LaneNo};
+use ext_tree::KeyNotes;
 use ext_values::{Notes, SilentNotes};
 use std::marker::Model;
 
 /// A lane of a store, which one thread at a time owns. It may go to another thread, and be dropped.
 ///
-/// In contracts it is its lane of the cells, and what it knows of the value and of the fault of each number: they are
-/// known where the lane kept them or was shown them. Own rule.
+/// In contracts it is its lane of the cells, what it knows of the value and of the fault of each number, and what it knows
+/// of the places of keys. A value or a fault is known where the lane kept it or was shown it. A key is known where the
+/// lane named it, was shown it while it named another, or was told it by `Store::meet`. Own rule.
 #[derive(Drop)]
 pub struct Lane<V> {
     pub(crate) cells: CellLane,
     pub(crate) notes: Notes<V>,
     pub(crate) faults: SilentNotes<Fault>,
+    pub(crate) keys: KeyNotes,
 }
 
 impl<V> Model for Lane<V> {
@@ -24,7 +28,7 @@ impl<V> Model for Lane<V> {
 
     ghost Value = { StoreLane V };
 
-    ghost view = { λ l. record { cells = l.cells; known = l.notes; faults = l.faults } };
+    ghost view = { λ l. record { cells = l.cells; known = l.notes; faults = l.faults; keys = l.keys } };
 }
 
 impl<V> Lane<V> {
@@ -33,6 +37,14 @@ impl<V> Lane<V> {
         ensures { result ≡ self.now.cells.view.number }
     {
         self.cells.number()
+    }
+
+    /// Whether this lane knows the key of this number: whether it named the key, was shown it or was told it. False for a
+    /// number from 64 on. Takes no memory. Own rule.
+    pub fn knows_key(&self, number: KeyNo) -> bool
+        ensures { result ≡ is_some (key_at self.now.keys number) }
+    {
+        self.keys.knows(number)
     }
 
     /// Tells a proof what is true of every lane in hand: what it has seen is a legal history, and each of its fronts

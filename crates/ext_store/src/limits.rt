@@ -23,9 +23,6 @@ pub enum StoreFault {
     /// There were to be too few or too many lanes, tries or numbers.
     #[error("a limit is out of its range")]
     BadLimit,
-    /// The contexts times the keys are more cells than there can be.
-    #[error("too many cells")]
-    TooManyCells,
     /// An allocation failed.
     #[error("no memory")]
     Memory,

@@ -1,5 +1,5 @@
 //! What a store is made of that is opened: its cells and values, its lanes and its closers.
-ghost use Rattle.std.specs.Prelude.{◌≡◌, IfOk, MatchResult, map};
+ghost use Rattle.std.specs.Prelude.{◌≡◌, ◌≤◌, IfOk, MatchResult, map};
 ghost use Rattle.ext_cells.specs.Lanes.{AreLimits};
 ghost use Rattle.ext_store.specs.Stores.{closers_below, fresh_store_lane};
 ghost use Rattle.ext_store.specs.Opening.{AreOpened, AreParts, IsNotOpened, fault_count};
@@ -7,6 +7,7 @@ ghost use Rattle.ext_store.specs.Opening.{AreOpened, AreParts, IsNotOpened, faul
 use crate::{Closer, Lane, Limits, StoreFault};
 use ext_cells::{CellLane, Cells, are_limits};
 use ext_model::{ContextNo, Fault};
+use ext_tree::KeyPlaces;
 use ext_values::{Notes, SilentNotes, Values};
 use std::alloc::{AllocError, Global};
 use std::snapshot::Snapshot;
@@ -18,23 +19,31 @@ fn fault_capacity(numbers: u32, keep_faults: bool) -> u32
     if keep_faults { numbers } else { 0 }
 }
 
-// What a store of so many cells and contexts is made of: the cells, the places of the values and of the kept faults, a lane for each lane of the limits,
-// and a closer for each context. Or why it is not opened.
+// What a store of so many cells and contexts is made of: the cells, the places of the values, of the kept faults and of
+// the keys, a lane for each lane of the limits, and a closer for each context. Or why it is not opened.
 pub(crate) fn open_parts<V: Drop>(
     alloc: Global,
     count: usize,
     contexts: ContextNo,
     limits: Limits,
-) -> Result<(Cells, Values<V>, Values<Fault>, Vec<Lane<V>>, Vec<Closer>), StoreFault>
+) -> Result<
+    (
+        Cells,
+        Values<V>,
+        Values<Fault>,
+        KeyPlaces,
+        Vec<Lane<V>>,
+        Vec<Closer>,
+    ),
+    StoreFault,
+>
+    requires { count ≤ 16384 }
     ensures { MatchResult result
-        (λ r. AreOpened count contexts limits.lanes limits.tries limits.numbers limits.keep_faults r.0 r.1 r.2 r.3.items r.4.items)
+        (λ r. AreOpened count contexts limits.lanes limits.tries limits.numbers limits.keep_faults r.0 r.1 r.2 r.3 r.4.items r.5.items)
         (IsNotOpened count limits.lanes limits.tries limits.numbers) }
 {
-    if !are_limits(0, limits.lanes, limits.tries, limits.numbers) {
-        return Err(StoreFault::BadLimit);
-    }
     if !are_limits(count, limits.lanes, limits.tries, limits.numbers) {
-        return Err(StoreFault::TooManyCells);
+        return Err(StoreFault::BadLimit);
     }
     match parts_of(alloc, count, contexts, limits) {
         Ok(parts) => Ok(parts),
@@ -48,9 +57,19 @@ fn parts_of<V: Drop>(
     count: usize,
     contexts: ContextNo,
     limits: Limits,
-) -> Result<(Cells, Values<V>, Values<Fault>, Vec<Lane<V>>, Vec<Closer>), AllocError>
+) -> Result<
+    (
+        Cells,
+        Values<V>,
+        Values<Fault>,
+        KeyPlaces,
+        Vec<Lane<V>>,
+        Vec<Closer>,
+    ),
+    AllocError,
+>
     requires { AreLimits count limits.lanes limits.tries limits.numbers }
-    ensures { IfOk result (λ r. AreParts count contexts limits.lanes limits.tries limits.numbers limits.keep_faults r.0 r.1 r.2 r.3.items r.4.items) }
+    ensures { IfOk result (λ r. AreParts count contexts limits.lanes limits.tries limits.numbers limits.keep_faults r.0 r.1 r.2 r.3 r.4.items r.5.items) }
 {
     let Limits {
         lanes,
@@ -68,19 +87,23 @@ fn parts_of<V: Drop>(
     let Ok(faults) = Values::new(alloc, fault_capacity(numbers, keep_faults)) else {
         return Err(AllocError);
     };
-    let lanes = lanes_of(alloc, &values, &faults, cell_lanes)?;
+    let Ok(keys) = KeyPlaces::new(alloc) else {
+        return Err(AllocError);
+    };
+    let lanes = lanes_of(alloc, &values, &faults, &keys, cell_lanes)?;
     let closers = closers_of(alloc, &cells, contexts)?;
-    Ok((cells, values, faults, lanes, closers))
+    Ok((cells, values, faults, keys, lanes, closers))
 }
 
-// A lane for each lane of the cells, in order. Each has room to know the value of every number.
+// A lane for each lane of the cells, in order. Each has room to know the value and the fault of every number, and every key.
 fn lanes_of<V: Drop>(
     alloc: Global,
     values: &Values<V>,
     faults: &Values<Fault>,
+    keys: &KeyPlaces,
     cell_lanes: Vec<CellLane>,
 ) -> Result<Vec<Lane<V>>, AllocError>
-    ensures { IfOk result (λ lanes. lanes.items ≡ map (fresh_store_lane values.now faults.now) cell_lanes.items) }
+    ensures { IfOk result (λ lanes. lanes.items ≡ map (fresh_store_lane values.now faults.now keys.now) cell_lanes.items) }
 {
     let mut lanes = Vec::with_capacity(alloc, cell_lanes.len())?;
     for cells in cell_lanes {
@@ -94,6 +117,7 @@ fn lanes_of<V: Drop>(
             cells,
             notes,
             faults,
+            keys: keys.notes(),
         })?;
     }
     Ok(lanes)

@@ -24,10 +24,11 @@ impl<V> Store<V> {
     ) -> Result<Option<u32>, Refusal>
         requires lane { IsLaneOf self.now.id lane.old }
         requires closer { IsCloserOf self.now closer.now }
-        requires key { key < length self.now.keys }
+        requires key { key < length self.now.id.keys }
         ensures answer { SealsKey self.now closer.now.context key lane.old.cells lane.new.cells result }
         ensures known { lane.new.known ≡ lane.old.known }
         ensures faults { lane.new.faults ≡ lane.old.faults }
+        ensures keys { lane.new.keys ≡ lane.old.keys }
         ensures lane { IsLaneOf self.now.id lane.new }
         ensures kept { StillKeeps lane.old lane.new }
         ensures frame { Frame self.now.id [] lane.old lane.new }

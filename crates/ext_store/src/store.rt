@@ -3,21 +3,21 @@ ghost use Rattle.std.specs.Prelude.{ℕ, ◌≡◌, ◌≢◌, ◌↔◌, ◌+�
 ghost use mathlib.Core.List.{IsPrefix};
 ghost use Rattle.ext_model.specs.Calls.{Calls};
 ghost use Rattle.ext_history.specs.Views.{seen_by};
-ghost use Rattle.ext_tree.specs.Keys.{HasNumber};
+ghost use Rattle.ext_tree.specs.KeyPlaces.{IsKeyNumber, KeepsKeys, OneKey, OneNumber};
 ghost use Rattle.ext_values.specs.Known.{AllAgree, KeepsKnown, Learns, known_at};
 ghost use Rattle.ext_cells.specs.Lanes.{AreLimits, fresh_lanes};
 ghost use Rattle.ext_store.specs.declared.limits.StoreFault.TheVariants as store_fault;
-ghost use Rattle.ext_shared.specs.declared.fault.Refusal.TheVariants as refusal;
 ghost use Rattle.ext_store.specs.Stores.{AreStoreLimits, IsCloserOf, IsKeptBy, IsLaneOf, StillKeeps, StillKeepsBut, closers_below, fresh_store_lane};
 ghost use Rattle.ext_store.specs.Opening.{fault_count};
 ghost use Rattle.ext_store.specs.Frames.{Frame, stored_by};
+ghost use Rattle.ext_store.specs.Keys.{IsKeyRefused, OfKey, key_refusal};
 ghost use Rattle.ext_store.specs.Calls.{Gets, IsFaultlessLook, KeepsAs, KeepsNothing, Puts, Removes, steps_of};
 
 use crate::opening::open_parts;
 use crate::{Closer, KeepFault, Kept, Lane, Limits, Refusal, StoreFault, StoreValue};
 use ext_model::{ContextNo, Fault, KeyNo, Look};
 use ext_shared::Shared;
-use ext_tree::{Directory, Key, Tree};
+use ext_tree::{Key, KeyFault, Tree};
 use std::alloc::Global;
 use std::marker::Model;
 
@@ -26,6 +26,9 @@ use std::marker::Model;
 /// A value is kept, which gives it a number; the number is stored under a key in a context, and is found from there
 /// and from all contexts below. A lane and a closer are used with the store that gave them out. A refused call changes
 /// nothing unless it says so.
+///
+/// A key has one of 64 numbers from the first call on that names it, for as long as the store lives: a look-up too gives
+/// it one, and so does a call that is then refused for another reason than the key.
 ///
 /// Javadoc `ExtensionContext.Store`; JUnit 5 User Guide, section "Keeping State in Extensions". Numbers, lanes,
 /// claims, closers and refusals are own rules.
@@ -51,11 +54,14 @@ impl<V> Store<V> {
         self.shared.tree()
     }
 
-    /// The declared keys. Takes no memory. Own rule.
-    pub fn directory(&self) -> &Directory
-        ensures { result.now ≡ self.now.keys }
+    /// How many keys can have a number: 64. Each context has a cell for each of these numbers, whether a key has it or
+    /// not. Takes no memory. Own rule.
+    pub fn key_count(&self) -> KeyNo
+        ensures count { result ≡ length self.now.id.keys }
+        ensures all { result ≡ 64 }
     {
-        self.shared.directory()
+        self.shared.recall();
+        64
     }
 
     /// Whether the store keeps the faults of factories that fail. Takes no memory. Own rule.
@@ -76,42 +82,43 @@ impl<V> Store<V> {
 }
 
 impl<V: StoreValue + Drop> Store<V> {
-    /// Opens a store in which nothing stands, with its lanes, which are numbered from 0 in the order of the list, and
-    /// with one closer for each context, in order. Takes all memory that the store needs but for the values and the
-    /// faults themselves; a store that keeps no faults takes none for them. Nobody but these lanes makes an event: where none of them has made one, the history is empty (`no_lane`
-    /// of `history_laws` in ext_model). Own rule.
+    /// Opens a store in which nothing stands and no key has a number, with its lanes, which are numbered from 0 in the
+    /// order of the list, and with one closer for each context, in order. Takes all memory that the store needs but for
+    /// the values, the faults and the keys themselves; a store that keeps no faults takes none for them. Nobody but these
+    /// lanes makes an event: where none of them has made one, the history is empty (`no_lane` of `history_laws` in
+    /// ext_model). Own rule.
     ///
-    /// Refused, in this order, as `BadLimit` unless there are 1 to 16 lanes, 1 to 64 tries and 1 to 65,535 numbers, as
-    /// `TooManyCells` where the contexts times the keys are more than 4,096, and as `Memory`. A refused call drops the
-    /// tree and the directory.
+    /// Refused, in this order, as `BadLimit` unless there are 1 to 16 lanes, 1 to 64 tries and 1 to 65,535 numbers, and
+    /// as `Memory`. A refused call drops the tree.
     pub fn open(
         alloc: Global,
         tree: Tree,
-        directory: Directory,
         limits: Limits,
     ) -> Result<(Store<V>, Vec<Lane<V>>, Vec<Closer>), StoreFault>
-        // The store is of these contexts, keys and limits.
-        ensures tree { IfOk result (λ r. (r.0.tree ≡ tree) × (r.0.keys ≡ directory)) }
-        ensures limits { IfOk result (λ r. r.0.id.cells.limits ≡ record { cells = length tree * length directory; lanes = limits.lanes; numbers = limits.numbers; keep_faults = limits.keep_faults }) }
+        // The store is of these contexts and limits.
+        ensures tree { IfOk result (λ r. r.0.tree ≡ tree) }
+        ensures limits { IfOk result (λ r. r.0.id.cells.limits ≡ record { cells = length tree * 64; lanes = limits.lanes; numbers = limits.numbers; keep_faults = limits.keep_faults }) }
+        ensures keys { IfOk result (λ r. length r.0.id.keys ≡ 64) }
         ensures places { IfOk result (λ r. length r.0.id.places ≡ limits.numbers) }
         ensures fault_places { IfOk result (λ r. length r.0.id.fault_places ≡ fault_count limits.keep_faults limits.numbers) }
         ensures tries { IfOk result (λ r. r.0.tries ≡ limits.tries) }
 
         // Its lanes have made no step and know nothing, and there is one closer a context.
-        ensures lanes { IfOk result (λ r. r.1.items ≡ map (fresh_store_lane r.0.id.places r.0.id.fault_places) (fresh_lanes r.0.id.cells 0 limits.lanes)) }
+        ensures lanes { IfOk result (λ r. r.1.items ≡ map (fresh_store_lane r.0.id.places r.0.id.fault_places r.0.id.keys) (fresh_lanes r.0.id.cells 0 limits.lanes)) }
         ensures own_lanes { IfOk result (λ r. All (IsLaneOf r.0.id) r.1.items) }
         ensures closers { IfOk result (λ r. r.2.items ≡ closers_below r.0.id.cells (length tree)) }
         ensures own_closers { IfOk result (λ r. All (IsCloserOf r.0) r.2.items) }
 
         // When it is refused.
-        ensures within { IfOk result (λ _. AreLimits (length tree * length directory) limits.lanes limits.tries limits.numbers) }
+        ensures within { IfOk result (λ _. AreStoreLimits limits.lanes limits.tries limits.numbers) }
         ensures bad_limit { (result ≡ Err store_fault.BadLimit) ↔ (¬ AreStoreLimits limits.lanes limits.tries limits.numbers) }
-        ensures too_many { (result ≡ Err store_fault.TooManyCells) ↔ (AreStoreLimits limits.lanes limits.tries limits.numbers × (¬ AreLimits (length tree * length directory) limits.lanes limits.tries limits.numbers)) }
     {
         let contexts = tree.len();
-        let count = contexts * directory.len();
-        let (cells, values, faults, lanes, closers) = open_parts(alloc, count, contexts, limits)?;
-        let shared = Shared::new(tree, directory, cells, values, faults);
+        let count = contexts * 64;
+        let (cells, values, faults, keys, lanes, closers) = open_parts(
+            alloc, count, contexts, limits,
+        )?;
+        let shared = Shared::new(tree, keys, cells, values, faults);
         Ok((Store { shared, alloc }, lanes, closers))
     }
 
@@ -128,6 +135,7 @@ impl<V: StoreValue + Drop> Store<V> {
         ensures lane { IsLaneOf self.now.id lane.new }
         ensures known { KeepsKnown lane.old.known lane.new.known }
         ensures faults { lane.new.faults ≡ lane.old.faults }
+        ensures keys { lane.new.keys ≡ lane.old.keys }
         ensures kept { StillKeeps lane.old lane.new }
         ensures apart { IfOk result (λ number. (m : ℕ) → IsKeptBy lane.old m → m ≢ number) }
         ensures frame { Frame self.now.id [] lane.old lane.new }
@@ -142,11 +150,39 @@ impl<V: StoreValue + Drop> Store<V> {
         self.place_drawn(&mut lane.notes, drawn, boxed)
     }
 
-    /// Looks for the key in the context and then in its ancestors, the nearest first, at one point of the call: the
-    /// first of them where anything stands under the key decides. Takes no memory.
+    /// The number of the key, 0 to 63, from now on: the same in all lanes, as `meet` shows. It is the first place that holds
+    /// the key. A key that the lane knows is found by one hash, takes no memory and is never refused; for another one it
+    /// takes memory for a copy of the key at each place that it finds free. No step on the cells. Never waits.
     ///
-    /// Refused as `UnknownKey` where the key was not declared, which is no step of the lane, and else as `Contended`.
-    /// That a context has a kept fault, computes a value or is closed is an answer: `Look::Fault`, `Look::Busy` or
+    /// Refused as `Memory` where there is none for the copy, at the first place that is not known to hold a key, and as
+    /// `DirectoryFull` where all 64 places are known to hold other keys; `Unplaced` does not come. A refused call placed no
+    /// key, and the lane may know further keys then. Own rule: JUnit 5 keeps values in maps, under the keys themselves.
+    #[tactic(auto, unfolding(crate::specs::Frames::Frame))]
+    pub fn number(&self, lane: &mut Lane<V>, key: &Key) -> Result<KeyNo, Refusal>
+        requires lane { IsLaneOf self.now.id lane.old }
+        ensures number { IfOk result (IsKeyNumber lane.new.keys key.now) }
+        ensures within { IfOk result (λ number. number < 64) }
+        ensures again { (number : ℕ) → IsKeyNumber lane.old.keys key.now number → result ≡ Ok number }
+        ensures refused { IfErr result (IsKeyRefused lane.old lane.new key.now) }
+        ensures still { lane.new.cells ≡ lane.old.cells }
+        ensures known { lane.new.known ≡ lane.old.known }
+        ensures faults { lane.new.faults ≡ lane.old.faults }
+        ensures lane { IsLaneOf self.now.id lane.new }
+        ensures kept { StillKeeps lane.old lane.new }
+        ensures frame { Frame self.now.id [] lane.old lane.new }
+    {
+        self.shared.recall();
+        match self.shared.keys().number(&mut lane.keys, key) {
+            Ok(number) => Ok(number),
+            Err(why) => Err(refusal_of(why)),
+        }
+    }
+
+    /// Looks for the key in the context and then in its ancestors, the nearest first, at one point of the call: the
+    /// first of them where anything stands under the key decides. May take memory for a key that is new to the lane.
+    ///
+    /// Refused, in this order, for the key as `number` is, as `DirectoryFull` or `Memory`, which is no step on the cells, and
+    /// as `Contended`. That a context has a kept fault, computes a value or is closed is an answer: `Look::Fault`, `Look::Busy` or
     /// `Look::Closed`. In a store that keeps no faults none is met.
     ///
     /// Javadoc `ExtensionContext.Store`, `get`. It answers the context and the number, which `show` makes a value.
@@ -154,8 +190,7 @@ impl<V: StoreValue + Drop> Store<V> {
     pub fn get(&self, lane: &mut Lane<V>, context: ContextNo, key: &Key) -> Result<Look, Refusal>
         requires lane { IsLaneOf self.now.id lane.old }
         requires context { context < length self.now.tree }
-        ensures unknown { ¬ Contains self.now.keys key.now → (result ≡ Err refusal.UnknownKey) × (lane.new ≡ lane.old) }
-        ensures answer { (number : ℕ) → HasNumber self.now.keys key.now number → Gets self.now context number lane.old.cells lane.new.cells result }
+        ensures answer { OfKey lane.old lane.new key.now (λ why. result ≡ Err why) (λ number. Gets self.now context number lane.old.cells lane.new.cells result) }
         ensures no_faults { IsFalse self.now.id.cells.limits.keep_faults → IfOk result IsFaultlessLook }
         ensures known { lane.new.known ≡ lane.old.known }
         ensures faults { lane.new.faults ≡ lane.old.faults }
@@ -164,14 +199,14 @@ impl<V: StoreValue + Drop> Store<V> {
         ensures frame { Frame self.now.id [] lane.old lane.new }
         ensures steps { steps_of lane.old.cells lane.new.cells ≤ 16 * (self.now.tries + 1) }
     {
-        let Some(key) = self.directory().number_of(key) else {
-            return Err(Refusal::UnknownKey);
-        };
-        self.get_numbered(lane, context, key)
+        match self.number(lane, key) {
+            Ok(key) => self.get_numbered(lane, context, key),
+            Err(why) => Err(why),
+        }
     }
 
-    /// As `get`, for the declared key of this number, as `Directory::number_of` gives it: so a key that is looked up often
-    /// is hashed once. It is a condition that the number is a declared key's; refused as `Contended` alone. Takes no
+    /// As `get`, for the key of this number, as `number` gives it: so a key that is looked up often is hashed once. A place
+    /// without a key is absent. It is a condition that the number is below 64; refused as `Contended` alone. Takes no
     /// memory. Own rule.
     #[tactic(auto, unfolding(crate::specs::Frames::Frame))]
     pub fn get_numbered(
@@ -182,26 +217,28 @@ impl<V: StoreValue + Drop> Store<V> {
     ) -> Result<Look, Refusal>
         requires lane { IsLaneOf self.now.id lane.old }
         requires context { context < length self.now.tree }
-        requires key { key < length self.now.keys }
+        requires key { key < 64 }
         ensures answer { Gets self.now context key lane.old.cells lane.new.cells result }
         ensures no_faults { IsFalse self.now.id.cells.limits.keep_faults → IfOk result IsFaultlessLook }
         ensures known { lane.new.known ≡ lane.old.known }
         ensures faults { lane.new.faults ≡ lane.old.faults }
+        ensures keys { lane.new.keys ≡ lane.old.keys }
         ensures lane { IsLaneOf self.now.id lane.new }
         ensures kept { StillKeeps lane.old lane.new }
         ensures frame { Frame self.now.id [] lane.old lane.new }
         ensures steps { steps_of lane.old.cells lane.new.cells ≤ 16 * (self.now.tries + 1) }
     {
+        self.shared.recall();
         self.shared.look_up(&mut lane.cells, context, key)
     }
 
     /// Stores the kept number under the key in the context itself, over one that stands there, and answers the number
     /// that stood. Contexts below find it unless something stands nearer to them. A replaced value is not closed.
-    /// Takes no memory.
+    /// May take memory for a key that is new to the lane.
     ///
-    /// Refused, in this order, as `UnknownKey`, as `Busy` where a lane computes a value for the context, as `Closed`,
-    /// as `Exhausted` where there were more than 2^40 - 3 events there, and as `Contended`. The kept number is then
-    /// handed back, and can still be put.
+    /// Refused, in this order, for the key as `number` is, as `DirectoryFull` or `Memory`, which is no step on the cells, as
+    /// `Busy` where a lane computes a value for the context, as `Closed`, as `Exhausted` where there were more than
+    /// 2^40 - 3 events there, and as `Contended`. The kept number is then handed back, and can still be put.
     ///
     /// Javadoc `ExtensionContext.Store`, `put`. JUnit 5 answers nothing; the answer and the refusals are own rules.
     #[tactic(auto, unfolding(crate::specs::Frames::Frame))]
@@ -215,8 +252,7 @@ impl<V: StoreValue + Drop> Store<V> {
         requires lane { IsLaneOf self.now.id lane.old }
         requires context { context < length self.now.tree }
         requires kept { IsKeptBy lane.old kept }
-        ensures unknown { ¬ Contains self.now.keys key.now → (result ≡ Err (kept, refusal.UnknownKey)) × (lane.new ≡ lane.old) }
-        ensures answer { (number : ℕ) → HasNumber self.now.keys key.now number → Puts self.now context number kept lane.old.cells lane.new.cells result }
+        ensures answer { OfKey lane.old lane.new key.now (λ why. result ≡ Err (kept, why)) (λ number. Puts self.now context number kept lane.old.cells lane.new.cells result) }
         ensures handed_back { IfErr result (λ e. e.0 ≡ kept) }
         ensures known { lane.new.known ≡ lane.old.known }
         ensures faults { lane.new.faults ≡ lane.old.faults }
@@ -225,15 +261,14 @@ impl<V: StoreValue + Drop> Store<V> {
         ensures frame { Frame self.now.id (stored_by kept result) lane.old lane.new }
         ensures steps { steps_of lane.old.cells lane.new.cells ≤ self.now.tries + 1 }
     {
-        let Some(key) = self.directory().number_of(key) else {
-            return Err((kept, Refusal::UnknownKey));
-        };
-        self.put_numbered(lane, context, key, kept)
+        match self.number(lane, key) {
+            Ok(key) => self.put_numbered(lane, context, key, kept),
+            Err(why) => Err((kept, why)),
+        }
     }
 
-    /// As `put`, for the declared key of this number, as `Directory::number_of` gives it: nothing is hashed. It is a
-    /// condition that the number is a declared key's; refused as `put` is, save as `UnknownKey`. Takes no memory. Own
-    /// rule.
+    /// As `put`, for the key of this number, as `number` gives it: nothing is hashed. It is a condition that the number is
+    /// below 64; refused as `put` is, save for the key. Takes no memory. Own rule.
     #[tactic(auto, unfolding(crate::specs::Frames::Frame))]
     pub fn put_numbered(
         &self,
@@ -244,17 +279,19 @@ impl<V: StoreValue + Drop> Store<V> {
     ) -> Result<Option<u32>, (Kept, Refusal)>
         requires lane { IsLaneOf self.now.id lane.old }
         requires context { context < length self.now.tree }
-        requires key { key < length self.now.keys }
+        requires key { key < 64 }
         requires kept { IsKeptBy lane.old kept }
         ensures answer { Puts self.now context key kept lane.old.cells lane.new.cells result }
         ensures handed_back { IfErr result (λ e. e.0 ≡ kept) }
         ensures known { lane.new.known ≡ lane.old.known }
         ensures faults { lane.new.faults ≡ lane.old.faults }
+        ensures keys { lane.new.keys ≡ lane.old.keys }
         ensures lane { IsLaneOf self.now.id lane.new }
         ensures kept { MatchResult result (λ _. StillKeepsBut kept lane.old lane.new) (λ _. StillKeeps lane.old lane.new) }
         ensures frame { Frame self.now.id (stored_by kept result) lane.old lane.new }
         ensures steps { steps_of lane.old.cells lane.new.cells ≤ self.now.tries + 1 }
     {
+        self.shared.recall();
         let stored = self
             .shared
             .put_at(&mut lane.cells, context, key, kept.number);
@@ -262,10 +299,12 @@ impl<V: StoreValue + Drop> Store<V> {
     }
 
     /// Takes what stands under the key in the context itself, and in no other, and answers its number; where nothing
-    /// stands the answer is `None`, and nothing happens. The value is not closed. Takes no memory.
+    /// stands the answer is `None`, and nothing happens. The value is not closed. May take memory for a key that is new to
+    /// the lane.
     ///
-    /// Refused, in this order, as `UnknownKey`, as `Busy` where a lane computes a value for the context, as `Closed`,
-    /// as `Exhausted` where a number stands and there were more than 2^40 - 3 events there, and as `Contended`.
+    /// Refused, in this order, for the key as `number` is, as `DirectoryFull` or `Memory`, which is no step on the cells, as
+    /// `Busy` where a lane computes a value for the context, as `Closed`, as `Exhausted` where a number stands and there
+    /// were more than 2^40 - 3 events there, and as `Contended`.
     ///
     /// Javadoc `ExtensionContext.Store`, `remove`, which answers the value; the refusals are own rules.
     #[tactic(auto, unfolding(crate::specs::Frames::Frame))]
@@ -277,8 +316,7 @@ impl<V: StoreValue + Drop> Store<V> {
     ) -> Result<Option<u32>, Refusal>
         requires lane { IsLaneOf self.now.id lane.old }
         requires context { context < length self.now.tree }
-        ensures unknown { ¬ Contains self.now.keys key.now → (result ≡ Err refusal.UnknownKey) × (lane.new ≡ lane.old) }
-        ensures answer { (number : ℕ) → HasNumber self.now.keys key.now number → Removes self.now context number lane.old.cells lane.new.cells result }
+        ensures answer { OfKey lane.old lane.new key.now (λ why. result ≡ Err why) (λ number. Removes self.now context number lane.old.cells lane.new.cells result) }
         ensures known { lane.new.known ≡ lane.old.known }
         ensures faults { lane.new.faults ≡ lane.old.faults }
         ensures lane { IsLaneOf self.now.id lane.new }
@@ -286,14 +324,14 @@ impl<V: StoreValue + Drop> Store<V> {
         ensures frame { Frame self.now.id [] lane.old lane.new }
         ensures steps { steps_of lane.old.cells lane.new.cells ≤ self.now.tries + 1 }
     {
-        let Some(key) = self.directory().number_of(key) else {
-            return Err(Refusal::UnknownKey);
-        };
-        self.remove_numbered(lane, context, key)
+        match self.number(lane, key) {
+            Ok(key) => self.remove_numbered(lane, context, key),
+            Err(why) => Err(why),
+        }
     }
 
-    /// As `remove`, for the declared key of this number, as `Directory::number_of` gives it: nothing is hashed. It is a
-    /// condition that the number is a declared key's; refused as `remove` is, save as `UnknownKey`. Takes no memory. Own
+    /// As `remove`, for the key of this number, as `number` gives it: nothing is hashed. A place without a key has nothing to
+    /// take. It is a condition that the number is below 64; refused as `remove` is, save for the key. Takes no memory. Own
     /// rule.
     #[tactic(auto, unfolding(crate::specs::Frames::Frame))]
     pub fn remove_numbered(
@@ -304,15 +342,17 @@ impl<V: StoreValue + Drop> Store<V> {
     ) -> Result<Option<u32>, Refusal>
         requires lane { IsLaneOf self.now.id lane.old }
         requires context { context < length self.now.tree }
-        requires key { key < length self.now.keys }
+        requires key { key < 64 }
         ensures answer { Removes self.now context key lane.old.cells lane.new.cells result }
         ensures known { lane.new.known ≡ lane.old.known }
         ensures faults { lane.new.faults ≡ lane.old.faults }
+        ensures keys { lane.new.keys ≡ lane.old.keys }
         ensures lane { IsLaneOf self.now.id lane.new }
         ensures kept { StillKeeps lane.old lane.new }
         ensures frame { Frame self.now.id [] lane.old lane.new }
         ensures steps { steps_of lane.old.cells lane.new.cells ≤ self.now.tries + 1 }
     {
+        self.shared.recall();
         self.shared.remove_at(&mut lane.cells, context, key)
     }
 
@@ -327,6 +367,7 @@ impl<V: StoreValue + Drop> Store<V> {
         ensures known { KeepsKnown lane.old.known lane.new.known }
         ensures faults { lane.new.faults ≡ lane.old.faults }
         ensures none { IfNone result ((known_at lane.old.known number ≡ None) × (lane.new ≡ lane.old)) }
+        ensures keys { lane.new.keys ≡ lane.old.keys }
         ensures steps { lane.new.cells ≡ lane.old.cells }
         ensures lane { IsLaneOf self.now.id lane.new }
         ensures kept { StillKeeps lane.old lane.new }
@@ -346,6 +387,7 @@ impl<V: StoreValue + Drop> Store<V> {
         ensures found { IfSome result (λ fault. Learns lane.old.faults lane.new.faults number fault.now) }
         ensures known { lane.new.known ≡ lane.old.known }
         ensures faults { KeepsKnown lane.old.faults lane.new.faults }
+        ensures keys { lane.new.keys ≡ lane.old.keys }
         ensures none { IfNone result ((known_at lane.old.faults number ≡ None) × (lane.new ≡ lane.old)) }
         ensures none_kept { IsFalse self.now.id.cells.limits.keep_faults → IsNone result }
         ensures steps { lane.new.cells ≡ lane.old.cells }
@@ -358,7 +400,10 @@ impl<V: StoreValue + Drop> Store<V> {
     }
 
     /// Afterwards what the first lane has seen is a prefix of what the second has seen: so both speak of one history.
-    /// A number that both know has one value in both, or one fault. Neither makes an event. Takes no memory. Own rule.
+    /// A number that both know has one value in both, or one fault. A key that both know has one number in both, and a
+    /// key's number that both know has one key in both. The second knows afterwards all keys that the first knows, too: so
+    /// of lanes that meet one after the other the last knows all keys, and all have numbered alike. Neither makes an event.
+    /// Takes no memory. Own rule.
     #[tactic(auto, unfolding(crate::specs::Frames::Frame))]
     pub fn meet(&self, first: &mut Lane<V>, second: &mut Lane<V>)
         requires first { IsLaneOf self.now.id first.old }
@@ -370,6 +415,10 @@ impl<V: StoreValue + Drop> Store<V> {
         ensures agree_faults { AllAgree first.old.faults second.old.faults }
         ensures known { (first.new.known ≡ first.old.known) × (second.new.known ≡ second.old.known) }
         ensures faults { (first.new.faults ≡ first.old.faults) × (second.new.faults ≡ second.old.faults) }
+        ensures first_keys { first.new.keys ≡ first.old.keys }
+        ensures one_number { OneNumber first.old.keys second.old.keys }
+        ensures one_key { OneKey first.old.keys second.old.keys }
+        ensures taught { KeepsKeys first.old.keys second.new.keys }
         ensures first_lane { IsLaneOf self.now.id first.new }
         ensures second_lane { IsLaneOf self.now.id second.new }
         ensures first_kept { StillKeeps first.old first.new }
@@ -382,5 +431,17 @@ impl<V: StoreValue + Drop> Store<V> {
             .meet(&mut first.cells, &mut second.cells);
         first.notes.meet(&mut second.notes);
         first.faults.meet(&mut second.faults);
+        self.shared.keys().agree(&mut first.keys, &mut second.keys);
+    }
+}
+
+/// What a call says whose key got no number.
+pub(crate) fn refusal_of(why: KeyFault) -> Refusal
+    ensures { result ≡ key_refusal why }
+{
+    match why {
+        KeyFault::DirectoryFull => Refusal::DirectoryFull,
+        KeyFault::Unplaced => Refusal::Unplaced,
+        KeyFault::Memory => Refusal::Memory,
     }
 }

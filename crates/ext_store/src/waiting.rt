@@ -1,13 +1,14 @@
 //! The waiting forms of the calls: what met a running factory is done again once a claim has ended, and what other lanes
 //! were in the way of at once.
-ghost use Rattle.std.specs.Prelude.{ℕ, ◌≡◌, ◌≢◌, ◌<◌, [], length, Contains, Ok, Err, IfErr, IfOk, IsFalse, IsTrue, MatchResult};
+ghost use Rattle.std.specs.Prelude.{ℕ, ◌≡◌, ◌≢◌, ◌<◌, [], length, Contains, Ok, Err, IfErr, IfOk, IsFalse, IsTrue, MatchResult, IsSome, Some};
 ghost use Rattle.std.specs.Fn.{FnOnceReturnsAt};
 ghost use Rattle.ext_model.specs.Calls.{IsHeld};
-ghost use Rattle.ext_tree.specs.Keys.{HasNumber, KeyValue};
+ghost use Rattle.ext_tree.specs.Keys.{KeyValue};
+ghost use Rattle.ext_tree.specs.KeyPlaces.{IsKeyNumber, key_at};
 ghost use Rattle.ext_values.specs.Known.{KeepsKnown, Learns};
-ghost use Rattle.ext_shared.specs.declared.fault.Refusal.TheVariants as refusal;
 ghost use Rattle.ext_store.specs.declared.computed.Compute.TheVariants.{Refused};
 ghost use Rattle.ext_store.specs.Stores.{IsKeptBy, IsLaneOf, StillKeeps, StillKeepsBut};
+ghost use Rattle.ext_store.specs.Keys.{OfKey};
 ghost use Rattle.ext_store.specs.Frames.{Frame, stored_by};
 ghost use Rattle.ext_store.specs.Calls.{Gets, IsFaultlessLook, KeepsAs, KeepsFault, KeepsNoFault, KeepsNothing, Puts, Removes};
 ghost use Rattle.ext_store.specs.Computing.{EndsFailed, Fails, Fills, HandsBack, IfComputed, IsFaultless, IsUnkept, Uses, without_factory};
@@ -23,7 +24,8 @@ use std::sync::Wait;
 impl<V: StoreValue + Drop> Store<V> {
     /// As `get`, but where a context that computes a value decides, it waits, parked, until a claim has ended, and looks
     /// again; and where other lanes were in the way it looks again at once. So it never answers `Look::Busy`, and is
-    /// refused as `UnknownKey` alone. Takes no memory. It may wait: it promises its clauses if it returns.
+    /// refused for the key alone, as `number` is. May take memory for a key that is new to the lane. It may wait: it
+    /// promises its clauses if it returns.
     ///
     /// Javadoc `ExtensionContext.Store`, `get`, which waits for a running factory too.
     #[tactic(auto, unfolding(crate::specs::Frames::Frame))]
@@ -36,8 +38,7 @@ impl<V: StoreValue + Drop> Store<V> {
     ) -> Result<Look, Refusal>
         requires lane { IsLaneOf self.now.id lane.old }
         requires context { context < length self.now.tree }
-        ensures unknown { ¬ Contains self.now.keys key.now → (result ≡ Err refusal.UnknownKey) × (lane.new ≡ lane.old) }
-        ensures answer { (number : ℕ) → HasNumber self.now.keys key.now number → Gets self.now context number lane.old.cells lane.new.cells result }
+        ensures answer { OfKey lane.old lane.new key.now (λ why. result ≡ Err why) (λ number. Gets self.now context number lane.old.cells lane.new.cells result) }
         ensures no_faults { IsFalse self.now.id.cells.limits.keep_faults → IfOk result IsFaultlessLook }
         ensures decided { MatchResult result IsDecidedLook IsDecided }
         ensures known { lane.new.known ≡ lane.old.known }
@@ -46,15 +47,15 @@ impl<V: StoreValue + Drop> Store<V> {
         ensures kept { StillKeeps lane.old lane.new }
         ensures frame { Frame self.now.id [] lane.old lane.new }
     {
-        let Some(key) = self.directory().number_of(key) else {
-            return Err(Refusal::UnknownKey);
-        };
-        Ok(self.get_wait_numbered(rt, lane, context, key))
+        match self.number(lane, key) {
+            Ok(key) => Ok(self.get_wait_numbered(rt, lane, context, key)),
+            Err(why) => Err(why),
+        }
     }
 
-    /// As `get_wait`, for the declared key of this number, as `Directory::number_of` gives it: so a key that is looked up
-    /// often is hashed once. It is a condition that the number is a declared key's; never refused. Takes no memory. It may
-    /// wait: it promises its clauses if it returns. Own rule.
+    /// As `get_wait`, for the key of this number, as `number` gives it: so a key that is looked up often is hashed once. A
+    /// place without a key is absent. It is a condition that the number is below 64; never refused. Takes no memory. It
+    /// may wait: it promises its clauses if it returns. Own rule.
     #[tactic(auto, unfolding(crate::specs::Frames::Frame))]
     pub fn get_wait_numbered<R: Wait>(
         &self,
@@ -65,23 +66,25 @@ impl<V: StoreValue + Drop> Store<V> {
     ) -> Look
         requires lane { IsLaneOf self.now.id lane.old }
         requires context { context < length self.now.tree }
-        requires key { key < length self.now.keys }
+        requires key { key < 64 }
         ensures answer { Gets self.now context key lane.old.cells lane.new.cells (Ok result) }
         ensures no_faults { IsFalse self.now.id.cells.limits.keep_faults → IsFaultlessLook result }
         ensures decided { IsDecidedLook result }
         ensures known { lane.new.known ≡ lane.old.known }
         ensures faults { lane.new.faults ≡ lane.old.faults }
+        ensures keys { lane.new.keys ≡ lane.old.keys }
         ensures lane { IsLaneOf self.now.id lane.new }
         ensures kept { StillKeeps lane.old lane.new }
         ensures frame { Frame self.now.id [] lane.old lane.new }
     {
+        self.shared.recall();
         self.shared.wait_to_look(rt, &mut lane.cells, context, key)
     }
 
     /// As `put`, but where a lane computes a value for the context it waits, parked, until a claim has ended, and tries
     /// again; and where other lanes were in the way it tries again at once. So it is never refused as `Busy` or
-    /// `Contended`, and else as `put` is, with the kept number handed back. Takes no memory. It may wait: it promises its
-    /// clauses if it returns.
+    /// `Contended`, and else as `put` is, with the kept number handed back. May take memory for a key that is new to the
+    /// lane. It may wait: it promises its clauses if it returns.
     ///
     /// Javadoc `ExtensionContext.Store`, `put`. That it waits for a running factory is an own rule: JUnit 5 replaces at
     /// once.
@@ -97,8 +100,7 @@ impl<V: StoreValue + Drop> Store<V> {
         requires lane { IsLaneOf self.now.id lane.old }
         requires context { context < length self.now.tree }
         requires kept { IsKeptBy lane.old kept }
-        ensures unknown { ¬ Contains self.now.keys key.now → (result ≡ Err (kept, refusal.UnknownKey)) × (lane.new ≡ lane.old) }
-        ensures answer { (number : ℕ) → HasNumber self.now.keys key.now number → Puts self.now context number kept lane.old.cells lane.new.cells result }
+        ensures answer { OfKey lane.old lane.new key.now (λ why. result ≡ Err (kept, why)) (λ number. Puts self.now context number kept lane.old.cells lane.new.cells result) }
         ensures decided { IfErr result (λ e. IsDecided e.1) }
         ensures handed_back { IfErr result (λ e. e.0 ≡ kept) }
         ensures known { lane.new.known ≡ lane.old.known }
@@ -107,15 +109,15 @@ impl<V: StoreValue + Drop> Store<V> {
         ensures kept { MatchResult result (λ _. StillKeepsBut kept lane.old lane.new) (λ _. StillKeeps lane.old lane.new) }
         ensures frame { Frame self.now.id (stored_by kept result) lane.old lane.new }
     {
-        let Some(key) = self.directory().number_of(key) else {
-            return Err((kept, Refusal::UnknownKey));
-        };
-        self.put_wait_numbered(rt, lane, context, key, kept)
+        match self.number(lane, key) {
+            Ok(key) => self.put_wait_numbered(rt, lane, context, key, kept),
+            Err(why) => Err((kept, why)),
+        }
     }
 
-    /// As `put_wait`, for the declared key of this number, as `Directory::number_of` gives it: nothing is hashed. It is a
-    /// condition that the number is a declared key's; refused as `put_wait` is, save as `UnknownKey`. Takes no memory. It
-    /// may wait: it promises its clauses if it returns. Own rule.
+    /// As `put_wait`, for the key of this number, as `number` gives it: nothing is hashed. It is a condition that the number
+    /// is below 64; refused as `put_wait` is, save for the key. Takes no memory. It may wait: it promises its clauses if it
+    /// returns. Own rule.
     #[tactic(auto, unfolding(crate::specs::Frames::Frame))]
     pub fn put_wait_numbered<R: Wait>(
         &self,
@@ -127,17 +129,19 @@ impl<V: StoreValue + Drop> Store<V> {
     ) -> Result<Option<u32>, (Kept, Refusal)>
         requires lane { IsLaneOf self.now.id lane.old }
         requires context { context < length self.now.tree }
-        requires key { key < length self.now.keys }
+        requires key { key < 64 }
         requires kept { IsKeptBy lane.old kept }
         ensures answer { Puts self.now context key kept lane.old.cells lane.new.cells result }
         ensures decided { IfErr result (λ e. IsDecided e.1) }
         ensures handed_back { IfErr result (λ e. e.0 ≡ kept) }
         ensures known { lane.new.known ≡ lane.old.known }
         ensures faults { lane.new.faults ≡ lane.old.faults }
+        ensures keys { lane.new.keys ≡ lane.old.keys }
         ensures lane { IsLaneOf self.now.id lane.new }
         ensures kept { MatchResult result (λ _. StillKeepsBut kept lane.old lane.new) (λ _. StillKeeps lane.old lane.new) }
         ensures frame { Frame self.now.id (stored_by kept result) lane.old lane.new }
     {
+        self.shared.recall();
         let stored = self
             .shared
             .wait_to_put(rt, &mut lane.cells, context, key, kept.number);
@@ -146,7 +150,8 @@ impl<V: StoreValue + Drop> Store<V> {
 
     /// As `remove`, but where a lane computes a value for the context it waits, parked, until a claim has ended, and
     /// tries again; and where other lanes were in the way it tries again at once. So it is never refused as `Busy` or
-    /// `Contended`, and else as `remove` is. Takes no memory. It may wait: it promises its clauses if it returns.
+    /// `Contended`, and else as `remove` is. May take memory for a key that is new to the lane. It may wait: it promises its
+    /// clauses if it returns.
     ///
     /// Javadoc `ExtensionContext.Store`, `remove`. That it waits for a running factory is an own rule: JUnit 5 takes the
     /// entry at once.
@@ -160,8 +165,7 @@ impl<V: StoreValue + Drop> Store<V> {
     ) -> Result<Option<u32>, Refusal>
         requires lane { IsLaneOf self.now.id lane.old }
         requires context { context < length self.now.tree }
-        ensures unknown { ¬ Contains self.now.keys key.now → (result ≡ Err refusal.UnknownKey) × (lane.new ≡ lane.old) }
-        ensures answer { (number : ℕ) → HasNumber self.now.keys key.now number → Removes self.now context number lane.old.cells lane.new.cells result }
+        ensures answer { OfKey lane.old lane.new key.now (λ why. result ≡ Err why) (λ number. Removes self.now context number lane.old.cells lane.new.cells result) }
         ensures decided { IfErr result IsDecided }
         ensures known { lane.new.known ≡ lane.old.known }
         ensures faults { lane.new.faults ≡ lane.old.faults }
@@ -169,15 +173,15 @@ impl<V: StoreValue + Drop> Store<V> {
         ensures kept { StillKeeps lane.old lane.new }
         ensures frame { Frame self.now.id [] lane.old lane.new }
     {
-        let Some(key) = self.directory().number_of(key) else {
-            return Err(Refusal::UnknownKey);
-        };
-        self.remove_wait_numbered(rt, lane, context, key)
+        match self.number(lane, key) {
+            Ok(key) => self.remove_wait_numbered(rt, lane, context, key),
+            Err(why) => Err(why),
+        }
     }
 
-    /// As `remove_wait`, for the declared key of this number, as `Directory::number_of` gives it: nothing is hashed. It is a
-    /// condition that the number is a declared key's; refused as `remove_wait` is, save as `UnknownKey`. Takes no memory. It
-    /// may wait: it promises its clauses if it returns. Own rule.
+    /// As `remove_wait`, for the key of this number, as `number` gives it: nothing is hashed. A place without a key has
+    /// nothing to take. It is a condition that the number is below 64; refused as `remove_wait` is, save for the key. Takes
+    /// no memory. It may wait: it promises its clauses if it returns. Own rule.
     #[tactic(auto, unfolding(crate::specs::Frames::Frame))]
     pub fn remove_wait_numbered<R: Wait>(
         &self,
@@ -188,15 +192,17 @@ impl<V: StoreValue + Drop> Store<V> {
     ) -> Result<Option<u32>, Refusal>
         requires lane { IsLaneOf self.now.id lane.old }
         requires context { context < length self.now.tree }
-        requires key { key < length self.now.keys }
+        requires key { key < 64 }
         ensures answer { Removes self.now context key lane.old.cells lane.new.cells result }
         ensures decided { IfErr result IsDecided }
         ensures known { lane.new.known ≡ lane.old.known }
         ensures faults { lane.new.faults ≡ lane.old.faults }
+        ensures keys { lane.new.keys ≡ lane.old.keys }
         ensures lane { IsLaneOf self.now.id lane.new }
         ensures kept { StillKeeps lane.old lane.new }
         ensures frame { Frame self.now.id [] lane.old lane.new }
     {
+        self.shared.recall();
         self.shared
             .wait_to_remove(rt, &mut lane.cells, context, key)
     }
@@ -217,6 +223,7 @@ impl<V: StoreValue + Drop> Store<V> {
         ensures lane { IsLaneOf self.now.id lane.new }
         ensures known { KeepsKnown lane.old.known lane.new.known }
         ensures faults { lane.new.faults ≡ lane.old.faults }
+        ensures keys { lane.new.keys ≡ lane.old.keys }
         ensures kept { StillKeeps lane.old lane.new }
         ensures apart { IfOk result (λ number. (m : ℕ) → IsKeptBy lane.old m → m ≢ number) }
         ensures frame { Frame self.now.id [] lane.old lane.new }
@@ -235,8 +242,8 @@ impl<V: StoreValue + Drop> Store<V> {
     /// factory has run. So it is never refused as `Busy` or `Contended`, nor is its value `Unkept` as `Contended`, and
     /// else it answers as `compute` does. Before its last attempt it may claim the context's cell and give it up several
     /// times, each time since a factory runs in an ancestor or other lanes were in the way; it holds no claim while it
-    /// sleeps, so that no two lanes wait for each other. The factory is called at most once. Takes memory for the value.
-    /// It may wait: it promises its clauses if it returns.
+    /// sleeps, so that no two lanes wait for each other. The factory is called at most once. Takes memory for the value,
+    /// and may take it for a key that is new to the lane. It may wait: it promises its clauses if it returns.
     ///
     /// Javadoc `ExtensionContext.Store`, `getOrComputeIfAbsent`, which waits for a running factory too.
     #[tactic(auto, unfolding(crate::specs::Frames::Frame))]
@@ -251,8 +258,7 @@ impl<V: StoreValue + Drop> Store<V> {
         requires lane { IsLaneOf self.now.id lane.old }
         requires context { context < length self.now.tree }
         requires factory { F.IsAlwaysCallable factory }
-        ensures unknown { ¬ Contains self.now.keys key.now → (result ≡ Refused refusal.UnknownKey factory) × (lane.new ≡ lane.old) }
-        ensures answer { (number : ℕ) → HasNumber self.now.keys key.now number → ComputesAfterWaits self.now context number lane.old.cells lane.new.cells (without_factory result) }
+        ensures answer { OfKey lane.old lane.new key.now (λ why. result ≡ Refused why factory) (λ number. ComputesAfterWaits self.now context number lane.old.cells lane.new.cells (without_factory result)) }
         ensures decided { IsDecidedCompute result }
         ensures factory { Uses (λ answer. FnOnceReturnsAt F.FnOnce factory key.now answer) lane.old lane.new (without_factory result) }
         ensures handed_back { HandsBack factory result }
@@ -263,18 +269,19 @@ impl<V: StoreValue + Drop> Store<V> {
         ensures apart { IfComputed result (λ number. (m : ℕ) → IsKeptBy lane.old m → m ≢ number) }
         ensures frame { Frame self.now.id [] lane.old lane.new }
     {
-        let Some(number) = self.directory().number_of(key) else {
-            return Compute::Refused {
-                refusal: Refusal::UnknownKey,
+        match self.number(lane, key) {
+            Ok(number) => self.compute_wait_named(rt, lane, context, number, key, factory),
+            Err(refusal) => Compute::Refused {
+                refusal,
                 unused: factory,
-            };
-        };
-        self.compute_wait_numbered(rt, lane, context, number, factory)
+            },
+        }
     }
 
-    /// As `compute_wait`, for the declared key of this number, as `Directory::number_of` gives it: nothing is hashed. The
-    /// factory is called with the key as it was declared. It is a condition that the number is a declared key's; refused as
-    /// `compute_wait` is, save as `UnknownKey`. Takes memory for the value; may wait. Own rule.
+    /// As `compute_wait`, for the key of this number, as `number` gives it: nothing is hashed. The factory is called with the
+    /// key that stands in the place of this number. It is a condition that the number is below 64, and that the lane knows
+    /// the key of this number, which `Lane::knows_key` tests; refused as `compute_wait` is, save for the key. Takes memory
+    /// for the value; may wait. Own rule.
     #[tactic(auto, unfolding(crate::specs::Frames::Frame))]
     pub fn compute_wait_numbered<R: Wait, F: FnOnce(&Key) -> Result<V, Fault>>(
         &self,
@@ -286,11 +293,12 @@ impl<V: StoreValue + Drop> Store<V> {
     ) -> Compute<V, F>
         requires lane { IsLaneOf self.now.id lane.old }
         requires context { context < length self.now.tree }
-        requires key { key < length self.now.keys }
+        requires key { key < 64 }
+        requires named { IsSome (key_at lane.old.keys key) }
         requires factory { F.IsAlwaysCallable factory }
         ensures answer { ComputesAfterWaits self.now context key lane.old.cells lane.new.cells (without_factory result) }
         ensures decided { IsDecidedCompute result }
-        ensures factory { (name : KeyValue) → HasNumber self.now.keys name key → Uses (λ answer. FnOnceReturnsAt F.FnOnce factory name answer) lane.old lane.new (without_factory result) }
+        ensures factory { (name : KeyValue) → key_at lane.old.keys key ≡ Some name → Uses (λ answer. FnOnceReturnsAt F.FnOnce factory name answer) lane.old lane.new (without_factory result) }
         ensures handed_back { HandsBack factory result }
         ensures no_faults { IsFalse self.now.id.cells.limits.keep_faults → IsFaultless result }
         ensures known { KeepsKnown lane.old.known lane.new.known }
@@ -299,11 +307,42 @@ impl<V: StoreValue + Drop> Store<V> {
         ensures apart { IfComputed result (λ number. (m : ℕ) → IsKeptBy lane.old m → m ≢ number) }
         ensures frame { Frame self.now.id [] lane.old lane.new }
     {
+        let name = self.shared.keys().key(&mut lane.keys, key);
+        self.compute_wait_named(rt, lane, context, key, name, factory)
+    }
+
+    // The same with the key itself, with which the factory is called.
+    #[tactic(auto, unfolding(crate::specs::Frames::Frame))]
+    fn compute_wait_named<R: Wait, F: FnOnce(&Key) -> Result<V, Fault>>(
+        &self,
+        rt: &R,
+        lane: &mut Lane<V>,
+        context: ContextNo,
+        key: KeyNo,
+        name: &Key,
+        factory: F,
+    ) -> Compute<V, F>
+        requires lane { IsLaneOf self.now.id lane.old }
+        requires context { context < length self.now.tree }
+        requires key { key < 64 }
+        requires factory { F.IsAlwaysCallable factory }
+        ensures answer { ComputesAfterWaits self.now context key lane.old.cells lane.new.cells (without_factory result) }
+        ensures decided { IsDecidedCompute result }
+        ensures factory { Uses (λ answer. FnOnceReturnsAt F.FnOnce factory name.now answer) lane.old lane.new (without_factory result) }
+        ensures handed_back { HandsBack factory result }
+        ensures no_faults { IsFalse self.now.id.cells.limits.keep_faults → IsFaultless result }
+        ensures known { KeepsKnown lane.old.known lane.new.known }
+        ensures lane { IsLaneOf self.now.id lane.new }
+        ensures kept { StillKeeps lane.old lane.new }
+        ensures apart { IfComputed result (λ number. (m : ℕ) → IsKeptBy lane.old m → m ≢ number) }
+        ensures frame { Frame self.now.id [] lane.old lane.new }
+    {
+        self.shared.recall();
         let claim = match self.shared.wait_to_claim(rt, &mut lane.cells, context, key) {
             Ok(claim) => claim,
             Err(why) => return hand_back(why, factory),
         };
-        let value = match factory(self.directory().key(key)) {
+        let value = match factory(name) {
             Ok(value) => value,
             Err(fault) => return self.wait_to_end_failed(rt, lane, claim, fault),
         };

@@ -34,7 +34,7 @@ pub(crate) fn with_made<R: Abort, T: Drop, W: FnOnce(&mut T)>(rt: &R, made: Opti
 
 /// What a test does with the store of the chain and its two lanes.
 pub(crate) trait Scenario {
-    /// Does it, and asserts what is answered. It has the keys a and d, of which the store knows a alone.
+    /// Does it, and asserts what is answered. It has the keys a and d, which no lane has named.
     fn play<R: Threads + Sync + Abort>(
         &self,
         rt: &R,

@@ -4,7 +4,8 @@ ghost use Rattle.ext_store.specs.Stores.{IsKeptBy, IsLaneOf, StillKeeps};
 
 use crate::asked::{Scenario, same, with_chain};
 use crate::chain::{Call, rows};
-use crate::opening::{Letter, contexts, keys, plain};
+use crate::full::name_from;
+use crate::opening::{Letter, contexts, plain};
 use crate::wide::lanes_and_closers;
 use ext_model::{ContextNo, Look};
 use ext_store::{KeepFault, Kept, Lane, Limits, Refusal, Store, StoreFault, StoreValue};
@@ -22,21 +23,6 @@ fn remove_own_context_only_in_two_lanes(rt: HostRuntime) {
         (1, 1, "a", Call::Removes(Ok(None))),
         (1, 2, "a", Call::Gets(Ok(found))),
         (0, 2, "a", Call::Gets(Ok(found))),
-    ];
-    rows(&rt, rt.alloc(), 8, &all);
-}
-
-#[test]
-fn unknown_keys_are_refused(rt: HostRuntime) {
-    let all = [
-        (0, 1, "d", Call::Gets(Err(Refusal::UnknownKey))),
-        (0, 1, "d", Call::Removes(Err(Refusal::UnknownKey))),
-        (
-            0,
-            1,
-            "d",
-            Call::Puts(plain('x'), 1, Err(Refusal::UnknownKey)),
-        ),
     ];
     rows(&rt, rt.alloc(), 8, &all);
 }
@@ -234,8 +220,8 @@ fn numbers_run_out(rt: HostRuntime) {
     with_chain(&rt, rt.alloc(), 2, &TwoNumbers);
 }
 
-/// Whether a value is refused under the first key, as unknown, and then put under the second, both in the class.
-fn put_elsewhere(store: &Store<Letter>, lane: &mut Lane<Letter>, unknown: &Key, known: &Key) -> bool
+/// Whether a value is refused under the first key, which gets no number, and then put under the second, both in the class.
+fn put_elsewhere(store: &Store<Letter>, lane: &mut Lane<Letter>, late: &Key, known: &Key) -> bool
     requires lane { IsLaneOf store.now.id lane.old }
     requires contexts { 2 < length store.now.tree }
     ensures { IsLaneOf store.now.id lane.new }
@@ -243,15 +229,17 @@ fn put_elsewhere(store: &Store<Letter>, lane: &mut Lane<Letter>, unknown: &Key, 
     let Some(kept) = keep_as(store, lane, 'x', 1) else {
         return false;
     };
-    let Err((kept, Refusal::UnknownKey)) = put(store, lane, 1, unknown, kept) else {
+    let Err((kept, Refusal::DirectoryFull)) = put(store, lane, 1, late, kept) else {
         return false;
     };
     matches!(put(store, lane, 1, known, kept), Ok(None))
 }
 
-/// A value is refused under one key and put under another.
+/// A value is refused under a key that comes when all numbers are given, and put under another.
 #[derive(Drop)]
-struct PutElsewhere;
+struct PutElsewhere {
+    alloc: Global,
+}
 
 impl Scenario for PutElsewhere {
     fn play<R: Threads + Sync + Abort>(
@@ -263,6 +251,8 @@ impl Scenario for PutElsewhere {
         a: &Key,
         d: &Key,
     ) {
+        same(rt, store.number(first, a), Ok(0), "the number of a");
+        name_from(rt, self.alloc, store, first, 1);
         assert!(rt; put_elsewhere(store, first, d, a));
         assert!(rt; is_taken_out(store, first, 1, a));
     }
@@ -270,7 +260,8 @@ impl Scenario for PutElsewhere {
 
 #[test]
 fn refused_values_are_put_elsewhere(rt: HostRuntime) {
-    with_chain(&rt, rt.alloc(), 8, &PutElsewhere);
+    let late = PutElsewhere { alloc: rt.alloc() };
+    with_chain(&rt, rt.alloc(), 8, &late);
 }
 
 /// Two kept values are stored in either order, whatever was done meanwhile: a caller that goes by the store's clauses.
@@ -324,35 +315,43 @@ fn kept_values_are_stored_in_any_order(rt: HostRuntime) {
     with_chain(&rt, rt.alloc(), 8, &AnyOrder);
 }
 
-/// How many lanes and closers a store of the chain has with so many keys, two lanes, so many tries and eight numbers, or why it is
-/// not opened; `None` where there is no memory.
-fn opened(alloc: Global, count: usize, tries: u32) -> Option<Result<(usize, usize), StoreFault>> {
+/// How many lanes and closers a store of the chain has with such limits, or why it is not opened; `None` where there is no memory.
+fn opened(
+    alloc: Global,
+    lanes: usize,
+    tries: u32,
+    numbers: u32,
+) -> Option<Result<(usize, usize), StoreFault>> {
     let limits = Limits {
-        lanes: 2,
+        lanes,
         tries,
-        numbers: 8,
+        numbers,
         keep_faults: false,
     };
-    let tree = contexts(alloc)?;
-    let keys = keys(alloc, count)?;
-    Some(lanes_and_closers(alloc, tree, keys, limits))
+    Some(lanes_and_closers(alloc, contexts(alloc)?, limits))
 }
 
 #[test]
 fn open_within_the_limits_of_the_store(rt: HostRuntime) {
-    for (count, tries, fault) in [
-        (10, 8, None),
-        (11, 8, None),
-        (11, 0, Some(StoreFault::BadLimit)),
+    let refused = Err(StoreFault::BadLimit);
+    for (lanes, tries, numbers, answer) in [
+        (1, 1, 1, Ok((1, 3))),
+        (16, 64, 65_535, Ok((16, 3))),
+        (0, 8, 8, refused),
+        (17, 8, 8, refused),
+        (2, 0, 8, refused),
+        (2, 65, 8, refused),
+        (2, 8, 0, refused),
+        (2, 8, 65_536, refused),
     ] {
-        let Some(told) = opened(rt.alloc(), count, tries) else {
+        let Some(told) = opened(rt.alloc(), lanes, tries, numbers) else {
             panic!(&rt; "no memory");
         };
         same(
             &rt,
-            (count, tries, told.err()),
-            (count, tries, fault),
-            "keys and tries",
+            (lanes, tries, numbers, told),
+            (lanes, tries, numbers, answer),
+            "lanes, tries and numbers",
         );
     }
 }
@@ -360,17 +359,19 @@ fn open_within_the_limits_of_the_store(rt: HostRuntime) {
 #[test]
 fn refusals_of_the_store_print_their_texts(rt: HostRuntime) {
     let Ok(text) = format!(in rt.alloc();
-        "{}, {}, {}",
+        "{}, {}, {}, {}, {}",
         Refusal::Busy(2),
+        Refusal::DirectoryFull,
+        Refusal::Memory,
         KeepFault::NumbersFull,
-        StoreFault::TooManyCells
+        StoreFault::BadLimit
     ) else {
         panic!(rt; "no memory");
     };
     same(
         &rt,
         text.as_str(),
-        "busy at context 2, numbers full, too many cells",
+        "busy at context 2, directory full, no memory, numbers full, a limit is out of its range",
         "the texts",
     );
     assert!(rt; !plain('x').closeable());

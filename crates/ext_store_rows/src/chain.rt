@@ -4,9 +4,10 @@ ghost use Rattle.ext_store.specs.Stores.{IsCloserOf, IsLaneOf};
 
 use crate::asked::{key, same, with_made};
 use crate::closes::Recorder;
+use crate::full::name_from;
 use crate::opening::{Letter, Opened, closeable, open_chain_for, plain};
 use ext_closing::{CloseFault, Closes, close};
-use ext_model::{ContextNo, Fault, Look};
+use ext_model::{ContextNo, Fault, KeyNo, Look};
 use ext_store::{Closer, Compute, KeepFault, Lane, Refusal, Store};
 use ext_tree::Key;
 use std::alloc::Global;
@@ -30,10 +31,15 @@ pub(crate) enum Told {
 /// A call, with what it is to answer.
 #[derive(Clone, Copy)]
 pub(crate) enum Call {
+    /// The key's number; no context matters.
+    Numbers(Result<KeyNo, Refusal>),
     Gets(Result<Look, Refusal>),
     Removes(Result<Option<u32>, Refusal>),
     /// The value, its number, and what the put answers.
     Puts(Letter, u32, Result<Option<u32>, Refusal>),
+    /// The value, its number, why the put is refused, and the context in which the kept number, which comes back, is put then,
+    /// where nothing stands.
+    PutsInstead(Letter, u32, Refusal, ContextNo),
     /// The letter that the factory makes.
     Computes(char, Told),
     /// The letter that the factory makes, of a closeable value.
@@ -227,6 +233,34 @@ fn put<R: Abort>(
     }
 }
 
+/// The number under which a value is kept, why its put is refused, and what its put in the other context answers then.
+fn put_instead<R: Abort>(
+    rt: &R,
+    store: &Store<Letter>,
+    lane: &mut Lane<Letter>,
+    context: ContextNo,
+    other: ContextNo,
+    key: &Key,
+    value: Letter,
+) -> (u32, Refusal, Result<Option<u32>, Refusal>)
+    requires lane { IsLaneOf store.now.id lane.old }
+    requires context { context < length store.now.tree }
+    ensures { IsLaneOf store.now.id lane.new }
+{
+    assert!(rt; other < store.tree().len());
+    let Ok(kept) = store.keep(lane, value) else {
+        panic!(rt; "not kept");
+    };
+    let number = kept.number();
+    let Err((kept, refusal)) = store.put(lane, context, key, kept) else {
+        panic!(rt; "not refused");
+    };
+    match store.put(lane, other, key, kept) {
+        Ok(stood) => (number, refusal, Ok(stood)),
+        Err((_, again)) => (number, refusal, Err(again)),
+    }
+}
+
 /// What a compute answers whose factory answers `made`; where the factory comes back unused, what it answers then.
 fn compute(
     store: &Store<Letter>,
@@ -315,11 +349,16 @@ fn ask<R: Abort>(
     ensures { IsLaneOf store.now.id lane.new }
 {
     match call {
+        Call::Numbers(answer) => same(rt, store.number(lane, key), answer, name),
         Call::Gets(answer) => same(rt, store.get(lane, at, key), answer, name),
         Call::Removes(answer) => same(rt, store.remove(lane, at, key), answer, name),
         Call::Puts(value, number, answer) => {
             let told = put(rt, store, lane, at, key, value);
             same(rt, told, (number, answer), name);
+        }
+        Call::PutsInstead(value, number, refusal, other) => {
+            let told = put_instead(rt, store, lane, at, other, key, value);
+            same(rt, told, (number, refusal, Ok(None)), name);
         }
         Call::Computes(letter, answer) => {
             same(rt, make(store, lane, at, key, plain(letter)), answer, name);
@@ -368,6 +407,12 @@ impl Chain {
             }
             Err(fault) => (Err(fault), 0, recorder.numbers),
         }
+    }
+
+    // Has lane 1 name 64 keys, which take all places.
+    fn fill<R: Abort>(&mut self, rt: &R) {
+        let lane = &mut self.lanes[1];
+        name_from(rt, self.alloc, &self.store, lane, 0);
     }
 
     // Asserts that the row's call has its answer.
@@ -444,7 +489,15 @@ pub(crate) fn rows<R: Abort>(rt: &R, alloc: Global, numbers: u32, rows: &[Row]) 
     });
 }
 
-/// The same in a store that keeps faults.
+/// The same where lane 1 has named the keys `0` to `63` before, which have all numbers.
+pub(crate) fn rows_when_full<R: Abort>(rt: &R, alloc: Global, numbers: u32, rows: &[Row]) {
+    with_made(rt, open(alloc, numbers, false), |chain| {
+        chain.fill(rt);
+        play(rt, chain, rows)
+    });
+}
+
+/// The same as `rows` in a store that keeps faults.
 pub(crate) fn rows_with_faults<R: Abort>(rt: &R, alloc: Global, numbers: u32, rows: &[Row]) {
     with_made(rt, open(alloc, numbers, true), |chain| {
         play(rt, chain, rows)

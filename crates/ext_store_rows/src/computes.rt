@@ -6,7 +6,7 @@ use crate::asked::{Scenario, same, with_chain};
 use crate::chain::{Call, Told, rows};
 use crate::opening::{Letter, plain};
 use ext_model::{Fault, Look};
-use ext_store::{Compute, KeepFault, Lane, Refusal, Store};
+use ext_store::{Compute, KeepFault, Lane, Store};
 use ext_tree::Key;
 use std::alloc::Global;
 use std::process::Abort;
@@ -35,17 +35,6 @@ fn value_at_root_leaves_factory_unused(rt: HostRuntime) {
         (0, 2, "b", Call::Gets(Ok(Look::Absent))),
     ];
     rows(&rt, rt.alloc(), 8, &all);
-}
-
-#[test]
-fn unknown_key_hands_factory_back(rt: HostRuntime) {
-    let refused = Told::Refused(Refusal::UnknownKey);
-    rows(
-        &rt,
-        rt.alloc(),
-        8,
-        &[(0, 2, "d", Call::Computes('x', refused))],
-    );
 }
 
 #[test]

@@ -14,6 +14,10 @@ mod closes;
 mod computes;
 #[cfg(test)]
 mod faults;
+#[cfg(test)]
+mod full;
+#[cfg(test)]
+mod keys;
 mod logged;
 mod opening;
 #[cfg(test)]
@@ -21,5 +25,5 @@ mod wide;
 
 pub use logged::{Log, close_logged};
 pub use opening::{
-    Letter, Opened, closeable, contexts, key, keys, open_chain, open_chain_for, open_store, plain,
+    Letter, Opened, closeable, contexts, key, open_chain, open_chain_for, open_store, plain,
 };

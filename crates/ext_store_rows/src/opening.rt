@@ -1,10 +1,10 @@
-//! The store of the tests: a chain of three contexts and the keys a, b and c, opened with two lanes.
+//! The store of the tests: a chain of three contexts, opened with two lanes.
 ghost use Rattle.std.specs.Prelude.{◌≡◌, ◌<◌, ◌++◌, true, false, List, All, IfSome, Some, length, option_to_list};
 ghost use Rattle.ext_store.specs.Stores.{IsCloserOf, IsLaneOf};
 
 use ext_ids::UniqueId;
 use ext_store::{Closer, Lane, Limits, Store, StoreValue};
-use ext_tree::{Directory, Key, Namespace, Tree};
+use ext_tree::{Key, Namespace, Tree};
 use std::alloc::Global;
 
 /// A value of the tests: a letter, and whether it is closeable.
@@ -96,37 +96,6 @@ pub fn contexts(alloc: Global) -> Option<Tree>
     Some(tree)
 }
 
-/// The names of the keys that can be declared.
-const NAMES: [&str; 11] = ["a", "b", "c", "d", "e", "f", "g", "h", "i", "j", "k"];
-
-/// Declares the key of this name; says whether there was memory.
-fn declare(alloc: Global, directory: &mut Directory, name: &str) -> bool {
-    match key(alloc, name) {
-        Some(key) => directory.declare(key).is_ok(),
-        None => false,
-    }
-}
-
-/// Declares so many keys, at most eleven: a, b, and so on; says whether there was memory.
-fn declare_all(alloc: Global, directory: &mut Directory, count: usize) -> bool {
-    for name in &NAMES[..count.min(NAMES.len())] {
-        if !declare(alloc, directory, name) {
-            return false;
-        }
-    }
-    true
-}
-
-/// So many keys, at most eleven: a, b, and so on; `None` where there is no memory.
-pub fn keys(alloc: Global, count: usize) -> Option<Directory> {
-    let mut directory = Directory::new(alloc);
-    if declare_all(alloc, &mut directory, count) {
-        Some(directory)
-    } else {
-        None
-    }
-}
-
 /// A store of the chain, its two lanes, and its closers.
 #[derive(Drop)]
 pub struct Opened<V> {
@@ -155,20 +124,15 @@ fn with_last_two<S: Drop, L: Drop, C: Drop>(
     Some((store, first, second, closers))
 }
 
-/// The store of the chain with these keys, where the limits have two lanes; `None` where they have others, or where there is
-/// no memory.
-pub fn open_store<V: StoreValue + Drop>(
-    alloc: Global,
-    directory: Directory,
-    limits: Limits,
-) -> Option<Opened<V>>
+/// The store of the chain, where the limits have two lanes; `None` where they have others, or where there is no memory.
+pub fn open_store<V: StoreValue + Drop>(alloc: Global, limits: Limits) -> Option<Opened<V>>
     ensures first { IfSome result (λ o. IsLaneOf o.store.id o.first) }
     ensures second { IfSome result (λ o. IsLaneOf o.store.id o.second) }
     ensures closers { IfSome result (λ o. All (IsCloserOf o.store) o.closers.items) }
     ensures contexts { IfSome result (λ o. 2 < length o.store.tree) }
 {
     let tree = contexts(alloc)?;
-    let Ok((store, lanes, closers)) = Store::open(alloc, tree, directory, limits) else {
+    let Ok((store, lanes, closers)) = Store::open(alloc, tree, limits) else {
         return None;
     };
     let (store, first, second, closers) = with_last_two(store, lanes, closers)?;
@@ -180,8 +144,7 @@ pub fn open_store<V: StoreValue + Drop>(
     })
 }
 
-/// The store of the chain with the keys a, b and c, eight tries and so many numbers, which keeps no faults; `None` where there is
-/// no memory.
+/// The store of the chain with eight tries and so many numbers, which keeps no faults; `None` where there is no memory.
 pub fn open_chain(alloc: Global, numbers: u32) -> Option<Opened<Letter>>
     ensures first { IfSome result (λ o. IsLaneOf o.store.id o.first) }
     ensures second { IfSome result (λ o. IsLaneOf o.store.id o.second) }
@@ -204,5 +167,5 @@ pub fn open_chain_for(alloc: Global, numbers: u32, keep_faults: bool) -> Option<
         numbers,
         keep_faults,
     };
-    open_store(alloc, keys(alloc, 3)?, limits)
+    open_store(alloc, limits)
 }

@@ -3,7 +3,7 @@ use crate::asked::same;
 use crate::opening::Letter;
 use ext_ids::UniqueId;
 use ext_store::{Limits, Store, StoreFault};
-use ext_tree::{Directory, Key, Namespace, Tree};
+use ext_tree::Tree;
 use std::alloc::Global;
 use std::test::Fail;
 
@@ -23,26 +23,6 @@ fn contexts(alloc: Global) -> Result<Tree, Fail> {
     Ok(Tree::build(alloc, ids.as_slice())?)
 }
 
-/// The key that a number names.
-fn number_key(alloc: Global, number: u32) -> Result<Key, Fail> {
-    let name = format!(in alloc; "{number}")?;
-    Ok(Key::new(alloc, Namespace::global(), name.as_str())?)
-}
-
-/// Declares the keys of so many numbers.
-fn declare_numbers(alloc: Global, directory: &mut Directory, count: u32) -> Result<(), Fail> {
-    for number in 0..count {
-        directory.declare(number_key(alloc, number)?)?;
-    }
-    Ok(())
-}
-
-fn keys(alloc: Global, count: u32) -> Result<Directory, Fail> {
-    let mut directory = Directory::new(alloc);
-    declare_numbers(alloc, &mut directory, count)?;
-    Ok(directory)
-}
-
 /// How many lanes and closers there are, or why a store is not opened, whatever the parts of a store are.
 fn counts<S: Drop, L: Drop, C: Drop>(
     opened: Result<(S, Vec<L>, Vec<C>), StoreFault>,
@@ -55,28 +35,23 @@ fn counts<S: Drop, L: Drop, C: Drop>(
 pub(crate) fn lanes_and_closers(
     alloc: Global,
     tree: Tree,
-    keys: Directory,
     limits: Limits,
 ) -> Result<(usize, usize), StoreFault> {
-    counts(Store::<Letter>::open(alloc, tree, keys, limits))
+    counts(Store::<Letter>::open(alloc, tree, limits))
 }
 
-/// How many lanes and closers a store of 256 contexts and so many keys has, or why it is not opened.
-fn opened(alloc: Global, count: u32) -> Result<Result<(usize, usize), StoreFault>, Fail> {
-    let limits = Limits {
-        lanes: 16,
-        tries: 64,
-        numbers: 65_535,
-        keep_faults: false,
-    };
-    let (tree, keys) = (contexts(alloc)?, keys(alloc, count)?);
-    Ok(lanes_and_closers(alloc, tree, keys, limits))
-}
+/// The limits of a store that has as much of everything as there can be.
+const WIDEST: Limits = Limits {
+    lanes: 16,
+    tries: 64,
+    numbers: 65_535,
+    keep_faults: true,
+};
 
 #[test]
-fn cells_are_4096_at_most(rt: HostRuntime) -> Result<(), Fail> {
-    same(&rt, opened(rt.alloc(), 16)?, Ok((16, 256)), "16 keys");
-    let fault = Err(StoreFault::TooManyCells);
-    same(&rt, opened(rt.alloc(), 17)?, fault, "17 keys");
+fn widest_store_is_opened(rt: HostRuntime) -> Result<(), Fail> {
+    let tree = contexts(rt.alloc())?;
+    let counts = lanes_and_closers(rt.alloc(), tree, WIDEST);
+    same(&rt, counts, Ok((16, 256)), "lanes and closers");
     Ok(())
 }

@@ -1,4 +1,5 @@
-pub mod KnownKeys
+pub mod Placed
+pub mod Keyed
 pub mod Ends
 pub mod Steps
 pub mod Framed

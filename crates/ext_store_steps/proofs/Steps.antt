@@ -1,25 +1,13 @@
--- A step by the words of its call, and steps one after another.
+-- Steps one after another.
 use Rattle.std.proofs.Common.{◌≡◌, ◌⊎◌, ℕ, ◌+◌, true, false, true≢false, List, [], ◌∷◌, drop, refl, sym, ◌∙◌, subst, arith, codes}
 use Rattle.ext_lifecycle.specs.declared.outcome.Outcome.{Outcome}
 use Rattle.ext_lifecycle.specs.declared.outcome.Verdict.TheVariants as verdicts
 use Rattle.ext_lifecycle.specs.Endings.{is_successful}
 use Rattle.ext_lifecycle.specs.Lifecycle.{ending_of}
-use Rattle.ext_tree.specs.Keys.{KeyValue}
-use Rattle.ext_plan_model.specs.Plans.{KeyText, StepText, compute_fail}
+use Rattle.ext_plan_model.specs.Plans.{KeyText, StepText}
 use Rattle.ext_store.specs.Stores.{StoreView}
-use Rattle.ext_steps.specs.Calls.{CallText, label_of, key_number, start_of}
 use Rattle.ext_store_steps.specs.StoreCalls.{HasFrame, PlanLane}
-use Rattle.ext_store_steps.specs.StoreSteps.{key_of_label, StepFails, FindsNoMemory, StepRun, StepsRun}
-
--- the step `computefail`, by what its call says
-pub fails_for : (store : StoreView) (keys : List KeyText) (path : List ℕ) (label up : ℕ) (text : List ℕ) (before : PlanLane) (outcome : Outcome) (after : PlanLane) (call : CallText) (key : KeyValue)
-    → call ≡ record { name = codes "computefail"; label = label_of keys label; path = drop up path; key = key_number keys label } → key ≡ key_of_label keys label
-    → (StepFails store key (start_of call.path) call.name call.label text before outcome after ⊎ FindsNoMemory before outcome after)
-    → StepRun store keys path (compute_fail label text up) before outcome after
-fails_for store keys path label up text before outcome after call key same_call same_key made =
-    subst (λ (x : KeyValue × CallText). StepFails store x.0 (start_of x.1.path) x.1.name x.1.label text before outcome after ⊎ FindsNoMemory before outcome after) (λ i. (same_key i, same_call i)) made
-
--- ---- steps one after another
+use Rattle.ext_store_steps.specs.StoreSteps.{StepRun, StepsRun}
 
 -- an outcome of what is left, with what was computed and found before
 pub record Adds (computed found : ℕ) (rest outcome : Outcome) : Type 0 where

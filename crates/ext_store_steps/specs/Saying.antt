@@ -7,7 +7,6 @@ use Rattle.ext_lifecycle.specs.declared.outcome.Verdict.{Verdict}
 use Rattle.ext_lifecycle.specs.declared.outcome.Verdict.TheVariants as verdicts
 use Rattle.ext_lifecycle.specs.Endings.{successful, aborted, failed}
 use Rattle.ext_lifecycle.specs.FaultTexts.{VerdictText, verdict_text}
-use Rattle.ext_steps.specs.declared.reason.Reason.{Reason}
 use Rattle.ext_steps.specs.declared.reason.Reason.TheVariants as reasons
 use Rattle.ext_steps.specs.Verdicts.{refused}
 use Rattle.ext_shared.specs.declared.fault.Refusal.{Refusal}
@@ -31,23 +30,26 @@ pub record Ends (said : VerdictText) (computed found : ℕ) (outcome : Outcome) 
   pub computed_are : outcome.computed ≡ computed
   pub found_are : outcome.found ≡ found
 
--- ---- refusals of the waiting forms, for a key that the store has
+-- memory ran out for what the step does
+abbrev pub EndsNoMemory : Outcome → Type 0
+EndsNoMemory outcome = (outcome.verdict ≡ no_memory) × (outcome.computed ≡ 0) × (outcome.found ≡ 0)
 
--- why a call was refused, in a step's words
-abbrev pub IsReason : Refusal → Reason → Type 0
-IsReason (refusal.Busy at) reason = ⊥
-IsReason (refusal.Closed at) reason = reason ≡ reasons.Closed
-IsReason refusal.Contended reason = ⊥
-IsReason refusal.UnknownKey reason = ⊥
-IsReason refusal.Exhausted reason = reason ≡ reasons.Exhausted
+-- ---- refusals of the waiting forms
 
--- a step NAME with this label whose call was refused so
+-- A step NAME whose key has this label and whose call was refused so. Waiting forms are not refused for a running factory or because other lanes were in the way, and it does
+-- not come that a key is not placed
 abbrev pub EndsRefused : List ℕ → List ℕ → Refusal → Outcome → Type 0
-EndsRefused name label why outcome = (reason : Reason) × IsReason why reason × Ends (refused name label reason) 0 0 outcome
+EndsRefused name label (refusal.Busy at) outcome = ⊥
+EndsRefused name label (refusal.Closed at) outcome = Ends (refused name label reasons.Closed) 0 0 outcome
+EndsRefused name label refusal.Contended outcome = ⊥
+EndsRefused name label refusal.Exhausted outcome = Ends (refused name label reasons.Exhausted) 0 0 outcome
+EndsRefused name label refusal.DirectoryFull outcome = Ends (refused name label reasons.DirectoryFull) 0 0 outcome
+EndsRefused name label refusal.Unplaced outcome = ⊥
+EndsRefused name label refusal.Memory outcome = EndsNoMemory outcome
 
 -- and one whose value was not kept
 abbrev pub EndsUnkept : List ℕ → List ℕ → KeepFault → Outcome → Type 0
-EndsUnkept name label keep_fault.Memory outcome = (outcome.verdict ≡ no_memory) × (outcome.computed ≡ 0) × (outcome.found ≡ 0)
+EndsUnkept name label keep_fault.Memory outcome = EndsNoMemory outcome
 EndsUnkept name label keep_fault.NumbersFull outcome = Ends (refused name label reasons.NumbersFull) 0 0 outcome
 EndsUnkept name label keep_fault.Contended outcome = ⊥
 EndsUnkept name label keep_fault.Unplaced outcome = Ends (refused name label reasons.Unplaced) 0 0 outcome

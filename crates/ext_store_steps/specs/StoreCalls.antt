@@ -18,7 +18,7 @@ use Rattle.ext_store.specs.declared.computed.Compute.{Compute}
 use Rattle.ext_store.specs.declared.computed.Compute.TheVariants as computes
 use Rattle.ext_store.specs.Stores.{StoreView, StoreLane}
 use Rattle.ext_store.specs.Frames.{Frame}
-use Rattle.ext_store.specs.Calls.{Gets, Puts, Removes, KeepsAs, KeepsNothing}
+use Rattle.ext_store.specs.Calls.{Gets, Puts, Removes, KeepsNothing}
 use Rattle.ext_store.specs.Computing.{Uses}
 use Rattle.ext_store.specs.Waiting.{ComputesAfterWaits}
 use Rattle.ext_steps.specs.declared.reason.Reason.TheVariants as reasons
@@ -75,8 +75,57 @@ Shows look.Absent before seen after = KnowsTheSame before after × (seen ≡ see
 Shows (look.Busy at) before seen after = ⊥
 Shows (look.Closed at) before seen after = KnowsTheSame before after × (seen ≡ seen_refused reasons.Closed)
 
+-- ---- how a step of this name ends whose key has this label
+
+module _ (name label : List ℕ) where
+  -- a change that is refused ends the step with why, and each other one is a success
+  abbrev pub EndsChange : Result (Option ℕ) Refusal → Outcome → Type 0
+  EndsChange (Ok stood) outcome = Ends successful 0 0 outcome
+  EndsChange (Err why) outcome = EndsRefused name label why outcome
+
+  -- the same of a put, which hands the number back
+  abbrev pub EndsPut : Result (Option ℕ) (ℕ × Refusal) → Outcome → Type 0
+  EndsPut (Ok stood) outcome = Ends successful 0 0 outcome
+  EndsPut (Err refused) outcome = EndsRefused name label refused.1 outcome
+
+  -- How a compute ends whose factory gives a value. A kept fault that stands in its place is shown, and counts for nothing
+  abbrev pub EndsCompute : Compute StoredValue (Unit {0}) → PlanLane → Outcome → PlanLane → Type 0
+  EndsCompute (computes.Computed number) before outcome after = (after ≡ before) × Ends successful 1 0 outcome
+  EndsCompute (computes.Found at number unused) before outcome after = (after ≡ before) × Ends successful 0 1 outcome
+  EndsCompute (computes.Failed why) before outcome after = ⊥
+  EndsCompute (computes.FaultKept number) before outcome after = ⊥
+  EndsCompute (computes.FaultUnkept why cause) before outcome after = ⊥
+  EndsCompute (computes.FaultStands at number unused) before outcome after =
+      (after.known ≡ before.known) × (seen : SeenText) × ShowsFault number before.faults seen after.faults × Ends (none_verdict name label seen) 0 0 outcome
+  EndsCompute (computes.Unkept value cause) before outcome after = (after ≡ before) × EndsUnkept name label cause outcome
+  EndsCompute (computes.Refused why unused) before outcome after = (after ≡ before) × EndsRefused name label why outcome
+
+  -- How a compute ends whose factory fails with this text: that its fault comes back, or is kept, is the success, and so is a kept fault of the same text. What is
+  -- met in its place is shown; a value that is found counts, and a kept fault does not
+  abbrev pub EndsComputeFail : List ℕ → Compute StoredValue (Unit {0}) → PlanLane → Outcome → PlanLane → Type 0
+  EndsComputeFail text (computes.Computed number) before outcome after = ⊥
+  EndsComputeFail text (computes.Found at number unused) before outcome after =
+      (after.faults ≡ before.faults) × (seen : SeenText) × ShowsNumber number before.known seen after.known × Ends (none_verdict name label seen) 0 1 outcome
+  EndsComputeFail text (computes.Failed why) before outcome after = (after ≡ before) × Ends successful 0 0 outcome
+  EndsComputeFail text (computes.FaultKept number) before outcome after = (after ≡ before) × Ends successful 0 0 outcome
+  EndsComputeFail text (computes.FaultUnkept why cause) before outcome after = (after ≡ before) × EndsUnkept name label cause outcome
+  EndsComputeFail text (computes.FaultStands at number unused) before outcome after =
+      (after.known ≡ before.known) × (seen : SeenText) × ShowsFault number before.faults seen after.faults × Ends (fail_verdict name label text seen) 0 0 outcome
+  EndsComputeFail text (computes.Unkept value cause) before outcome after = ⊥
+  EndsComputeFail text (computes.Refused why unused) before outcome after = (after ≡ before) × EndsRefused name label why outcome
+
 -- ---- the calls
 
+-- a step of this name whose key has this label: its value is not kept, and nothing is stored
+pub record PutsNothing (store : StoreView) (name label : List ℕ) (value : ValueText) (before : PlanLane) (outcome : Outcome) (after : PlanLane) : Type 0 where
+  pub lost_value : StoredValue
+  pub value_is : stored_view lost_value ≡ value
+  pub why : KeepFault
+  pub keeps_nothing : KeepsNothing store lost_value before after lost_value why
+  pub faults : after.faults ≡ before.faults
+  pub ends : EndsUnkept name label why outcome
+
+-- under the number of its key
 module _ (store : StoreView) (context key : ℕ) where
   -- a look-up from the context, and what it shows
   pub record Sees (before : PlanLane) (seen : SeenText) (after : PlanLane) : Type 0 where
@@ -84,58 +133,20 @@ module _ (store : StoreView) (context key : ℕ) where
     pub looked : Gets store context key before.cells after.cells (Ok answer)
     pub shown : Shows answer before seen after
 
-  -- the calls that end a step of this name whose key has this label
+  -- which end a step of this name whose key has this label
   module _ (name label : List ℕ) where
-    -- a change that is refused ends the step with why, and each other one is a success
-    abbrev pub EndsChange : Result (Option ℕ) Refusal → Outcome → Type 0
-    EndsChange (Ok stood) outcome = Ends successful 0 0 outcome
-    EndsChange (Err why) outcome = EndsRefused name label why outcome
-
-    -- the same of a put, which hands the number back
-    abbrev pub EndsPut : Result (Option ℕ) (ℕ × Refusal) → Outcome → Type 0
-    EndsPut (Ok stood) outcome = Ends successful 0 0 outcome
-    EndsPut (Err refused) outcome = EndsRefused name label refused.1 outcome
-
-    -- the value is kept under a number, and then the number is stored in the context, or that is refused
-    pub record PutsKept (value : ValueText) (before : PlanLane) (outcome : Outcome) (after : PlanLane) : Type 0 where
-      pub kept_value : StoredValue
-      pub value_is : stored_view kept_value ≡ value
-      pub number : ℕ
-      pub between : PlanLane
-      pub keeps : KeepsAs kept_value before between number
+    -- the kept number is stored in the context, or that is refused
+    pub record StoresThere (kept : ℕ) (before : PlanLane) (outcome : Outcome) (after : PlanLane) : Type 0 where
       pub result : Result (Option ℕ) (ℕ × Refusal)
-      pub puts : Puts store context key number between.cells after.cells result
-      pub known : after.known ≡ between.known
-      pub faults : after.faults ≡ before.faults
-      pub ends : EndsPut result outcome
-
-    -- the value is not kept, and nothing is stored
-    pub record PutsNothing (value : ValueText) (before : PlanLane) (outcome : Outcome) (after : PlanLane) : Type 0 where
-      pub lost_value : StoredValue
-      pub value_is : stored_view lost_value ≡ value
-      pub why : KeepFault
-      pub keeps_nothing : KeepsNothing store lost_value before after lost_value why
-      pub faults : after.faults ≡ before.faults
-      pub ends : EndsUnkept name label why outcome
+      pub puts : Puts store context key kept before.cells after.cells result
+      pub ends : EndsPut name label result outcome
 
     -- what stands in the context itself is taken out, or nothing stands there, or that is refused
     pub record RemovesThere (before : PlanLane) (outcome : Outcome) (after : PlanLane) : Type 0 where
       pub result : Result (Option ℕ) Refusal
       pub removes : Removes store context key before.cells after.cells result
       pub known : KnowsTheSame before after
-      pub ends : EndsChange result outcome
-
-    -- How a compute ends whose factory gives a value. A kept fault that stands in its place is shown, and counts for nothing
-    abbrev pub EndsCompute : Compute StoredValue (Unit {0}) → PlanLane → Outcome → PlanLane → Type 0
-    EndsCompute (computes.Computed number) before outcome after = (after ≡ before) × Ends successful 1 0 outcome
-    EndsCompute (computes.Found at number unused) before outcome after = (after ≡ before) × Ends successful 0 1 outcome
-    EndsCompute (computes.Failed why) before outcome after = ⊥
-    EndsCompute (computes.FaultKept number) before outcome after = ⊥
-    EndsCompute (computes.FaultUnkept why cause) before outcome after = ⊥
-    EndsCompute (computes.FaultStands at number unused) before outcome after =
-        (after.known ≡ before.known) × (seen : SeenText) × ShowsFault number before.faults seen after.faults × Ends (none_verdict name label seen) 0 0 outcome
-    EndsCompute (computes.Unkept value cause) before outcome after = (after ≡ before) × EndsUnkept name label cause outcome
-    EndsCompute (computes.Refused why unused) before outcome after = (after ≡ before) × EndsRefused name label why outcome
+      pub ends : EndsChange name label result outcome
 
     -- a compute with a factory that gives this value, and after it, where a kept fault stands, the call that shows it
     pub record ComputesValue (value : ValueText) (before : PlanLane) (outcome : Outcome) (after : PlanLane) : Type 0 where
@@ -145,21 +156,7 @@ module _ (store : StoreView) (context key : ℕ) where
       pub computed : ComputesAfterWaits store context key before.cells after.cells result
       pub between : PlanLane
       pub uses : Uses (λ answer. answer ≡ Ok given) before between result
-      pub ends : EndsCompute result between outcome after
-
-    -- How a compute ends whose factory fails with this text: that its fault comes back, or is kept, is the success, and so is a kept fault of the same text. What is
-    -- met in its place is shown; a value that is found counts, and a kept fault does not
-    abbrev pub EndsComputeFail : List ℕ → Compute StoredValue (Unit {0}) → PlanLane → Outcome → PlanLane → Type 0
-    EndsComputeFail text (computes.Computed number) before outcome after = ⊥
-    EndsComputeFail text (computes.Found at number unused) before outcome after =
-        (after.faults ≡ before.faults) × (seen : SeenText) × ShowsNumber number before.known seen after.known × Ends (none_verdict name label seen) 0 1 outcome
-    EndsComputeFail text (computes.Failed why) before outcome after = (after ≡ before) × Ends successful 0 0 outcome
-    EndsComputeFail text (computes.FaultKept number) before outcome after = (after ≡ before) × Ends successful 0 0 outcome
-    EndsComputeFail text (computes.FaultUnkept why cause) before outcome after = (after ≡ before) × EndsUnkept name label cause outcome
-    EndsComputeFail text (computes.FaultStands at number unused) before outcome after =
-        (after.known ≡ before.known) × (seen : SeenText) × ShowsFault number before.faults seen after.faults × Ends (fail_verdict name label text seen) 0 0 outcome
-    EndsComputeFail text (computes.Unkept value cause) before outcome after = ⊥
-    EndsComputeFail text (computes.Refused why unused) before outcome after = (after ≡ before) × EndsRefused name label why outcome
+      pub ends : EndsCompute name label result between outcome after
 
     -- a compute with a factory that fails with this text, and after it, where a value or a kept fault is met, the call that shows it
     pub record ComputesFault (text : List ℕ) (before : PlanLane) (outcome : Outcome) (after : PlanLane) : Type 0 where
@@ -169,4 +166,4 @@ module _ (store : StoreView) (context key : ℕ) where
       pub computed : ComputesAfterWaits store context key before.cells after.cells result
       pub between : PlanLane
       pub uses : Uses (λ answer. answer ≡ Err (faults.Text message)) before between result
-      pub ends : EndsComputeFail text result between outcome after
+      pub ends : EndsComputeFail name label text result between outcome after

@@ -1,5 +1,5 @@
 //! The steps that change what stands in a context: `put`, `put!` and `remove`.
-ghost use Rattle.std.specs.Prelude.{◌≡◌, ◌<◌, Contains, length};
+ghost use Rattle.std.specs.Prelude.{◌≡◌, ◌<◌, length};
 ghost use Rattle.ext_store.specs.Stores.{IsLaneOf};
 ghost use Rattle.ext_steps.specs.Calls.{call_view, start_of};
 ghost use Rattle.ext_store_steps.specs.StoreCalls.{HasFrame, stored_view};
@@ -10,24 +10,21 @@ use crate::reasons::{end_refused, end_unkept};
 use ext_lifecycle::{Outcome, Verdict};
 use ext_steps::StepCall;
 use ext_store::{Lane, Store};
-use ext_tree::Key;
 use std::alloc::Global;
 use std::sync::Wait;
 
-/// The steps `put` and `put!`: keeps the value, and stores it in the context.
+/// The steps `put` and `put!`: keeps the value, and then stores it in the context, where its key gets a number.
 pub(crate) fn put_value<'a, R: Wait>(
     alloc: Global,
     rt: &R,
     store: &Store<StoredValue<'a>>,
     lane: &mut Lane<StoredValue<'a>>,
     call: &StepCall<'_>,
-    key: &Key,
     value: StoredValue<'a>,
 ) -> Outcome
     requires lane { IsLaneOf store.now.id lane.old }
     requires context { start_of (call_view call.now).path < length store.now.tree }
-    requires key { Contains store.now.keys key.now }
-    ensures puts { StepPuts store.now key.now (start_of (call_view call.now).path) (call_view call.now).name (call_view call.now).label (stored_view value.entry) lane.old result lane.new }
+    ensures puts { StepPuts store.now (call_view call.now) (stored_view value.entry) lane.old result lane.new }
     ensures computed { result.computed ≡ 0 }
     ensures found { result.found ≡ 0 }
     ensures lane { IsLaneOf store.now.id lane.new }
@@ -38,7 +35,7 @@ pub(crate) fn put_value<'a, R: Wait>(
         Err((_, why)) => return end_unkept(alloc, call, why),
     };
     let context = call.at();
-    match store.put_wait(rt, lane, context, key, kept) {
+    match store.put_wait(rt, lane, context, call.key, kept) {
         Ok(_) => Outcome::of(Verdict::Successful),
         Err((_, why)) => end_refused(alloc, call, why),
     }
@@ -51,19 +48,17 @@ pub(crate) fn remove_value<'a, R: Wait>(
     store: &Store<StoredValue<'a>>,
     lane: &mut Lane<StoredValue<'a>>,
     call: &StepCall<'_>,
-    key: &Key,
 ) -> Outcome
     requires lane { IsLaneOf store.now.id lane.old }
     requires context { start_of (call_view call.now).path < length store.now.tree }
-    requires key { Contains store.now.keys key.now }
-    ensures removes { StepRemoves store.now key.now (start_of (call_view call.now).path) (call_view call.now).name (call_view call.now).label lane.old result lane.new }
+    ensures removes { StepRemoves store.now (call_view call.now) lane.old result lane.new }
     ensures computed { result.computed ≡ 0 }
     ensures found { result.found ≡ 0 }
     ensures lane { IsLaneOf store.now.id lane.new }
     ensures frame { HasFrame store.now lane.old lane.new }
 {
     let context = call.at();
-    match store.remove_wait(rt, lane, context, key) {
+    match store.remove_wait(rt, lane, context, call.key) {
         Ok(_) => Outcome::of(Verdict::Successful),
         Err(why) => end_refused(alloc, call, why),
     }

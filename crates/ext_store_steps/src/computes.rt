@@ -1,8 +1,9 @@
 //! The steps that compute a value where none is found: `compute`, `compute!` and `computefail`.
-ghost use Rattle.std.specs.Prelude.{◌≡◌, ◌<◌, ◌≤◌, ◌⊎◌, Contains, ℕ, [], length, string_bytes};
-ghost use Rattle.ext_tree.specs.Keys.{HasNumber};
+ghost use Rattle.std.specs.Prelude.{◌≡◌, ◌<◌, ◌≤◌, ◌⊎◌, ℕ, [], length, string_bytes};
 ghost use Rattle.ext_store.specs.Stores.{IsLaneOf};
+ghost use Rattle.ext_store.specs.declared.computed.Compute.TheVariants.{Refused};
 ghost use Rattle.ext_store.specs.Frames.{Frame};
+ghost use Rattle.ext_store.specs.Keys.{OfKey};
 ghost use Rattle.ext_store.specs.Computing.{Uses, without_factory};
 ghost use Rattle.ext_store.specs.Waiting.{ComputesAfterWaits, IsDecidedCompute};
 ghost use Rattle.ext_steps.specs.Calls.{call_view, start_of};
@@ -29,19 +30,17 @@ pub(crate) fn compute<'a, R: Wait>(
     store: &Store<StoredValue<'a>>,
     lane: &mut Lane<StoredValue<'a>>,
     call: &StepCall<'_>,
-    key: &Key,
     value: StoredValue<'a>,
 ) -> Outcome
     requires lane { IsLaneOf store.now.id lane.old }
     requires context { start_of (call_view call.now).path < length store.now.tree }
-    requires key { Contains store.now.keys key.now }
-    ensures computes { StepComputes store.now key.now (start_of (call_view call.now).path) (call_view call.now).name (call_view call.now).label (stored_view value.entry) lane.old result lane.new }
+    ensures computes { StepComputes store.now (call_view call.now) (stored_view value.entry) lane.old result lane.new }
     ensures computed { result.computed ≤ 1 }
     ensures found { result.found ≤ 1 }
     ensures lane { IsLaneOf store.now.id lane.new }
     ensures frame { HasFrame store.now lane.old lane.new }
 {
-    match compute_made(rt, store, lane, call.at(), key, Ok(value)) {
+    match compute_made(rt, store, lane, call.at(), call.key, Ok(value)) {
         Compute::Computed { number: _ } => counted(Verdict::Successful, 1, 0),
         Compute::Found {
             at: _,
@@ -70,20 +69,18 @@ pub(crate) fn compute_fail<'a, R: Wait>(
     store: &Store<StoredValue<'a>>,
     lane: &mut Lane<StoredValue<'a>>,
     call: &StepCall<'_>,
-    key: &Key,
     text: &String,
 ) -> Outcome
     requires lane { IsLaneOf store.now.id lane.old }
     requires context { start_of (call_view call.now).path < length store.now.tree }
-    requires key { Contains store.now.keys key.now }
-    ensures fails { StepFails store.now key.now (start_of (call_view call.now).path) (call_view call.now).name (call_view call.now).label (string_bytes text.now) lane.old result lane.new ⊎ FindsNoMemory lane.old result lane.new }
+    ensures fails { StepFails store.now (call_view call.now) (string_bytes text.now) lane.old result lane.new ⊎ FindsNoMemory lane.old result lane.new }
     ensures computed { result.computed ≤ 1 }
     ensures found { result.found ≤ 1 }
     ensures lane { IsLaneOf store.now.id lane.new }
     ensures frame { HasFrame store.now lane.old lane.new }
 {
     match text.clone() {
-        Ok(copy) => compute_fault(alloc, rt, store, lane, call, key, copy, text.as_str()),
+        Ok(copy) => compute_fault(alloc, rt, store, lane, call, copy, text.as_str()),
         Err(_) => Outcome::of(Verdict::Failed(Fault::Memory)),
     }
 }
@@ -95,22 +92,20 @@ fn compute_fault<'a, R: Wait>(
     store: &Store<StoredValue<'a>>,
     lane: &mut Lane<StoredValue<'a>>,
     call: &StepCall<'_>,
-    key: &Key,
     copy: String,
     text: &str,
 ) -> Outcome
     requires lane { IsLaneOf store.now.id lane.old }
     requires context { start_of (call_view call.now).path < length store.now.tree }
-    requires key { Contains store.now.keys key.now }
     requires text { string_bytes copy ≡ text.now }
-    ensures fails { StepFails store.now key.now (start_of (call_view call.now).path) (call_view call.now).name (call_view call.now).label text.now lane.old result lane.new }
+    ensures fails { StepFails store.now (call_view call.now) text.now lane.old result lane.new }
     ensures computed { result.computed ≤ 1 }
     ensures found { result.found ≤ 1 }
     ensures lane { IsLaneOf store.now.id lane.new }
     ensures frame { HasFrame store.now lane.old lane.new }
 {
     let fault = Fault::Text(copy);
-    match compute_made(rt, store, lane, call.at(), key, Err(fault)) {
+    match compute_made(rt, store, lane, call.at(), call.key, Err(fault)) {
         Compute::Found {
             at: _,
             number,
@@ -145,6 +140,7 @@ fn end_met<'a>(
     requires lane { IsLaneOf store.now.id lane.old }
     ensures ends { (seen : SeenText) × ShowsFault number lane.old.faults seen lane.new.faults × Ends (none_verdict (call_view call.now).name (call_view call.now).label seen) 0 0 result }
     ensures known { lane.new.known ≡ lane.old.known }
+    ensures keys { lane.new.keys ≡ lane.old.keys }
     ensures steps { lane.new.cells ≡ lane.old.cells }
     ensures lane { IsLaneOf store.now.id lane.new }
     ensures frame { HasFrame store.now lane.old lane.new }
@@ -165,6 +161,7 @@ fn end_met_failing<'a>(
     requires lane { IsLaneOf store.now.id lane.old }
     ensures ends { (seen : SeenText) × ShowsFault number lane.old.faults seen lane.new.faults × Ends (fail_verdict (call_view call.now).name (call_view call.now).label text.now seen) 0 0 result }
     ensures known { lane.new.known ≡ lane.old.known }
+    ensures keys { lane.new.keys ≡ lane.old.keys }
     ensures steps { lane.new.cells ≡ lane.old.cells }
     ensures lane { IsLaneOf store.now.id lane.new }
     ensures frame { HasFrame store.now lane.old lane.new }
@@ -184,7 +181,7 @@ fn compute_made<R: Wait, V: StoreValue + Drop>(
 ) -> Compute<V, ()>
     requires lane { IsLaneOf store.now.id lane.old }
     requires context { context < length store.now.tree }
-    ensures answer { (number : ℕ) → HasNumber store.now.keys key.now number → ComputesAfterWaits store.now context number lane.old.cells lane.new.cells (without_factory result) }
+    ensures answer { OfKey lane.old lane.new key.now (λ why. result ≡ Refused why tt) (λ number. ComputesAfterWaits store.now context number lane.old.cells lane.new.cells (without_factory result)) }
     ensures decided { IsDecidedCompute result }
     ensures factory { Uses (λ answer. answer ≡ made) lane.old lane.new (without_factory result) }
     ensures lane { IsLaneOf store.now.id lane.new }

@@ -6,6 +6,7 @@
 //! `specs/StoreSteps`; what a step says is that of `ext_steps`. Want of memory is the step's own fault. Own rule.
 #![tactic(auto)]
 
+mod calls;
 mod changes;
 mod computes;
 mod looks;

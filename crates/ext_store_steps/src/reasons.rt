@@ -26,16 +26,18 @@ pub(crate) fn or_no_memory(verdict: Result<Verdict, AllocError>) -> Verdict
 /// How a step ends whose call was refused so.
 pub(crate) fn end_refused(alloc: Global, call: &StepCall<'_>, why: Refusal) -> Outcome
     requires decided { IsDecided why }
-    requires known { why ≢ refusal.UnknownKey }
+    requires placed { why ≢ refusal.Unplaced }
     ensures { EndsRefused (call_view call.now).name (call_view call.now).label why result }
 {
     match why {
         Refusal::Closed(_) => end_for(alloc, call, Reason::Closed),
         Refusal::Exhausted => end_for(alloc, call, Reason::Exhausted),
-        // The key is the store's, and waiting forms are refused for no other reason.
+        Refusal::DirectoryFull => end_for(alloc, call, Reason::DirectoryFull),
+        Refusal::Memory => Outcome::of(Verdict::Failed(Fault::Memory)),
+        // Waiting forms are not refused for these, and it does not come that a key is not placed.
         Refusal::Busy(_) => unreachable!(),
         Refusal::Contended => unreachable!(),
-        Refusal::UnknownKey => unreachable!(),
+        Refusal::Unplaced => unreachable!(),
     }
 }
 

@@ -1,24 +1,18 @@
--- A store with the tree and the keys of a plan, and locks with its names, are those over which the suite of the plan may be run.
+-- A store with the tree of a plan, and locks with its names, are those over which the suite of the plan may be run.
 use Rattle.std.proofs.Common.{◌≡◌, ◌<◌, ℕ, zero, suc, true, List, [], ◌∷◌, map, length, Some, None, Contains, All, subst, sym, ap, arith, true≢false}
 use Rattle.std.specs.Prelude.{HoldsAt, IfSome, Option, is_some, slice_get}
 use Rattle.std.proofs.lemmas.List.{length-map}
 use Rattle.std.proofs.lemmas.List.Elements.{All-map, All-weaker}
 use Rattle.ext_engine.specs.TreeRun.{IsFit, IsNamedLock}
 use Rattle.ext_locks.specs.Opening.{LocksView}
-use Rattle.ext_plan_model.specs.KeyNumbers.{different_keys, named_key}
 use Rattle.ext_plan_model.specs.Laws.{TestsHaveNoChildren, ids_of_nodes}
 use Rattle.ext_plan_model.specs.Locks.{lock_name, lock_names}
 use Rattle.ext_plan_model.specs.PlanCalls.{locks_of, test_in, test_of}
 use Rattle.ext_plan_model.specs.Plans.{LockText, NodeText, PlanText, StepText, read, read_write}
-use Rattle.ext_plan_model.proofs.Named.{keys_are_there, locks_are_there}
+use Rattle.ext_plan_model.proofs.Named.{locks_are_there}
 use Rattle.ext_store.specs.Stores.{StoreView}
 use Rattle.ext_tree.specs.Paths.{children_of}
-use Rattle.ext_suite.specs.PlanSuites.{HasKeys, asked, suite_of}
-
-pub keys_fit : (plan : PlanText) (store : StoreView) → store.keys ≡ different_keys plan.keys → HasKeys plan store
-keys_fit plan store same = subst (λ keys. All (λ key. Contains keys (named_key key)) plan.keys) (sym same) (keys_are_there plan.keys)
-
--- ---- locks and tests
+use Rattle.ext_suite.specs.PlanSuites.{asked, suite_of}
 
 asked_is_named : (names : List (List ℕ)) (lock : LockText) → Contains names (lock_name lock) → IsNamedLock names (asked lock).name
 asked_is_named names (read name) h = h

@@ -1,15 +1,14 @@
--- What the nodes of a plan are to an engine that runs them, over which stores it may run them, and what a call of a node does.
+-- What the nodes of a plan are to an engine that runs them, over any store, and what a call of a node does.
 --
 -- JUnit 5 User Guide, "Parallel Execution", "Synchronization" and "Keeping State in Extensions". That a callback which another node registered acts on the context of
 -- the node that it is called for is `ExtensionContext` of "Relative Execution Order of User Code and Extensions"; the steps are an own rule.
-use Rattle.std.specs.Prelude.{ℕ, List, map, Some, is_some, All, Contains}
+use Rattle.std.specs.Prelude.{ℕ, List, map, Some, is_some}
 use Rattle.ext_lifecycle.specs.declared.call.Call.{Call}
 use Rattle.ext_lifecycle.specs.declared.outcome.Outcome.{Outcome}
 use Rattle.ext_locks.specs.declared.event.LockMode.TheVariants as lock_mode
 use Rattle.ext_tree.specs.Paths.{IsPathOf}
 use Rattle.ext_plan_model.specs.Plans.{LockText, read, read_write, PlanText}
 use Rattle.ext_plan_model.specs.PlanCalls.{concurrent_of, isolated_of, locks_of, steps_of_call, test_of}
-use Rattle.ext_plan_model.specs.KeyNumbers.{named_key}
 use Rattle.ext_store.specs.Stores.{StoreView}
 use Rattle.ext_store_steps.specs.StoreCalls.{PlanLane}
 use Rattle.ext_store_steps.specs.StoreSteps.{StepsRun}
@@ -28,10 +27,6 @@ suite_of plan = record {
   is_test = λ node. is_some (test_of plan node);
   locks = λ node. map asked (locks_of plan node);
 }
-
--- the store has the key of each label
-abbrev pub HasKeys : PlanText → StoreView → Type 0
-HasKeys plan store = All (λ key. Contains store.keys (named_key key)) plan.keys
 
 -- A call of a node: its steps are run in the node's context, also where another node registered them
 pub record RunsCall (plan : PlanText) (store : StoreView) (node : ℕ) (call : Call) (before : PlanLane) (outcome : Outcome) (after : PlanLane) : Type 0 where

@@ -1,8 +1,7 @@
 //! The suite of a plan.
-ghost use Rattle.std.specs.Prelude.{◌≡◌, ◌≤◌, IfOk, All, length, map};
-ghost use Rattle.ext_plan_model.specs.KeyNumbers.{different_keys, named_key, HasParts};
-ghost use Rattle.ext_plan_model.specs.Laws.{CallbacksAreFew, NamespacesHaveParts, StepListsAreShort, StepsNameLabels};
-ghost use Rattle.ext_plan_model.specs.Plans.{keys_view, lock_view, plan_view};
+ghost use Rattle.std.specs.Prelude.{◌≡◌, IfOk};
+ghost use Rattle.ext_plan_model.specs.Laws.{CallbacksAreFew, NamespacesHaveParts, StepListsAreShort};
+ghost use Rattle.ext_plan_model.specs.Plans.{lock_view, plan_view};
 ghost use Rattle.ext_engine.specs.Suites.{asks};
 ghost use Rattle.ext_suite.specs.PlanSuites.{asked};
 
@@ -11,11 +10,11 @@ use ext_engine::{Call, Callbacks, Kind, Mode, Outcome, Suite};
 use ext_lifecycle::RunListener;
 use ext_locks::{Held, LockMode, LockRequest, Resource};
 use ext_model::ContextNo;
-use ext_plan_model::{KeyNumbers, Plan, PlanKey, PlanLock};
+use ext_plan_model::{Plan, PlanLock};
 use ext_steps::StepKeys;
 use ext_store::{Lane, Store};
 use ext_store_steps::{StoreSteps, StoredValue};
-use ext_tree::{Key, TreeFault};
+use ext_tree::Key;
 use std::alloc::{AllocError, Global};
 use std::marker::Model;
 use std::sync::Wait;
@@ -27,7 +26,6 @@ pub struct PlanSuite<'a, L> {
     alloc: Global,
     plan: &'a Plan,
     listener: &'a L,
-    numbers: KeyNumbers,
     // For each label, in the order of the plan.
     keys: Vec<Key>,
 }
@@ -40,54 +38,33 @@ impl<'a, L> Model for PlanSuite<'a, L> {
 
     ghost view = { λ s. plan_view s.plan.now };
 
-    ghost invariant = { λ s. IsSuiteOf (plan_view s.plan.now) s.numbers s.keys.items };
+    ghost invariant = { λ s. IsSuiteOf (plan_view s.plan.now) s.keys.items };
 }
 
 impl<'a, L> PlanSuite<'a, L> {
-    /// The suite of a plan, and who is told of the nodes that have ended. It takes memory for the keys of the plan's labels, which it makes, and for what the steps of a run take.
+    /// The suite of a plan, and who is told of the nodes that have ended. It takes memory for the keys of the plan's labels, which it makes, and for what the steps of a run take:
+    /// among it for the key of a step that names no label, which is made where the step runs.
     ///
-    /// The labels name at most 64 different keys; each step names a label of the plan, or none; lists of steps and of callbacks are not
-    /// longer than a plan's. All this holds of each plan that was read. `AllocError` comes only where memory is refused. Own rule.
+    /// A namespace that is given has a part; lists of steps and of callbacks are not longer than a plan's. All this holds of each plan that was read. `AllocError` comes only where
+    /// memory is refused. Own rule.
     pub fn new(
         alloc: Global,
         plan: &'a Plan,
         listener: &'a L,
     ) -> Result<PlanSuite<'a, L>, AllocError>
-        requires keys { length (different_keys (plan_view plan.now).keys) ≤ 64 }
         requires parts { NamespacesHaveParts (plan_view plan.now) }
-        requires labels { StepsNameLabels (plan_view plan.now) }
         requires short { StepListsAreShort (plan_view plan.now) }
         requires few { CallbacksAreFew (plan_view plan.now) }
         ensures { IfOk result (λ suite. suite ≡ plan_view plan.now) }
     {
-        let keys = keys_of(alloc, plan.keys.as_slice())?;
-        match KeyNumbers::of(alloc, plan.keys.as_slice()) {
-            Ok(numbers) => Ok(PlanSuite {
-                alloc,
-                plan,
-                listener,
-                numbers,
-                keys,
-            }),
-            // There are not too many keys.
-            Err(_) => Err(AllocError),
-        }
+        let keys = plan.store_keys(alloc)?;
+        Ok(PlanSuite {
+            alloc,
+            plan,
+            listener,
+            keys,
+        })
     }
-}
-
-/// The key of the store for each label, in order.
-fn keys_of(alloc: Global, keys: &[PlanKey]) -> Result<Vec<Key>, AllocError>
-    requires { All HasParts (keys_view keys.now) }
-    ensures { IfOk result (λ v. v.items ≡ map named_key (keys_view keys.now)) }
-{
-    let mut list = Vec::new(alloc);
-    for key in keys {
-        match key.store_key(alloc) {
-            Ok(key) => list.push(key)?,
-            Err(_) => return Err(AllocError),
-        }
-    }
-    Ok(list)
 }
 
 impl<L> Callbacks for PlanSuite<'_, L> {
@@ -101,13 +78,13 @@ impl<L> Callbacks for PlanSuite<'_, L> {
 }
 
 impl<'a, L: RunListener> Suite<StoredValue<'a>> for PlanSuite<'a, L> {
-    ghost use Rattle.ext_suite.specs.PlanSuites.{suite_of, HasKeys, RunsCall};
+    ghost use Rattle.ext_suite.specs.PlanSuites.{suite_of, RunsCall};
 
     type Action = PlanAction;
 
     ghost nodes = { suite_of };
 
-    ghost fits = { HasKeys };
+    ghost fits = { λ plan store. Unit {0} };
 
     ghost call_gives = { λ plan store node call held before outcome after. RunsCall plan store node call before outcome after };
 
@@ -155,8 +132,8 @@ impl<'a, L: RunListener> Suite<StoredValue<'a>> for PlanSuite<'a, L> {
         _held: Option<&Held>,
     ) -> Outcome {
         let plan: &'a Plan = self.plan;
-        let names = StepKeys::of(plan.keys.as_slice(), &self.numbers);
-        let steps = StoreSteps::of(self.alloc, names, self.keys.as_slice());
+        let names = StepKeys::of(plan.keys.as_slice(), self.keys.as_slice());
+        let steps = StoreSteps::of(self.alloc, names);
         let path = store.tree().path(node);
         steps.run(rt, store, lane, path.as_slice(), plan.steps_of(call))
     }

@@ -1,10 +1,32 @@
-//! A gate that holds a factory, and how a thread looks for another one.
+//! A gate that holds a factory, and how a thread looks for another one or waits for it.
 use std::sync::atomic::{AtomicU64, Ordering};
-use std::thread::sleep;
+use std::thread::{sleep, yield_now};
 use std::time::{Clock, Duration};
 
 // How often a thread looks for another one, by one atomic load each, a thousandth of a second apart.
 const TURNS: u64 = 20_000;
+
+// How many turns a lane waits for others before it begins, in each of which it lets other threads run.
+const BRIEFLY: u64 = 200;
+
+/// Comes, and waits a little for so many lanes in all, so that they begin at once.
+pub(crate) fn come(came: &AtomicU64, lanes: u64) {
+    came.fetch_add(1, Ordering::SeqCst);
+    for _ in 0..BRIEFLY {
+        if came.load(Ordering::SeqCst) == lanes {
+            return;
+        }
+        yield_now();
+    }
+}
+
+/// Takes so many turns, of one atomic load each.
+pub(crate) fn delay(turns: u64) {
+    let word = AtomicU64::new(0);
+    for _ in 0..turns {
+        word.load(Ordering::SeqCst);
+    }
+}
 
 /// Whether the flag was raised in time.
 pub(crate) fn is_raised(clock: &impl Clock, flag: &AtomicU64) -> bool {

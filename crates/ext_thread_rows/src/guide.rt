@@ -8,7 +8,7 @@ use ext_closing::{CloseAction, CloseFault, close};
 use ext_model::{Fault, Look};
 use ext_store::{Closer, Compute, Lane, Limits, Refusal, Store, StoreValue};
 use ext_store_rows::{Opened, open_store};
-use ext_tree::{Directory, Key, Namespace};
+use ext_tree::{Key, Namespace};
 use std::alloc::Global;
 use std::process::Abort;
 use std::sync::Wait;
@@ -35,15 +35,8 @@ fn server_key(alloc: Global) -> Result<Key, Fail> {
     Ok(Key::new(alloc, Namespace::create(alloc, &["web"])?, "server")?)
 }
 
-/// The declared keys of the run.
-fn server_keys(alloc: Global) -> Result<Directory, Fail> {
-    let mut directory = Directory::new(alloc);
-    directory.declare(server_key(alloc)?)?;
-    Ok(directory)
-}
-
 /// A store for the chain's server, with a lane for each of two threads.
-fn open_for_servers<R: Abort>(rt: &R, alloc: Global, directory: Directory) -> Opened<Server>
+fn open_for_servers<R: Abort>(rt: &R, alloc: Global) -> Opened<Server>
     ensures first { IsLaneOf result.store.id result.first }
     ensures second { IsLaneOf result.store.id result.second }
     ensures closers { All (IsCloserOf result.store) result.closers.items }
@@ -55,23 +48,19 @@ fn open_for_servers<R: Abort>(rt: &R, alloc: Global, directory: Directory) -> Op
         numbers: 1_000,
         keep_faults: false,
     };
-    let Some(opened) = open_store(alloc, directory, limits) else {
+    let Some(opened) = open_store(alloc, limits) else {
         panic!(rt; "no store");
     };
     opened
 }
 
 /// The same without the closers.
-fn open_for_two<R: Abort>(
-    rt: &R,
-    alloc: Global,
-    directory: Directory,
-) -> (Store<Server>, Lane<Server>, Lane<Server>)
+fn open_for_two<R: Abort>(rt: &R, alloc: Global) -> (Store<Server>, Lane<Server>, Lane<Server>)
     ensures first { IsLaneOf result.0.id result.1 }
     ensures second { IsLaneOf result.0.id result.2 }
     ensures contexts { 2 < length result.0.tree }
 {
-    let opened = open_for_servers(rt, alloc, directory);
+    let opened = open_for_servers(rt, alloc);
     (opened.store, opened.first, opened.second)
 }
 
@@ -137,8 +126,8 @@ fn find_server<R: Abort>(
 }
 
 /// A thread starts the server in a store that is opened for it, and another lane finds it.
-fn start_and_find<R: Abort + Threads>(rt: &R, alloc: Global, directory: Directory, key: &Key) {
-    let (store, first, second) = open_for_two(rt, alloc, directory);
+fn start_and_find<R: Abort + Threads>(rt: &R, alloc: Global, key: &Key) {
+    let (store, first, second) = open_for_two(rt, alloc);
     let (store, first) = start_in_a_thread(rt, store, first, key);
     find_server(rt, &store, first, second, key);
 }
@@ -146,8 +135,7 @@ fn start_and_find<R: Abort + Threads>(rt: &R, alloc: Global, directory: Director
 #[test]
 fn first_hour(rt: HostRuntime) -> Result<(), Fail> {
     let key = server_key(rt.alloc())?;
-    let directory = server_keys(rt.alloc())?;
-    start_and_find(&rt, rt.alloc(), directory, &key);
+    start_and_find(&rt, rt.alloc(), &key);
     Ok(())
 }
 
@@ -226,13 +214,8 @@ fn answer<S: Drop, T>(asked: (S, T)) -> T {
 }
 
 /// Both threads have the same server, in a store that is opened for them.
-fn make_once<R: Abort + Sync + Threads + Wait>(
-    rt: &R,
-    alloc: Global,
-    directory: Directory,
-    key: &Key,
-) {
-    let (store, first, second) = open_for_two(rt, alloc, directory);
+fn make_once<R: Abort + Sync + Threads + Wait>(rt: &R, alloc: Global, key: &Key) {
+    let (store, first, second) = open_for_two(rt, alloc);
     let asked = answer(ask_both(rt, store, first, second, key));
     same(
         &rt,
@@ -245,8 +228,7 @@ fn make_once<R: Abort + Sync + Threads + Wait>(
 #[test]
 fn server_made_once(rt: HostRuntime) -> Result<(), Fail> {
     let key = server_key(rt.alloc())?;
-    let directory = server_keys(rt.alloc())?;
-    make_once(&rt, rt.alloc(), directory, &key);
+    make_once(&rt, rt.alloc(), &key);
     Ok(())
 }
 
@@ -393,8 +375,7 @@ fn make_and_end<R: Abort + Wait>(
 #[test]
 fn server_is_stopped_once(rt: HostRuntime) -> Result<(), Fail> {
     let key = server_key(rt.alloc())?;
-    let directory = server_keys(rt.alloc())?;
-    let opened = open_for_servers(&rt, rt.alloc(), directory);
+    let opened = open_for_servers(&rt, rt.alloc());
     with_opened(
         &rt,
         Some(key),

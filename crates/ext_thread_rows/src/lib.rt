@@ -4,6 +4,8 @@
 #[cfg(test)]
 mod calls;
 #[cfg(test)]
+mod closing;
+#[cfg(test)]
 mod failing;
 #[cfg(test)]
 mod gates;
@@ -13,6 +15,8 @@ mod guide;
 mod held;
 #[cfg(test)]
 mod moving;
+#[cfg(test)]
+mod naming;
 #[cfg(test)]
 mod opening;
 #[cfg(test)]

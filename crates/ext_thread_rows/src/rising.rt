@@ -7,7 +7,7 @@ use crate::opening::with_opened;
 use crate::same::same;
 use ext_model::Look;
 use ext_store::{Lane, Limits, Refusal, Store};
-use ext_store_rows::{Letter, Opened, key, keys, open_store, plain};
+use ext_store_rows::{Letter, Opened, key, open_store, plain};
 use ext_tree::Key;
 use std::alloc::Global;
 use std::process::Abort;
@@ -143,7 +143,7 @@ fn put_and_look<R: Abort + Clock + Threads + Sync>(
     same(rt, seen, Ok(last), "the number that was put last");
 }
 
-/// A store of the chain with the key a, one try and all numbers; `None` where there is no memory.
+/// A store of the chain with one try and all numbers; `None` where there is no memory.
 fn open_for_numbers(alloc: Global) -> Option<Opened<Letter>>
     ensures first { IfSome result (λ o. IsLaneOf o.store.id o.first) }
     ensures second { IfSome result (λ o. IsLaneOf o.store.id o.second) }
@@ -156,7 +156,7 @@ fn open_for_numbers(alloc: Global) -> Option<Opened<Letter>>
         numbers: NUMBERS,
         keep_faults: false,
     };
-    open_store(alloc, keys(alloc, 1)?, limits)
+    open_store(alloc, limits)
 }
 
 #[test]

@@ -3,6 +3,10 @@ pub mod Deciding
 pub mod Testing
 pub mod Equalities
 pub mod KeyLaws
+pub mod KeyAgreeing
+pub mod KeyPlacing
+pub mod KeyPlaceLaws
+pub mod KeyTold
 pub mod Lookups
 pub mod Numbers
 pub mod TreeFacts

@@ -1,5 +1,7 @@
 pub mod Building
 pub mod Decided
+pub mod KeyPlaceLaws
+pub mod KeyPlaces
 pub mod Keys
 pub mod Laws
 pub mod Paths

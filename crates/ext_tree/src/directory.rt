@@ -12,7 +12,9 @@ use std::marker::Model;
 /// How many keys can be declared.
 const MAX_KEYS: usize = 64;
 
-/// The declared keys, in the order of their numbers, which begin at 0. There are at most 64. Own rule.
+/// The declared keys, in the order of their numbers, which begin at 0. There are at most 64.
+///
+/// A directory has one owner: `declare` wants it alone. Where several threads give numbers to keys, take `KeyPlaces`. Own rule.
 #[derive(Drop)]
 pub struct Directory {
     keys: IndexSet<Key>,

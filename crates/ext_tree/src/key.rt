@@ -1,14 +1,15 @@
 //! A key of the store.
-ghost use Rattle.std.specs.Prelude.{◌≡◌, ◌↔◌, IsTrue, IfOk, IfErr};
+ghost use Rattle.std.specs.Prelude.{◌≡◌, ◌<◌, ◌↔◌, IsTrue, IfOk, IfErr};
 ghost use Rattle.std.specs.Cmp.{partial_equiv_from_equiv};
 ghost use Rattle.ext_tree.specs.Keys.{key_of};
 ghost use Rattle.ext_tree.specs.Traits.{key_eq, key_eq_equiv, key_input, keys_Alike};
 ghost use Rattle.ext_tree.specs.declared.fault.TreeFault.TheVariants.{Memory};
 
+use crate::key_walk::HINTS;
 use crate::text::Text;
 use crate::{Namespace, TreeFault};
-use std::alloc::Global;
-use std::hash::{Hash, Hasher};
+use std::alloc::{AllocError, Global};
+use std::hash::{FoldHasher, Hash, Hasher};
 use std::marker::Model;
 
 /// A key of the store: a namespace and a name.
@@ -37,6 +38,30 @@ impl Key {
         ensures memory { IfErr result (λ e. e ≡ Memory) }
     {
         let name = Text::copied(alloc, name)?;
+        Ok(Key { namespace, name })
+    }
+
+    // Where the notes of a lane look for a hint of the key first: by a hash of its name and of the last part of its namespace. Equal
+    // keys have one such place; other keys may have it, too.
+    pub(crate) fn first_hint(&self) -> usize
+        ensures { result < 128 }
+    {
+        let mut hasher = FoldHasher::default();
+        hasher.write(self.name.as_bytes());
+        if let Some(part) = self.namespace.last_part() {
+            hasher.write(part.as_bytes());
+        }
+        (hasher.finish() % HINTS as u64) as usize
+    }
+}
+
+impl Clone for Key {
+    ghost is_clone = { λ key copy. copy ≡ key };
+
+    /// An equal key. Takes memory for the name, and for the parts of the namespace. Own rule.
+    fn clone(&self) -> Result<Key, AllocError> {
+        let namespace = self.namespace.clone()?;
+        let name = self.name.clone()?;
         Ok(Key { namespace, name })
     }
 }

@@ -1,4 +1,5 @@
 //! Laws of trees and keys, each proved once and for all as the contract of an empty function.
+ghost use Rattle.ext_tree.specs.KeyPlaceLaws.{KeyNumbersTell, SharedNotesAgree};
 ghost use Rattle.ext_tree.specs.Laws.{FaultsTell, TestTells, PathsAreUnique, ParentsListChildren, NumbersTell, CellsTell, NamespacesTell};
 
 /// Proves the laws of trees: faults, the test for trees, paths and children. It does nothing when it runs. Own rule.
@@ -14,4 +15,10 @@ pub fn key_laws()
     ensures namespaces { NamespacesTell }
     ensures numbers { NumbersTell }
     ensures cells { CellsTell }
+{}
+
+/// Proves the laws of the numbers of keys that are made during a run. It does nothing when it runs. Own rule.
+pub fn key_place_laws()
+    ensures numbers { KeyNumbersTell }
+    ensures shared { SharedNotesAgree }
 {}

@@ -74,6 +74,11 @@ impl Namespace {
         })
     }
 
+    // The last part, if there is one.
+    pub(crate) fn last_part(&self) -> Option<&Text> {
+        self.parts().last()
+    }
+
     // The parts, in order.
     fn parts(&self) -> &[Text]
         ensures { result.now ≡ self.now.parts }
@@ -82,6 +87,22 @@ impl Namespace {
             None => &[],
             Some(parts) => parts.as_slice(),
         }
+    }
+}
+
+impl Clone for Namespace {
+    ghost is_clone = { λ namespace copy. copy ≡ namespace };
+
+    /// An equal namespace. Takes memory, but for the global namespace that was given no parts. Own rule.
+    fn clone(&self) -> Result<Namespace, AllocError> {
+        let parts = match &self.parts {
+            None => None,
+            Some(parts) => Some(parts.clone()?),
+        };
+        Ok(Namespace {
+            created: self.created,
+            parts,
+        })
     }
 }
 

@@ -78,7 +78,7 @@ fn calls_by_number(
 ) -> Option<(Look, Option<u32>)>
     requires lane { IsLaneOf store.now.id lane.old }
     requires context { 2 < length store.now.tree }
-    requires key { key < length store.now.keys }
+    requires key { key < 64 }
     ensures { IsLaneOf store.now.id lane.new }
 {
     let Ok(kept) = store.keep(lane, Letter { letter: 'x' }) else {
@@ -101,7 +101,7 @@ fn waiting_calls_by_number<R: Wait>(
 ) -> Option<(Look, Option<u32>)>
     requires lane { IsLaneOf store.now.id lane.old }
     requires context { 2 < length store.now.tree }
-    requires key { key < length store.now.keys }
+    requires key { key < 64 }
     ensures { IsLaneOf store.now.id lane.new }
 {
     let Ok(kept) = store.keep_wait(rt, lane, Letter { letter: 'x' }) else {
@@ -135,13 +135,19 @@ fn computes_by_number<R: Wait>(
 ) -> Option<(u32, u32)>
     requires lane { IsLaneOf store.now.id lane.old }
     requires context { 0 < length store.now.tree }
-    requires key { number < length store.now.keys }
+    requires key { number < 64 }
 {
+    if !lane.knows_key(number) {
+        return None;
+    }
     let make = |given: &Key| -> Result<Letter, Fault> { letter_of(given, key) };
     let Compute::Computed { number: first } = store.compute_numbered(lane, 0, number, make) else {
         return None;
     };
     let _taken = store.remove_numbered(lane, 0, number).ok()?;
+    if !lane.knows_key(number) {
+        return None;
+    }
     let make = |given: &Key| -> Result<Letter, Fault> { letter_of(given, key) };
     match store.compute_wait_numbered(rt, lane, 0, number, make) {
         Compute::Computed { number: second } => Some((first, second)),
@@ -150,11 +156,13 @@ fn computes_by_number<R: Wait>(
 }
 
 /// The number of the key.
-fn number_of(rt: &impl Abort, store: &Store<Letter>, key: &Key) -> KeyNo
-    ensures { result < length store.now.keys }
+fn number_of<R: Abort>(rt: &R, store: &Store<Letter>, lane: &mut Lane<Letter>, key: &Key) -> KeyNo
+    requires { IsLaneOf store.now.id lane.old }
+    ensures lane { IsLaneOf store.now.id lane.new }
+    ensures within { result < 64 }
 {
-    let Some(number) = store.directory().number_of(key) else {
-        panic!(rt; "no key");
+    let Ok(number) = store.number(lane, key) else {
+        panic!(rt; "no number");
     };
     number
 }
@@ -170,7 +178,7 @@ fn call_by_number<R: Abort + Wait>(
     requires lane { IsLaneOf store.now.id lane.old }
     requires contexts { 2 < length store.now.tree }
 {
-    let number = number_of(rt, store, key);
+    let number = number_of(rt, store, lane, key);
     let calls = [
         calls_by_number(store, lane, number),
         waiting_calls_by_number(rt, store, lane, number),
@@ -224,13 +232,16 @@ fn fails_and_meets<R: Wait>(
 ) -> Option<(u32, (ContextNo, u32))>
     requires lane { IsLaneOf store.now.id lane.old }
     requires context { 2 < length store.now.tree }
-    requires key { number < length store.now.keys }
+    requires key { number < 64 }
     ensures { IsLaneOf store.now.id lane.new }
 {
     let fails = |_key: &Key| -> Result<Letter, Fault> { Err(Fault::Memory) };
     let Compute::FaultKept { number: kept } = store.compute_wait(rt, lane, 2, key, fails) else {
         return None;
     };
+    if !lane.knows_key(number) {
+        return None;
+    }
     let make = |_key: &Key| -> Result<Letter, Fault> { Ok(Letter { letter: 'z' }) };
     match store.compute_wait_numbered(rt, lane, 2, number, make) {
         Compute::FaultStands { at, number, .. } => Some((kept, (at, number))),
@@ -248,14 +259,20 @@ fn fails_by_number<R: Wait>(
 ) -> Option<(u32, u32)>
     requires lane { IsLaneOf store.now.id lane.old }
     requires context { 2 < length store.now.tree }
-    requires key { number < length store.now.keys }
+    requires key { number < 64 }
     ensures { IsLaneOf store.now.id lane.new }
 {
+    if !lane.knows_key(number) {
+        return None;
+    }
     let fails = |_key: &Key| -> Result<Letter, Fault> { Err(Fault::Memory) };
     let Compute::FaultKept { number: first } = store.compute_numbered(lane, 2, number, fails) else {
         return None;
     };
     let _taken = store.remove_numbered(lane, 2, number).ok()?;
+    if !lane.knows_key(number) {
+        return None;
+    }
     let fails = |_key: &Key| -> Result<Letter, Fault> { Err(Fault::Memory) };
     match store.compute_wait_numbered(rt, lane, 2, number, fails) {
         Compute::FaultKept { number: second } => Some((first, second)),
@@ -275,7 +292,7 @@ fn keep_faults_alone<R: Abort + Wait>(
     requires contexts { 2 < length store.now.tree }
 {
     same(rt, store.keeps_faults(), true, "whether faults are kept");
-    let number = number_of(rt, store, key);
+    let number = number_of(rt, store, lane, key);
     let failed = fails_and_meets(rt, store, lane, key, number);
     same(rt, failed, Some((1, (2, 1))), "the fault that is kept");
     let met = Look::Fault { at: 2, number: 1 };

@@ -34,10 +34,10 @@ impl CloseAction<Letter> for Close {
 }
 
 /// What became of the first lane's close: how many values it closed, or its closer and why it closed none.
-type First = Result<u32, (Closer, CloseFault)>;
+pub(crate) type First = Result<u32, (Closer, CloseFault)>;
 
 /// Closes the class.
-fn close_class<R: Abort>(
+pub(crate) fn close_class<R: Abort>(
     rt: &R,
     store: &Store<Letter>,
     hand: &mut [Lane<Letter>],

@@ -1,4 +1,4 @@
-//! Tests of the store's waiting forms: alone, beside a factory that is held, and of sixteen lanes at once.
+//! Tests of the store's waiting forms: alone, beside a factory that is held, by keys that come late, and of sixteen lanes at once.
 //!
 //! `scripts/wait-stress` runs them over many more rounds.
 #![tactic(auto)]
@@ -13,5 +13,7 @@ mod closing;
 mod crowd;
 #[cfg(test)]
 mod held;
+#[cfg(test)]
+mod keys;
 #[cfg(test)]
 mod opening;

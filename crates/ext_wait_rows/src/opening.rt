@@ -1,4 +1,4 @@
-//! The store of the tests: a chain of three contexts and the key a.
+//! The store of the tests, of a chain of three contexts, and the key a.
 ghost use Rattle.std.specs.Prelude.{◌<◌, All, IfOk, List, length};
 ghost use Rattle.std.specs.Borrow.{Bor, MutBor};
 ghost use Rattle.ext_store.specs.Stores.{IsCloserOf, IsLaneOf, StoreLane, StoreView};
@@ -6,7 +6,7 @@ ghost use Rattle.ext_wait_rows.specs.declared.opening.Letter.{Letter};
 
 use ext_ids::UniqueId;
 use ext_store::{Closer, Lane, Limits, Store, StoreValue};
-use ext_tree::{Directory, Key, Namespace, Tree};
+use ext_tree::{Key, Namespace, Tree};
 use std::alloc::Global;
 use std::process::Abort;
 use std::test::Fail;
@@ -27,16 +27,9 @@ impl StoreValue for Letter {
     }
 }
 
-/// The key of the tests.
-fn key_a(alloc: Global) -> Result<Key, Fail> {
-    Ok(Key::new(alloc, Namespace::global(), "a")?)
-}
-
-/// The key of the tests alone.
-fn keys(alloc: Global) -> Result<Directory, Fail> {
-    let mut keys = Directory::new(alloc);
-    keys.declare(key_a(alloc)?)?;
-    Ok(keys)
+/// The global key of this name.
+pub(crate) fn key_of(alloc: Global, name: &str) -> Result<Key, Fail> {
+    Ok(Key::new(alloc, Namespace::global(), name)?)
 }
 
 /// The ids of an engine with one class with one method.
@@ -85,8 +78,7 @@ fn open(alloc: Global, lanes: usize, keep_faults: bool) -> Result<Opened, Fail>
         keep_faults,
     };
     let tree = contexts(alloc)?;
-    let keys = keys(alloc)?;
-    let (store, lanes, closers) = Store::open(alloc, tree, keys, limits)?;
+    let (store, lanes, closers) = Store::open(alloc, tree, limits)?;
     Ok(Opened {
         store,
         lanes,
@@ -144,7 +136,7 @@ pub(crate) fn with_store<W: FnOnce(&Store<Letter>, &Key, &mut [Lane<Letter>], &m
         → All (IsLaneOf store.now.id) lanes.now → All (IsCloserOf store.now) closers.now.items → 2 < length store.now.tree
         → W.pre work store key lanes closers }
 {
-    let key = key_a(alloc)?;
+    let key = key_of(alloc, "a")?;
     with_opened(alloc, lanes, keep_faults, &key, work)
 }
 

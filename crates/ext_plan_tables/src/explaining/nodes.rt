@@ -12,7 +12,7 @@ use crate::locks::lock_at;
 use crate::modes::mode_at;
 use crate::nodes::{NodeSketch, ids_of, sketches_of};
 use ext_ids::{IdFault, UniqueId};
-use ext_plan_model::{KeyNumbers, PlanKey};
+use ext_plan_model::keys_are_few;
 use ext_tree::{Tree, TreeFault};
 use std::alloc::Global;
 use toml::Table;
@@ -195,41 +195,9 @@ fn is_lock(alloc: Global, node: usize, text: &str) -> Result<bool, PlanFault> {
 
 /// What there are too many of.
 pub fn too_many(alloc: Global, top: &Table) -> Result<Option<String>, PlanFault> {
-    match different_keys(alloc, top)? {
-        None => said(alloc, "it has more than 64 different keys"),
-        Some(keys) => too_many_with(alloc, node_count(alloc, top)?, keys),
-    }
-}
-
-/// The same, where there are so many nodes, and so many different keys.
-fn too_many_with(alloc: Global, nodes: usize, keys: usize) -> Result<Option<String>, PlanFault> {
-    if nodes.saturating_mul(keys) > 4096 {
-        return Ok(Some(format!(in alloc;
-            "{nodes} nodes times {keys} different keys are more than 4096 cells"
-        )?));
-    }
-    said(alloc, "its locks have more than 63 different names")
-}
-
-/// How many nodes the document has.
-fn node_count(alloc: Global, top: &Table) -> Result<usize, PlanFault> {
-    let sketches = sketches_in(alloc, top)?;
-    Ok(sketches.len())
-}
-
-/// How many different keys the document has, if they are at most 64.
-fn different_keys(alloc: Global, top: &Table) -> Result<Option<usize>, PlanFault> {
     let keys = keys_in(alloc, top)?;
-    different_among(alloc, keys.keys.as_slice())
-}
-
-/// How many different keys these are, if they are at most 64.
-fn different_among(alloc: Global, keys: &[PlanKey]) -> Result<Option<usize>, PlanFault>
-    requires parts { All HasParts (keys_view keys.now) }
-{
-    match KeyNumbers::of(alloc, keys) {
-        Ok(numbers) => Ok(Some(numbers.len())),
-        Err(TreeFault::Memory) => Err(PlanFault::Memory),
-        Err(_) => Ok(None),
+    if keys_are_few(alloc, keys.keys.as_slice())? {
+        return said(alloc, "its locks have more than 63 different names");
     }
+    said(alloc, "it declares more than 64 different keys")
 }

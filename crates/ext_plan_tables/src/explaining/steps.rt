@@ -139,7 +139,7 @@ fn reason(alloc: Global, labels: &Labels<'_>, text: &str) -> Result<&'static str
         return Ok("goes up past the root");
     }
     let words = words_of(alloc, text)?;
-    Ok(reason_among(labels, words.as_slice()))
+    Ok(reason_among(words.as_slice()))
 }
 
 /// Tests whether a text is a step.
@@ -148,21 +148,20 @@ fn is_step(alloc: Global, labels: &Labels<'_>, text: &str) -> Result<bool, PlanF
 }
 
 /// Why the words of a text are no step.
-fn reason_among(labels: &Labels<'_>, words: &[&str]) -> &'static str {
+fn reason_among(words: &[&str]) -> &'static str {
     if has_empty(words) {
         return "has a space too many";
     }
     match words {
-        [name, label, ..] => reason_of_words(labels, name, label),
+        [name, _, ..] => reason_of_name(name),
         _ => "is none of the steps",
     }
 }
 
-/// Why words of a text that begins with these two are no step.
-fn reason_of_words(labels: &Labels<'_>, name: &str, label: &str) -> &'static str {
+/// Why a text of two words or more, of which this is the first, is no step.
+fn reason_of_name(name: &str) -> &'static str {
     match name {
         "fail" | "abort" => "takes one text and no up",
-        _ if labels.number_of(label).is_none() => "names no label of the plan",
         _ => "is none of the steps",
     }
 }

@@ -23,7 +23,7 @@ returns-in-Err-clause-happened g c =
       unjoined = names_none _ _ c.in-Err.why after.refusal;
       handed_back = refl {a = c.args.closer};
       not_called = refl {a = c.args.action.now};
-      lanes = only_first c.args.lanes.now left c.seal_all.new.lane first same some after.known after.faults;
+      lanes = only_first c.args.lanes.now left c.seal_all.new.lane first same some after.known after.faults after.keys;
       own_lanes = still_own c.args.lanes.now left c.seal_all.new.lane first same some c.args.store.now.id after.lane c.requires.own_lanes;
       kept = still_kept c.args.lanes.now left c.seal_all.new.lane first same some after.kept;
     }
@@ -52,7 +52,7 @@ returns-in-Some-clause-happened g c =
           c.in-Some.ensures.unjoined;
       handed_back = refl {a = c.args.closer};
       not_called = refl {a = c.args.action.now};
-      lanes = only_first c.args.lanes.now left c.seal_all.new.lane first same some after.known after.faults;
+      lanes = only_first c.args.lanes.now left c.seal_all.new.lane first same some after.known after.faults after.keys;
       own_lanes = still_own c.args.lanes.now left c.seal_all.new.lane first same some c.args.store.now.id after.lane c.requires.own_lanes;
       kept = still_kept c.args.lanes.now left c.seal_all.new.lane first same some after.kept;
     }
@@ -81,10 +81,21 @@ returns-clause-happened g c =
       unjoined = tt;
       handed_back = tt;
       not_called = tt;
-      lanes = only_first c.args.lanes.now _ c.seal_all.new.lane first same some after.known after.faults;
+      lanes = only_first c.args.lanes.now _ c.seal_all.new.lane first same some after.known after.faults after.keys;
       own_lanes = still_own c.args.lanes.now _ c.seal_all.new.lane first same some c.args.store.now.id after.lane c.requires.own_lanes;
       kept = still_kept c.args.lanes.now _ c.seal_all.new.lane first same some after.kept;
     }
 
 pub returns-clause-kept : goal.returns-clause-kept
 returns-clause-kept g c = still_kept c.args.lanes.now _ c.seal_all.new.lane c.index-lanes-first.result c.close_all.ensures.unchanged c.requires.lanes c.in-Ok.ensures.kept
+
+-- ---- the lanes stay those of the store
+
+pub returns-in-Some-clause-own_lanes : goal.returns-in-Some-clause-own_lanes
+returns-in-Some-clause-own_lanes g c = still_own c.args.lanes.now _ c.seal_all.new.lane c.index-lanes-first.result refl c.requires.lanes c.args.store.now.id c.in-Ok.ensures.lane c.requires.own_lanes
+
+pub close_all-requires-clause-lanes : goal.close_all-requires-clause-lanes
+close_all-requires-clause-lanes g c = still_own c.args.lanes.now _ c.seal_all.new.lane c.index-lanes-first.result refl c.requires.lanes c.args.store.now.id c.in-Ok.ensures.lane c.requires.own_lanes
+
+pub returns-clause-own_lanes : goal.returns-clause-own_lanes
+returns-clause-own_lanes g c = still_own c.args.lanes.now _ c.seal_all.new.lane c.index-lanes-first.result c.close_all.ensures.unchanged c.requires.lanes c.args.store.now.id c.in-Ok.ensures.lane c.requires.own_lanes

@@ -1,4 +1,6 @@
-use Rattle.std.proofs.Common.{◌∙◌, ◌<◌, ◌+◌, length, sym, subst, arith, ap}
+use Rattle.std.proofs.Common.{◌≡◌, ◌∙◌, ◌<◌, ◌+◌, length, sym, subst, arith, ap}
+use Rattle.ext_model.specs.Closing.{remaining}
+use Rattle.ext_closing.specs.Sealing.{slots_seen}
 use Rattle.ext_closing.specs.Steps.{SealedSoFar}
 use Rattle.ext_closing.proofs.Sealing.{one_more_sealed, refused_end}
 use Rattle.ext_closing.proofs.closing.seal_all.Goals as goal
@@ -6,7 +8,7 @@ use Rattle.ext_closing.proofs.closing.seal_all.Goals as goal
 pub returns-in-Err-clause-ends : goal.returns-in-Err-clause-ends
 returns-in-Err-clause-ends g c =
     let next = c.in-Err.ensures in
-    let below : c.loop-key.key < length c.args.store.now.keys = omega (arith, c.loop-key-test.true, c.len-key-end.ensures.count, ap length c.directory.ensures) in
+    let below : c.loop-key.key < length c.args.store.now.id.keys = omega (arith, c.loop-key-test.true, c.key_count-key-end.ensures.count) in
     refused_end c.args.store.now c.args.closer.now.context c.args.lane.now.cells c.loop-key.lane.cells c.seal_key.new.lane.cells (next.lane.cells ∙ sym c.loop-key.invariant.lane.cells)
     c.loop-key.numbers c.loop-key.key c.loop-key.invariant.so_far below c.in-Err.why next.answer
 
@@ -21,6 +23,12 @@ loop-key-preserved g c =
       few = omega (arith, inv.few, c.put_in_kept.ensures.few);
       known = next.known ∙ inv.known;
       faults = next.faults ∙ inv.faults;
+      keys = next.keys ∙ inv.keys;
       lane = next.lane;
       kept = (λ number keeps. next.kept number (inv.kept number keeps));
     }
+
+pub returns-clause-numbers : goal.returns-clause-numbers
+returns-clause-numbers g c =
+    let all : c.loop-key.key ≡ length c.args.store.now.id.keys = omega (arith, c.loop-key-test.false, c.loop-key.auto.key-end, c.key_count-key-end.ensures.count) in
+    subst (λ n. c.loop-key.numbers ≡ remaining (slots_seen c.args.store.now c.args.closer.now.context c.loop-key.lane.cells) n) all c.loop-key.invariant.so_far.numbers_are

@@ -9,6 +9,7 @@ invariant-loop-key g l = record {
   few : length l.numbers ≤ l.key;
   known : l.lane.known ≡ l.fn.lane.known;
   faults : l.lane.faults ≡ l.fn.lane.faults;
+  keys : l.lane.keys ≡ l.fn.lane.keys;
   lane : IsLaneOf l.store.id l.lane;
   kept : StillKeeps l.fn.lane l.lane;
 }

@@ -22,7 +22,8 @@ returns-in-Some g c =
       turned = (
         r.0,
         r.1,
-        subst (λ (l : List (StoreLane g.row.V.Denot)). AllZip (Turns st r.0) l (c.meet_rest.new.lane ∷ c.meet_rest.new.others)) (sym c.in-Some.ensures.cases.0) (r.2, r.3),
+        r.2,
+        subst (λ (l : List (StoreLane g.row.V.Denot)). AllZip (Turns st r.0 r.1) l (c.meet_rest.new.lane ∷ c.meet_rest.new.others)) (sym c.in-Some.ensures.cases.0) (r.3, r.4),
       );
     }
 
@@ -30,4 +31,4 @@ pub returns-in_default : goal.returns-in_default
 returns-in_default g c =
     let st = c.args.store.now in
     let none : length c.args.lanes.now ≡ 0 = search rules in
-    record { turned = ([], legal_empty (IsAllowed st.id.cells.limits), none_turn st [] c.args.lanes.now none) }
+    record { turned = ([], [], legal_empty (IsAllowed st.id.cells.limits), none_turn st [] [] c.args.lanes.now none) }

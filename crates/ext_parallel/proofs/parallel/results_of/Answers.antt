@@ -8,8 +8,8 @@ use Rattle.ext_store_steps.specs.declared.stored_value.StoredValue.{StoredValue}
 use Rattle.std.proofs.lemmas.List.{length-map}
 use Rattle.ext_plan_model.specs.PlanCalls.{registered}
 use Rattle.ext_engine.specs.TreeRun.{IsFit, IsUsable, Lanes, TreeRun, all_results, setting_of}
-use Rattle.ext_suite.specs.PlanSuites.{HasKeys, suite_of}
-use Rattle.ext_suite.proofs.Fitting.{keys_fit, tree_fits}
+use Rattle.ext_suite.specs.PlanSuites.{suite_of}
+use Rattle.ext_suite.proofs.Fitting.{tree_fits}
 use Rattle.ext_parallel.specs.ParallelRun.{MakesCall, IsAction, ClosesValue}
 use Rattle.ext_parallel.proofs.InTree.{if_err, if_ok, results_within}
 use Rattle.ext_parallel.proofs.Refusals.{refused_run}
@@ -30,11 +30,6 @@ run_tree-ran-requires-clause-fit g c κs inside =
     let fits = tree_fits plan st lk c.in_ok-store.ensures.store.tree (λ name there. Contains-permutation (lock_names plan.nodes) lk.names name c.requires.locks.names there) c.requires.tests in
     let P : PlanText → Type 0 = λ p. IsFit st lk (suite_of p) in
     subst P (sym c.requires.suite) fits
-
-pub run_tree-ran-requires-clause-suite_fits : goal.run_tree-ran-requires-clause-suite_fits
-run_tree-ran-requires-clause-suite_fits g c κs inside =
-    let P : PlanText → Type 0 = λ p. HasKeys p c.in_ok-store.store in
-    subst P (sym c.requires.suite) (keys_fit (plan_view c.args.plan.now) c.in_ok-store.store c.in_ok-store.ensures.store.keys)
 
 pub returns-clause-run : goal.returns-clause-run
 returns-clause-run g c =
@@ -58,6 +53,7 @@ returns-clause-run g c =
           subst (λ (n : ℕ). map told results.items ≡ all_results (suite_of plan) n ran.0) count
           (subst (λ (p : PlanText). map told results.items ≡ all_results (suite_of p) (length st.tree) ran.0) c.requires.suite ran.2);
       shared = c.meet_all.ensures.shared;
+      numbered = c.meet_all.ensures.numbered;
     }) c.run_tree-ran.ensures.run
 
 pub returns-clause-in_tree : goal.returns-clause-in_tree

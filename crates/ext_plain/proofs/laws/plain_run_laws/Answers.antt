@@ -1,7 +1,10 @@
-use Rattle.std.proofs.Common.{refl}
+use Rattle.std.proofs.Common.{refl, arith}
 use Rattle.ext_plain.proofs.Below.{runs_below}
 use Rattle.ext_plain.proofs.Sound.{result_of_each_node, tests_of_plan}
 use Rattle.ext_plain.proofs.Reached.{each_node_runs, runs_body, runs_node, skips_body}
+use Rattle.ext_plain.proofs.Named.{number-kept, numbers-once, unnumbered}
+use Rattle.ext_plain.proofs.Numberings.{knows}
+use Rattle.ext_plain.proofs.Rooms.{has_room, only-named}
 use Rattle.ext_plain.proofs.Seals.{node-free, node-sealed}
 use Rattle.ext_plain.proofs.KeptFaults.{kept_fault_stands, no_fault_stays, node-faultless}
 use Rattle.ext_plain.proofs.Lacking.{does_or_lacks}
@@ -22,10 +25,16 @@ returns c = record {
   skipped = skips_body;
   parents = runs_below;
   ancestors = skips_below;
-  opening = λ keeps. (λ place claimed. claimed, refl, λ place number is. cc);
+  opening = λ keeps. (λ place claimed. claimed, refl, λ place number is. cc, record { different = λ n m d less within. absurd (omega (arith, within)); few = omega arith });
   unclaimed = node-free;
   sealed = node-sealed;
   values = node-values;
+  numbered_once = numbers-once;
+  numbers = number-kept;
+  known = knows;
+  unnumbered = unnumbered;
+  named_alone = only-named;
+  room = has_room;
   found = put_is_found;
   kept_fault = kept_fault_stands;
   no_fault = no_fault_stays;

@@ -19,11 +19,11 @@ returns g c =
     let ran = c.in_ok-run_node.ensures.run.each (0 ∷ []) (refl, refl) [] in
     let memory = ran.0 in
     let results = results_view c.in_ok-skipped.field-0.items in
-    let skipped = c.in_ok-skipped.ensures ∙ ap (λ ns. skipped_from 0 (nodes_view ns)) c.as_slice.ensures.value in
+    let skipped = c.in_ok-skipped.ensures ∙ ap (λ ns. skipped_from 0 (nodes_view ns)) c.as_slice-2.ensures.value in
     let opening : RunState = record { state = with_memory memory (state_view c.new.result); results = results } in
     let opened : opening ≡ run_opening memory plan =
     ap (λ s. record { state = with_memory memory s; results = results }) c.new.ensures ∙ ap (λ rs. record { state = (run_opening memory plan).state; results = rs }) skipped in
-    let levels = c.len-levels.ensures ∙ sym c.as_slice.ensures.len ∙ ap length c.as_slice.ensures.value ∙ sym (length-map nodes node_view) in
+    let levels = c.len-levels.ensures ∙ sym c.as_slice-2.ensures.len ∙ ap length c.as_slice-2.ensures.value ∙ sym (length-map nodes node_view) in
     let is : results_view c.run_node.new.self.results.items ≡ plain_run_by memory plan =
     ap (λ (r : RunState). r.results) (ran.1 ∙ ap (λ p. node_run p c.len-levels.result (0 ∷ []) opening) c.of.ensures.plan ∙ ap (λ n. node_run plan n (0 ∷ []) opening) levels ∙ ap (node_run plan (length plan.nodes) (0 ∷ [])) opened) in
     let tree_is : c.args.tree.now ≡ ids_of_nodes plan.nodes = c.requires.nodes ∙ ids-map nodes in

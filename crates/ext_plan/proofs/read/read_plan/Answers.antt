@@ -1,5 +1,5 @@
 use Rattle.toml.specs.View.{table_view}
-use Rattle.ext_plan_model.specs.Laws.{NodesAreTree, TestsHaveNoChildren, HasFewCells, HasFewLocks, HasOwnLabels, NamespacesHaveParts, StepsNameLabels, StepsStayBelowRoot, StepListsAreShort, CallbacksAreFew, TestsHaveNoContainerCallbacks}
+use Rattle.ext_plan_model.specs.Laws.{NodesAreTree, TestsHaveNoChildren, HasFewKeys, HasFewLocks, HasOwnLabels, NamespacesHaveParts, StepsNameLabels, StepsStayBelowRoot, StepListsAreShort, CallbacksAreFew, TestsHaveNoContainerCallbacks}
 use Rattle.ext_plan.proofs.Laws.{if_read}
 use Rattle.ext_plan.proofs.NeverNotUtf8.{never_not_utf8}
 use Rattle.ext_plan.proofs.read.read_plan.Goals as goal
@@ -13,8 +13,8 @@ returns-in-Ok-clause-tree c = if_read NodesAreTree (λ plan laws. laws.tree) c.p
 pub returns-in-Ok-clause-tests : goal.returns-in-Ok-clause-tests
 returns-in-Ok-clause-tests c = if_read TestsHaveNoChildren (λ plan laws. laws.tests) c.plan_of.result (table_view c.in-Ok.top) c.plan_of.ensures
 
-pub returns-in-Ok-clause-cells : goal.returns-in-Ok-clause-cells
-returns-in-Ok-clause-cells c = if_read HasFewCells (λ plan laws. laws.cells) c.plan_of.result (table_view c.in-Ok.top) c.plan_of.ensures
+pub returns-in-Ok-clause-different : goal.returns-in-Ok-clause-different
+returns-in-Ok-clause-different c = if_read HasFewKeys (λ plan laws. laws.different) c.plan_of.result (table_view c.in-Ok.top) c.plan_of.ensures
 
 pub returns-in-Ok-clause-labels : goal.returns-in-Ok-clause-labels
 returns-in-Ok-clause-labels c = if_read HasOwnLabels (λ plan laws. laws.labels) c.plan_of.result (table_view c.in-Ok.top) c.plan_of.ensures

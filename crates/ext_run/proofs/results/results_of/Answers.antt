@@ -10,7 +10,7 @@ use Rattle.ext_run.proofs.RunAnswers.{with_texts}
 use Rattle.ext_run.proofs.results.results_of.Goals as goal
 
 pub plain_results-requires : goal.plain_results-requires
-plain_results-requires g c = record { tree = c.requires.tree; contexts = c.requires.contexts; cells = c.requires.cells; namespaces = c.requires.namespaces; short = c.requires.short; few = c.requires.few }
+plain_results-requires g c = record { tree = c.requires.tree; contexts = c.requires.contexts; namespaces = c.requires.namespaces; short = c.requires.short; few = c.requires.few }
 
 pub returns-in_err-plain_results : goal.returns-in_err-plain_results
 returns-in_err-plain_results g c = record {

@@ -1,5 +1,4 @@
-use Rattle.std.proofs.Common.{◌≡◌, ◌∙◌, ◌<◌, All, length, map, ap, sym, subst}
-use Rattle.ext_plan_model.specs.Plans.{plan_view}
+use Rattle.std.proofs.Common.{◌≡◌, ◌∙◌, ◌<◌, All, length, ap, sym, subst}
 use Rattle.ext_lifecycle.specs.FaultTexts.{results_view}
 use Rattle.ext_report.specs.Report.{any_failed, report_of}
 use Rattle.ext_run.proofs.RunAnswers.{answer_is}

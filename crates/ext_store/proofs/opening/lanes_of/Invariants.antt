@@ -6,4 +6,4 @@ abbrev pub invariant-loop-cells : goal.invariant-loop-cells
 invariant-loop-cells g l =
     (goal.iterator-loop-cells g).can_next l.cells-iterator ×
     (goal.iterator-loop-cells g).is_finite l.cells-iterator ×
-    (l.lanes.items ≡ map (fresh_store_lane l.values l.faults) l.yielded)
+    (l.lanes.items ≡ map (fresh_store_lane l.values l.faults l.keys) l.yielded)

@@ -1,25 +1,21 @@
-use Rattle.std.proofs.Common.{subst}
-use Rattle.ext_store_steps.specs.StoreSteps.{StepRemoves}
-use Rattle.ext_store_steps.proofs.KnownKeys.{number_of_key, remove_knows}
+use Rattle.ext_steps.specs.Calls.{call_view}
 use Rattle.ext_store_steps.proofs.Ends.{ends_well}
+use Rattle.ext_store_steps.proofs.Keyed.{step_removes}
+use Rattle.ext_store_steps.proofs.Placed.{remove_placed}
 use Rattle.ext_store_steps.proofs.changes.remove_value.Goals as goal
 
-pub end_refused-requires-clause-known : goal.end_refused-requires-clause-known
-end_refused-requires-clause-known g c =
-    let n = number_of_key c.args.store.now c.args.key.now c.requires.key in
-    remove_knows _ _ n.0 _ _ _ (c.in-Err.ensures.answer n.0 n.1)
+pub end_refused-requires-clause-placed : goal.end_refused-requires-clause-placed
+end_refused-requires-clause-placed g c = remove_placed _ _ _ _ _ _ c.in-Err.ensures.answer
 
 pub returns-in-Ok-clause-removes : goal.returns-in-Ok-clause-removes
 returns-in-Ok-clause-removes g c =
-    let n = number_of_key c.args.store.now c.args.key.now c.requires.key in
-    subst (λ k. StepRemoves c.args.store.now c.args.key.now k c.args.call.now.name.now c.args.call.now.label.now c.args.lane.now c.of.result c.remove_wait.new.lane) c.at-context.ensures
-    (n.0, n.1, record { result = _; removes = c.in-Ok.ensures.answer n.0 n.1; known = (c.in-Ok.ensures.known, c.in-Ok.ensures.faults); ends = ends_well 0 0 _ c.of.ensures.verdict c.of.ensures.computed c.of.ensures.found })
+    step_removes c.args.store.now (call_view c.args.call.now) c.at-context.result c.at-context.ensures c.args.lane.now c.of.result c.remove_wait.new.lane _ c.in-Ok.ensures.answer c.in-Ok.ensures.known c.in-Ok.ensures.faults
+    (ends_well 0 0 _ c.of.ensures.verdict c.of.ensures.computed c.of.ensures.found)
 
 pub returns-in-Err-clause-removes : goal.returns-in-Err-clause-removes
 returns-in-Err-clause-removes g c =
-    let n = number_of_key c.args.store.now c.args.key.now c.requires.key in
-    subst (λ k. StepRemoves c.args.store.now c.args.key.now k c.args.call.now.name.now c.args.call.now.label.now c.args.lane.now c.end_refused.result c.remove_wait.new.lane) c.at-context.ensures
-    (n.0, n.1, record { result = _; removes = c.in-Err.ensures.answer n.0 n.1; known = (c.in-Err.ensures.known, c.in-Err.ensures.faults); ends = c.end_refused.ensures })
+    step_removes c.args.store.now (call_view c.args.call.now) c.at-context.result c.at-context.ensures c.args.lane.now c.end_refused.result c.remove_wait.new.lane _ c.in-Err.ensures.answer c.in-Err.ensures.known c.in-Err.ensures.faults
+    c.end_refused.ensures
 
 pub returns-in-Ok-clause-frame : goal.returns-in-Ok-clause-frame
 returns-in-Ok-clause-frame g c = c.in-Ok.ensures.frame

@@ -1,4 +1,4 @@
-use Rattle.std.proofs.Common.{◌≡◌, ℕ, ◌≤◌, List, [], ◌∷◌, length, get_or, arith}
+use Rattle.std.proofs.Common.{◌≡◌, List, [], ◌∷◌, length, get_or, arith}
 use Rattle.std.specs.List.{AllZip}
 use Rattle.ext_store.specs.Stores.{StoreLane, StillKeeps}
 use Rattle.ext_thread_rows.proofs.calls.close_both.Goals as goal

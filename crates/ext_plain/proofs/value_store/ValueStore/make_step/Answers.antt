@@ -1,6 +1,6 @@
-use Rattle.std.proofs.Common.{◌∙◌, ap, sym, subst}
+use Rattle.std.proofs.Common.{◌∙◌, Err, ap, sym, subst}
 use Rattle.ext_plan_model.specs.Plans.{step_view}
-use Rattle.ext_plain.specs.Helpers.{lacking, state_view, step_end}
+use Rattle.ext_plain.specs.Helpers.{memory_of_step, state_view, step_end}
 use Rattle.ext_plain.specs.ValueStates.{enough}
 use Rattle.ext_plain.proofs.Few.{IsFew, step-few}
 use Rattle.ext_plain.proofs.value_store.ValueStore.make_step.Goals as goal
@@ -13,7 +13,7 @@ returns-in-Ok c =
 
 pub returns-in-Err : goal.returns-in-Err
 returns-in-Err c =
-    let found = lacking c.in-Err.lack in
+    let found = memory_of_step (Err c.in-Err.lack) in
     let end = ap (step_end (state_view c.run_step.new.self)) c.outcome.ensures ∙ c.in-Err.ensures in
     let few = subst IsFew (sym end) (step-few (keys_in c.args.keys.now) found c.args.path.now (step_view c.args.step.now) (state_view c.args.self.now)) in
     record { end = (found, end); few = record { computed = few.computed; found = few.found } }

@@ -1,4 +1,4 @@
-use Rattle.std.proofs.Common.{◌≡◌, [], drop}
+use Rattle.std.proofs.Common.{◌≡◌, drop}
 use Rattle.std.specs.Prelude.{fold, map}
 use Rattle.ext_plan_model.specs.Plans.{nodes_view}
 use Rattle.ext_plan_model.specs.Locks.{lock_names, named_locks, with_name}

@@ -1,73 +1,46 @@
-use Rattle.std.proofs.Common.{◌≡◌, subst, sym, refl}
-use Rattle.std.specs.Prelude.{Contains}
-use Rattle.ext_tree.specs.Keys.{HasNumber}
-use Rattle.ext_store.specs.Computing.{without_factory}
+use Rattle.std.proofs.Common.{◌≡◌, refl, []}
+use Rattle.std.specs.Fn.{FnOnceReturnsAt}
 use Rattle.ext_store.specs.Waiting.{ComputesAfterWaits}
-use Rattle.ext_store.proofs.Keeping.{no_number, is_number, one_number}
-use Rattle.ext_store.proofs.Frames.{no_frame}
+use Rattle.ext_store.specs.Computing.{without_factory}
+use Rattle.ext_store.specs.declared.computed.Compute.TheVariants.{Refused}
+use Rattle.ext_store.proofs.Frames.{frame_known, frames_compose}
+use Rattle.ext_store.proofs.Numbered.{apart_later, of_number, of_refusal, uses_later}
 use Rattle.ext_store.proofs.store.Store.compute_wait.Goals as goal
 
-pub returns-in_default-clause-unknown : goal.returns-in_default-clause-unknown
-returns-in_default-clause-unknown g c absent = (refl, refl)
+pub returns-in-Ok-clause-answer : goal.returns-in-Ok-clause-answer
+returns-in-Ok-clause-answer g c =
+    of_number c.args.lane.now c.number.new.lane c.compute_wait_named.new.lane c.number.ensures.still c.args.self.now.id [] c.args.key.now c.in-Ok.number (λ why. c.compute_wait_named.result ≡ Refused why c.args.factory)
+    (λ l n. ComputesAfterWaits c.args.self.now c.args.context n l c.compute_wait_named.new.lane.cells (without_factory c.compute_wait_named.result)) c.in-Ok.ensures.number c.compute_wait_named.ensures.frame c.compute_wait_named.ensures.answer
 
-pub returns-in_default-clause-answer : goal.returns-in_default-clause-answer
-returns-in_default-clause-answer g c number has = absurd (no_number number (c.in_default.ensures.found number (subst (λ keys. HasNumber keys c.args.key.now number) (sym c.directory.ensures) has)))
+pub returns-in-Ok-clause-frame : goal.returns-in-Ok-clause-frame
+returns-in-Ok-clause-frame g c = frames_compose c.args.self.now.id [] [] c.args.lane.now c.number.new.lane c.compute_wait_named.new.lane c.number.ensures.frame c.compute_wait_named.ensures.frame
 
-pub returns-in_default-clause-lane : goal.returns-in_default-clause-lane
-returns-in_default-clause-lane g c = c.requires.lane
+pub returns-in-Ok-clause-kept : goal.returns-in-Ok-clause-kept
+returns-in-Ok-clause-kept g c number kept = c.compute_wait_named.ensures.kept number (c.number.ensures.kept number kept)
 
-pub returns-in_default-clause-frame : goal.returns-in_default-clause-frame
-returns-in_default-clause-frame g c = no_frame c.args.self.now.id c.args.lane.now c.requires.lane
+pub returns-in-Ok-clause-apart : goal.returns-in-Ok-clause-apart
+returns-in-Ok-clause-apart g c = apart_later c.args.lane.now c.number.new.lane c.compute_wait_named.new.lane c.number.ensures.still c.compute_wait_named.result c.number.ensures.kept c.compute_wait_named.ensures.apart
 
-pub returns-in_default-clause-known : goal.returns-in_default-clause-known
-returns-in_default-clause-known g c number value known = known
+pub returns-in-Err-clause-answer : goal.returns-in-Err-clause-answer
+returns-in-Err-clause-answer g c =
+    of_refusal c.args.lane.now c.number.new.lane c.args.key.now c.in-Err.refusal c.in-Err.ensures.refused (λ why. Refused c.in-Err.refusal c.args.factory ≡ Refused why c.args.factory)
+    (λ n. ComputesAfterWaits c.args.self.now c.args.context n c.args.lane.now.cells c.number.new.lane.cells (without_factory (Refused c.in-Err.refusal c.args.factory))) refl
 
-pub returns-in_default-clause-kept : goal.returns-in_default-clause-kept
-returns-in_default-clause-kept g c number kept = kept
+pub returns-in-Err-clause-lane : goal.returns-in-Err-clause-lane
+returns-in-Err-clause-lane g c = c.number.ensures.lane
 
-pub returns-in_default-clause-handed_back : goal.returns-in_default-clause-handed_back
-returns-in_default-clause-handed_back g c = refl
+pub returns-in-Err-clause-kept : goal.returns-in-Err-clause-kept
+returns-in-Err-clause-kept g c = c.number.ensures.kept
 
-pub returns-in_default-clause-apart : goal.returns-in_default-clause-apart
-returns-in_default-clause-apart g c = tt
+pub returns-in-Err-clause-frame : goal.returns-in-Err-clause-frame
+returns-in-Err-clause-frame g c = c.number.ensures.frame
 
-pub returns-in_default-clause-factory : goal.returns-in_default-clause-factory
-returns-in_default-clause-factory g c = (refl, refl)
+pub returns-in-Ok-clause-factory : goal.returns-in-Ok-clause-factory
+returns-in-Ok-clause-factory g c =
+    uses_later (λ answer. FnOnceReturnsAt g.F.FnOnce c.args.factory c.args.key.now answer) c.args.lane.now c.number.new.lane c.compute_wait_named.new.lane c.number.ensures.known c.number.ensures.faults (without_factory c.compute_wait_named.result) c.compute_wait_named.ensures.factory
 
-pub returns-in_default-clause-no_faults : goal.returns-in_default-clause-no_faults
-returns-in_default-clause-no_faults g c off = tt
+pub returns-in-Ok-clause-known : goal.returns-in-Ok-clause-known
+returns-in-Ok-clause-known g c = frame_known c.args.self.now.id [] c.args.lane.now c.compute_wait_named.new.lane (returns-in-Ok-clause-frame g c)
 
-pub returns-in_default-clause-decided : goal.returns-in_default-clause-decided
-returns-in_default-clause-decided g c = tt
-
-pub returns-clause-unknown : goal.returns-clause-unknown
-returns-clause-unknown g c absent = absurd (is_number c.in-Some.number (c.in-Some.ensures.absent.1 (subst (λ keys. ¬ Contains keys c.args.key.now) (sym c.directory.ensures) absent)))
-
-pub returns-clause-answer : goal.returns-clause-answer
-returns-clause-answer g c number has =
-    let same : c.in-Some.number ≡ number = one_number c.in-Some.number number (c.in-Some.ensures.found number (subst (λ keys. HasNumber keys c.args.key.now number) (sym c.directory.ensures) has)) in
-    subst (λ k. ComputesAfterWaits c.args.self.now c.args.context k c.args.lane.now.cells c.compute_wait_numbered.new.lane.cells (without_factory c.compute_wait_numbered.result)) same c.compute_wait_numbered.ensures.answer
-
-pub returns-clause-known : goal.returns-clause-known
-returns-clause-known g c = c.compute_wait_numbered.ensures.known
-
-pub returns-clause-lane : goal.returns-clause-lane
-returns-clause-lane g c = c.compute_wait_numbered.ensures.lane
-
-pub returns-clause-kept : goal.returns-clause-kept
-returns-clause-kept g c = c.compute_wait_numbered.ensures.kept
-
-pub returns-clause-frame : goal.returns-clause-frame
-returns-clause-frame g c = c.compute_wait_numbered.ensures.frame
-
-pub returns-clause-decided : goal.returns-clause-decided
-returns-clause-decided g c = c.compute_wait_numbered.ensures.decided
-
-pub returns-clause-handed_back : goal.returns-clause-handed_back
-returns-clause-handed_back g c = c.compute_wait_numbered.ensures.handed_back
-
-pub returns-clause-apart : goal.returns-clause-apart
-returns-clause-apart g c = c.compute_wait_numbered.ensures.apart
-
-pub returns-clause-no_faults : goal.returns-clause-no_faults
-returns-clause-no_faults g c = c.compute_wait_numbered.ensures.no_faults
+pub returns-in-Err-clause-known : goal.returns-in-Err-clause-known
+returns-in-Err-clause-known g c = frame_known c.args.self.now.id [] c.args.lane.now c.number.new.lane (returns-in-Err-clause-frame g c)

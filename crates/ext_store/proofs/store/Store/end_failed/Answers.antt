@@ -6,5 +6,5 @@ use Rattle.ext_store.proofs.store.Store.end_failed.Goals as goal
 
 pub returns-then-not-keeps_faults-clause-frame : goal.returns-then-not-keeps_faults-clause-frame
 returns-then-not-keeps_faults-clause-frame g c =
-    storing_frame c.args.self.now.id (record { cells = c.lane.inside.cells; known = c.lane.inside.notes; faults = c.lane.inside.faults }) c.args.lane.now (record { cells = c.abandon.new.lane; known = c.lane.inside.notes; faults = c.lane.inside.faults }) c.lane.view_is c.requires.lane c.abandon.ensures.lane refl refl
+    storing_frame c.args.self.now.id (record { cells = c.lane.inside.cells; known = c.lane.inside.notes; faults = c.lane.inside.faults; keys = c.lane.inside.keys }) c.args.lane.now (record { cells = c.abandon.new.lane; known = c.lane.inside.notes; faults = c.lane.inside.faults; keys = c.lane.inside.keys }) c.lane.view_is c.requires.lane c.abandon.ensures.lane refl
     (Abandon c.args.claim ∷ []) (nor_this (Abandon c.args.claim) [] refl none_stored) c.abandon.ensures.abandoned.calls

@@ -35,7 +35,7 @@ returns-in-Ok-clause-apart g c m kept e = c.in-Ok.ensures.apart m kept (e ∙ c.
 
 pub returns-in-Ok-clause-frame : goal.returns-in-Ok-clause-frame
 returns-in-Ok-clause-frame g c =
-    fill_frame c.args.self.now.id c.args.lane.now (record { cells = c.lane.inside.cells; known = c.lane.inside.notes; faults = c.lane.inside.faults }) _ (record { cells = c.fill.new.lane; known = c.lane.inside.notes; faults = c.lane.inside.faults }) c.lane.view_is c.keep.ensures.frame c.fill.ensures.lane refl refl
+    fill_frame c.args.self.now.id c.args.lane.now (record { cells = c.lane.inside.cells; known = c.lane.inside.notes; faults = c.lane.inside.faults; keys = c.lane.inside.keys }) _ (record { cells = c.fill.new.lane; known = c.lane.inside.notes; faults = c.lane.inside.faults; keys = c.lane.inside.keys }) c.lane.view_is c.keep.ensures.frame c.fill.ensures.lane refl
     c.args.claim c.kept.inside.number c.fill.ensures.filled.calls (λ m kept e. c.in-Ok.ensures.apart m kept (e ∙ c.kept.view_is))
 
 pub returns-in-Err-clause-events : goal.returns-in-Err-clause-events
@@ -48,6 +48,6 @@ returns-in-Err-clause-events g c =
 
 pub returns-in-Err-clause-frame : goal.returns-in-Err-clause-frame
 returns-in-Err-clause-frame g c =
-    frames_compose c.args.self.now.id [] [] c.args.lane.now c.keep.new.lane (record { cells = c.abandon.new.lane; known = c.lane.inside.notes; faults = c.lane.inside.faults }) c.keep.ensures.frame
-    (storing_frame c.args.self.now.id (record { cells = c.lane.inside.cells; known = c.lane.inside.notes; faults = c.lane.inside.faults }) c.keep.new.lane (record { cells = c.abandon.new.lane; known = c.lane.inside.notes; faults = c.lane.inside.faults }) c.lane.view_is c.keep.ensures.lane c.abandon.ensures.lane refl refl
+    frames_compose c.args.self.now.id [] [] c.args.lane.now c.keep.new.lane (record { cells = c.abandon.new.lane; known = c.lane.inside.notes; faults = c.lane.inside.faults; keys = c.lane.inside.keys }) c.keep.ensures.frame
+    (storing_frame c.args.self.now.id (record { cells = c.lane.inside.cells; known = c.lane.inside.notes; faults = c.lane.inside.faults; keys = c.lane.inside.keys }) c.keep.new.lane (record { cells = c.abandon.new.lane; known = c.lane.inside.notes; faults = c.lane.inside.faults; keys = c.lane.inside.keys }) c.lane.view_is c.keep.ensures.lane c.abandon.ensures.lane refl
     (Abandon c.args.claim ∷ []) (nor_this (Abandon c.args.claim) [] refl none_stored) c.abandon.ensures.abandoned.calls)

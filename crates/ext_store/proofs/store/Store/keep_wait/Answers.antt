@@ -12,43 +12,43 @@ place_drawn-requires-clause-drawn g c =
 
 pub returns-clause-answer : goal.returns-clause-answer
 returns-clause-answer g c =
-    (kept_by_drawn c.args.self.now c.self.inside.shared.tries (ap (λ (s : StoreView). s.tries) c.self.view_is) c.args.value (record { cells = c.lane.inside.cells; known = c.lane.inside.notes; faults = c.lane.inside.faults }) c.args.lane.now c.lane.view_is c.requires.lane
+    (kept_by_drawn c.args.self.now c.self.inside.shared.tries (ap (λ (s : StoreView). s.tries) c.self.view_is) c.args.value (record { cells = c.lane.inside.cells; known = c.lane.inside.notes; faults = c.lane.inside.faults; keys = c.lane.inside.keys }) c.args.lane.now c.lane.view_is c.requires.lane
     c.wait_to_draw-drawn.new.lane c.wait_to_draw-drawn.ensures.lane c.place_drawn.new.notes c.wait_to_draw-drawn.result c.wait_to_draw-drawn.ensures.reply c.wait_to_draw-drawn.ensures.storable c.place_drawn.result
     (subst (λ v. PlacesDrawn v c.wait_to_draw-drawn.result c.lane.inside.notes c.place_drawn.new.notes c.place_drawn.result) c.in-Ok.ensures.ok c.place_drawn.ensures)).answer
 
 pub returns-clause-lane : goal.returns-clause-lane
 returns-clause-lane g c =
-    (kept_by_drawn c.args.self.now c.self.inside.shared.tries (ap (λ (s : StoreView). s.tries) c.self.view_is) c.args.value (record { cells = c.lane.inside.cells; known = c.lane.inside.notes; faults = c.lane.inside.faults }) c.args.lane.now c.lane.view_is c.requires.lane
+    (kept_by_drawn c.args.self.now c.self.inside.shared.tries (ap (λ (s : StoreView). s.tries) c.self.view_is) c.args.value (record { cells = c.lane.inside.cells; known = c.lane.inside.notes; faults = c.lane.inside.faults; keys = c.lane.inside.keys }) c.args.lane.now c.lane.view_is c.requires.lane
     c.wait_to_draw-drawn.new.lane c.wait_to_draw-drawn.ensures.lane c.place_drawn.new.notes c.wait_to_draw-drawn.result c.wait_to_draw-drawn.ensures.reply c.wait_to_draw-drawn.ensures.storable c.place_drawn.result
     (subst (λ v. PlacesDrawn v c.wait_to_draw-drawn.result c.lane.inside.notes c.place_drawn.new.notes c.place_drawn.result) c.in-Ok.ensures.ok c.place_drawn.ensures)).lane
 
 pub returns-clause-known : goal.returns-clause-known
 returns-clause-known g c =
-    (kept_by_drawn c.args.self.now c.self.inside.shared.tries (ap (λ (s : StoreView). s.tries) c.self.view_is) c.args.value (record { cells = c.lane.inside.cells; known = c.lane.inside.notes; faults = c.lane.inside.faults }) c.args.lane.now c.lane.view_is c.requires.lane
+    (kept_by_drawn c.args.self.now c.self.inside.shared.tries (ap (λ (s : StoreView). s.tries) c.self.view_is) c.args.value (record { cells = c.lane.inside.cells; known = c.lane.inside.notes; faults = c.lane.inside.faults; keys = c.lane.inside.keys }) c.args.lane.now c.lane.view_is c.requires.lane
     c.wait_to_draw-drawn.new.lane c.wait_to_draw-drawn.ensures.lane c.place_drawn.new.notes c.wait_to_draw-drawn.result c.wait_to_draw-drawn.ensures.reply c.wait_to_draw-drawn.ensures.storable c.place_drawn.result
     (subst (λ v. PlacesDrawn v c.wait_to_draw-drawn.result c.lane.inside.notes c.place_drawn.new.notes c.place_drawn.result) c.in-Ok.ensures.ok c.place_drawn.ensures)).known
 
 pub returns-clause-faults : goal.returns-clause-faults
 returns-clause-faults g c =
-    (kept_by_drawn c.args.self.now c.self.inside.shared.tries (ap (λ (s : StoreView). s.tries) c.self.view_is) c.args.value (record { cells = c.lane.inside.cells; known = c.lane.inside.notes; faults = c.lane.inside.faults }) c.args.lane.now c.lane.view_is c.requires.lane
+    (kept_by_drawn c.args.self.now c.self.inside.shared.tries (ap (λ (s : StoreView). s.tries) c.self.view_is) c.args.value (record { cells = c.lane.inside.cells; known = c.lane.inside.notes; faults = c.lane.inside.faults; keys = c.lane.inside.keys }) c.args.lane.now c.lane.view_is c.requires.lane
     c.wait_to_draw-drawn.new.lane c.wait_to_draw-drawn.ensures.lane c.place_drawn.new.notes c.wait_to_draw-drawn.result c.wait_to_draw-drawn.ensures.reply c.wait_to_draw-drawn.ensures.storable c.place_drawn.result
     (subst (λ v. PlacesDrawn v c.wait_to_draw-drawn.result c.lane.inside.notes c.place_drawn.new.notes c.place_drawn.result) c.in-Ok.ensures.ok c.place_drawn.ensures)).faults
 
 pub returns-clause-kept : goal.returns-clause-kept
 returns-clause-kept g c =
-    (kept_by_drawn c.args.self.now c.self.inside.shared.tries (ap (λ (s : StoreView). s.tries) c.self.view_is) c.args.value (record { cells = c.lane.inside.cells; known = c.lane.inside.notes; faults = c.lane.inside.faults }) c.args.lane.now c.lane.view_is c.requires.lane
+    (kept_by_drawn c.args.self.now c.self.inside.shared.tries (ap (λ (s : StoreView). s.tries) c.self.view_is) c.args.value (record { cells = c.lane.inside.cells; known = c.lane.inside.notes; faults = c.lane.inside.faults; keys = c.lane.inside.keys }) c.args.lane.now c.lane.view_is c.requires.lane
     c.wait_to_draw-drawn.new.lane c.wait_to_draw-drawn.ensures.lane c.place_drawn.new.notes c.wait_to_draw-drawn.result c.wait_to_draw-drawn.ensures.reply c.wait_to_draw-drawn.ensures.storable c.place_drawn.result
     (subst (λ v. PlacesDrawn v c.wait_to_draw-drawn.result c.lane.inside.notes c.place_drawn.new.notes c.place_drawn.result) c.in-Ok.ensures.ok c.place_drawn.ensures)).kept
 
 pub returns-clause-apart : goal.returns-clause-apart
 returns-clause-apart g c =
-    (kept_by_drawn c.args.self.now c.self.inside.shared.tries (ap (λ (s : StoreView). s.tries) c.self.view_is) c.args.value (record { cells = c.lane.inside.cells; known = c.lane.inside.notes; faults = c.lane.inside.faults }) c.args.lane.now c.lane.view_is c.requires.lane
+    (kept_by_drawn c.args.self.now c.self.inside.shared.tries (ap (λ (s : StoreView). s.tries) c.self.view_is) c.args.value (record { cells = c.lane.inside.cells; known = c.lane.inside.notes; faults = c.lane.inside.faults; keys = c.lane.inside.keys }) c.args.lane.now c.lane.view_is c.requires.lane
     c.wait_to_draw-drawn.new.lane c.wait_to_draw-drawn.ensures.lane c.place_drawn.new.notes c.wait_to_draw-drawn.result c.wait_to_draw-drawn.ensures.reply c.wait_to_draw-drawn.ensures.storable c.place_drawn.result
     (subst (λ v. PlacesDrawn v c.wait_to_draw-drawn.result c.lane.inside.notes c.place_drawn.new.notes c.place_drawn.result) c.in-Ok.ensures.ok c.place_drawn.ensures)).apart
 
 pub returns-clause-frame : goal.returns-clause-frame
 returns-clause-frame g c =
-    (kept_by_drawn c.args.self.now c.self.inside.shared.tries (ap (λ (s : StoreView). s.tries) c.self.view_is) c.args.value (record { cells = c.lane.inside.cells; known = c.lane.inside.notes; faults = c.lane.inside.faults }) c.args.lane.now c.lane.view_is c.requires.lane
+    (kept_by_drawn c.args.self.now c.self.inside.shared.tries (ap (λ (s : StoreView). s.tries) c.self.view_is) c.args.value (record { cells = c.lane.inside.cells; known = c.lane.inside.notes; faults = c.lane.inside.faults; keys = c.lane.inside.keys }) c.args.lane.now c.lane.view_is c.requires.lane
     c.wait_to_draw-drawn.new.lane c.wait_to_draw-drawn.ensures.lane c.place_drawn.new.notes c.wait_to_draw-drawn.result c.wait_to_draw-drawn.ensures.reply c.wait_to_draw-drawn.ensures.storable c.place_drawn.result
     (subst (λ v. PlacesDrawn v c.wait_to_draw-drawn.result c.lane.inside.notes c.place_drawn.new.notes c.place_drawn.result) c.in-Ok.ensures.ok c.place_drawn.ensures)).frame
 

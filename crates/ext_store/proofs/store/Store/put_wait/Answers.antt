@@ -1,57 +1,61 @@
-use Rattle.std.proofs.Common.{◌≡◌, subst, sym, refl}
-use Rattle.std.specs.Prelude.{Contains}
-use Rattle.ext_tree.specs.Keys.{HasNumber}
+use Rattle.std.proofs.Common.{◌≡◌, ◌∙◌, refl, []}
+use Rattle.std.specs.Prelude.{Err}
 use Rattle.ext_store.specs.Calls.{Puts}
-use Rattle.ext_store.proofs.Keeping.{no_number, is_number, one_number}
-use Rattle.ext_store.proofs.Frames.{no_frame}
+use Rattle.ext_store.specs.Frames.{stored_by}
+use Rattle.ext_store.proofs.Frames.{frames_compose}
+use Rattle.ext_store.proofs.Numbered.{kept_later, of_number, of_refusal, refused_decided}
 use Rattle.ext_store.proofs.store.Store.put_wait.Goals as goal
 
-pub returns-in_default-clause-unknown : goal.returns-in_default-clause-unknown
-returns-in_default-clause-unknown g c absent = (refl, refl)
+pub returns-in-Ok-clause-answer : goal.returns-in-Ok-clause-answer
+returns-in-Ok-clause-answer g c =
+    of_number c.args.lane.now c.number.new.lane c.put_wait_numbered.new.lane c.number.ensures.still c.args.self.now.id (stored_by c.args.kept c.put_wait_numbered.result) c.args.key.now c.in-Ok.key (λ why. c.put_wait_numbered.result ≡ Err (c.args.kept, why)) (λ l n. Puts c.args.self.now c.args.context n c.args.kept l c.put_wait_numbered.new.lane.cells c.put_wait_numbered.result)
+    c.in-Ok.ensures.number c.put_wait_numbered.ensures.frame c.put_wait_numbered.ensures.answer
 
-pub returns-in_default-clause-answer : goal.returns-in_default-clause-answer
-returns-in_default-clause-answer g c number has = absurd (no_number number (c.in_default.ensures.found number (subst (λ keys. HasNumber keys c.args.key.now number) (sym c.directory.ensures) has)))
+pub returns-in-Ok-clause-known : goal.returns-in-Ok-clause-known
+returns-in-Ok-clause-known g c = c.put_wait_numbered.ensures.known ∙ c.number.ensures.known
 
-pub returns-in_default-clause-lane : goal.returns-in_default-clause-lane
-returns-in_default-clause-lane g c = c.requires.lane
+pub returns-in-Ok-clause-lane : goal.returns-in-Ok-clause-lane
+returns-in-Ok-clause-lane g c = c.put_wait_numbered.ensures.lane
 
-pub returns-in_default-clause-frame : goal.returns-in_default-clause-frame
-returns-in_default-clause-frame g c = no_frame c.args.self.now.id c.args.lane.now c.requires.lane
+pub returns-in-Ok-clause-frame : goal.returns-in-Ok-clause-frame
+returns-in-Ok-clause-frame g c = frames_compose c.args.self.now.id [] (stored_by c.args.kept c.put_wait_numbered.result) c.args.lane.now c.number.new.lane c.put_wait_numbered.new.lane c.number.ensures.frame c.put_wait_numbered.ensures.frame
 
-pub returns-in_default-clause-known : goal.returns-in_default-clause-known
-returns-in_default-clause-known g c = refl
+pub returns-in-Err-clause-known : goal.returns-in-Err-clause-known
+returns-in-Err-clause-known g c = c.number.ensures.known
 
-pub returns-in_default-clause-kept : goal.returns-in_default-clause-kept
-returns-in_default-clause-kept g c number kept = kept
+pub returns-in-Err-clause-lane : goal.returns-in-Err-clause-lane
+returns-in-Err-clause-lane g c = c.number.ensures.lane
 
-pub returns-in_default-clause-decided : goal.returns-in_default-clause-decided
-returns-in_default-clause-decided g c = tt
+pub returns-in-Err-clause-kept : goal.returns-in-Err-clause-kept
+returns-in-Err-clause-kept g c = c.number.ensures.kept
 
-pub returns-in_default-clause-handed_back : goal.returns-in_default-clause-handed_back
-returns-in_default-clause-handed_back g c = refl
+pub returns-in-Err-clause-frame : goal.returns-in-Err-clause-frame
+returns-in-Err-clause-frame g c = c.number.ensures.frame
 
-pub returns-clause-unknown : goal.returns-clause-unknown
-returns-clause-unknown g c absent = absurd (is_number c.in-Some.key (c.in-Some.ensures.absent.1 (subst (λ keys. ¬ Contains keys c.args.key.now) (sym c.directory.ensures) absent)))
+pub put_wait_numbered-requires-clause-kept : goal.put_wait_numbered-requires-clause-kept
+put_wait_numbered-requires-clause-kept g c = c.number.ensures.kept c.args.kept c.requires.kept
 
-pub returns-clause-answer : goal.returns-clause-answer
-returns-clause-answer g c number has =
-    let same : c.in-Some.key ≡ number = one_number c.in-Some.key number (c.in-Some.ensures.found number (subst (λ keys. HasNumber keys c.args.key.now number) (sym c.directory.ensures) has)) in
-    subst (λ k. Puts c.args.self.now c.args.context k c.args.kept c.args.lane.now.cells c.put_wait_numbered.new.lane.cells c.put_wait_numbered.result) same c.put_wait_numbered.ensures.answer
+pub returns-in-Ok-clause-kept : goal.returns-in-Ok-clause-kept
+returns-in-Ok-clause-kept g c = kept_later c.args.lane.now c.number.new.lane c.put_wait_numbered.new.lane c.number.ensures.still c.put_wait_numbered.result c.args.kept c.number.ensures.kept c.put_wait_numbered.ensures.kept
 
-pub returns-clause-known : goal.returns-clause-known
-returns-clause-known g c = c.put_wait_numbered.ensures.known
+pub returns-in-Ok-clause-handed_back : goal.returns-in-Ok-clause-handed_back
+returns-in-Ok-clause-handed_back g c = c.put_wait_numbered.ensures.handed_back
 
-pub returns-clause-lane : goal.returns-clause-lane
-returns-clause-lane g c = c.put_wait_numbered.ensures.lane
+pub returns-in-Err-clause-handed_back : goal.returns-in-Err-clause-handed_back
+returns-in-Err-clause-handed_back g c = refl
 
-pub returns-clause-kept : goal.returns-clause-kept
-returns-clause-kept g c = c.put_wait_numbered.ensures.kept
+pub returns-in-Err-clause-answer : goal.returns-in-Err-clause-answer
+returns-in-Err-clause-answer g c =
+    of_refusal c.args.lane.now c.number.new.lane c.args.key.now c.in-Err.why c.in-Err.ensures.refused (λ why. Err (c.args.kept, c.in-Err.why) ≡ Err (c.args.kept, why)) (λ n. Puts c.args.self.now c.args.context n c.args.kept c.args.lane.now.cells c.number.new.lane.cells (Err (c.args.kept, c.in-Err.why))) refl
 
-pub returns-clause-frame : goal.returns-clause-frame
-returns-clause-frame g c = c.put_wait_numbered.ensures.frame
+pub returns-in-Ok-clause-decided : goal.returns-in-Ok-clause-decided
+returns-in-Ok-clause-decided g c = c.put_wait_numbered.ensures.decided
 
-pub returns-clause-decided : goal.returns-clause-decided
-returns-clause-decided g c = c.put_wait_numbered.ensures.decided
+pub returns-in-Err-clause-decided : goal.returns-in-Err-clause-decided
+returns-in-Err-clause-decided g c = refused_decided c.args.lane.now c.number.new.lane c.args.key.now c.in-Err.why c.in-Err.ensures.refused
 
-pub returns-clause-handed_back : goal.returns-clause-handed_back
-returns-clause-handed_back g c = c.put_wait_numbered.ensures.handed_back
+pub returns-in-Ok-clause-faults : goal.returns-in-Ok-clause-faults
+returns-in-Ok-clause-faults g c = c.put_wait_numbered.ensures.faults ∙ c.number.ensures.faults
+
+pub returns-in-Err-clause-faults : goal.returns-in-Err-clause-faults
+returns-in-Err-clause-faults g c = c.number.ensures.faults

@@ -11,14 +11,14 @@ returns-clause-answer g c = subst (λ (z : StoreView × Lane). Removes z.0 c.arg
 
 pub returns-clause-frame : goal.returns-clause-frame
 returns-clause-frame g c =
-    remove_frame c.args.self.now.id (record { cells = c.lane.inside.cells; known = c.lane.inside.notes; faults = c.lane.inside.faults }) c.args.lane.now (record { cells = c.remove_at.new.lane; known = c.lane.inside.notes; faults = c.lane.inside.faults }) c.lane.view_is c.requires.lane c.remove_at.ensures.lane refl refl c.self.inside.shared c.args.context c.args.key c.remove_at.result
+    remove_frame c.args.self.now.id (record { cells = c.lane.inside.cells; known = c.lane.inside.notes; faults = c.lane.inside.faults; keys = c.lane.inside.keys }) c.args.lane.now (record { cells = c.remove_at.new.lane; known = c.lane.inside.notes; faults = c.lane.inside.faults; keys = c.lane.inside.keys }) c.lane.view_is c.requires.lane c.remove_at.ensures.lane refl c.self.inside.shared c.args.context c.args.key c.remove_at.result
     (remove_calls c.self.inside.shared c.args.context c.args.key c.lane.inside.cells c.remove_at.new.lane c.remove_at.result c.remove_at.ensures.answer)
 
 pub returns-clause-known : goal.returns-clause-known
 returns-clause-known g c = ap (λ (l : StoreLane g.row.V.Denot). l.known) c.lane.view_is
 
 pub returns-clause-lane : goal.returns-clause-lane
-returns-clause-lane g c = frame_lane c.args.self.now.id [] c.args.lane.now (record { cells = c.remove_at.new.lane; known = c.lane.inside.notes; faults = c.lane.inside.faults }) (returns-clause-frame g c)
+returns-clause-lane g c = frame_lane c.args.self.now.id [] c.args.lane.now (record { cells = c.remove_at.new.lane; known = c.lane.inside.notes; faults = c.lane.inside.faults; keys = c.lane.inside.keys }) (returns-clause-frame g c)
 
 pub returns-clause-kept : goal.returns-clause-kept
-returns-clause-kept g c = frame_keeps c.args.self.now.id c.args.lane.now (record { cells = c.remove_at.new.lane; known = c.lane.inside.notes; faults = c.lane.inside.faults }) (returns-clause-frame g c)
+returns-clause-kept g c = frame_keeps c.args.self.now.id c.args.lane.now (record { cells = c.remove_at.new.lane; known = c.lane.inside.notes; faults = c.lane.inside.faults; keys = c.lane.inside.keys }) (returns-clause-frame g c)

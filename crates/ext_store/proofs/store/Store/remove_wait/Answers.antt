@@ -1,51 +1,51 @@
-use Rattle.std.proofs.Common.{◌≡◌, subst, sym, refl}
-use Rattle.std.specs.Prelude.{Contains}
-use Rattle.ext_tree.specs.Keys.{HasNumber}
+use Rattle.std.proofs.Common.{◌≡◌, ◌∙◌, refl, []}
+use Rattle.std.specs.Prelude.{Err}
 use Rattle.ext_store.specs.Calls.{Removes}
-use Rattle.ext_store.proofs.Keeping.{no_number, is_number, one_number}
-use Rattle.ext_store.proofs.Frames.{no_frame}
+use Rattle.ext_store.proofs.Frames.{frames_compose}
+use Rattle.ext_store.proofs.Numbered.{of_number, of_refusal, refused_decided}
 use Rattle.ext_store.proofs.store.Store.remove_wait.Goals as goal
 
-pub returns-in_default-clause-unknown : goal.returns-in_default-clause-unknown
-returns-in_default-clause-unknown g c absent = (refl, refl)
+pub returns-in-Ok-clause-answer : goal.returns-in-Ok-clause-answer
+returns-in-Ok-clause-answer g c =
+    of_number c.args.lane.now c.number.new.lane c.remove_wait_numbered.new.lane c.number.ensures.still c.args.self.now.id [] c.args.key.now c.in-Ok.key (λ why. c.remove_wait_numbered.result ≡ Err why) (λ l n. Removes c.args.self.now c.args.context n l c.remove_wait_numbered.new.lane.cells c.remove_wait_numbered.result)
+    c.in-Ok.ensures.number c.remove_wait_numbered.ensures.frame c.remove_wait_numbered.ensures.answer
 
-pub returns-in_default-clause-answer : goal.returns-in_default-clause-answer
-returns-in_default-clause-answer g c number has = absurd (no_number number (c.in_default.ensures.found number (subst (λ keys. HasNumber keys c.args.key.now number) (sym c.directory.ensures) has)))
+pub returns-in-Ok-clause-known : goal.returns-in-Ok-clause-known
+returns-in-Ok-clause-known g c = c.remove_wait_numbered.ensures.known ∙ c.number.ensures.known
 
-pub returns-in_default-clause-lane : goal.returns-in_default-clause-lane
-returns-in_default-clause-lane g c = c.requires.lane
+pub returns-in-Ok-clause-lane : goal.returns-in-Ok-clause-lane
+returns-in-Ok-clause-lane g c = c.remove_wait_numbered.ensures.lane
 
-pub returns-in_default-clause-frame : goal.returns-in_default-clause-frame
-returns-in_default-clause-frame g c = no_frame c.args.self.now.id c.args.lane.now c.requires.lane
+pub returns-in-Ok-clause-frame : goal.returns-in-Ok-clause-frame
+returns-in-Ok-clause-frame g c = frames_compose c.args.self.now.id [] [] c.args.lane.now c.number.new.lane c.remove_wait_numbered.new.lane c.number.ensures.frame c.remove_wait_numbered.ensures.frame
 
-pub returns-in_default-clause-known : goal.returns-in_default-clause-known
-returns-in_default-clause-known g c = refl
+pub returns-in-Err-clause-known : goal.returns-in-Err-clause-known
+returns-in-Err-clause-known g c = c.number.ensures.known
 
-pub returns-in_default-clause-kept : goal.returns-in_default-clause-kept
-returns-in_default-clause-kept g c number kept = kept
+pub returns-in-Err-clause-lane : goal.returns-in-Err-clause-lane
+returns-in-Err-clause-lane g c = c.number.ensures.lane
 
-pub returns-in_default-clause-decided : goal.returns-in_default-clause-decided
-returns-in_default-clause-decided g c = tt
+pub returns-in-Err-clause-kept : goal.returns-in-Err-clause-kept
+returns-in-Err-clause-kept g c = c.number.ensures.kept
 
-pub returns-clause-unknown : goal.returns-clause-unknown
-returns-clause-unknown g c absent = absurd (is_number c.in-Some.key (c.in-Some.ensures.absent.1 (subst (λ keys. ¬ Contains keys c.args.key.now) (sym c.directory.ensures) absent)))
+pub returns-in-Err-clause-frame : goal.returns-in-Err-clause-frame
+returns-in-Err-clause-frame g c = c.number.ensures.frame
 
-pub returns-clause-answer : goal.returns-clause-answer
-returns-clause-answer g c number has =
-    let same : c.in-Some.key ≡ number = one_number c.in-Some.key number (c.in-Some.ensures.found number (subst (λ keys. HasNumber keys c.args.key.now number) (sym c.directory.ensures) has)) in
-    subst (λ k. Removes c.args.self.now c.args.context k c.args.lane.now.cells c.remove_wait_numbered.new.lane.cells c.remove_wait_numbered.result) same c.remove_wait_numbered.ensures.answer
+pub returns-in-Ok-clause-kept : goal.returns-in-Ok-clause-kept
+returns-in-Ok-clause-kept g c number kept = c.remove_wait_numbered.ensures.kept number (c.number.ensures.kept number kept)
 
-pub returns-clause-known : goal.returns-clause-known
-returns-clause-known g c = c.remove_wait_numbered.ensures.known
+pub returns-in-Err-clause-answer : goal.returns-in-Err-clause-answer
+returns-in-Err-clause-answer g c =
+    of_refusal c.args.lane.now c.number.new.lane c.args.key.now c.in-Err.why c.in-Err.ensures.refused (λ why. Err c.in-Err.why ≡ Err why) (λ n. Removes c.args.self.now c.args.context n c.args.lane.now.cells c.number.new.lane.cells (Err c.in-Err.why)) refl
 
-pub returns-clause-lane : goal.returns-clause-lane
-returns-clause-lane g c = c.remove_wait_numbered.ensures.lane
+pub returns-in-Ok-clause-decided : goal.returns-in-Ok-clause-decided
+returns-in-Ok-clause-decided g c = c.remove_wait_numbered.ensures.decided
 
-pub returns-clause-kept : goal.returns-clause-kept
-returns-clause-kept g c = c.remove_wait_numbered.ensures.kept
+pub returns-in-Err-clause-decided : goal.returns-in-Err-clause-decided
+returns-in-Err-clause-decided g c = refused_decided c.args.lane.now c.number.new.lane c.args.key.now c.in-Err.why c.in-Err.ensures.refused
 
-pub returns-clause-frame : goal.returns-clause-frame
-returns-clause-frame g c = c.remove_wait_numbered.ensures.frame
+pub returns-in-Ok-clause-faults : goal.returns-in-Ok-clause-faults
+returns-in-Ok-clause-faults g c = c.remove_wait_numbered.ensures.faults ∙ c.number.ensures.faults
 
-pub returns-clause-decided : goal.returns-clause-decided
-returns-clause-decided g c = c.remove_wait_numbered.ensures.decided
+pub returns-in-Err-clause-faults : goal.returns-in-Err-clause-faults
+returns-in-Err-clause-faults g c = c.number.ensures.faults

@@ -12,7 +12,7 @@ returns-clause-answer g c =
 
 pub returns-clause-frame : goal.returns-clause-frame
 returns-clause-frame g c =
-    seal_frame c.args.self.now.id c.self.inside.shared (record { cells = c.lane.inside.cells; known = c.lane.inside.notes; faults = c.lane.inside.faults }) c.args.lane.now (record { cells = c.seal_at.new.lane; known = c.lane.inside.notes; faults = c.lane.inside.faults }) c.lane.view_is c.requires.lane c.seal_at.ensures.lane refl refl _ c.args.key c.seal_at.result c.seal_at.ensures.answer
+    seal_frame c.args.self.now.id c.self.inside.shared (record { cells = c.lane.inside.cells; known = c.lane.inside.notes; faults = c.lane.inside.faults; keys = c.lane.inside.keys }) c.args.lane.now (record { cells = c.seal_at.new.lane; known = c.lane.inside.notes; faults = c.lane.inside.faults; keys = c.lane.inside.keys }) c.lane.view_is c.requires.lane c.seal_at.ensures.lane refl _ c.args.key c.seal_at.result c.seal_at.ensures.answer
 
 pub returns-clause-known : goal.returns-clause-known
 returns-clause-known g c = ap (λ (l : StoreLane g.row.V.Denot). l.known) c.lane.view_is
@@ -21,7 +21,10 @@ pub returns-clause-faults : goal.returns-clause-faults
 returns-clause-faults g c = ap (λ (l : StoreLane g.row.V.Denot). l.faults) c.lane.view_is
 
 pub returns-clause-lane : goal.returns-clause-lane
-returns-clause-lane g c = frame_lane c.args.self.now.id [] c.args.lane.now (record { cells = c.seal_at.new.lane; known = c.lane.inside.notes; faults = c.lane.inside.faults }) (returns-clause-frame g c)
+returns-clause-lane g c = frame_lane c.args.self.now.id [] c.args.lane.now (record { cells = c.seal_at.new.lane; known = c.lane.inside.notes; faults = c.lane.inside.faults; keys = c.lane.inside.keys }) (returns-clause-frame g c)
 
 pub returns-clause-kept : goal.returns-clause-kept
-returns-clause-kept g c = frame_keeps c.args.self.now.id c.args.lane.now (record { cells = c.seal_at.new.lane; known = c.lane.inside.notes; faults = c.lane.inside.faults }) (returns-clause-frame g c)
+returns-clause-kept g c = frame_keeps c.args.self.now.id c.args.lane.now (record { cells = c.seal_at.new.lane; known = c.lane.inside.notes; faults = c.lane.inside.faults; keys = c.lane.inside.keys }) (returns-clause-frame g c)
+
+pub returns-clause-keys : goal.returns-clause-keys
+returns-clause-keys g c = ap (λ (l : StoreLane g.row.V.Denot). l.keys) c.lane.view_is

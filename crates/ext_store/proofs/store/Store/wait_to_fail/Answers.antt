@@ -30,7 +30,7 @@ returns-in-Ok-clause-events g c =
 
 pub returns-in-Ok-clause-frame : goal.returns-in-Ok-clause-frame
 returns-in-Ok-clause-frame g c =
-    fail_frame c.args.self.now.id c.args.lane.now (record { cells = c.lane.inside.cells; known = c.lane.inside.notes; faults = c.lane.inside.faults }) _ (record { cells = c.fail.new.lane; known = c.lane.inside.notes; faults = c.lane.inside.faults }) c.lane.view_is c.keep_fault_wait.ensures.frame c.fail.ensures.lane refl refl
+    fail_frame c.args.self.now.id c.args.lane.now (record { cells = c.lane.inside.cells; known = c.lane.inside.notes; faults = c.lane.inside.faults; keys = c.lane.inside.keys }) _ (record { cells = c.fail.new.lane; known = c.lane.inside.notes; faults = c.lane.inside.faults; keys = c.lane.inside.keys }) c.lane.view_is c.keep_fault_wait.ensures.frame c.fail.ensures.lane refl
     c.args.claim c.in-Ok.number c.fail.ensures.failed.calls c.in-Ok.ensures.apart
 
 pub returns-in-Err-clause-events : goal.returns-in-Err-clause-events
@@ -45,6 +45,6 @@ returns-in-Err-clause-events g c =
 pub returns-in-Err-clause-frame : goal.returns-in-Err-clause-frame
 returns-in-Err-clause-frame g c =
     let mine = frame_lane c.args.self.now.id [] c.args.lane.now c.keep_fault_wait.new.lane c.keep_fault_wait.ensures.frame in
-    frames_compose c.args.self.now.id [] [] c.args.lane.now c.keep_fault_wait.new.lane (record { cells = c.abandon.new.lane; known = c.lane.inside.notes; faults = c.lane.inside.faults }) c.keep_fault_wait.ensures.frame
-    (storing_frame c.args.self.now.id (record { cells = c.lane.inside.cells; known = c.lane.inside.notes; faults = c.lane.inside.faults }) c.keep_fault_wait.new.lane (record { cells = c.abandon.new.lane; known = c.lane.inside.notes; faults = c.lane.inside.faults }) c.lane.view_is mine c.abandon.ensures.lane refl refl
+    frames_compose c.args.self.now.id [] [] c.args.lane.now c.keep_fault_wait.new.lane (record { cells = c.abandon.new.lane; known = c.lane.inside.notes; faults = c.lane.inside.faults; keys = c.lane.inside.keys }) c.keep_fault_wait.ensures.frame
+    (storing_frame c.args.self.now.id (record { cells = c.lane.inside.cells; known = c.lane.inside.notes; faults = c.lane.inside.faults; keys = c.lane.inside.keys }) c.keep_fault_wait.new.lane (record { cells = c.abandon.new.lane; known = c.lane.inside.notes; faults = c.lane.inside.faults; keys = c.lane.inside.keys }) c.lane.view_is mine c.abandon.ensures.lane refl
     (Abandon c.args.claim ∷ []) (nor_this (Abandon c.args.claim) [] refl none_stored) c.abandon.ensures.abandoned.calls)

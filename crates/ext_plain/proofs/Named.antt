@@ -1,0 +1,187 @@
+-- The numbers of keys in a plain run: each key has one at most, and keeps it; a step whose key gets none changes nothing.
+use Rattle.std.proofs.Common.{◌≡◌, ℕ, Bool, true, false, List, [], ◌∷◌, length, length-append, drop, Option, Some, None, inl, inr, refl, ap, sym, ◌∙◌, arith, true≢false}
+use Rattle.std.specs.Prelude.{◌&&◌, if◌then◌else◌, codes}
+use Rattle.std.proofs.lemmas.Bool.{ltb-true}
+use Rattle.ext_tree.specs.Keys.{KeyValue, HasNumber}
+use Rattle.ext_tree.proofs.Numbers.{different_with}
+use Rattle.ext_plan_model.specs.Plans.{KeyText, StepKeyText, StepText, put, put_closeable, want, nothing, remove, compute, compute_closeable, compute_fail, fail, abort}
+use Rattle.ext_plan_model.specs.KeyNumbers.{is_there, key_of_step}
+use Rattle.ext_plan_model.specs.Steps.{step_key}
+use Rattle.ext_plan_model.proofs.KeyLists.{not_contained}
+use Rattle.ext_steps.specs.declared.reason.Reason.{Reason}
+use Rattle.ext_steps.specs.declared.reason.Reason.TheVariants as reasons
+use Rattle.ext_steps.specs.Calls.{is_made, label_of, start_of}
+use Rattle.ext_steps.specs.Values.{ValueText}
+use Rattle.ext_steps.specs.Verdicts.{refused, none_verdict, want_verdict}
+use Rattle.ext_plain.specs.ValueStates.{key_limit, Memory, enough, no_key, no_value, no_number, no_place, no_words, ValueState, why_refused, next_number, keep_value, Numbering, known, next, full, numbering_of, with_number}
+use Rattle.ext_model.specs.declared.event.Act.TheVariants.{Remove}
+use Rattle.ext_plain.specs.Steps.{StepEnd, ended, no_memory, said_by, lacks_key, lacks_number, lacks_value, number_by, numbered_by, keeping_by, keyed_by, kept_or_refused, found_along, put_by, put_in, step_by, act_ends, want_numbered, none_numbered, remove_numbered, compute_numbered, computefail_numbered, seen_by}
+use Rattle.ext_plain.specs.Laws.{IsUnchangedButKept, KeepsNumber, NumbersKeys, NumbersOnce, kept_first}
+use Rattle.ext_plain.proofs.Kept.{IsKept, IsKeptNumbered, compute_by-kept, computefail_by-kept, node-kept, put_in-kept, said-kept, step-kept, steps-kept}
+use Rattle.ext_plain.proofs.Numberings.{known_is, next_is, number_stays, there_then}
+
+-- ---- no act on the store changes the keys that have numbers
+
+abbrev pub OfKeys : (List KeyValue → Type 0) → ValueState → Type 0
+OfKeys Q s = Q s.keys
+
+pub of-keys : (Q : List KeyValue → Type 0) → IsKept (OfKeys Q)
+of-keys Q = record {
+  finds = λ memory s h. h;
+  puts = λ place number s h. h;
+  removes = λ place s h. h;
+  seals = λ place s h. h;
+  keeps = λ value s room h. h;
+  abandons = λ place s won h. h;
+  fills = λ place value s won room h. h;
+  fails = λ place value s keeps won room h. h;
+}
+
+-- ---- each key has one number at most
+
+keys_kept : IsKept NumbersKeys
+keys_kept = record {
+  finds = λ memory s h. record { different = h.different; few = h.few };
+  puts = λ place number s h. record { different = h.different; few = h.few };
+  removes = λ place s h. record { different = h.different; few = h.few };
+  seals = λ place s h. record { different = h.different; few = h.few };
+  keeps = λ value s room h. record { different = h.different; few = h.few };
+  abandons = λ place s won h. record { different = h.different; few = h.few };
+  fills = λ place value s won room h. record { different = h.different; few = h.few };
+  fails = λ place value s keeps won room h. record { different = h.different; few = h.few };
+}
+
+one-more : (key : KeyValue) (number : ℕ) (s : ValueState) → numbering_of s.keys key ≡ next number → NumbersKeys s → NumbersKeys (with_number key s)
+one-more key number s is h =
+    let new = next_is s.keys key number is in
+    let room = ltb-true (length s.keys) key_limit new.room in
+    let longer = length-append s.keys (key ∷ []) in
+    record { different = different_with s.keys key h.different (not_contained s.keys key new.there); few = omega (arith, room, longer) }
+
+keys_numbered : IsKeptNumbered NumbersKeys
+keys_numbered = record { numbers = one-more }
+
+pub numbers-once : NumbersOnce
+numbers-once = record {
+  step = λ keys found path step s h. step-kept NumbersKeys keys_kept keys_numbered keys found path step s h;
+  steps = λ keys path steps s h. steps-kept NumbersKeys keys_kept keys_numbered keys path steps s h;
+  node = λ plan levels path run h. node-kept NumbersKeys keys_kept keys_numbered plan levels path run h;
+}
+
+-- ---- a number stays
+
+module _ (key : KeyValue) (number : ℕ) where
+  abbrev Has : List KeyValue → Type 0
+  Has keys = HasNumber keys key number
+
+  has-numbered : IsKeptNumbered (OfKeys Has)
+  has-numbered = record { numbers = λ other n s is h. number_stays s.keys (other ∷ []) key number h }
+
+  pub number-kept : KeepsNumber key number
+  number-kept = record {
+    step = λ keys found path step s h. step-kept (OfKeys Has) (of-keys Has) has-numbered keys found path step s h;
+    steps = λ keys path steps s h. steps-kept (OfKeys Has) (of-keys Has) has-numbered keys path steps s h;
+    node = λ plan levels path run h. node-kept (OfKeys Has) (of-keys Has) has-numbered plan levels path run h;
+  }
+
+-- ---- a step whose key gets no number
+
+module _ (key : KeyValue) where
+  abbrev There : List KeyValue → Type 0
+  There keys = is_there keys key ≡ true
+
+  abbrev Absent : List KeyValue → Type 0
+  Absent keys = is_there keys key ≡ false
+
+  said-state : (P : ValueState → Type 0) (found : Memory) (end : StepEnd) → P end.state → P (said_by found end).state
+  said-state P enough end h = h
+  said-state P no_key end h = h
+  said-state P no_value end h = h
+  said-state P no_number end h = h
+  said-state P no_place end h = h
+  said-state P no_words end h = h
+
+  either-state : (P : ValueState → Type 0) (b : Bool) (x y : StepEnd) → (Absent x.state.keys → P x.state) → (Absent y.state.keys → P y.state) → Absent (if b then x else y).state.keys → P (if b then x else y).state
+  either-state P true x y p q = p
+  either-state P false x y p q = q
+
+  -- the step went on, and the key has its number
+  goes-there : (P : ValueState → Type 0) (end : StepEnd) → There end.state.keys → Absent end.state.keys → P end.state
+  goes-there P end there absent = absurd (true≢false (sym there ∙ absent))
+
+  number-absent : (P : ValueState → Type 0) (found : Memory) (name label : List ℕ) (goes_on : ℕ → ValueState → StepEnd) (s : ValueState) (numbering : Numbering) → numbering_of s.keys key ≡ numbering
+      → ((number : ℕ) (t : ValueState) → There t.keys → There (goes_on number t).state.keys) → P s → Absent (number_by found name label key goes_on s numbering).state.keys → P (number_by found name label key goes_on s numbering).state
+  number-absent P found name label goes_on s (known number) is each h = goes-there P (goes_on number s) (each number s (known_is s.keys key number is).there)
+  number-absent P found name label goes_on s (next number) is each h =
+      either-state P (lacks_number found) (ended no_memory s) (goes_on number (with_number key s)) (λ absent. h)
+      (goes-there P (goes_on number (with_number key s)) (each number (with_number key s) (there_then s.keys key (next_is s.keys key number is).there)))
+  number-absent P found name label goes_on s full is each h = λ absent. said-state P found (ended (refused name label reasons.DirectoryFull) s) h
+
+  kept_or_refused-absent : (P : ValueState → Type 0) (found : Memory) (name label : List ℕ) (why : Option Reason) (s : ValueState) (goes_on : StepEnd) → P s → (Absent goes_on.state.keys → P goes_on.state)
+      → Absent (kept_or_refused found name label why s goes_on).state.keys → P (kept_or_refused found name label why s goes_on).state
+  kept_or_refused-absent P found name label None s goes_on h go = go
+  kept_or_refused-absent P found name label (Some why) s goes_on h go = λ absent. said-state P found (ended (refused name label why) s) h
+
+  put-absent : (P : ValueState → Type 0) (found : Memory) (name label : List ℕ) (at : ℕ) (value : ValueText) (s : ValueState) → P s → P (keep_value value s) → Absent (put_by found name label at key value s).state.keys
+      → P (put_by found name label at key value s).state
+  put-absent P found name label at value s h kept =
+      let mid = keep_value value s in
+      let why = why_refused (next_number s) s in
+      let puts : ℕ → ValueState → StepEnd = λ number. put_in found name label (at, number) in
+      let stored = numbered_by found name label key puts mid in
+      either-state P (lacks_value found) (ended no_memory s) (kept_or_refused found name label why s stored) (λ absent. h)
+      (kept_or_refused-absent P found name label why s stored h
+      (number-absent P found name label puts mid (numbering_of mid.keys key) refl (λ number t there. put_in-kept (OfKeys There) (of-keys There) found name label (at, number) t there) kept))
+
+module _ (keys : List KeyText) (found : Memory) (path : List ℕ) where
+  keeping-absent : (name : List ℕ) (key : StepKeyText) (on : List ℕ) (value : ValueText) (s : ValueState) → is_there (keeping_by keys found name key on value s).state.keys (key_of_step keys key) ≡ false
+      → IsUnchangedButKept (Some value) s (keeping_by keys found name key on value s).state
+  keeping-absent name key on value s =
+      let k = key_of_step keys key in
+      let P : ValueState → Type 0 = λ t. IsUnchangedButKept (Some value) s t in
+      either-state k P (lacks_key found && is_made keys key) (ended no_memory s) (put_by found name (label_of keys key) (start_of on) k value s) (λ absent. inl refl)
+      (put-absent k P found name (label_of keys key) (start_of on) value s (inl refl) (inr refl))
+
+  keyed-absent : (name : List ℕ) (key : StepKeyText) (goes_on : List ℕ → ℕ → ValueState → StepEnd) (s : ValueState)
+      → ((label : List ℕ) (number : ℕ) (t : ValueState) → is_there t.keys (key_of_step keys key) ≡ true → is_there (goes_on label number t).state.keys (key_of_step keys key) ≡ true)
+      → is_there (keyed_by keys found name key goes_on s).state.keys (key_of_step keys key) ≡ false → IsUnchangedButKept None s (keyed_by keys found name key goes_on s).state
+  keyed-absent name key goes_on s each =
+      let k = key_of_step keys key in
+      let label = label_of keys key in
+      let P : ValueState → Type 0 = λ t. IsUnchangedButKept None s t in
+      either-state k P (lacks_key found && is_made keys key) (ended no_memory s) (numbered_by found name label k (goes_on label) s) (λ absent. refl)
+      (number-absent k P found name label (goes_on label) s (numbering_of s.keys k) refl (each label) refl)
+
+  -- the key that the step names is the one that is spoken of
+  by_own : (own key : StepKeyText) (step : StepText) (s : ValueState) → own ≡ key → is_there (step_by keys found path step s).state.keys (key_of_step keys key) ≡ false
+      → is_there (step_by keys found path step s).state.keys (key_of_step keys own) ≡ false
+  by_own own key step s is absent = ap (λ k. is_there (step_by keys found path step s).state.keys (key_of_step keys k)) is ∙ absent
+
+  said-there : (own : StepKeyText) (memory : Memory) (end : StepEnd) → is_there end.state.keys (key_of_step keys own) ≡ true → is_there (said_by memory end).state.keys (key_of_step keys own) ≡ true
+  said-there own memory end there = said-kept (OfKeys (There (key_of_step keys own))) (of-keys (There (key_of_step keys own))) memory end there
+
+  step-absent : (step : StepText) (key : StepKeyText) (s : ValueState) → step_key step ≡ Some key → is_there (step_by keys found path step s).state.keys (key_of_step keys key) ≡ false
+      → IsUnchangedButKept (kept_first step) s (step_by keys found path step s).state
+  step-absent (put own text up) key s is absent = keeping-absent (codes "put") own (drop up path) (record { text = text; closeable = false }) s (by_own own key (put own text up) s (let e : own ≡ key = cc in e) absent)
+  step-absent (put_closeable own text up) key s is absent = keeping-absent (codes "put!") own (drop up path) (record { text = text; closeable = true }) s (by_own own key (put_closeable own text up) s (let e : own ≡ key = cc in e) absent)
+  step-absent (want own text up) key s is absent = keyed-absent (codes "want") own (λ label. want_numbered found (codes "want") label (drop up path) text) s (λ label number t there. said-there own found (ended (want_verdict (codes "want") label text (seen_by t.values (found_along number (drop up path) t))) t) there) (by_own own key (want own text up) s (let e : own ≡ key = cc in e) absent)
+  step-absent (nothing own up) key s is absent = keyed-absent (codes "none") own (λ label. none_numbered found (codes "none") label (drop up path)) s (λ label number t there. said-there own found (ended (none_verdict (codes "none") label (seen_by t.values (found_along number (drop up path) t))) t) there) (by_own own key (nothing own up) s (let e : own ≡ key = cc in e) absent)
+  step-absent (remove own up) key s is absent = keyed-absent (codes "remove") own (λ label. remove_numbered found (codes "remove") label (drop up path)) s (λ label number t there. said-there own found (act_ends (codes "remove") label (Remove (start_of (drop up path), number)) t) there) (by_own own key (remove own up) s (let e : own ≡ key = cc in e) absent)
+  step-absent (compute own text up) key s is absent =
+      keyed-absent (codes "compute") own (λ label. compute_numbered found (codes "compute") label (drop up path) (record { text = text; closeable = false })) s
+      (λ label number t there. compute_by-kept (OfKeys (There (key_of_step keys own))) (of-keys (There (key_of_step keys own))) found (codes "compute") label (start_of (drop up path), number) (record { text = text; closeable = false }) t (found_along number (drop up path) t) there)
+      (by_own own key (compute own text up) s (let e : own ≡ key = cc in e) absent)
+  step-absent (compute_closeable own text up) key s is absent =
+      keyed-absent (codes "compute!") own (λ label. compute_numbered found (codes "compute!") label (drop up path) (record { text = text; closeable = true })) s
+      (λ label number t there. compute_by-kept (OfKeys (There (key_of_step keys own))) (of-keys (There (key_of_step keys own))) found (codes "compute!") label (start_of (drop up path), number) (record { text = text; closeable = true }) t (found_along number (drop up path) t) there)
+      (by_own own key (compute_closeable own text up) s (let e : own ≡ key = cc in e) absent)
+  step-absent (compute_fail own text up) key s is absent =
+      keyed-absent (codes "computefail") own (λ label. computefail_numbered found (codes "computefail") label (drop up path) text) s
+      (λ label number t there. computefail_by-kept (OfKeys (There (key_of_step keys own))) (of-keys (There (key_of_step keys own))) found (codes "computefail") label (start_of (drop up path), number) text t (found_along number (drop up path) t) there)
+      (by_own own key (compute_fail own text up) s (let e : own ≡ key = cc in e) absent)
+  step-absent (fail text) key s is absent = absurd cc
+  step-absent (abort text) key s is absent = absurd cc
+
+pub unnumbered : (keys : List KeyText) (found : Memory) (path : List ℕ) (step : StepText) (key : StepKeyText) (s : ValueState) → step_key step ≡ Some key
+    → is_there (step_by keys found path step s).state.keys (key_of_step keys key) ≡ false → IsUnchangedButKept (kept_first step) s (step_by keys found path step s).state
+unnumbered keys found path step key s is absent = step-absent keys found path step key s is absent

@@ -1,0 +1,26 @@
+-- The laws of the numbers of keys that are made during a run.
+use Rattle.std.proofs.Common.{ℕ, zero, suc, ◌≡◌, List, [], ◌∷◌, Some}
+use Rattle.ext_tree.specs.Keys.{KeyValue}
+use Rattle.ext_tree.specs.KeyPlaces.{OneKey, key_at, no_key_known}
+use Rattle.ext_tree.specs.KeyPlaceLaws.{KeyNumbersTell, SharedNotesAgree}
+use Rattle.ext_tree.proofs.KeyPlacing.{key_within, never_refused, number_stays, one_key, one_number}
+
+nothing_at : (places : List ℕ) (key : KeyValue) (number : ℕ) → key_at (no_key_known places) number ≡ Some key → ⊥
+nothing_at [] key number known = absurd (cc)
+nothing_at (place ∷ places) key zero known = absurd (cc)
+nothing_at (place ∷ places) key (suc number) known = nothing_at places key number known
+
+pub key_numbers_tell : KeyNumbersTell
+key_numbers_tell = record {
+  one_number = λ notes key number second is is'. one_number notes notes (one_key notes) key number second is is';
+  one_key = λ notes key other number is is'. one_key notes number key other is.there is'.there;
+  within = λ notes key number is. key_within notes number key is.there;
+  stays = number_stays;
+  not_refused = never_refused;
+  none_at_first = λ places key number is. nothing_at places key number is.there;
+}
+
+pub shared_notes_agree : SharedNotesAgree
+shared_notes_agree first second whole keeps keeps' =
+    let agree : OneKey first second = λ number key other known known'. one_key whole number key other (keeps.keys number key known) (keeps'.keys number other known') in
+    (one_number first second agree, agree)

@@ -1,0 +1,138 @@
+//! Places for keys, which number them during a run.
+ghost use Rattle.std.specs.Prelude.{ℕ, ◌≡◌, ◌+◌, ◌*◌, ◌<◌, IfErr, IfOk, IsSome, Ok, Some, length};
+ghost use Rattle.ext_tree.specs.Keys.{KeyValue};
+ghost use Rattle.ext_tree.specs.KeyPlaces.{AreKeyNotesOf, IsKeyFault, IsKeyNumber, KeepsKeys, OneKey, OneNumber, key_at, no_key_known};
+ghost use Rattle.ext_tree.specs.declared.fault.TreeFault.TheVariants as fault;
+
+use crate::key_notes::KeyNotes;
+use crate::key_walk::{agree_all, entries_of, hint_at, hinted, known_key, walk};
+use crate::{Key, KeyFault, TreeFault};
+use ext_model::{CellNo, ContextNo, KeyNo};
+use once_cell::race::OnceBox;
+use std::alloc::Global;
+use std::marker::Model;
+
+// How many keys get a number.
+const PLACES: usize = 64;
+
+/// The directory of keys that are made during a run: 64 places, each of which is set at most once and holds its key until all are
+/// dropped. The number of a key is that of its place, 0 to 63.
+///
+/// Several threads share it, and each asks with notes of its own, `KeyNotes`. Any of them may number any key at any time, without a
+/// lock, and all get the same number for the same key. Where one owner declares all keys, a `Directory` does. In contracts it is
+/// the list of the names of its places. Own rule.
+#[derive(Drop)]
+pub struct KeyPlaces {
+    places: Vec<OnceBox<Key>>,
+    alloc: Global,
+}
+
+impl Model for KeyPlaces {
+    ghost use Rattle.std.specs.Prelude.{ℕ, ◌≡◌, List, length, map};
+    ghost use Rattle.once_cell.specs.Once.{cell_name};
+
+    ghost Value = { List ℕ };
+
+    ghost view = { λ p. map cell_name p.places.items };
+
+    ghost invariant = { λ p. length p.places.items ≡ 64 };
+}
+
+impl KeyPlaces {
+    /// 64 free places. Takes memory for them at once: one pointer a place. The allocator stays with them, for the keys.
+    ///
+    /// Refused as `Memory`, and only where that one allocation fails. Own rule.
+    pub fn new(alloc: Global) -> Result<KeyPlaces, TreeFault>
+        ensures places { IfOk result (λ p. length p ≡ 64) }
+        ensures memory { IfErr result (λ e. e ≡ fault.Memory) }
+    {
+        let mut places = Vec::with_capacity(alloc, PLACES)?;
+        for _ in 0..PLACES {
+            places.push_reserved(OnceBox::new(alloc));
+        }
+        Ok(KeyPlaces { places, alloc })
+    }
+
+    /// Notes of these places for one lane, which know no key yet, whatever the places hold. Takes no memory. Own rule.
+    pub fn notes(&self) -> KeyNotes
+        ensures nothing { result ≡ no_key_known self.now }
+        ensures of { AreKeyNotesOf self.now result }
+    {
+        KeyNotes::of(entries_of(self.places.as_slice()))
+    }
+
+    /// The number of the key, 0 to 63, from now on: the first place that holds it. It is a condition that the notes are of these
+    /// places.
+    ///
+    /// The places are asked from the first on: one that holds another key is passed, and one that is found free is offered a copy of
+    /// the key. A key that was numbered by these notes before is looked for by its hash first: that is one load and one comparison,
+    /// and few more where keys have one hash. Memory is taken for copies alone: none where a place holds the key already, else one
+    /// copy, and one more for each place that another thread sets in between. Never waits.
+    ///
+    /// A key that has a number in the notes is never refused. Any other is refused as `Memory` where there is none for a copy, at the
+    /// first place that is not known to hold a key, and as `DirectoryFull` where all 64 places are known to hold other keys;
+    /// `Unplaced` does not come. A refused call placed no key. The notes know then what they knew, and may know the keys of further
+    /// places, too. Own rule.
+    pub fn number(&self, notes: &mut KeyNotes, key: &Key) -> Result<KeyNo, KeyFault>
+        requires { AreKeyNotesOf self.now notes.old }
+        ensures number { IfOk result (IsKeyNumber notes.new key.now) }
+        ensures within { IfOk result (λ number. number < 64) }
+        ensures again { (number : ℕ) → IsKeyNumber notes.old key.now number → result ≡ Ok number }
+        ensures refused { IfErr result (IsKeyFault notes.new key.now) }
+        ensures kept { KeepsKeys notes.old notes.new }
+        ensures of { AreKeyNotesOf self.now notes.new }
+    {
+        let first = key.first_hint();
+        let known = hinted(
+            self.places.as_slice(),
+            &mut notes.entries,
+            &notes.hints,
+            first,
+            key,
+        );
+        if let Some(number) = known {
+            return Ok(number);
+        }
+        let number = walk(self.alloc, self.places.as_slice(), &mut notes.entries, key)?;
+        hint_at(&mut notes.hints, first, number);
+        Ok(number)
+    }
+
+    /// The key of this number. Takes no memory, and the notes stay as they were. It is a condition that the notes are of these places,
+    /// and that they know the key of this number, which `KeyNotes::knows` tests. Own rule.
+    pub fn key<'a>(&'a self, notes: &mut KeyNotes, number: KeyNo) -> &'a Key
+        requires of { AreKeyNotesOf self.now notes.old }
+        requires known { IsSome (key_at notes.old number) }
+        ensures key { key_at notes.old number ≡ Some result.now }
+        ensures unchanged { notes.new ≡ notes.old }
+    {
+        known_key(self.places.as_slice(), &mut notes.entries, number)
+    }
+
+    /// Shows that a key that both notes know has one number in both, and that a number that both know has one key in both. Afterwards
+    /// the second notes know what the first know, too, and the first know what they knew: so of lanes that meet one after the other
+    /// the last knows all keys. Takes no memory. It is a condition that both are of these places. Own rule.
+    pub fn agree(&self, notes: &mut KeyNotes, others: &mut KeyNotes)
+        requires notes { AreKeyNotesOf self.now notes.old }
+        requires others { AreKeyNotesOf self.now others.old }
+        ensures number { OneNumber notes.old others.old }
+        ensures key { OneKey notes.old others.old }
+        ensures unchanged { notes.new ≡ notes.old }
+        ensures kept { KeepsKeys others.old others.new }
+        ensures taught { KeepsKeys notes.old others.new }
+        ensures of { AreKeyNotesOf self.now others.new }
+    {
+        agree_all(&mut notes.entries, &mut others.entries);
+    }
+
+    /// The cell of a context, 0 to 255, and a key's number, 0 to 63: the context times 64, plus the key. Different pairs have
+    /// different cells. Takes no memory. Own rule.
+    pub fn cell(&self, context: ContextNo, key: KeyNo) -> CellNo
+        requires context { context < 256 }
+        requires key { key < 64 }
+        ensures cell { result ≡ context * 64 + key }
+        ensures within { result < 16384 }
+    {
+        context * PLACES + key
+    }
+}
