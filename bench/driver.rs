@@ -1,7 +1,7 @@
-//! What the Rust peers have in common: the cases of `ext_bench`, measured in the same way on a store of the peer's.
+//! What the Rust peers have in common: the cases of `tool_bench`, measured in the same way on a store of the peer's.
 //!
 //! A peer takes the words `CASE THREADS ROUNDS MILLIS` and prints a line `PEER CASE THREADS WALL PROCESSOR` for each round, in
-//! nanoseconds an operation. Case by case it does what `ext_bench` does, in batches of the same size, each on a store of its own.
+//! nanoseconds an operation. Case by case it does what `tool_bench` does, in batches of the same size, each on a store of its own.
 use std::hint::black_box;
 use std::process::ExitCode;
 use std::thread;

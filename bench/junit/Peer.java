@@ -15,7 +15,7 @@ import org.junit.jupiter.api.extension.ExtensionContext.Store;
 import org.junit.jupiter.api.extension.ExtensionContext.Store.CloseableResource;
 
 /**
- * A peer: JUnit 5's own store, with the cases of `ext_bench`, in batches of the same size.
+ * A peer: JUnit 5's own store, with the cases of `tool_bench`, in batches of the same size.
  *
  * <p>It takes the words CASE THREADS ROUNDS MILLIS and prints a line "junit CASE THREADS WALL PROCESSOR" for each round, in
  * nanoseconds an operation. A round that is not counted comes first, in which the methods are compiled.

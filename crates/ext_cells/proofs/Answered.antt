@@ -124,14 +124,14 @@ module _ (tries : ℕ) (before after : Lane) (cell : ℕ) where
   seal_answers (Err refusal.BadLimit) ch = ch
 
 -- where the answer is made of what a change met, `Contended` still comes last
-module _ (before after : Lane) (act : Act ℕ) where
+module _ (tries : ℕ) (before after : Lane) (act : Act ℕ) where
   same_refusal : (why : CellRefusal) → (let x : Result (Option ℕ) CellRefusal = Err why in let y : Result (Option ℕ) CellRefusal = Err refusal.Contended in x ≡ y) → (let x : Result Stood CellRefusal = Err why in let y : Result Stood CellRefusal = Err refusal.Contended in x ≡ y)
   same_refusal why e = cc e
 
-  pub number_last : (r : Result Stood CellRefusal) → ComesLast before after act r → ComesLast before after act (number_result r)
+  pub number_last : (r : Result Stood CellRefusal) → ComesLast refusal.Contended tries before after act r → ComesLast refusal.Contended tries before after act (number_result r)
   number_last (Ok stood) last e = absurd (cc e)
   number_last (Err why) last e = last (same_refusal why e)
 
-  pub value_last : (r : Result Stood CellRefusal) → ComesLast before after act r → ComesLast before after act (value_result r)
+  pub value_last : (r : Result Stood CellRefusal) → ComesLast refusal.Contended tries before after act r → ComesLast refusal.Contended tries before after act (value_result r)
   value_last (Ok stood) last e = absurd (cc e)
   value_last (Err why) last e = last (same_refusal why e)

@@ -26,7 +26,7 @@ use Rattle.ext_cells.specs.Deciding.{state_of, IsNumbered, IsCellWord}
 
 -- ---- a number that stands is not 0
 
-kept_least : {limits : Limits} (h : History) → IsLegal limits h → (lane number : ℕ) → Contains h (by lane (Keep number)) → 1 ≤ number
+pub kept_least : {limits : Limits} (h : History) → IsLegal limits h → (lane number : ℕ) → Contains h (by lane (Keep number)) → 1 ≤ number
 kept_least {limits} h legal = legal_induct (IsAllowed limits) Fact (λ lane number there. absurd (contains_none _ there)) step h legal
   where
     Fact : History → Type 0
@@ -73,7 +73,7 @@ numbered {limits} h legal = legal_induct (IsAllowed limits) (λ g. (cell : ℕ) 
 
 -- ---- what the word of a cell tells
 
-code_is : (s : Option Slot) → state_code s ≡ code (state_of s)
+pub code_is : (s : Option Slot) → state_code s ≡ code (state_of s)
 code_is None = refl
 code_is (Some (slot.Entry number)) = refl
 code_is (Some (slot.Fault number)) = refl

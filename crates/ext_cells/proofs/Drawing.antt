@@ -1,7 +1,11 @@
 -- Drawing a number: what the count of numbers means for the lane's call.
 use Rattle.std.proofs.Common.{◌≡◌, ℕ, ◌+◌, ◌<◌, ◌≤◌, [], ◌∷◌, ◌++◌, sym, refl, ap, ◌∙◌, subst, arith, Option, Some}
 use Rattle.std.specs.Prelude.{Result, Ok, Err, if◌then◌else◌}
+use Rattle.std.specs.Prelude.{Contains}
 use Rattle.std.proofs.lemmas.Bool.{lt-ltb, le-ltb}
+use Rattle.std.proofs.lemmas.List.Elements.{Contains-append_left}
+use Rattle.ext_history.proofs.Composed.{seen_goes_on}
+use Rattle.ext_model.proofs.Numbers.{bounded}
 use Rattle.ext_model.specs.declared.event.Act.TheVariants.{Keep}
 use Rattle.ext_model.specs.Events.{Happens, Refuses, NumbersFull, keep_reply}
 use Rattle.ext_model.specs.History.{History, by, state_after, reply_after}
@@ -45,6 +49,15 @@ module _ (before now : Lane) (word count : ℕ) (t : TriesOn before now before.c
   -- where a number is left it would be drawn now
   pub would_draw : word < before.cells.limits.numbers → (a : Option ℕ) × (reply_after before.cells.limits (seen_by now.view) before.view.number (Keep 0) ≡ Happens a)
   would_draw less = let counted = t.tries.word_is.count refl in (Some ((state_after (seen_by now.view)).drawn + 1), keeps before.cells.limits.numbers (state_after (seen_by now.view)).drawn (omega (arith, less, counted)))
+
+  -- nobody has drawn the next number, by what the lane had seen before
+  pub not_drawn : (other number : ℕ) → number ≡ word + 1 → Contains (seen_by before.view) (by other (Keep number)) → ⊥
+  not_drawn other number is there =
+      let counted = t.tries.word_is.count refl in
+      let later = seen_goes_on t.tries.calls in
+      let still : Contains (seen_by now.view) (by other (Keep number)) = subst (λ h. Contains h (by other (Keep number))) later.1 (Contains-append_left (seen_by before.view) later.0 (by other (Keep number)) there) in
+      let least = (bounded (seen_by now.view) t.tries.calls.legal).kept other number still in
+      absurd (omega (arith, counted, least, is))
 
   module _ (number : ℕ) (less : word < before.cells.limits.numbers) (is : number ≡ word + 1) where
     may_at : (h : History) → Finds before.cells.limits now.view before.cells.limits.cells word h → MayGoOn before.cells.limits now.view h before.cells.limits.cells (word + 1) (Keep number)

@@ -1,5 +1,5 @@
 -- The lanes that opening gives out.
-use Rattle.std.proofs.Common.{◌≡◌, ℕ, zero, suc, ◌+◌, List, [], ◌∷◌, ◌++◌, arith, refl, sym, ap, subst, ◌∙◌, Some}
+use Rattle.std.proofs.Common.{◌≡◌, ◌<◌, ℕ, zero, suc, ◌+◌, List, [], ◌∷◌, ◌++◌, arith, refl, sym, ap, subst, ◌∙◌, Some}
 use Rattle.atomic_table.specs.Seated.{TableId}
 use Rattle.ext_model.specs.History.{IsAllowed}
 use Rattle.ext_history.proofs.Legal.{legal_empty}
@@ -28,8 +28,8 @@ given_one table table' limits number k v old new same is counts olds news =
     let lane : lane_of table' v number ≡ fresh_lane id (1 + k) = λ i. lane_of (same i) (is i) (at i) in
     news ∙ (λ i. olds i ++ lane i ∷ []) ∙ sym (lanes_next id 1 k)
 
-pub born_lane : (v w : View) (limits : CellLimits) (k : ℕ) → v ≡ born w → w ≡ giver limits k → IsLaneView v k
-born_lane v w limits k is gives = subst (λ u. IsLaneView u k) (sym (is ∙ ap born gives)) (refl, legal_empty (IsAllowed (limits_of limits)), tt)
+pub born_lane : (v w : View) (limits : CellLimits) (k : ℕ) → v ≡ born w → w ≡ giver limits k → k < limits.lanes → IsLaneView v k
+born_lane v w limits k is gives below = subst (λ u. IsLaneView u k) (sym (is ∙ ap born gives)) (refl, legal_empty (IsAllowed (limits_of limits)), tt, below)
 
-pub giver_lane : (v : View) (limits : CellLimits) (k : ℕ) → v ≡ giver limits k → IsLaneView v 0
-giver_lane v limits k is = subst (λ u. IsLaneView u 0) (sym is) (refl, legal_empty (IsAllowed (limits_of limits)), tt)
+pub giver_lane : (v : View) (limits : CellLimits) (k : ℕ) → v ≡ giver limits k → 0 < limits.lanes → IsLaneView v 0
+giver_lane v limits k is below = subst (λ u. IsLaneView u 0) (sym is) (refl, legal_empty (IsAllowed (limits_of limits)), tt, below)

@@ -1,5 +1,5 @@
 -- A lane as its seat knows it, and as contracts see it.
-use Rattle.std.proofs.Common.{◌≡◌, ◌≢◌, ℕ, ◌≤◌, [], ◌∷◌, ◌++◌, sym, refl, ap, subst, Some}
+use Rattle.std.proofs.Common.{◌≡◌, ◌≢◌, ℕ, ◌≤◌, ◌<◌, [], ◌∷◌, ◌++◌, sym, refl, ap, subst, Some}
 use mathlib.Core.Option.{some}
 use mathlib.Core.List.{IsPrefix}
 use Rattle.atomic_table.specs.Table.{Me, step}
@@ -21,13 +21,13 @@ lane_of table v number = record { cells = record { table = table; limits = limit
 
 -- what every lane's view is
 abbrev pub IsLaneView : View → ℕ → Type 0
-IsLaneView v number = (v.lane ≡ Some number) × IsLegal (limits_of v.limits) (seen v.fronts) × Follow [] v.fronts
+IsLaneView v number = (v.lane ≡ Some number) × IsLegal (limits_of v.limits) (seen v.fronts) × Follow [] v.fronts × (number < v.limits.lanes)
 
 -- a step leaves a lane a lane
 pub stays_lane : (v w : View) (h : History) (number : ℕ) → IsLaneView v number → IsLegal (limits_of v.limits) h → IsPrefix (seen v.fronts) h → w ≡ shown v h → IsLaneView w number
 stays_lane v w h number inv legal begins e =
     subst (λ u. IsLaneView u number) (sym e)
-    (inv.0, subst (IsLegal (limits_of v.limits)) (sym (last_append [] v.fronts (h ∷ []))) legal, follow_append [] v.fronts (h ∷ []) inv.2 (begins, tt))
+    (inv.0, subst (IsLegal (limits_of v.limits)) (sym (last_append [] v.fronts (h ∷ []))) legal, follow_append [] v.fronts (h ∷ []) inv.2 (begins, tt), inv.3)
 
 finds_of : (v : View) (number place word : ℕ) (h : History) → v.lane ≡ Some number → FoundBy v place word h → Finds (limits_of v.limits) (record { number = number; fronts = v.fronts }) place word h
 finds_of v number place word h mine f = record {

@@ -4,6 +4,7 @@ pub mod Decisions
 pub mod Steps
 pub mod Seats
 pub mod Lanes
+pub mod Rising
 pub mod Tries
 pub mod CallEvents
 pub mod Changing
@@ -15,3 +16,5 @@ pub mod Collecting
 pub mod Readings
 pub mod Meeting
 pub mod Storable
+pub mod WordTable
+pub mod Drawn

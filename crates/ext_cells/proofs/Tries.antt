@@ -1,5 +1,5 @@
 -- A call that tries: a first load, and then exchanges that met other words.
-use Rattle.std.proofs.Common.{◌≡◌, ◌≢◌, inl, ℕ, ◌+◌, ◌≤◌, [], ◌∷◌, ◌++◌, length, sym, refl, ap, ◌∙◌, subst, arith, append_assoc, append-nil, length-append}
+use Rattle.std.proofs.Common.{◌≡◌, ◌≢◌, inl, ℕ, ◌+◌, ◌≤◌, ◌<◌, [], ◌∷◌, ◌++◌, length, sym, refl, ap, ◌∙◌, subst, arith, append_assoc, append-nil, length-append}
 use base.Growing.{prefix_refl, prefix_trans}
 use Rattle.ext_model.specs.declared.event.Act.{Act}
 use Rattle.ext_model.specs.History.{History, Limits, by, lane_of, own, IsAllowed}
@@ -15,6 +15,7 @@ use Rattle.ext_cells.specs.Lanes.{Lane}
 use Rattle.ext_cells.specs.Rule.{IsWordAt}
 use Rattle.ext_cells.specs.Steps.{stepped, Finds}
 use Rattle.ext_cells.proofs.CellWords.{one_word}
+use Rattle.ext_cells.proofs.Rising.{Rises, no_rise, one_rise}
 
 not_empty : (m : History) → (m ≡ [] → ⊥) → 1 ≤ length m
 not_empty [] ne = absurd (ne refl)
@@ -27,6 +28,7 @@ pub record Tries (limits : Limits) (before now : LaneView) (place word count : �
   pub within : place ≤ limits.cells
   pub word_is : IsWordAt limits (seen_by now) place word
   pub passed : (more : History) × (seen_by now ≡ first_front before now ++ more) × (own before.number more ≡ []) × (count ≤ length more)
+  pub rises : Rises limits (first_front before now) (seen_by now) place count
   pub steps : length (call_fronts before now) ≡ count + 1
 
 -- the same of a lane, which stays one of its cells
@@ -45,6 +47,7 @@ first_try limits before now place word h within f e =
       within = within;
       word_is = subst (λ z. IsWordAt limits z place word) (sym (moved_seen before (h ∷ []))) f.word_is;
       passed = ([], moved_seen before (h ∷ []) ∙ sym first ∙ sym (append-nil (first_front before after)), refl, omega arith);
+      rises = no_rise limits (first_front before after) (seen_by after) place (moved_seen before (h ∷ []) ∙ sym first);
       steps = omega (arith, steps);
     })
 
@@ -81,6 +84,10 @@ next_try limits before now next place word found count h t ne f e = subst (λ l.
             own_append lane_of before.number more m ∙ (λ i. t.passed.2 i ++ none i),
             omega (arith, many, both, some),
           );
+          rises =
+              let P : History → History → Type 0 = λ f g. Rises limits f g place (count + 1) in
+              let risen = one_rise limits (first_front before now) (seen_by now) m place word found count t.word_is (subst (λ z. IsWordAt limits z place found) (sym longer) f.word_is) ne t.rises in
+              subst (λ z. P z (seen_by next)) (sym (first_decides t.calls two t.stepped)) (subst (P (first_front before now)) (longer ∙ sym (moved_seen now (h ∷ []))) risen);
           steps = omega (arith, steps, had, one);
         }
 

@@ -1,14 +1,15 @@
 -- What the contract of each call says of its result.
 -- Own rule. `Calls` of ext_model has the words: the events that a call made, its fronts, and the points at which its answer may be that of one thread.
 -- Here stand, for each call, what one thread is answered at a point, and which events an answer means.
-use Rattle.std.specs.Prelude.{ℕ, ◌≡◌, ◌≢◌, ◌<◌, ◌≤◌, ◌-◌, All, slice_index, List, [], ◌∷◌, length, map, take, Option, None, Some, Result, Ok, Err}
+use Rattle.std.specs.Prelude.{ℕ, ◌≡◌, ◌≢◌, ◌<◌, ◌≤◌, ◌+◌, ◌-◌, All, slice_index, List, [], ◌∷◌, length, map, take, Option, None, Some, Result, Ok, Err}
 use Rattle.ext_model.specs.declared.event.Act.{Act}
 use Rattle.ext_model.specs.declared.event.Act.TheVariants.{Keep, Put, Remove, Claim, Seal}
 use Rattle.ext_model.specs.Events as events
-use Rattle.ext_model.specs.History.{History, reply_after, state_after}
+use Rattle.ext_model.specs.Events.{place_of}
+use Rattle.ext_model.specs.History.{History, reply_after, state_after, version_of}
 use Rattle.ext_model.specs.Plain.{number_drawn, what_stood}
 use Rattle.ext_model.specs.Words.{word_of}
-use Rattle.ext_history.specs.Views.{seen_by, last_after, call_fronts, IsStepped}
+use Rattle.ext_history.specs.Views.{seen_by, last_after, call_fronts, first_front, IsStepped}
 use Rattle.ext_model.specs.Views.{LaneView, IsAnswerPoint}
 use Rattle.ext_model.specs.Calls as model
 use Rattle.ext_cells.specs.declared.claim.Claimed.{Claimed}
@@ -89,10 +90,23 @@ claim_acts cell (Err why) = []
 abbrev pub Answers : {A : Type 0} → ℕ → Lane → Lane → (Result A CellRefusal → List (Act ℕ)) → (History → Result A CellRefusal) → Result A CellRefusal → Type 0
 Answers tries before after acts_of reply_at result = model.Answers before.cells.limits tries (Err Contended) before.view after.view acts_of reply_at result
 
--- `Contended` comes last: where it is the result, the act would happen directly after what the lane has seen now. So every other answer of one thread
--- there, with an event or without, comes before it
-abbrev pub ComesLast : {A : Type 0} → Lane → Lane → Act ℕ → Result A CellRefusal → Type 0
-ComesLast before after act result = result ≡ Err Contended → (answer : Option ℕ) × (reply_after before.cells.limits (seen_by after.view) before.view.number act ≡ events.Happens answer)
+-- How many of the events changed the word that an act of this place changes: those on its cell, or for a keep, which is on none, the keeps
+abbrev pub changes_at : Option ℕ → History → ℕ
+changes_at None h = (state_after h).drawn
+changes_at (Some cell) h = version_of h cell
+
+-- The call of the act was overtaken at the act's own word, and the act would be done now
+pub record IsOvertakenAt (tries : ℕ) (before after : Lane) (act : Act ℕ) : Type 0 where
+  -- directly after what the lane has seen now the act would happen
+  pub would_happen : (answer : Option ℕ) × (reply_after before.cells.limits (seen_by after.view) before.view.number act ≡ events.Happens answer)
+  -- past the call's first front at least so many events changed the one word that the act changes
+  pub own_word : changes_at (place_of act) (first_front before.view after.view) + tries ≤ changes_at (place_of act) (seen_by after.view)
+
+-- `contended`, the refusal of a call of the act that says that other lanes were in the way, comes last: where it is the result, the act would happen directly
+-- after what the lane has seen now. So every other answer of one thread there, with an event or without, comes before it. And it comes of the act's own cell
+-- alone, or for a keep of the keeps: events elsewhere are in the way of no change
+abbrev pub ComesLast : {A R : Type 0} → R → ℕ → Lane → Lane → Act ℕ → Result A R → Type 0
+ComesLast contended tries before after act result = result ≡ Err contended → IsOvertakenAt tries before after act
 
 -- The result of a seal: the cell is sealed and has kept this, by an event of this call or by one before; or it is refused at a point of the call; or other
 -- lanes were in the way

@@ -5,3 +5,4 @@ pub mod Rule
 pub mod Steps
 pub mod Passes
 pub mod Deciding
+pub mod Laws

@@ -1,5 +1,5 @@
 //! The cells that lanes share, and all calls on them.
-ghost use Rattle.std.specs.Prelude.{◌≡◌, ◌≢◌, ◌≤◌, ◌<◌, ◌+◌, ◌*◌, ◌^◌, ◌↔◌, ℕ, nat_eq, [], ◌∷◌, ◌++◌, length, map, Some, All, IfOk, IfErr, IfSome, IsTrue, true, Err};
+ghost use Rattle.std.specs.Prelude.{◌≡◌, ◌≢◌, ◌≤◌, ◌<◌, ◌+◌, ◌*◌, ◌^◌, ◌↔◌, ℕ, nat_eq, [], ◌∷◌, ◌++◌, length, map, Some, All, Contains, IfOk, IfErr, IfSome, IsTrue, true, Err};
 ghost use Rattle.std.specs.List.{IsDistinct};
 ghost use mathlib.Core.List.{IsPrefix};
 ghost use Rattle.ext_model.specs.History.{History, by, stored_number, fault_number, IsLegal};
@@ -28,8 +28,8 @@ use std::marker::Model;
 ///
 /// A lane is used with the cells that it was opened with. A refused call makes no event. A change loads its cell's
 /// word first, then makes at most `tries` exchanges, and where one fails it decides anew by the word that this one
-/// found, once more after the last: so `Contended` comes after every other refusal. No call waits for another lane.
-/// Own rule.
+/// found, once more after the last: so `Contended` comes after every other refusal, and of at least as many events on that
+/// one cell as there are tries. No call waits for another lane. Own rule.
 #[derive(Drop)]
 pub struct Cells {
     table: CellTable,
@@ -170,15 +170,18 @@ impl Cells {
         Err(CellRefusal::Contended)
     }
 
-    /// Draws the next number: the first is 1, each is the last plus one. Takes no memory
-    /// (own rule; JUnit numbers values as they are stored).
+    /// Draws the next number: the first is 1, each is the last plus one. No lane has drawn it before, and none draws it
+    /// afterwards (`drawn_once` of `cell_laws`). Takes no memory (own rule; JUnit numbers values as they are stored).
     ///
-    /// Refused as `NumbersFull` where all numbers were drawn, and else as `Contended`.
+    /// Refused as `NumbersFull` where all numbers were drawn, and else as `Contended`, where other lanes have drawn at least as
+    /// many as there are tries.
     pub fn next_number(&self, lane: &mut CellLane) -> Result<u32, CellRefusal>
         requires lane { lane.old.cells ≡ self.now.id }
         ensures lane { lane.new.cells ≡ lane.old.cells }
         ensures reply { Answers self.now.tries lane.old lane.new number_acts (number_reply lane.old) result }
-        ensures contended { ComesLast lane.old lane.new (act_is.Keep 0) result }
+        ensures contended { ComesLast CellRefusal.Contended self.now.tries lane.old lane.new (act_is.Keep 0) result }
+        ensures within { IfOk result (λ number. (1 ≤ number) × (number ≤ self.now.id.limits.numbers)) }
+        ensures fresh { IfOk result (λ number. (other : ℕ) → ¬ Contains (seen_by lane.old.view) (by other (act_is.Keep number))) }
         ensures storable { IfOk result (MayStoreNow lane.new.view) }
         ensures steps { length (call_fronts lane.old.view lane.new.view) ≤ self.now.tries + 1 }
     {
@@ -195,10 +198,10 @@ impl Cells {
                 Err(found) => count = found,
             }
         }
-        if count >= most {
-            return Err(CellRefusal::NumbersFull);
+        if count < most {
+            return Err(CellRefusal::Contended);
         }
-        Err(CellRefusal::Contended)
+        Err(CellRefusal::NumbersFull)
     }
 
     /// Stores the number in the cell, over one that stands there, and answers the number that stood, of a value or of a
@@ -219,7 +222,7 @@ impl Cells {
         requires number { MayStoreNow lane.old.view number }
         ensures lane { lane.new.cells ≡ lane.old.cells }
         ensures reply { Answers self.now.tries lane.old lane.new (put_acts cell number) (change_reply lane.old (act_is.Put cell number)) result }
-        ensures contended { ComesLast lane.old lane.new (act_is.Put cell number) result }
+        ensures contended { ComesLast CellRefusal.Contended self.now.tries lane.old lane.new (act_is.Put cell number) result }
         ensures storable { IfErr result (λ _. MayStoreNow lane.new.view number) }
         ensures steps { length (call_fronts lane.old.view lane.new.view) ≤ self.now.tries + 1 }
     {
@@ -238,7 +241,7 @@ impl Cells {
         requires cell { cell < self.now.id.limits.cells }
         ensures lane { lane.new.cells ≡ lane.old.cells }
         ensures reply { Answers self.now.tries lane.old lane.new (remove_acts cell) (change_reply lane.old (act_is.Remove cell)) result }
-        ensures contended { ComesLast lane.old lane.new (act_is.Remove cell) result }
+        ensures contended { ComesLast CellRefusal.Contended self.now.tries lane.old lane.new (act_is.Remove cell) result }
         ensures steps { length (call_fronts lane.old.view lane.new.view) ≤ self.now.tries + 1 }
     {
         any_number(self.change(lane, cell, Act::Remove(cell)))
@@ -253,7 +256,7 @@ impl Cells {
         requires cell { cell < self.now.id.limits.cells }
         ensures lane { lane.new.cells ≡ lane.old.cells }
         ensures reply { SealAnswers self.now.tries lane.old lane.new cell result }
-        ensures contended { ComesLast lane.old lane.new (act_is.Seal cell) result }
+        ensures contended { ComesLast CellRefusal.Contended self.now.tries lane.old lane.new (act_is.Seal cell) result }
         ensures steps { length (call_fronts lane.old.view lane.new.view) ≤ self.now.tries + 1 }
     {
         value_number(self.change(lane, cell, Act::Seal(cell)))
@@ -272,7 +275,7 @@ impl Cells {
         requires cell { cell < self.now.id.limits.cells }
         ensures lane { lane.new.cells ≡ lane.old.cells }
         ensures reply { Answers self.now.tries lane.old lane.new (claim_acts cell) (claim_reply lane.old cell) result }
-        ensures contended { ComesLast lane.old lane.new (act_is.Claim cell) result }
+        ensures contended { ComesLast CellRefusal.Contended self.now.tries lane.old lane.new (act_is.Claim cell) result }
         ensures held { IfWon result (λ claim. (claim ≡ cell) × IsHeld lane.new.view claim) }
         ensures steps { length (call_fronts lane.old.view lane.new.view) ≤ self.now.tries + 1 }
     {
@@ -361,7 +364,7 @@ impl Cells {
         requires number { IfSome (stored_number act) (MayStoreNow lane.old.view) }
         ensures lane { lane.new.cells ≡ lane.old.cells }
         ensures reply { Changes self.now.tries lane.old lane.new act result }
-        ensures contended { ComesLast lane.old lane.new act result }
+        ensures contended { ComesLast CellRefusal.Contended self.now.tries lane.old lane.new act result }
         ensures steps { length (call_fronts lane.old.view lane.new.view) ≤ self.now.tries + 1 }
     {
         let mut word = self.read(lane, cell);

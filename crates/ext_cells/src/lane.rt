@@ -1,5 +1,5 @@
 //! A lane: what a thread owns to act on the cells.
-ghost use Rattle.std.specs.Prelude.{◌≡◌, []};
+ghost use Rattle.std.specs.Prelude.{◌≡◌, ◌<◌, []};
 ghost use Rattle.ext_model.specs.History.{IsLegal};
 ghost use Rattle.ext_history.specs.Views.{Follow, seen_by};
 
@@ -18,7 +18,7 @@ pub struct CellLane {
 }
 
 impl Model for CellLane {
-    ghost use Rattle.std.specs.Prelude.{◌≡◌, [], Some};
+    ghost use Rattle.std.specs.Prelude.{◌≡◌, ◌<◌, [], Some};
     ghost use Rattle.ext_model.specs.History.{IsLegal};
     ghost use Rattle.ext_history.specs.Views.{Follow, seen};
     ghost use Rattle.ext_cells.specs.Lanes.{Lane};
@@ -28,14 +28,15 @@ impl Model for CellLane {
 
     ghost view = { λ s. record { cells = record { table = s.seat.table_id; limits = limits_of s.seat.me.0.limits }; view = record { number = s.number; fronts = s.seat.me.0.fronts } } };
 
-    ghost invariant = { λ s. (s.seat.me.0.lane ≡ Some s.number) × IsLegal (limits_of s.seat.me.0.limits) (seen s.seat.me.0.fronts) × Follow [] s.seat.me.0.fronts };
+    ghost invariant = { λ s. (s.seat.me.0.lane ≡ Some s.number) × IsLegal (limits_of s.seat.me.0.limits) (seen s.seat.me.0.fronts) × Follow [] s.seat.me.0.fronts × (s.number < s.seat.me.0.limits.lanes) };
 }
 
 impl CellLane {
-    /// The lane's number, from 0 to 15: its place in the list that `Cells::open` gave. Takes no memory
-    /// (own rule).
+    /// The lane's number, from 0 to 15, below the count of lanes: its place in the list that `Cells::open` gave. Takes no
+    /// memory (own rule).
     pub fn number(&self) -> LaneNo
-        ensures { result ≡ self.now.view.number }
+        ensures number { result ≡ self.now.view.number }
+        ensures below { result < self.now.cells.limits.lanes }
     {
         self.number
     }

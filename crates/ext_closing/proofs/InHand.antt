@@ -10,6 +10,9 @@ use Rattle.ext_closing.specs.Lanes.{first_lane, with_first, OnlyFirstSteps}
 use Rattle.ext_closing.specs.Sealing.{numbers_left}
 use Rattle.ext_closing.specs.Closing.{NamesUnjoined}
 use Rattle.ext_closing.specs.Steps.{IsOfKey, SealingEnds}
+use Rattle.std.specs.Prelude.{◌+◌}
+use Rattle.ext_store.specs.Calls.{steps_of}
+use Rattle.ext_closing.proofs.Counting.{steps_within}
 
 all_keep : {V : Type 0} (lanes : List (StoreLane V)) → AllZip StillKeeps lanes lanes
 all_keep [] = tt
@@ -54,6 +57,12 @@ module _ {V : Type 0} (lanes new : List (StoreLane V)) (after d : StoreLane V) (
   first_ends store context fault ends =
       subst (λ (lane : Lane). SealingEnds store context lane (first_lane store new) fault) (sym (first_is store lanes d some))
       (subst (λ (lane : Lane). SealingEnds store context (get_or lanes 0 d).cells lane fault) (sym (ap (first_lane store) is ∙ first_changed store lanes after some)) ends)
+
+  -- and as many steps
+  pub first_steps : (store : StoreView) (n : ℕ) → length after.cells.view.fronts ≤ length (get_or lanes 0 d).cells.view.fronts + n → steps_of (first_lane store lanes) (first_lane store new) ≤ n
+  first_steps store n within =
+      subst (λ (lane : Lane). steps_of lane (first_lane store new) ≤ n) (sym (first_is store lanes d some))
+      (subst (λ (lane : Lane). steps_of (get_or lanes 0 d).cells lane ≤ n) (sym (ap (first_lane store) is ∙ first_changed store lanes after some)) (steps_within (get_or lanes 0 d).cells after.cells n within))
 
   -- and so are the numbers that remain
   pub first_left : (store : StoreView) (context : ℕ) (numbers : List ℕ) → numbers ≡ numbers_left store context after.cells → numbers ≡ numbers_left store context (first_lane store new)

@@ -3,6 +3,7 @@ pub mod Knowing
 pub mod Joining
 pub mod Calling
 pub mod Sealing
+pub mod Counting
 pub mod InHand
 pub mod Again
 pub mod Logging

@@ -1,10 +1,11 @@
 //! The close of a context.
-ghost use Rattle.std.specs.Prelude.{ℕ, ◌≡◌, ◌≤◌, ◌<◌, ◌+◌, List, [], ◌∷◌, ◌++◌, length, slice_index_or, is_some, true, false, All, IfErr, IfNone, IfOk, IfSome};
+ghost use Rattle.std.specs.Prelude.{ℕ, ◌≡◌, ◌≤◌, ◌<◌, ◌+◌, ◌*◌, List, [], ◌∷◌, ◌++◌, length, slice_index_or, is_some, true, false, All, IfErr, IfNone, IfOk, IfSome};
 ghost use Rattle.std.specs.List.{AllZip};
 ghost use Rattle.ext_model.specs.Closing.{IsFalling};
 ghost use Rattle.ext_values.specs.Known.{known_at};
 ghost use Rattle.ext_store.specs.Stores.{IsCloserOf, IsLaneOf, StillKeeps};
-ghost use Rattle.ext_closing.specs.Lanes.{IsGreatestUnjoined, IsJoined, IsKnown, IsUnknown};
+ghost use Rattle.ext_store.specs.Calls.{steps_of};
+ghost use Rattle.ext_closing.specs.Lanes.{first_lane, IsGreatestUnjoined, IsJoined, IsKnown, IsUnknown};
 ghost use Rattle.ext_closing.specs.Sealing.{fault_of, numbers_left};
 ghost use Rattle.ext_closing.specs.Closing.{ClosesNumbers, fault_in};
 ghost use Rattle.ext_closing.specs.Closes as closing;
@@ -21,8 +22,8 @@ use ext_store::{Closer, Lane, Refusal, Store, StoreValue};
 /// sealed; a kept fault that stood there goes. A close that fails does not stop the others. Neither the parent nor the children
 /// of the context are closed. Afterwards nothing is stored or claimed in the context, whatever key is named later.
 ///
-/// It costs 64 seals, however many keys have been named, a look at each value that remains, and the calls of the action. Takes
-/// no memory of its own.
+/// It costs 64 seals, however many keys have been named, a look at each value that remains, and the calls of the action. The
+/// first lane makes at most `tries` + 1 steps for each seal, so no close waits for a factory. Takes no memory of its own.
 ///
 /// It is a condition that there is at least one lane, and that the lanes and the closer are of the store.
 ///
@@ -48,6 +49,9 @@ pub fn close<V: StoreValue + Drop, A: CloseAction<V>>(
 
     // How many places for keys are meant by all of them.
     ensures all_places { length store.now.id.keys ≡ 64 }
+
+    // It waits for no factory: for each of the 64 places a load, and at most as many exchanges as a call has tries.
+    ensures steps { steps_of (first_lane store.now lanes.old) (first_lane store.now lanes.new) ≤ 64 * (store.now.tries + 1) }
 
     // What a next call rests on, once more.
     ensures handed_back { IfErr result (λ e. e.0 ≡ closer) }
@@ -79,6 +83,7 @@ fn seal_all<V>(
     ensures numbers { IfOk result (λ numbers. numbers ≡ numbers_left store.now closer.now.context lane.new.cells) }
     ensures refusal { IfErr result IsOfKey }
     ensures all_places { length store.now.id.keys ≡ 64 }
+    ensures steps { length lane.new.cells.view.fronts ≤ length lane.old.cells.view.fronts + 64 * (store.now.tries + 1) }
     ensures known { lane.new.known ≡ lane.old.known }
     ensures faults { lane.new.faults ≡ lane.old.faults }
     ensures keys { lane.new.keys ≡ lane.old.keys }
@@ -96,6 +101,7 @@ fn seal_all<V>(
 }
 
 // Seals one key of the closer's context.
+#[tactic(auto, using(crate::proofs::Counting::fronts_within))]
 fn seal_key<V>(
     store: &Store<V>,
     closer: &Closer,
@@ -106,6 +112,7 @@ fn seal_key<V>(
     requires closer { IsCloserOf store.now closer.now }
     requires key { key < length store.now.id.keys }
     ensures answer { SealsNext store.now closer.now.context key lane.old.cells lane.new.cells result }
+    ensures steps { length lane.new.cells.view.fronts ≤ length lane.old.cells.view.fronts + (store.now.tries + 1) }
     ensures known { lane.new.known ≡ lane.old.known }
     ensures faults { lane.new.faults ≡ lane.old.faults }
     ensures keys { lane.new.keys ≡ lane.old.keys }

@@ -5,8 +5,8 @@ use Rattle.std.proofs.lemmas.Fn.{FoldsTo-push}
 use denote.Ref.{MutBor}
 use denote.Param.Members.{Shared}
 use Rattle.ext_crew.specs.Dealing.{Share, Runs, Calls, InTurn}
-use Rattle.ext_jobs.specs.declared.done.Done.{Done}
-use Rattle.ext_jobs.specs.declared.job.Job.{Job}
+use Rattle.ext_crew.specs.declared.jobs.done.Done.{Done}
+use Rattle.ext_crew.specs.declared.jobs.job.Job.{Job}
 
 module _ {F A B T O : Type 0} (g : Shared F (ℕ × (T × (MutBor (List A) × (MutBor (List B) × Unit {0})))) (O × (MutBor (List A) × (MutBor (List B) × Unit {0})))) (f : F) (items : List T) where
   -- one more job

@@ -5,8 +5,8 @@ use denote.RattleType.{RattleType}
 use denote.Param.Send.{IsSync, IsSend}
 use denote.Param.Members.{Shared}
 use Rattle.atomic_table.specs.Seated.{TableId}
-use Rattle.ext_jobs.specs.Counter.{Hand, drawn, jobs_of, HasEnded, IsCounter}
-use Rattle.ext_jobs.specs.declared.done.Done.{Done}
+use Rattle.ext_crew.specs.Counter.{Hand, drawn, jobs_of, HasEnded, IsCounter}
+use Rattle.ext_crew.specs.declared.jobs.done.Done.{Done}
 use Rattle.ext_crew.specs.Dealing.{Share, front, back}
 
 -- ---- the hands

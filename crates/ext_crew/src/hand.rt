@@ -1,12 +1,12 @@
 //! What the workers have in hand, and how they work with it.
 ghost use Rattle.std.specs.Prelude.{◌≡◌, ◌-◌, ◌≤◌, [], length, vec_len, All, IfOk, flat_map};
-ghost use Rattle.ext_jobs.specs.Counter.{drawn, IsCounter};
+ghost use Rattle.ext_crew.specs.Counter.{drawn, IsCounter};
 ghost use Rattle.ext_crew.specs.Hands.{draws_of, given_of, IsReady, HasWorked, IsFirst};
 ghost use Rattle.ext_crew.specs.Dealing.{Share, Runs, Accepts, InTurn};
 
 use crate::Gate;
 use crate::job::run_job;
-use ext_jobs::{Counter, Hand, Hires, draw, put_outcome};
+use crate::jobs::{Counter, Hand, Hires, draw, put_outcome};
 use std::alloc::{AllocError, Allocator};
 use std::sync::Wait;
 

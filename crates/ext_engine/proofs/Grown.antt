@@ -11,7 +11,7 @@ use Rattle.ext_lifecycle.specs.Modes.{in_run_order}
 use Rattle.ext_tree.specs.Trees.{Id, IsTree}
 use Rattle.ext_tree.specs.Paths.{IsParentOf, IsPathOf, children_of}
 use Rattle.ext_tree.proofs.TreeLaws.{parents_list_children}
-use Rattle.ext_node_run.specs.Suites.{SuiteView}
+use Rattle.ext_engine.specs.Suites.{SuiteView}
 use Rattle.ext_engine.specs.TreeRun.{Ran}
 use Rattle.ext_engine.specs.Laws.{nodes_of, HasRun, RanAs, IsBetween}
 use Rattle.ext_engine.proofs.Above.{Under, under, at_or_below, under_itself, parent_first, under_order, under_child, under_under, same_child, below_child, within_tree}

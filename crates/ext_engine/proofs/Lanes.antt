@@ -21,7 +21,7 @@ use Rattle.ext_engine.specs.TreeRun.{Ran, TreeSetting, Lanes, TreeRun, TestRun, 
 use Rattle.ext_engine.specs.Meeting.{OnlyMeets}
 use Rattle.ext_engine.proofs.Trees.{met_mine}
 use Rattle.ext_engine.proofs.Grown.{Entry}
-use Rattle.ext_node_run.proofs.Refusals.{count_kept}
+use Rattle.ext_engine.proofs.Refusals.{count_kept}
 
 -- as many lanes of both kinds, and lock lanes that hold nothing hold nothing afterwards
 record Kept {V : Type 0} (locks : LocksView) (s t : Lanes V) : Type 0 where

@@ -4,7 +4,7 @@ use Rattle.std.specs.Prelude.{All, Option, slice_index_or}
 use base.Growing.{prefix_trans}
 use Rattle.std.proofs.lemmas.List.Elements.{All-nil, All-cons, All-head, All-tail, All-take, All-drop}
 use Rattle.ext_history.specs.Views.{seen_by}
-use Rattle.ext_jobs.specs.declared.done.Done.{Done}
+use Rattle.ext_crew.specs.declared.jobs.done.Done.{Done}
 use Rattle.ext_model.specs.History.{History}
 use Rattle.ext_lifecycle.specs.declared.call.Call.{Call}
 use Rattle.ext_lifecycle.specs.declared.outcome.Outcome.{Outcome}

@@ -6,7 +6,7 @@ use Rattle.ext_lifecycle.specs.declared.status.Status.TheVariants as statuses
 use Rattle.ext_lifecycle.specs.Results.{ResultOf}
 use Rattle.std.proofs.lemmas.List.Elements.{All-contains_itself, All-weaker}
 use Rattle.ext_tree.specs.Trees.{Id, IsTree}
-use Rattle.ext_node_run.specs.Suites.{SuiteView}
+use Rattle.ext_engine.specs.Suites.{SuiteView}
 use Rattle.ext_engine.specs.TreeRun.{Ran, all_results}
 use Rattle.ext_engine.specs.Laws.{IsOneEach, IsRunOnce, IsSkippedExactly, IsAtOrBelow, IsBetween, RanAs, HasRun, nodes_of}
 use Rattle.ext_engine.proofs.Above.{at_or_below, under, under_root, within_tree}

@@ -19,9 +19,9 @@ use Rattle.ext_crew.proofs.Runs.{run-map}
 use Rattle.ext_crew.proofs.RunLaws.{run-outcome}
 use Rattle.ext_lifecycle.specs.declared.call.Call.{Call}
 use Rattle.ext_lifecycle.specs.declared.outcome.Outcome.{Outcome}
-use Rattle.ext_node_run.specs.declared.closers.Item.{Item}
-use Rattle.ext_node_run.specs.declared.results.RanNode.{RanNode}
-use Rattle.ext_node_run.specs.Helpers.{ran_view, ran_in}
+use Rattle.ext_engine.specs.declared.node.closers.Item.{Item}
+use Rattle.ext_engine.specs.declared.node.results.RanNode.{RanNode}
+use Rattle.ext_engine.specs.Helpers.{ran_view, ran_in}
 use Rattle.ext_engine.specs.TreeRun.{Ran, TreeSetting, Lanes, IsUsable, IsIdle, TreeRun, TestRun, ContainerRun, BodyRun, RanInTurn, with_lanes}
 use Rattle.ext_engine.specs.Meeting.{Forks, Joins, OnlyMeets}
 

@@ -15,7 +15,7 @@ use Rattle.ext_store.specs.Stores.{StoreView, StoreLane}
 use Rattle.ext_closing.specs.Closing.{Answer}
 use Rattle.ext_locks.specs.Opening.{LocksView}
 use Rattle.ext_locks.specs.Sets.{HeldView}
-use Rattle.ext_node_run.specs.Suites.{SuiteView}
+use Rattle.ext_engine.specs.Suites.{SuiteView}
 use Rattle.ext_engine.specs.TreeRun.{Ran, Lanes, TreeRun, IsFit, IsUsable, setting_of, all_results}
 
 -- ---- nodes

@@ -19,7 +19,7 @@ use Rattle.ext_closing.specs.Closing.{Answer}
 use Rattle.ext_locks.specs.Opening.{LocksView}
 use Rattle.ext_locks.specs.Sets.{HeldView}
 use Rattle.ext_crew.specs.Dealing.{RunByDealing}
-use Rattle.ext_node_run.specs.Suites.{SuiteView}
+use Rattle.ext_engine.specs.Suites.{SuiteView}
 use Rattle.ext_engine.specs.Meeting.{HasSeen, HasSeenWithin, first_seen}
 use Rattle.ext_engine.specs.TreeRun.{Lanes, Ran, TreeSetting, BodyRun, ContainerRun, TreeRun, concurrent_children, setting_of, with_lanes}
 

@@ -1,4 +1,4 @@
--- What a run of a tree of nodes leaves of its lanes, and the results that it gives. What is done for one node alone stands in `NodeRun` of `ext_node_run`, whose names
+-- What a run of a tree of nodes leaves of its lanes, and the results that it gives. What is done for one node alone stands in `NodeRun` of `ext_engine`, whose names
 -- are passed on.
 -- JUnit 5 User Guide, "Relative Execution Order of User Code and Extensions" and "Parallel Execution"; shares, lanes and dealings are own rules.
 use Rattle.std.specs.Prelude.{◌≡◌, ℕ, zero, suc, Bool, true, false, not, Option, None, List, [], ◌∷◌, ◌++◌, length, map, min, filter, slice_index_or}
@@ -15,9 +15,9 @@ use Rattle.ext_store.specs.Stores.{StoreLane}
 use Rattle.ext_closing.specs.Closing.{Answer}
 use Rattle.ext_locks.specs.Sets.{HeldView}
 use Rattle.ext_crew.specs.Dealing.{Share, RunByDealing}
-use Rattle.ext_node_run.specs.Suites.{SuiteView}
+use Rattle.ext_engine.specs.Suites.{SuiteView}
 use Rattle.ext_engine.specs.Meeting.{Forks, Joins}
-pub use Rattle.ext_node_run.specs.NodeRun.{Ran, TreeSetting, setting_of, Lanes, placed, all_skipped, OnFirst, ClosesNode, MakesOn, TestRun, TakesSet, GivesBack, IsIdle, IsUsable, IsNamedLock, IsFit, IsUnjoined, IsFault}
+pub use Rattle.ext_engine.specs.NodeRun.{Ran, TreeSetting, setting_of, Lanes, placed, all_skipped, OnFirst, ClosesNode, MakesOn, TestRun, TakesSet, GivesBack, IsIdle, IsUsable, IsNamedLock, IsFit, IsRefusedClose, IsUnjoined, IsFault}
 
 -- ---- results
 

@@ -1,7 +1,7 @@
 //! What a run of a tree goes over.
 
 use crate::Suite;
-use ext_node_run::NodeRunner;
+use crate::node::NodeRunner;
 use ext_store::StoreValue;
 
 /// What a run of a tree goes over: what runs one node, and what is told of each child that runs beside others.

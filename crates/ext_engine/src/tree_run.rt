@@ -4,22 +4,24 @@ ghost use denote.Param.Send.{IsSync, IsSend};
 ghost use Rattle.ext_lifecycle.specs.Results.{told};
 ghost use Rattle.ext_store.specs.Stores.{closers_below};
 ghost use Rattle.ext_crew.specs.Dealing.{RunByDealing};
-ghost use Rattle.ext_node_run.specs.Closers.{IsNode};
-ghost use Rattle.ext_node_run.specs.Containers.{AreChildren};
+ghost use Rattle.ext_engine.specs.Closers.{IsNode};
+ghost use Rattle.ext_engine.specs.Containers.{AreChildren};
 ghost use Rattle.ext_engine.specs.TreeRun.{Ran, setting_of, IsUsable, IsFit, IsFault, TreeRun, BodyMade, RanInTurn, all_results};
-ghost use Rattle.ext_node_run.specs.Helpers.{ran_view};
+ghost use Rattle.ext_engine.specs.Failing.{OnUnjoined, NamesUnknown, NamesBelow, IsUnknownInTurn};
+ghost use Rattle.ext_engine.specs.Helpers.{ran_view};
+ghost use Rattle.ext_engine.specs.declared.node.fault.EngineFault.TheVariants as engine_fault;
 
 use crate::meeting::{fork, join};
+use crate::node::{
+    Children, Item, NodeRunner, RanNode, all_skipped, close_container, gathered, open_container,
+    place,
+};
 use crate::runner::TreeRunner;
 use crate::{EngineFault, Suite};
 use ext_crew::{Gate, run_children};
 use ext_lifecycle::NodeResult;
 use ext_locks::{LockLane, Locks};
 use ext_model::ContextNo;
-use ext_node_run::{
-    Children, Item, NodeRunner, RanNode, all_skipped, close_container, gathered, open_container,
-    place,
-};
 use ext_store::{Closer, Lane, Store, StoreValue};
 use std::alloc::Global;
 use std::sync::Wait;
@@ -45,9 +47,12 @@ const LEVELS: usize = 16;
 /// order. The locks have every name that a node asks for, and no node is below a test. The store is one that the suite may be run
 /// over.
 ///
-/// Refused as `Memory` where memory for the lists of a run is refused, and as `Unjoined` where a context can't be closed, as no lane in
-/// hand knows a value that remains in it. Nodes may have run then, contexts that are not closed stay open, and their closers are
-/// dropped; the lock lanes hold nothing. `NoThread` is never answered. Takes memory, and may wait: it promises its clauses if it returns.
+/// Refused as `Memory` where memory for the lists of a run is refused, and as `Unjoined`, with its context and the number, where a context
+/// can't be closed, as no lane of its node's share knows a value that remains in it. Of the root's context, and of those of same-thread
+/// children of such nodes, these are all lanes, as they are after the run. Else they are the lanes of the concurrent child in which that
+/// happened, as it left them: lanes of another share may know the value, and a lane that ran another child afterwards may have been shown
+/// it since. Nodes may have run then, contexts that are not closed stay open, and their closers are dropped; the lock lanes hold nothing.
+/// `NoThread` is never answered. Takes memory, and may wait: it promises its clauses if it returns.
 ///
 /// JUnit 5 User Guide, sections "Relative Execution Order of User Code and Extensions", "Parallel Execution" and "Synchronization"; shares,
 /// lanes, modes and locks of ancestors are own rules.
@@ -77,6 +82,7 @@ pub fn run_tree<
         × TreeRun (setting_of store.now locks.now (S.nodes suite.now) (S.registered suite.now) V.is_closeable) (S.call_gives suite.now store.now) (S.action_gives suite.now) S.Action.close_gives 16 0 (record { first = lanes.old; second = lock_lanes.old }) ran (record { first = lanes.new; second = lock_lanes.new })
         × (map told results.items ≡ all_results (S.nodes suite.now) (length store.now.tree) ran)) }
     ensures fault { IfErr result (IsFault (setting_of store.now locks.now (S.nodes suite.now) (S.registered suite.now) V.is_closeable) (S.action_gives suite.now) S.Action.close_gives) }
+    ensures unjoined { IfErr result (OnUnjoined (λ context number. NamesUnknown (setting_of store.now locks.now (S.nodes suite.now) (S.registered suite.now) V.is_closeable) (S.call_gives suite.now store.now) (S.action_gives suite.now) S.Action.close_gives 16 0 context number (record { first = lanes.new; second = lock_lanes.new }))) }
 {
     let nodes = NodeRunner {
         rt,
@@ -118,7 +124,8 @@ impl<
             × (length lanes.new ≡ length lanes.old)
             × IfOk result (λ ran. TreeRun (setting_of self.now.nodes.store.now self.now.nodes.locks.now (S.nodes self.now.nodes.suite.now) (S.registered self.now.nodes.suite.now) V.is_closeable) (S.call_gives self.now.nodes.suite.now self.now.nodes.store.now) (S.action_gives self.now.nodes.suite.now) S.Action.close_gives depth item.node
             (record { first = lanes.old; second = lock_lanes.old }) (map ran_view ran.items) (record { first = lanes.new; second = lock_lanes.new }))
-            × IfErr result (IsFault (setting_of self.now.nodes.store.now self.now.nodes.locks.now (S.nodes self.now.nodes.suite.now) (S.registered self.now.nodes.suite.now) V.is_closeable) (S.action_gives self.now.nodes.suite.now) S.Action.close_gives) }
+            × IfErr result (IsFault (setting_of self.now.nodes.store.now self.now.nodes.locks.now (S.nodes self.now.nodes.suite.now) (S.registered self.now.nodes.suite.now) V.is_closeable) (S.action_gives self.now.nodes.suite.now) S.Action.close_gives)
+            × IfErr result (OnUnjoined (λ context number. NamesUnknown (setting_of self.now.nodes.store.now self.now.nodes.locks.now (S.nodes self.now.nodes.suite.now) (S.registered self.now.nodes.suite.now) V.is_closeable) (S.call_gives self.now.nodes.suite.now self.now.nodes.store.now) (S.action_gives self.now.nodes.suite.now) S.Action.close_gives depth item.node context number (record { first = lanes.new; second = lock_lanes.new }))) }
     {
         if self.nodes.suite.is_test(item.node) {
             let _path = self.nodes.store.tree().path(item.node);
@@ -163,7 +170,8 @@ impl<
             × (length lanes.new ≡ length lanes.old)
             × IfOk result (λ ran. BodyMade (setting_of self.now.nodes.store.now self.now.nodes.locks.now (S.nodes self.now.nodes.suite.now) (S.registered self.now.nodes.suite.now) V.is_closeable) (S.call_gives self.now.nodes.suite.now self.now.nodes.store.now) (S.action_gives self.now.nodes.suite.now) S.Action.close_gives (TreeRun (setting_of self.now.nodes.store.now self.now.nodes.locks.now (S.nodes self.now.nodes.suite.now) (S.registered self.now.nodes.suite.now) V.is_closeable) (S.call_gives self.now.nodes.suite.now self.now.nodes.store.now) (S.action_gives self.now.nodes.suite.now) S.Action.close_gives depth) go node
             (record { first = lanes.old; second = lock_lanes.old }) (map ran_view ran.items) (record { first = lanes.new; second = lock_lanes.new }))
-            × IfErr result (IsFault (setting_of self.now.nodes.store.now self.now.nodes.locks.now (S.nodes self.now.nodes.suite.now) (S.registered self.now.nodes.suite.now) V.is_closeable) (S.action_gives self.now.nodes.suite.now) S.Action.close_gives) }
+            × IfErr result (IsFault (setting_of self.now.nodes.store.now self.now.nodes.locks.now (S.nodes self.now.nodes.suite.now) (S.registered self.now.nodes.suite.now) V.is_closeable) (S.action_gives self.now.nodes.suite.now) S.Action.close_gives)
+            × IfErr result (OnUnjoined (λ context number. NamesBelow (setting_of self.now.nodes.store.now self.now.nodes.locks.now (S.nodes self.now.nodes.suite.now) (S.registered self.now.nodes.suite.now) V.is_closeable) (S.call_gives self.now.nodes.suite.now self.now.nodes.store.now) (S.action_gives self.now.nodes.suite.now) S.Action.close_gives depth node context number (record { first = lanes.new; second = lock_lanes.new }))) }
     {
         if !go {
             return Ok(Vec::new(alloc));
@@ -196,7 +204,8 @@ impl<
             × (length lanes.new ≡ length lanes.old)
             × IfOk result (λ ran. RanInTurn (TreeRun (setting_of self.now.nodes.store.now self.now.nodes.locks.now (S.nodes self.now.nodes.suite.now) (S.registered self.now.nodes.suite.now) V.is_closeable) (S.call_gives self.now.nodes.suite.now self.now.nodes.store.now) (S.action_gives self.now.nodes.suite.now) S.Action.close_gives depth) (map (λ i. i.node) items.items)
             (record { first = lanes.old; second = lock_lanes.old }) (map ran_view ran.items) (record { first = lanes.new; second = lock_lanes.new }))
-            × IfErr result (IsFault (setting_of self.now.nodes.store.now self.now.nodes.locks.now (S.nodes self.now.nodes.suite.now) (S.registered self.now.nodes.suite.now) V.is_closeable) (S.action_gives self.now.nodes.suite.now) S.Action.close_gives) }
+            × IfErr result (IsFault (setting_of self.now.nodes.store.now self.now.nodes.locks.now (S.nodes self.now.nodes.suite.now) (S.registered self.now.nodes.suite.now) V.is_closeable) (S.action_gives self.now.nodes.suite.now) S.Action.close_gives)
+            × IfErr result (OnUnjoined (λ context number. IsUnknownInTurn (TreeRun (setting_of self.now.nodes.store.now self.now.nodes.locks.now (S.nodes self.now.nodes.suite.now) (S.registered self.now.nodes.suite.now) V.is_closeable) (S.call_gives self.now.nodes.suite.now self.now.nodes.store.now) (S.action_gives self.now.nodes.suite.now) S.Action.close_gives depth) (NamesUnknown (setting_of self.now.nodes.store.now self.now.nodes.locks.now (S.nodes self.now.nodes.suite.now) (S.registered self.now.nodes.suite.now) V.is_closeable) (S.call_gives self.now.nodes.suite.now self.now.nodes.store.now) (S.action_gives self.now.nodes.suite.now) S.Action.close_gives depth) (map (λ i. i.node) items.items) context number (record { first = lanes.new; second = lock_lanes.new }))) }
     {
         let mut ran = Vec::new(alloc);
         for item in items {
@@ -224,11 +233,13 @@ impl<
         ensures left { IsUsable self.now.nodes.store.now self.now.nodes.locks.now (record { first = lanes.new; second = lock_lanes.new })
             × (length lanes.new ≡ length lanes.old)
             × IfOk result (λ outcomes. RunByDealing
-            (λ i s ran u. IfOk ran (λ v. TreeRun (setting_of self.now.nodes.store.now self.now.nodes.locks.now (S.nodes self.now.nodes.suite.now) (S.registered self.now.nodes.suite.now) V.is_closeable) (S.call_gives self.now.nodes.suite.now self.now.nodes.store.now) (S.action_gives self.now.nodes.suite.now) S.Action.close_gives depth (slice_index_or (map (λ i. i.node) items.items) i 0) s (map ran_view v.items) u))
+            (λ i s ran u. IfOk ran (λ v. TreeRun (setting_of self.now.nodes.store.now self.now.nodes.locks.now (S.nodes self.now.nodes.suite.now) (S.registered self.now.nodes.suite.now) V.is_closeable) (S.call_gives self.now.nodes.suite.now self.now.nodes.store.now) (S.action_gives self.now.nodes.suite.now) S.Action.close_gives depth (slice_index_or (map (λ i. i.node) items.items) i 0) s (map ran_view v.items) u)
+            × IfErr ran (OnUnjoined (λ context number. NamesUnknown (setting_of self.now.nodes.store.now self.now.nodes.locks.now (S.nodes self.now.nodes.suite.now) (S.registered self.now.nodes.suite.now) V.is_closeable) (S.call_gives self.now.nodes.suite.now self.now.nodes.store.now) (S.action_gives self.now.nodes.suite.now) S.Action.close_gives depth (slice_index_or (map (λ i. i.node) items.items) i 0) context number u)))
             (length items.items) (min (length lanes.old) (length items.items))
             (record { first = lanes.old; second = lock_lanes.old }) outcomes.items (record { first = lanes.new; second = lock_lanes.new }))
             × IfOk result (λ outcomes. All (λ ran. IfErr ran (IsFault (setting_of self.now.nodes.store.now self.now.nodes.locks.now (S.nodes self.now.nodes.suite.now) (S.registered self.now.nodes.suite.now) V.is_closeable) (S.action_gives self.now.nodes.suite.now) S.Action.close_gives)) outcomes.items)
-            × IfErr result (IsFault (setting_of self.now.nodes.store.now self.now.nodes.locks.now (S.nodes self.now.nodes.suite.now) (S.registered self.now.nodes.suite.now) V.is_closeable) (S.action_gives self.now.nodes.suite.now) S.Action.close_gives) }
+            × IfErr result (IsFault (setting_of self.now.nodes.store.now self.now.nodes.locks.now (S.nodes self.now.nodes.suite.now) (S.registered self.now.nodes.suite.now) V.is_closeable) (S.action_gives self.now.nodes.suite.now) S.Action.close_gives)
+            × IfErr result (λ why. why ≡ engine_fault.Memory) }
     {
         let run = |_index: usize, item: Item, lanes: &mut [Lane<
             V,
@@ -241,7 +252,8 @@ impl<
                 × (length lanes.new ≡ length lanes.old)
                 × IfOk result (λ ran. TreeRun (setting_of self.entry.now.nodes.store.now self.entry.now.nodes.locks.now (S.nodes self.entry.now.nodes.suite.now) (S.registered self.entry.now.nodes.suite.now) V.is_closeable) (S.call_gives self.entry.now.nodes.suite.now self.entry.now.nodes.store.now) (S.action_gives self.entry.now.nodes.suite.now) S.Action.close_gives depth item.node
                 (record { first = lanes.old; second = lock_lanes.old }) (map ran_view ran.items) (record { first = lanes.new; second = lock_lanes.new }))
-                × IfErr result (IsFault (setting_of self.entry.now.nodes.store.now self.entry.now.nodes.locks.now (S.nodes self.entry.now.nodes.suite.now) (S.registered self.entry.now.nodes.suite.now) V.is_closeable) (S.action_gives self.entry.now.nodes.suite.now) S.Action.close_gives) }
+                × IfErr result (IsFault (setting_of self.entry.now.nodes.store.now self.entry.now.nodes.locks.now (S.nodes self.entry.now.nodes.suite.now) (S.registered self.entry.now.nodes.suite.now) V.is_closeable) (S.action_gives self.entry.now.nodes.suite.now) S.Action.close_gives)
+                × IfErr result (OnUnjoined (λ context number. NamesUnknown (setting_of self.entry.now.nodes.store.now self.entry.now.nodes.locks.now (S.nodes self.entry.now.nodes.suite.now) (S.registered self.entry.now.nodes.suite.now) V.is_closeable) (S.call_gives self.entry.now.nodes.suite.now self.entry.now.nodes.store.now) (S.action_gives self.entry.now.nodes.suite.now) S.Action.close_gives depth item.node context number (record { first = lanes.new; second = lock_lanes.new }))) }
         { self.run_node(alloc, depth, item, lanes, lock_lanes) };
         match run_children(
             self.nodes.rt,

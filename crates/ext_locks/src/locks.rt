@@ -8,7 +8,7 @@ use crate::merging::merge_requests;
 use crate::names::{first_twice, sorted_copies};
 use crate::rule::{Deals, LaneSeat, LockCounts, LockTable, LockWords};
 use crate::set::MAX_LOCKS;
-use crate::steps::MAX_LANES;
+use crate::steps::{LockSteps, MAX_LANES};
 use crate::taking::{give_locks, take_locks};
 use crate::telling::exclude;
 use crate::waiting::{SharedLocks, wait_for_locks};
@@ -28,7 +28,7 @@ const MAX_TRIES: u32 = 64;
 /// Contracts see the table of words, the names, the number of lanes, and the tries (own rule).
 #[derive(Drop)]
 pub struct Locks {
-    table: LockTable,
+    table: LockSteps,
     names: Vec<String>,
     tries: u32,
     /// The lanes that wait until a lane gives locks back. No clause speaks of them.
@@ -44,15 +44,15 @@ impl Model for Locks {
 
     ghost Value = { LocksView };
 
-    ghost view = { λ l. record { table = l.table.shared.table_id; names = map string_bytes l.names.items; lanes = l.table.shared.key.lanes; tries = l.tries } };
+    ghost view = { λ l. record { table = l.table.table.shared.table_id; names = map string_bytes l.names.items; lanes = l.table.table.shared.key.lanes; tries = l.tries } };
 
     ghost invariant = { λ l.
-        (l.table.shared.key.locks ≡ l.table.shared.table_id.words)
-        × (l.table.shared.key.locks ≡ length l.names.items + 1)
+        (l.table.table.shared.key.locks ≡ l.table.table.shared.table_id.words)
+        × (l.table.table.shared.key.locks ≡ length l.names.items + 1)
         × (length l.names.items ≤ 63)
         × IsSorted string_cmp l.names.items
         × AreDifferent (map string_bytes l.names.items)
-        × AreLimits l.table.shared.key.lanes l.tries };
+        × AreLimits l.table.table.shared.key.lanes l.tries };
 }
 
 impl Locks {
@@ -154,7 +154,7 @@ impl Locks {
         ensures refusal { IfErr result (λ refusal. IsRefused self.now.tries set.now lane.old lane.new refusal) }
     {
         match take_locks(
-            &self.table.shared,
+            &self.table,
             &mut lane.seat,
             lane.number,
             &set.modes,
@@ -191,7 +191,7 @@ impl Locks {
         ensures names { result.names ≡ self.now.names }
     {
         let shared = SharedLocks {
-            words: &self.table.shared,
+            words: &self.table,
             waiters: &self.waiters,
             tries: self.tries,
         };
@@ -220,13 +220,7 @@ impl Locks {
             names: _,
         } = held;
         let modes: &[Option<LockMode>] = &set.modes;
-        give_locks(
-            &self.table.shared,
-            &mut lane.seat,
-            lane.number,
-            modes,
-            modes.len(),
-        );
+        give_locks(&self.table, &mut lane.seat, lane.number, modes, modes.len());
         self.waiters.wake_all();
     }
 
@@ -247,7 +241,7 @@ impl Locks {
         ensures other_excludes { Excludes other.new one.new }
     {
         exclude(
-            &self.table.shared,
+            &self.table,
             &mut one.seat,
             one.number,
             &mut other.seat,
@@ -311,7 +305,7 @@ fn open_words(
     let made = deal_lanes(&table.shared, alloc, &mut dealer, lanes)?;
     Ok((
         Locks {
-            table,
+            table: LockSteps::of(table),
             names,
             tries,
             waiters: Waiters::new(),

@@ -2,42 +2,27 @@
 ghost use Rattle.std.specs.Prelude.{◌≡◌, ◌≢◌, ◌+◌, ◌<◌, [], length};
 ghost use mathlib.Core.List.{IsPrefix};
 ghost use Rattle.ext_history.specs.Views.{seen};
-ghost use Rattle.ext_locks.specs.Rule.{Loaded, told_of, noted};
 ghost use Rattle.ext_locks.specs.Sets.{Excludes};
 ghost use Rattle.ext_locks.specs.Steps.{lane_at, IsLane, Makes};
 
-use crate::rule::{LaneSeat, LockWords, Notes};
-use crate::steps::load;
-
-/// Tells a lane of all that another has seen, and loads the global lock's word for it.
-fn tell(words: &LockWords, from: &mut LaneSeat, to: &mut LaneSeat, lane: usize) -> u64
-    requires from { from.old.table_id ≡ words.now.table_id }
-    requires to { IsLane words.now.table_id words.now.key.locks to.old lane }
-    requires lock { 0 < words.now.key.locks }
-    ensures from { (from.new.table_id ≡ from.old.table_id) × (from.new.me ≡ from.old.me) }
-    ensures table { to.new.table_id ≡ to.old.table_id }
-    ensures step { Loaded (told_of to.old.me.0 (noted from.old.me.0)) lane 0 result to.new.me.0 }
-{
-    let note = words.split_seat::<Notes>(from);
-    words.join_seat::<Notes>(to, note);
-    load(words, to, lane, 0)
-}
+use crate::rule::LaneSeat;
+use crate::steps::{LockSteps, tell};
 
 /// Two lanes are told of each other: where one writes by a lock, the other holds nothing on it.
 ///
 /// What the other lane loads is of a history that goes on from all that the one has seen. Only the telling back shows
 /// that in this history the one lane holds what it held when it was asked.
 pub(crate) fn exclude(
-    words: &LockWords,
+    words: &LockSteps,
     one: &mut LaneSeat,
     one_lane: usize,
     other: &mut LaneSeat,
     other_lane: usize,
 )
-    requires one { IsLane words.now.table_id words.now.key.locks one.old one_lane }
-    requires other { IsLane words.now.table_id words.now.key.locks other.old other_lane }
+    requires one { IsLane words.now.table.shared.table_id words.now.table.shared.key.locks one.old one_lane }
+    requires other { IsLane words.now.table.shared.table_id words.now.table.shared.key.locks other.old other_lane }
     requires apart { one_lane ≢ other_lane }
-    requires lock { 0 < words.now.key.locks }
+    requires lock { 0 < words.now.table.shared.key.locks }
     ensures steps_one { length one.new.me.0.fronts ≡ length one.old.me.0.fronts + 1 }
     ensures steps_other { length other.new.me.0.fronts ≡ length other.old.me.0.fronts + 1 }
     ensures one { Makes one.old one.new one_lane [] }

@@ -6,18 +6,29 @@ ghost use Rattle.ext_locks.specs.History.{event, holds};
 ghost use Rattle.ext_locks.specs.Sets.{locks_of, takes_of, HoldsNothing, HoldsExactly};
 ghost use Rattle.ext_locks.specs.Steps.{lane_at, IsLane, Makes, HeldBut, IsWithin};
 
-use crate::rule::{LaneSeat, LockWords};
-use crate::steps::take_lock;
+use crate::rule::LaneSeat;
+use crate::steps::LockSteps;
+use crate::taking::take_lock;
 use crate::{LockMode, LockNo, LockRefusal};
-use ext_waiters::Waiters;
+use ext_waiters::{Waiters, Waiting};
 use std::sync::Wait;
 
 /// What all lanes share: the words of the locks, who waits for one, and how many exchanges a try makes at most.
 #[derive(Drop)]
 pub(crate) struct SharedLocks<'a> {
-    pub words: &'a LockWords,
+    pub words: &'a LockSteps,
     pub waiters: &'a Waiters,
     pub tries: u32,
+}
+
+/// What a lane does that met another holder, before it tries again: it announces that it waits, or, where it has announced
+/// that and has tried once more since, it sleeps.
+fn pause<R: Wait>(rt: &R, waiting: &mut Waiting<'_>) {
+    if waiting.is_announced() {
+        waiting.sleep(rt);
+    } else {
+        waiting.announce();
+    }
 }
 
 /// Takes a lock, however often it has to try: what met another holder is done again after a wake, and what other lanes
@@ -30,8 +41,8 @@ fn wait_for_lock<R: Wait>(
     lock: LockNo,
     mode: LockMode,
 )
-    requires lane { IsLane locks.now.words.now.table_id locks.now.words.now.key.locks seat.old lane }
-    requires lock { lock < locks.now.words.now.key.locks }
+    requires lane { IsLane locks.now.words.now.table.shared.table_id locks.now.words.now.table.shared.key.locks seat.old lane }
+    requires lock { lock < locks.now.words.now.table.shared.key.locks }
     requires unheld { (held : LockMode) → holds (seen seat.old.me.0.fronts) lock held lane ≡ false }
     ensures taken { Makes seat.old seat.new lane (event lane lock mode true ∷ []) }
     ensures held { HeldBut seat.old.me.0.fronts seat.new.me.0.fronts lane lock mode true }
@@ -40,7 +51,7 @@ fn wait_for_lock<R: Wait>(
     for _ in rt.forever() {
         match take_lock(locks.words, seat, lane, lock, mode, locks.tries) {
             Ok(()) => return,
-            Err(LockRefusal::Taken(_)) => waiting.announce_or_sleep(rt),
+            Err(LockRefusal::Taken(_)) => pause(rt, &mut waiting),
             Err(LockRefusal::Contended(_)) => {}
         }
     }
@@ -55,8 +66,8 @@ pub(crate) fn wait_for_locks<R: Wait>(
     lane: usize,
     modes: &[Option<LockMode>],
 )
-    requires lane { IsLane locks.now.words.now.table_id locks.now.words.now.key.locks seat.old lane }
-    requires locks { IsWithin modes.now locks.now.words.now.key.locks }
+    requires lane { IsLane locks.now.words.now.table.shared.table_id locks.now.words.now.table.shared.key.locks seat.old lane }
+    requires locks { IsWithin modes.now locks.now.words.now.table.shared.key.locks }
     requires nothing { HoldsNothing (lane_at seat.old lane) }
     ensures taken { Makes seat.old seat.new lane (takes_of lane (locks_of modes.now)) }
     ensures held { HoldsExactly (lane_at seat.new lane) (locks_of modes.now) }

@@ -29,8 +29,8 @@ use Rattle.ext_locks.specs.Sets.{HeldView}
 use Rattle.ext_tree.specs.Keys.{KeyValue}
 use Rattle.ext_tree.specs.KeyPlaces.{IsKeyNumber, KeepsKeys, OneKey, OneNumber, key_at}
 use Rattle.ext_tree.proofs.KeyPlaceLaws.{shared_notes_agree}
-use Rattle.ext_plan_model.specs.Plans.{PlanText, StepText, put, put_closeable, want, nothing, remove, compute, compute_closeable, compute_fail, fail, abort}
-use Rattle.ext_plan_model.specs.PlanCalls.{registered, steps_of_call}
+use Rattle.ext_plan.specs.Plans.{PlanText, StepText, put, put_closeable, want, nothing, remove, compute, compute_closeable, compute_fail, fail, abort}
+use Rattle.ext_plan.specs.PlanCalls.{registered, steps_of_call}
 use Rattle.ext_values.specs.Known.{Known, AllAgree, known_at}
 use Rattle.ext_cells.specs.Lanes.{CellsId, Lane, fresh_lanes}
 use Rattle.ext_store.specs.Stores.{StoreView, StoreLane, IsLaneOf, cell_in, fresh_store_lane}
@@ -40,12 +40,12 @@ use Rattle.ext_store.specs.Calls.{Gets}
 use Rattle.ext_store.specs.Computing.{Computes, ComputesFrom}
 use Rattle.ext_store.specs.Waiting.{ComputesAfterWaits}
 use Rattle.ext_shared.specs.Claiming.{Meets}
-use Rattle.ext_steps.specs.Calls.{CallText, label_of, start_of}
-use Rattle.ext_steps.specs.Verdicts.{SeenText, none_verdict, seen_fault, seen_nothing, seen_no_memory, seen_refused, seen_value, want_verdict}
-use Rattle.ext_store_steps.specs.declared.stored_value.StoredValue.{StoredValue}
-use Rattle.ext_store_steps.specs.StoreCalls.{EndsComputeFail, PlanLane, PlanNotes, Sees, Shows, ShowsFault, ShowsNumber, fault_seen, stored_view}
-use Rattle.ext_store_steps.specs.StoreSteps.{StepFails, StepLooks, StepRun, StepsRun, call_of}
-use Rattle.ext_suite.specs.PlanSuites.{RunsCall, suite_of}
+use Rattle.ext_plan.specs.Calls.{CallText, label_of, start_of}
+use Rattle.ext_plan.specs.Verdicts.{SeenText, none_verdict, seen_fault, seen_nothing, seen_no_memory, seen_refused, seen_value, want_verdict}
+use Rattle.ext_parallel.specs.declared.steps.stored_value.StoredValue.{StoredValue}
+use Rattle.ext_parallel.specs.StoreCalls.{EndsComputeFail, PlanLane, PlanNotes, Sees, Shows, ShowsFault, ShowsNumber, fault_seen, stored_view}
+use Rattle.ext_parallel.specs.StoreSteps.{StepFails, StepLooks, StepRun, StepsRun, call_of}
+use Rattle.ext_parallel.specs.PlanSuites.{RunsCall, suite_of}
 use Rattle.ext_engine.specs.Order.{LaneGoesOn}
 use Rattle.ext_engine.specs.TreeRun.{setting_of}
 use Rattle.ext_engine.proofs.Finer.{tree_finer}

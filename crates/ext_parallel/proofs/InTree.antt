@@ -5,11 +5,11 @@ use Rattle.std.specs.List.{range_with_len}
 use Rattle.std.proofs.lemmas.List.{length-map, length-set}
 use Rattle.std.proofs.lemmas.List.FromFn.{length-range_with_len}
 use Rattle.std.proofs.lemmas.List.Elements.{All-cons, All-head, All-map, All-nil, All-tail}
-use Rattle.ext_plan_model.proofs.Lists.{All-map-back}
+use Rattle.ext_plan.proofs.Lists.{All-map-back}
 use Rattle.ext_model.specs.declared.look.Fault.{Fault}
 use Rattle.ext_lifecycle.specs.declared.node_result.NodeResult.{NodeResult}
 use Rattle.ext_lifecycle.specs.Results.{ResultOf, skipped_result, told}
-use Rattle.ext_node_run.specs.Suites.{SuiteView}
+use Rattle.ext_engine.specs.Suites.{SuiteView}
 use Rattle.ext_engine.specs.TreeRun.{Ran, all_results, all_skipped, placed}
 
 set_within : {X : Type 0} (P : X → Type 0) (xs : List X) (i : ℕ) (x : X) → (i < length xs → P x) → All P xs → All P (slice_set xs i x)

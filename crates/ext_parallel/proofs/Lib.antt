@@ -1,9 +1,16 @@
 -- Lemmas of this crate.
-mod Names
-mod Turning
-mod InTree
-mod Refusals
-mod Values
-mod StepValues
-mod Moves
 mod Found
+mod InTree
+mod Locks
+mod Moves
+mod Names
+mod Refusals
+mod StepValues
+mod Turning
+mod Values
+pub mod Ends
+pub mod Fitting
+pub mod Framed
+pub mod Keyed
+pub mod Placed
+pub mod StepLists

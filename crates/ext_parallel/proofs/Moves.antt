@@ -21,9 +21,9 @@ use Rattle.ext_locks.specs.Sets.{HeldView}
 use Rattle.ext_tree.specs.Keys.{KeyValue}
 use Rattle.ext_tree.specs.KeyPlaces.{IsKeyNumber}
 use Rattle.ext_tree.proofs.KeyPlacing.{key_within, length-places, number_stays}
-use Rattle.ext_plan_model.specs.Plans.{PlanText, StepKeyText, StepText, put, put_closeable, want, nothing, remove, compute, compute_closeable, compute_fail, fail, abort}
-use Rattle.ext_plan_model.specs.KeyNumbers.{key_of_step}
-use Rattle.ext_plan_model.specs.PlanCalls.{steps_of_call}
+use Rattle.ext_plan.specs.Plans.{PlanText, StepKeyText, StepText, put, put_closeable, want, nothing, remove, compute, compute_closeable, compute_fail, fail, abort}
+use Rattle.ext_plan.specs.KeyNumbers.{key_of_step}
+use Rattle.ext_plan.specs.PlanCalls.{steps_of_call}
 use Rattle.ext_values.specs.Known.{Known, known_at}
 use Rattle.ext_cells.specs.Lanes.{Lane}
 use Rattle.ext_shared.specs.declared.fault.Refusal.{Refusal}
@@ -36,15 +36,15 @@ use Rattle.ext_store.specs.Stores.{StoreView, IsLaneOf, cell_in}
 use Rattle.ext_store.specs.Frames.{Frame}
 use Rattle.ext_store.specs.Computing.{Uses}
 use Rattle.ext_shared.specs.Calls.{put_acts, remove_acts}
-use Rattle.ext_store_steps.specs.Saying.{EndsRefused}
+use Rattle.ext_parallel.specs.Saying.{EndsRefused}
 use Rattle.ext_closing.specs.Sealing.{MakesSeals, seals_of}
-use Rattle.ext_steps.specs.Calls.{CallText, label_of, start_of}
-use Rattle.ext_steps.specs.Values.{ValueText}
-use Rattle.ext_steps.specs.Verdicts.{SeenText, none_verdict, want_verdict}
-use Rattle.ext_store_steps.specs.declared.stored_value.StoredValue.{StoredValue}
-use Rattle.ext_store_steps.specs.StoreCalls.{ComputesValue, EndsChange, EndsCompute, EndsComputeFail, EndsPut, HasFrame, PlanLane, RemovesThere, StoresThere, stored_view}
-use Rattle.ext_store_steps.specs.StoreSteps.{OfCallKey, PutsKept, StepComputes, StepFails, StepLooks, StepPuts, StepRemoves, StepRun, StepsRun, call_of}
-use Rattle.ext_suite.specs.PlanSuites.{RunsCall}
+use Rattle.ext_plan.specs.Calls.{CallText, label_of, start_of}
+use Rattle.ext_plan.specs.Values.{ValueText}
+use Rattle.ext_plan.specs.Verdicts.{SeenText, none_verdict, want_verdict}
+use Rattle.ext_parallel.specs.declared.steps.stored_value.StoredValue.{StoredValue}
+use Rattle.ext_parallel.specs.StoreCalls.{ComputesValue, EndsChange, EndsCompute, EndsComputeFail, EndsPut, HasFrame, PlanLane, RemovesThere, StoresThere, stored_view}
+use Rattle.ext_parallel.specs.StoreSteps.{OfCallKey, PutsKept, StepComputes, StepFails, StepLooks, StepPuts, StepRemoves, StepRun, StepsRun, call_of}
+use Rattle.ext_parallel.specs.PlanSuites.{RunsCall}
 use Rattle.ext_engine.specs.Meeting.{OnlyMeets}
 use Rattle.ext_engine.specs.Order.{LaneGoesOn}
 use Rattle.ext_engine.proofs.Going.{goes_met, goes_same, goes_sealed, goes_then}

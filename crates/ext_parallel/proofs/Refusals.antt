@@ -1,14 +1,14 @@
 -- Why a run gives no results, by why its tree was not run to its end.
 use Rattle.std.proofs.Common.{◌≡◌, ℕ, subst}
-use Rattle.ext_plan_model.specs.Plans.{PlanText}
-use Rattle.ext_plan_model.specs.PlanCalls.{registered}
+use Rattle.ext_plan.specs.Plans.{PlanText}
+use Rattle.ext_plan.specs.PlanCalls.{registered}
 use Rattle.ext_store.specs.Stores.{StoreView}
-use Rattle.ext_store_steps.specs.declared.stored_value.StoredValue.{StoredValue}
+use Rattle.ext_parallel.specs.declared.steps.stored_value.StoredValue.{StoredValue}
 use Rattle.ext_locks.specs.Opening.{LocksView}
-use Rattle.ext_node_run.specs.declared.fault.EngineFault.{EngineFault}
-use Rattle.ext_node_run.specs.declared.fault.EngineFault.TheVariants as faults
+use Rattle.ext_engine.specs.declared.node.fault.EngineFault.{EngineFault}
+use Rattle.ext_engine.specs.declared.node.fault.EngineFault.TheVariants as faults
 use Rattle.ext_engine.specs.TreeRun.{IsFault, IsUnjoined, setting_of}
-use Rattle.ext_suite.specs.PlanSuites.{suite_of}
+use Rattle.ext_parallel.specs.PlanSuites.{suite_of}
 use Rattle.ext_parallel.specs.Opened.{IsLocksOf, IsStoreOf}
 use Rattle.ext_parallel.specs.ParallelRun.{ClosesValue, IsAction, IsRefusedRun}
 

@@ -27,8 +27,8 @@ use Rattle.ext_store.specs.Stores.{StoreView, cell_in}
 use Rattle.ext_store.specs.Calls.{Gets, Puts, Removes, KeepFails, KeepsAs, KeepsNothing}
 use Rattle.ext_store.specs.Computing.{ComputesFrom, Computes, IsUnkept}
 use Rattle.ext_store.specs.Waiting.{ComputesAfterWaits}
-use Rattle.ext_store_steps.specs.declared.stored_value.StoredValue.{StoredValue}
-use Rattle.ext_store_steps.specs.StoreCalls.{PlanLane}
+use Rattle.ext_parallel.specs.declared.steps.stored_value.StoredValue.{StoredValue}
+use Rattle.ext_parallel.specs.StoreCalls.{PlanLane}
 use Rattle.ext_parallel.proofs.Values.{calls_quiet, calls_values, own_values}
 
 -- ---- store calls

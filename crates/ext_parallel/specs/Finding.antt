@@ -12,20 +12,20 @@ use Rattle.ext_model.specs.declared.look.Fault.{Fault}
 use Rattle.ext_tree.specs.Keys.{KeyValue}
 use Rattle.ext_tree.specs.KeyPlaces.{OneKey, OneNumber}
 use Rattle.ext_tree.specs.Paths.{IsPathOf}
-use Rattle.ext_plan_model.specs.Plans.{PlanText, StepKeyText, StepText, put, put_closeable, want, nothing, remove, compute, compute_closeable, compute_fail, fail, abort}
-use Rattle.ext_plan_model.specs.KeyNumbers.{key_of_step}
-use Rattle.ext_plan_model.specs.PlanCalls.{registered, steps_of_call}
+use Rattle.ext_plan.specs.Plans.{PlanText, StepKeyText, StepText, put, put_closeable, want, nothing, remove, compute, compute_closeable, compute_fail, fail, abort}
+use Rattle.ext_plan.specs.KeyNumbers.{key_of_step}
+use Rattle.ext_plan.specs.PlanCalls.{registered, steps_of_call}
 use Rattle.ext_store.specs.declared.computed.Compute.{Compute}
 use Rattle.ext_store.specs.declared.computed.Compute.TheVariants as computes
 use Rattle.ext_store.specs.Stores.{StoreView}
-use Rattle.ext_steps.specs.Calls.{CallText, start_of}
-use Rattle.ext_steps.specs.Values.{ValueText}
-use Rattle.ext_steps.specs.Verdicts.{SeenText, seen_value, seen_fault, seen_no_memory, seen_nothing, seen_refused, want_verdict, none_verdict}
-use Rattle.ext_store_steps.specs.Saying.{Ends}
-use Rattle.ext_store_steps.specs.StoreCalls.{ComputesFault, EndsComputeFail, PlanLane, Sees}
-use Rattle.ext_store_steps.specs.StoreSteps.{AddsUp, FindsNoMemory, OfCall, OfCallKey, StepRun, call_of}
-use Rattle.ext_store_steps.specs.declared.stored_value.StoredValue.{StoredValue}
-use Rattle.ext_suite.specs.PlanSuites.{suite_of}
+use Rattle.ext_plan.specs.Calls.{CallText, start_of}
+use Rattle.ext_plan.specs.Values.{ValueText}
+use Rattle.ext_plan.specs.Verdicts.{SeenText, seen_value, seen_fault, seen_no_memory, seen_nothing, seen_refused, want_verdict, none_verdict}
+use Rattle.ext_parallel.specs.Saying.{Ends}
+use Rattle.ext_parallel.specs.StoreCalls.{ComputesFault, EndsComputeFail, PlanLane, Sees}
+use Rattle.ext_parallel.specs.StoreSteps.{AddsUp, FindsNoMemory, OfCall, OfCallKey, StepRun, call_of}
+use Rattle.ext_parallel.specs.declared.steps.stored_value.StoredValue.{StoredValue}
+use Rattle.ext_parallel.specs.PlanSuites.{suite_of}
 use Rattle.ext_engine.specs.Order.{CallsGoOn}
 use Rattle.ext_engine.specs.TreeRun.{TreeRun, setting_of}
 use Rattle.ext_parallel.specs.ParallelRun.{ClosesValue, IsAction, MakesCall, ParallelRun}

@@ -1,3 +1,10 @@
+pub mod Finding
+pub mod Helpers
 pub mod Opened
 pub mod ParallelRun
-pub mod Finding
+pub mod PlanActions
+pub mod PlanKeys
+pub mod PlanSuites
+pub mod Saying
+pub mod StoreCalls
+pub mod StoreSteps

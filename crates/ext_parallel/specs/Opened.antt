@@ -4,9 +4,9 @@ use Rattle.std.specs.Prelude.{◌≡◌, ℕ, ◌*◌, List, [], length, map, Al
 use mathlib.Core.List.{IsPrefix}
 use Rattle.ext_model.specs.declared.look.Fault.{Fault}
 use Rattle.ext_model.specs.History.{History, IsLegal, own}
-use Rattle.ext_plan_model.specs.Plans.{PlanText}
-use Rattle.ext_plan_model.specs.Laws.{ids_of_nodes}
-use Rattle.ext_plan_model.specs.Locks.{lock_names}
+use Rattle.ext_plan.specs.Plans.{PlanText}
+use Rattle.ext_plan.specs.Laws.{ids_of_nodes}
+use Rattle.ext_plan.specs.Locks.{lock_names}
 use Rattle.ext_tree.specs.KeyPlaces.{KnownPlace, KeepsKeys}
 use Rattle.ext_history.specs.Views.{Follow, seen_by}
 use Rattle.ext_model.specs.Calls.{Calls}

@@ -8,23 +8,23 @@ use Rattle.ext_model.specs.declared.look.Fault.{Fault}
 use Rattle.ext_lifecycle.specs.declared.call.Call.{Call}
 use Rattle.ext_lifecycle.specs.declared.outcome.Outcome.{Outcome}
 use Rattle.ext_lifecycle.specs.Results.{ResultOf}
-use Rattle.ext_plan_model.specs.Plans.{PlanText}
-use Rattle.ext_plan_model.specs.PlanCalls.{registered}
+use Rattle.ext_plan.specs.Plans.{PlanText}
+use Rattle.ext_plan.specs.PlanCalls.{registered}
 use Rattle.ext_cells.specs.Lanes.{fresh_lanes}
 use Rattle.ext_store.specs.Stores.{StoreView, fresh_store_lane}
 use Rattle.ext_locks.specs.Opening as locking
 use Rattle.ext_locks.specs.Opening.{LocksView}
 use Rattle.ext_locks.specs.Sets.{HeldView}
-use Rattle.ext_node_run.specs.declared.fault.EngineFault.{EngineFault}
-use Rattle.ext_node_run.specs.declared.fault.EngineFault.TheVariants as faults
+use Rattle.ext_engine.specs.declared.node.fault.EngineFault.{EngineFault}
+use Rattle.ext_engine.specs.declared.node.fault.EngineFault.TheVariants as faults
 use Rattle.ext_engine.specs.TreeRun.{IsUnjoined, Lanes, Ran, TreeRun, all_results, setting_of}
-use Rattle.ext_store_steps.specs.declared.stored_value.StoredValue.{StoredValue}
+use Rattle.ext_parallel.specs.declared.steps.stored_value.StoredValue.{StoredValue}
 use Rattle.ext_parallel.specs.Opened.{IsStoreOf, IsLocksOf, ShareHistory, ShareKeys}
-use Rattle.ext_steps.specs.Values.{close_fault}
-use Rattle.ext_store_steps.specs.StoreCalls.{PlanLane, stored_view}
-use Rattle.ext_suite.specs.declared.plan_action.PlanAction.{PlanAction}
-use Rattle.ext_suite.specs.PlanActions.{AnswersClose}
-use Rattle.ext_suite.specs.PlanSuites.{suite_of, RunsCall}
+use Rattle.ext_plan.specs.Values.{close_fault}
+use Rattle.ext_parallel.specs.StoreCalls.{PlanLane, stored_view}
+use Rattle.ext_parallel.specs.declared.plan_action.PlanAction.{PlanAction}
+use Rattle.ext_parallel.specs.PlanActions.{AnswersClose}
+use Rattle.ext_parallel.specs.PlanSuites.{suite_of, RunsCall}
 
 -- what a call of a node does, whatever it is lent
 abbrev pub MakesCall : PlanText → StoreView → ℕ → Call → Option HeldView → PlanLane → Outcome → PlanLane → Type 0

@@ -1,14 +1,14 @@
 //! The store and the locks of a run.
 ghost use Rattle.std.specs.Prelude.{◌≡◌, ◌≤◌, ◌*◌, map, length, All, IfOk};
 ghost use Rattle.ext_cells.specs.Lanes.{fresh_lanes};
-ghost use Rattle.ext_plan_model.specs.Plans.{plan_view};
-ghost use Rattle.ext_plan_model.specs.Laws.{HasFewLocks, NodesAreTree};
+ghost use Rattle.ext_plan.specs.Plans.{plan_view};
+ghost use Rattle.ext_plan.specs.Laws.{HasFewLocks, NodesAreTree};
 ghost use Rattle.ext_store.specs.Stores.{IsLaneOf, closers_below, fresh_store_lane};
 ghost use Rattle.ext_locks.specs.Opening as locking;
 ghost use Rattle.ext_parallel.specs.Opened.{IsLocksOf, IsStoreOf};
 
 use ext_locks::{LockFault, LockLane, Locks};
-use ext_plan_model::Plan;
+use ext_plan::Plan;
 use ext_store::{Closer, Lane, Limits, Store, StoreFault, StoreValue};
 use std::alloc::{AllocError, Global};
 

@@ -1,20 +1,20 @@
 //! The run of a plan on several lanes.
 ghost use Rattle.std.specs.Prelude.{◌≡◌, ◌<◌, ◌≤◌, All, length, map, IfOk, IfErr};
 ghost use Rattle.ext_lifecycle.specs.Results.{told};
-ghost use Rattle.ext_plan_model.specs.Plans.{plan_view};
-ghost use Rattle.ext_plan_model.specs.Laws.{CallbacksAreFew, HasFewLocks, NamespacesHaveParts, NodesAreTree, StepListsAreShort, TestsHaveNoChildren};
+ghost use Rattle.ext_plan.specs.Plans.{plan_view};
+ghost use Rattle.ext_plan.specs.Laws.{CallbacksAreFew, HasFewLocks, NamespacesHaveParts, NodesAreTree, StepListsAreShort, TestsHaveNoChildren};
 ghost use Rattle.ext_locks.specs.Opening as locking;
 ghost use Rattle.ext_parallel.specs.Opened.{IsLocksOf};
 ghost use Rattle.ext_parallel.specs.ParallelRun.{IsRefusedRun, ParallelRun};
 
+use crate::PlanSuite;
 use crate::meeting::meet_all;
 use crate::opening::{open_locks, open_store};
 use ext_crew::OpenGate;
 use ext_engine::{EngineFault, run_tree};
 use ext_lifecycle::{NodeResult, RunListener};
 use ext_locks::{LockLane, Locks};
-use ext_plan_model::Plan;
-use ext_suite::PlanSuite;
+use ext_plan::Plan;
 use std::alloc::Global;
 use std::sync::Wait;
 use std::thread::Threads;
@@ -22,7 +22,7 @@ use std::thread::Threads;
 /// Runs a plan on so many lanes, 1 to 16, each at most by one thread, and gives one result a node, in the order of the plan.
 ///
 /// A store with the plan's contexts and locks with its names are opened for this run, and the tree of the nodes is run over them by
-/// `ext_engine::run_tree`. A key gets its number where a lane first names it, the same in all lanes. The listener is told of each node that has ended. Steps make the calls of the store that wait. The plan is one as `ext_plan::read_plan` gives it.
+/// `ext_engine::run_tree`. A key gets its number where a lane first names it, the same in all lanes. The listener is told of each node that has ended. Steps make the calls of the store that wait. The plan is one as `ext_plan_reading::read_plan` gives it.
 ///
 /// Refused as `Memory`, where memory that the run itself needs is refused, and as `Unjoined`, where a context can't be closed, as no lane in
 /// hand knows a value that remains in it; no plan is known for which it comes. `NoThread` is never answered. Want of memory in a step is the step's own fault. Takes memory, and may wait: it promises its clauses if it returns.

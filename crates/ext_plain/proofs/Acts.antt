@@ -1,11 +1,11 @@
 -- A store's replies and a step's end, from what the calls of the one-thread store ensure.
-use Rattle.ext_steps.specs.declared.plan_value.PlanValue.{PlanValue}
+use Rattle.ext_plan.specs.declared.plan_value.PlanValue.{PlanValue}
 use Rattle.std.proofs.Common.{Bool, true, false, ◌≡◌, ℕ, ◌+◌, ◌-◌, List, [], ◌∷◌, ◌++◌, length, take, arith, Option, Some, None, Ok, Err, refl, ap, ◌∙◌}
 use Rattle.std.specs.Prelude.{if◌then◌else◌}
 use Rattle.std.proofs.lemmas.List.{take-append-le, take_all}
 use Rattle.ext_model.specs.declared.plain_fault.PlainFault.{PlainFault}
 use Rattle.ext_model.specs.declared.plain_fault.PlainFault.TheVariants as plain
-use Rattle.ext_steps.specs.declared.reason.Reason.TheVariants as reasons
+use Rattle.ext_plan.specs.declared.reason.Reason.TheVariants as reasons
 use Rattle.ext_model.specs.Events.{Reply, Happens, Answers, Refuses, NumbersFull, Busy, Closed, Standing, FaultStanding, Exhausted, Barred}
 use Rattle.ext_model.specs.State.{State}
 use Rattle.ext_model.specs.Plain.{Place, number_drawn, result_of}
@@ -13,7 +13,7 @@ use Rattle.ext_plain.specs.ValueStates.{Memory, ValueState, refusal}
 use Rattle.ext_plain.specs.Steps.{StepEnd, compute_numbered, computefail_numbered, keeping_by, keyed_by, none_numbered, remove_numbered, want_numbered}
 use Rattle.ext_plain.specs.Helpers.{KeyedText}
 use Rattle.ext_tree.specs.Keys.{KeyValue}
-use Rattle.ext_steps.specs.Values.{ValueText, value_view}
+use Rattle.ext_plan.specs.Values.{ValueText, value_view}
 
 pub state_is : (keeps : Bool) (a b : State Place) (keys : List KeyValue) (v w : List ValueText) → a ≡ b → v ≡ w
     → (let old : ValueState = record { keep_faults = keeps; store = a; keys = keys; values = v; memory = [] } in let new : ValueState = record { keep_faults = keeps; store = b; keys = keys; values = w; memory = [] } in old ≡ new)

@@ -7,17 +7,16 @@ use Rattle.std.proofs.lemmas.List.{length-map}
 use Rattle.ext_tree.specs.Trees.{Id}
 use Rattle.ext_tree.specs.Paths.{IsParentOf, children_of}
 use Rattle.ext_tree.proofs.TreeFacts.{child_not_root, one_parent}
-use Rattle.ext_plan_model.specs.Plans.{NodeText, PlanText}
-use Rattle.ext_plan_model.specs.Laws.{ids_of_nodes, NodesAreTree}
+use Rattle.ext_plan.specs.Plans.{NodeText, PlanText}
+use Rattle.ext_plan.specs.Laws.{ids_of_nodes, NodesAreTree}
 use Rattle.ext_lifecycle.specs.declared.status.Status.TheVariants as statuses
 use Rattle.ext_lifecycle.specs.Endings.{all_successful}
 use Rattle.ext_lifecycle.specs.FaultTexts.{NodeOutcome}
 use Rattle.ext_lifecycle.specs.Modes.{in_run_order}
 use Rattle.ext_plain.specs.Closes.{seal_keys, closes}
 use Rattle.ext_plain.specs.Laws.{HasRun}
-use Rattle.ext_plan_model.specs.PlanCalls.{test_of}
+use Rattle.ext_plan.specs.PlanCalls.{test_of, concurrent_of}
 use Rattle.ext_plain.specs.NodeCalls.{befores_run}
-use Rattle.ext_plan_model.specs.PlanCalls.{concurrent_of}
 use Rattle.ext_plain.specs.PlainRun.{RunState, body_run, container_run, node_run, outcome_of, plain_run_by, run_opening, skipped_from, test_node_run}
 use Rattle.ext_plain.specs.ValueStates.{key_limit, Memory}
 use Rattle.ext_plain.proofs.Ends.{body_end, container_end, test_end}

@@ -1,7 +1,7 @@
 -- What the calls of a node leave, before its context is closed.
 use Rattle.std.proofs.Common.{ℕ, true, false, List}
 use Rattle.ext_lifecycle.specs.Endings.{all_successful}
-use Rattle.ext_plan_model.specs.Plans.{PlanText}
+use Rattle.ext_plan.specs.Plans.{PlanText}
 use Rattle.ext_plain.specs.NodeCalls.{CallsEnd, afters_run, befores_run, test_run}
 use Rattle.ext_plain.specs.PlainRun.{RunState, body_run}
 

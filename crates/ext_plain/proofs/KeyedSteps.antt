@@ -3,13 +3,13 @@ use Rattle.std.proofs.Common.{◌≡◌, ℕ, Bool, false, List, Result, Ok, Err
 use Rattle.std.specs.Prelude.{◌&&◌, if◌then◌else◌}
 use Rattle.ext_lifecycle.specs.declared.outcome.Outcome.{Outcome}
 use Rattle.ext_tree.specs.Keys.{KeyValue}
-use Rattle.ext_plan_model.specs.Plans.{KeyText, StepKeyText}
-use Rattle.ext_plan_model.specs.KeyNumbers.{key_of_step}
-use Rattle.ext_steps.specs.declared.reason.Reason.{Reason}
-use Rattle.ext_steps.specs.declared.reason.Reason.TheVariants as reasons
-use Rattle.ext_steps.specs.Calls.{CallText, is_made, label_of, start_of}
-use Rattle.ext_steps.specs.Values.{ValueText}
-use Rattle.ext_steps.specs.Verdicts.{refused}
+use Rattle.ext_plan.specs.Plans.{KeyText, StepKeyText}
+use Rattle.ext_plan.specs.KeyNumbers.{key_of_step}
+use Rattle.ext_plan.specs.declared.reason.Reason.{Reason}
+use Rattle.ext_plan.specs.declared.reason.Reason.TheVariants as reasons
+use Rattle.ext_plan.specs.Calls.{CallText, is_made, label_of, start_of}
+use Rattle.ext_plan.specs.Values.{ValueText}
+use Rattle.ext_plan.specs.Verdicts.{refused}
 use Rattle.ext_plain.specs.declared.lack.Lack.{Lack}
 use Rattle.ext_plain.specs.declared.lack.Lack.TheVariants as lacks
 use Rattle.ext_plain.specs.declared.lack.StepLack.{StepLack}

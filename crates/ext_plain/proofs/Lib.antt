@@ -9,6 +9,7 @@ pub mod Numberings
 pub mod Named
 pub mod Rooms
 pub mod Few
+pub mod Telling
 pub mod NodeCalls
 pub mod CallsDone
 pub mod Nodes

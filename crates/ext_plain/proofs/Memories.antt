@@ -1,5 +1,5 @@
 -- What the steps after it find of memory goes through each step of a plain run, and through the end of a context.
-use Rattle.std.proofs.Common.{◌≡◌, ℕ, zero, suc, Bool, true, false, List, ◌∷◌, drop, Option, Some, None, refl, ap, ◌∙◌}
+use Rattle.std.proofs.Common.{◌≡◌, ℕ, zero, suc, Bool, true, false, List, [], ◌∷◌, drop, Option, Some, None, refl, ap, ◌∙◌}
 use Rattle.std.specs.Prelude.{◌&&◌, if◌then◌else◌, codes}
 use Rattle.ext_model.specs.declared.event.Act.TheVariants.{Seal, Remove}
 use Rattle.ext_model.specs.declared.look.Look.{Look}
@@ -9,14 +9,14 @@ use Rattle.ext_model.specs.Plain.{Place}
 use Rattle.ext_model.specs.declared.event.Act.TheVariants.{Abandon, Claim, Fail}
 use Rattle.ext_lifecycle.specs.declared.outcome.Outcome.{Outcome}
 use Rattle.ext_lifecycle.specs.Endings.{successful, aborted, failed}
-use Rattle.ext_plan_model.specs.Plans.{KeyText, StepKeyText, StepText, put, put_closeable, want, nothing, remove, compute, compute_closeable, compute_fail, fail, abort}
-use Rattle.ext_steps.specs.declared.reason.Reason.{Reason}
-use Rattle.ext_steps.specs.Values.{ValueText}
-use Rattle.ext_steps.specs.Calls.{is_made, label_of, start_of}
+use Rattle.ext_plan.specs.Plans.{KeyText, StepKeyText, StepText, put, put_closeable, want, nothing, remove, compute, compute_closeable, compute_fail, fail, abort}
+use Rattle.ext_plan.specs.declared.reason.Reason.{Reason}
+use Rattle.ext_plan.specs.Values.{ValueText}
+use Rattle.ext_plan.specs.Calls.{is_made, label_of, start_of}
 use Rattle.ext_tree.specs.Keys.{KeyValue}
-use Rattle.ext_plan_model.specs.KeyNumbers.{key_of_step}
+use Rattle.ext_plan.specs.KeyNumbers.{key_of_step}
 use Rattle.ext_plain.specs.ValueStates.{Memory, enough, no_key, no_value, no_number, no_place, no_words, ValueState, with_memory, after_act, why_refused, next_number, keep_value, Numbering, known, next, full, numbering_of, with_number}
-use Rattle.ext_steps.specs.Verdicts.{none_verdict, want_verdict}
+use Rattle.ext_plan.specs.Verdicts.{none_verdict, want_verdict}
 use Rattle.ext_plain.specs.Steps.{StepEnd, ended, no_memory, said_by, lacks_key, lacks_value, lacks_number, lacks_place, made_by, number_by, numbered_by, or_refused, kept_or_refused, put_kept, put_in, put_by, factory_gave, factory_failed, if_empty, if_absent, claim_and, compute_looked, compute_by, computefail_looked, computefail_by, found_along, keeping_by, keyed_by, step_by, next_step, act_ends, want_numbered, none_numbered, remove_numbered, compute_numbered, computefail_numbered, seen_by}
 use Rattle.ext_plain.specs.Closes.{seal_keys}
 use Rattle.ext_plain.specs.Helpers.{step_end}
@@ -191,7 +191,32 @@ module _ (m : List Memory) where
   seal_keys-with zero at s = refl
   seal_keys-with (suc key) at s = ap (after_act (Seal (at, key))) (seal_keys-with key at s)
 
+-- a list for the next step, where it finds this and those after it find that: one that says nothing where all find enough
+pub first_found : Memory → List Memory → List Memory
+first_found enough [] = []
+first_found enough (other ∷ later) = enough ∷ other ∷ later
+first_found no_key later = no_key ∷ later
+first_found no_value later = no_value ∷ later
+first_found no_number later = no_number ∷ later
+first_found no_place later = no_place ∷ later
+first_found no_words later = no_words ∷ later
+
+pub first_found-nothing : (found : Memory) (later : List Memory) → found ≡ enough → later ≡ [] → first_found found later ≡ []
+unfolding first_found
+first_found-nothing found later all none = ap (λ f. first_found f later) all ∙ ap (first_found enough) none
+
+first_found-next : (keys : List KeyText) (path : List ℕ) (step : StepText) (found : Memory) (later : List Memory) (s : ValueState)
+    → step_by keys found path step (with_memory later s) ≡ next_step keys path step (with_memory (first_found found later) s)
+unfolding first_found
+first_found-next keys path step enough [] s = refl
+first_found-next keys path step enough (other ∷ later) s = refl
+first_found-next keys path step no_key later s = refl
+first_found-next keys path step no_value later s = refl
+first_found-next keys path step no_number later s = refl
+first_found-next keys path step no_place later s = refl
+first_found-next keys path step no_words later s = refl
+
 -- the next step that is made, where it finds this and those after it find that
 pub next_step-is : (keys : List KeyText) (path : List ℕ) (step : StepText) (found : Memory) (later : List Memory) (old new : ValueState) (o : Outcome) → step_end new o ≡ step_by keys found path step old
-    → step_end (with_memory later new) o ≡ next_step keys path step (with_memory (found ∷ later) old)
-next_step-is keys path step found later old new o is = ap (end_with later) is ∙ step_by-with later keys found path step old
+    → step_end (with_memory later new) o ≡ next_step keys path step (with_memory (first_found found later) old)
+next_step-is keys path step found later old new o is = ap (end_with later) is ∙ step_by-with later keys found path step old ∙ first_found-next keys path step found later old

@@ -9,10 +9,11 @@ use Rattle.ext_lifecycle.specs.Endings.{Ending, all_successful, is_successful, w
 use Rattle.ext_lifecycle.specs.FaultTexts.{VerdictText, fault_text}
 use Rattle.ext_lifecycle.specs.Lifecycle.{MakesAll, MakesBefores, MakesIf, MakesCalls, ending_of, endings_of}
 use Rattle.ext_lifecycle.proofs.OtherFaults.{is_successful-to}
-use Rattle.ext_plain.specs.Helpers.{calls_end, step_end}
+use Rattle.ext_plain.specs.Helpers.{TellsLacks, calls_end, step_end}
 use Rattle.ext_plain.specs.NodeCalls.{CallsEnd, and_call, make, make_all, make_befores, make_if_successful}
 use Rattle.ext_plain.specs.Steps.{StepEnd}
 use Rattle.ext_plain.specs.ValueStates.{Memory, ValueState}
+use Rattle.ext_plain.proofs.Telling.{tells-after, tells-both, tells-none}
 
 -- ---- one call more
 
@@ -61,11 +62,12 @@ module _ (run : Call → ValueState → StepEnd) where
 -- ---- calls that were made
 
 -- a call does what `run` says, by what its steps found of memory, whatever those after it find; what holds of the caller it keeps
-pub record Does {S : Type 0} (makes : S → Call → Outcome → S → Type 0) (Holds : S → Type 0) (view : List Memory → S → ValueState) (run : Call → ValueState → StepEnd) : Type 0 where
+pub record Does {S : Type 0} (makes : S → Call → Outcome → S → Type 0) (Holds : S → Type 0) (view : List Memory → S → ValueState) (lacked : S → Bool) (run : Call → ValueState → StepEnd) : Type 0 where
   pub keeps : (c : S) (call : Call) (o : Outcome) (d : S) → makes c call o d → Holds c → Holds d
-  pub exact : (c : S) (call : Call) (o : Outcome) (d : S) → makes c call o d → Holds c → (later : List Memory) → (memory : List Memory) × (step_end (view later d) o ≡ run call (view memory c))
+  pub exact : (c : S) (call : Call) (o : Outcome) (d : S) → makes c call o d → Holds c → (later : List Memory)
+      → (memory : List Memory) × (step_end (view later d) o ≡ run call (view memory c)) × TellsLacks (lacked c) (lacked d) memory later
 
-module _ {S : Type 0} (makes : S → Call → Outcome → S → Type 0) (Holds : S → Type 0) (view : List Memory → S → ValueState) (run : Call → ValueState → StepEnd) (does : Does makes Holds view run) where
+module _ {S : Type 0} (makes : S → Call → Outcome → S → Type 0) (Holds : S → Type 0) (view : List Memory → S → ValueState) (lacked : S → Bool) (run : Call → ValueState → StepEnd) (does : Does makes Holds view lacked run) where
   -- ---- what holds after calls
 
   nothing-holds : (c d : S) → d ≡ c → Holds c → Holds d
@@ -95,17 +97,21 @@ module _ {S : Type 0} (makes : S → Call → Outcome → S → Type 0) (Holds :
 
   -- ---- what calls leave
 
-  -- for what later steps find there is something that earlier ones found, so that this makes that
+  -- for what later steps find there is something that earlier ones found, so that this makes that, and whether these lacked some is told
   abbrev pub Leaves : (CallsEnd → CallsEnd) → S → List Outcome → S → List Outcome → Type 0
-  Leaves made c before d after = (later : List Memory) → (memory : List Memory) × (made (calls_end (view memory c) before) ≡ calls_end (view later d) after)
+  Leaves made c before d after = (later : List Memory) → (memory : List Memory) × (made (calls_end (view memory c) before) ≡ calls_end (view later d) after) × TellsLacks (lacked c) (lacked d) memory later
 
   one_call : (c : S) (call : Call) (o : Outcome) (d : S) (before : List Outcome) → makes c call o d → Holds c → Leaves (λ e. make run e call) c before d (before ++ o ∷ [])
   one_call c call o d before made holds later =
       let one = does.exact c call o d made holds later in
-      (one.0, ap (and_call (calls_end (view one.0 c) before)) (sym one.1) ∙ one_more (view one.0 c) (view later d) before o)
+      (one.0, ap (and_call (calls_end (view one.0 c) before)) (sym one.1) ∙ one_more (view one.0 c) (view later d) before o, one.2)
 
   none_left : (c d : S) (before os : List Outcome) → os ≡ [] → d ≡ c → Leaves (λ e. e) c before d (before ++ os)
-  none_left c d before os none same later = (later, ap (λ x. calls_end (view later x) before) (sym same) ∙ ap (calls_end (view later d)) (sym (ap (λ l. before ++ l) none ∙ append-nil before)))
+  none_left c d before os none same later = (
+    later,
+    ap (λ x. calls_end (view later x) before) (sym same) ∙ ap (calls_end (view later d)) (sym (ap (λ l. before ++ l) none ∙ append-nil before)),
+    tells-after (lacked c) (lacked c) (lacked d) later later (ap lacked same) (tells-none (lacked c) later),
+  )
 
   joined : (s : ValueState) (before rest os : List Outcome) (o : Outcome) → os ≡ o ∷ rest → calls_end s ((before ++ o ∷ []) ++ rest) ≡ calls_end s (before ++ os)
   joined s before rest os o is = ap (calls_end s) (append_assoc before (o ∷ []) rest ∙ ap (λ l. before ++ l) (sym is))
@@ -115,7 +121,7 @@ module _ {S : Type 0} (makes : S → Call → Outcome → S → Type 0) (Holds :
   all-exact (call ∷ calls) c os d before made holds later =
       let rest = all-exact calls made.2 made.1 d (before ++ made.0 ∷ []) made.5 (does.keeps c call made.0 made.2 made.4 holds) later in
       let first = one_call c call made.0 made.2 before made.4 holds rest.0 in
-      (first.0, ap (make_all run calls) first.1 ∙ rest.1 ∙ joined (view later d) before made.1 os made.0 made.3)
+      (first.0, ap (make_all run calls) first.1 ∙ rest.1 ∙ joined (view later d) before made.1 os made.0 made.3, tells-both (lacked c) (lacked made.2) (lacked d) first.0 rest.0 later first.2 rest.2)
 
   befores-rest : (good : Bool) (calls : List Call) (call : Call) (c : S) (os : List Outcome) (d : S) (before : List Outcome) (made : MakesBefores makes (call ∷ calls) c os d) → is_successful (ending_of made.0.verdict) ≡ good
       → all_successful (endings_of before) ≡ true → Holds made.2
@@ -127,7 +133,7 @@ module _ {S : Type 0} (makes : S → Call → Outcome → S → Type 0) (Holds :
   befores-rest false calls call c os d before made good all holds each later =
       let ends : all_successful (endings_of (before ++ made.0 ∷ [])) ≡ false = successful-more before made.0 ∙ ap (λ b. b && is_successful (ending_of made.0.verdict)) all ∙ good in
       let none = none_left made.2 d (before ++ made.0 ∷ []) made.1 (made.5.1 good).0 (made.5.1 good).1 later in
-      (none.0, stays run calls (view none.0 made.2) (before ++ made.0 ∷ []) ends ∙ none.1)
+      (none.0, stays run calls (view none.0 made.2) (before ++ made.0 ∷ []) ends ∙ none.1, none.2)
 
   pub befores-exact : (calls : List Call) (c : S) (os : List Outcome) (d : S) (before : List Outcome) → all_successful (endings_of before) ≡ true → MakesBefores makes calls c os d → Holds c
       → Leaves (make_befores run calls) c before d (before ++ os)
@@ -136,16 +142,16 @@ module _ {S : Type 0} (makes : S → Call → Outcome → S → Type 0) (Holds :
       let good = is_successful (ending_of made.0.verdict) in
       let rest = befores-rest good calls call c os d before made refl all (does.keeps c call made.0 made.2 made.4 holds) (befores-exact calls) later in
       let first = one_call c call made.0 made.2 before made.4 holds rest.0 in
-      (first.0, ap (make_befores run calls) (if-made run (view first.0 c) before call true all ∙ first.1) ∙ rest.1 ∙ joined (view later d) before made.1 os made.0 made.3)
+      (first.0, ap (make_befores run calls) (if-made run (view first.0 c) before call true all ∙ first.1) ∙ rest.1 ∙ joined (view later d) before made.1 os made.0 made.3, tells-both (lacked c) (lacked made.2) (lacked d) first.0 rest.0 later first.2 rest.2)
 
   pub if-exact : (go : Bool) (call : Call) (c : S) (os : List Outcome) (d : S) (before : List Outcome) → all_successful (endings_of before) ≡ go → MakesIf makes go call c os d → Holds c
       → Leaves (λ e. make_if_successful run e call) c before d (before ++ os)
   if-exact true call c os d before all made holds later =
       let one = all-exact (call ∷ []) c os d before (made.made refl) holds later in
-      (one.0, if-made run (view one.0 c) before call true all ∙ one.1)
+      (one.0, if-made run (view one.0 c) before call true all ∙ one.1, one.2)
   if-exact false call c os d before all made holds later =
       let none = none_left c d before os (made.skipped refl).0 (made.skipped refl).1 later in
-      (none.0, if-made run (view none.0 c) before call false all ∙ none.1)
+      (none.0, if-made run (view none.0 c) before call false all ∙ none.1, none.2)
 
   -- all calls of a test
   pub calls-exact : (befores : List Call) (body : Call) (afters : List Call) (c : S) (os : List Outcome) (d : S) → MakesCalls makes befores body afters c os d → Holds c
@@ -162,4 +168,5 @@ module _ {S : Type 0} (makes : S → Call → Outcome → S → Type 0) (Holds :
             ∙ ap (make_all run afters) second.1
             ∙ third.1
             ∙ ap (calls_end (view later d)) (sym made.all),
+        tells-both (lacked c) (lacked made.opened) (lacked d) first.0 second.0 later first.2 (tells-both (lacked made.opened) (lacked made.closing) (lacked d) second.0 third.0 later second.2 third.2),
       )

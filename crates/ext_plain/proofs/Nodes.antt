@@ -5,7 +5,7 @@ use Rattle.std.proofs.lemmas.List.Elements.{Contains-get_or}
 use Rattle.ext_tree.specs.Trees.{Id}
 use Rattle.ext_tree.specs.Paths.{IsPathOf, IsParentOf, IsWalk, children_of}
 use Rattle.ext_tree.proofs.TreeLaws.{parents_list_children}
-use Rattle.ext_plan_model.specs.Plans.{PlanText}
+use Rattle.ext_plan.specs.Plans.{PlanText}
 use Rattle.ext_model.specs.declared.look.Fault.{Fault}
 use Rattle.ext_lifecycle.specs.declared.node_result.NodeResult.{NodeResult}
 use Rattle.ext_lifecycle.specs.declared.outcome.Outcome.{Outcome}
@@ -13,10 +13,10 @@ use Rattle.ext_lifecycle.specs.FaultTexts.{NodeOutcome, fault_text, result_view}
 use Rattle.ext_lifecycle.specs.Lifecycle.{computed_in, endings_of, found_in}
 use Rattle.ext_lifecycle.specs.Results.{result_of, told, with_fault_told}
 use Rattle.ext_lifecycle.proofs.OtherFaults.{result_of-to}
-use Rattle.ext_steps.specs.Calls.{start_of}
+use Rattle.ext_plan.specs.Calls.{start_of}
 use Rattle.ext_plain.specs.Closes.{seal_keys, closes}
 use Rattle.ext_plain.specs.Helpers.{calls_end}
-use Rattle.ext_plan_model.specs.PlanCalls.{test_of}
+use Rattle.ext_plan.specs.PlanCalls.{test_of}
 use Rattle.ext_plain.specs.NodeCalls.{CallsEnd}
 use Rattle.ext_plain.specs.PlainRun.{RunState, container_run, outcome_of, with_result, node_end, node_run, test_node_run}
 use Rattle.ext_plain.specs.ValueStates.{key_limit, ValueState}

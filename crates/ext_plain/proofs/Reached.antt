@@ -8,8 +8,8 @@ use Rattle.ext_tree.specs.Trees.{Id, IsTree}
 use Rattle.ext_tree.specs.Paths.{IsParentOf, children_of}
 use Rattle.ext_tree.proofs.TreeFacts.{parent_first}
 use Rattle.ext_tree.proofs.TreeLaws.{parents_list_children}
-use Rattle.ext_plan_model.specs.Plans.{StepText, NodeText, PlanText}
-use Rattle.ext_plan_model.specs.Laws.{ids_of_nodes, NodesAreTree, TestsHaveNoChildren}
+use Rattle.ext_plan.specs.Plans.{StepText, NodeText, PlanText}
+use Rattle.ext_plan.specs.Laws.{ids_of_nodes, NodesAreTree, TestsHaveNoChildren}
 use Rattle.ext_lifecycle.specs.declared.call.Call.{Call}
 use Rattle.ext_lifecycle.specs.declared.call.Kind.TheVariants as kinds
 use Rattle.ext_lifecycle.specs.declared.status.Status.TheVariants as statuses
@@ -17,12 +17,11 @@ use Rattle.ext_lifecycle.specs.Endings.{all_successful, first_abort, first_fault
 use Rattle.ext_lifecycle.specs.FaultTexts.{NodeOutcome}
 use Rattle.ext_lifecycle.specs.Modes.{in_run_order}
 use Rattle.ext_lifecycle.specs.Results.{close_ending}
-use Rattle.ext_steps.specs.Calls.{start_of}
+use Rattle.ext_plan.specs.Calls.{start_of}
 use Rattle.ext_plain.specs.Closes.{seal_keys, closes}
 use Rattle.ext_plain.specs.Laws.{HasNoBeforeAlls, HasRun, goes_on}
-use Rattle.ext_plan_model.specs.PlanCalls.{callbacks_in, test_in, test_of}
+use Rattle.ext_plan.specs.PlanCalls.{callbacks_in, test_in, test_of, concurrent_of}
 use Rattle.ext_plain.specs.NodeCalls.{CallsEnd, befores_run, call_run, make_befores, no_calls}
-use Rattle.ext_plan_model.specs.PlanCalls.{concurrent_of}
 use Rattle.ext_plain.specs.PlainRun.{RunState, body_run, container_run, node_run, outcome_of, plain_run_by, run_opening, test_node_run}
 use Rattle.ext_plain.specs.ValueStates.{key_limit, Memory}
 use Rattle.ext_plain.proofs.Ends.{body_end, container_end, test_end}

@@ -8,12 +8,12 @@ use Rattle.ext_tree.specs.Keys.{KeyValue, AreDifferent}
 use Rattle.ext_tree.specs.Traits.{key_eq}
 use Rattle.ext_tree.proofs.Equalities.{keys_Decides}
 use Rattle.ext_tree.proofs.Numbers.{different_with}
-use Rattle.ext_plan_model.specs.Plans.{KeyText, StepKeyText, StepText, PlanText}
-use Rattle.ext_plan_model.specs.KeyNumbers.{is_there, key_of_step}
-use Rattle.ext_plan_model.specs.Steps.{step_key}
-use Rattle.ext_plan_model.specs.PlanCalls.{steps_of_call}
-use Rattle.ext_plan_model.proofs.KeyLists.{not_contained}
-use Rattle.ext_plan_model.proofs.PlanCalls.{of_steps_called}
+use Rattle.ext_plan.specs.Plans.{KeyText, StepKeyText, StepText, PlanText}
+use Rattle.ext_plan.specs.KeyNumbers.{is_there, key_of_step}
+use Rattle.ext_plan.specs.Steps.{step_key}
+use Rattle.ext_plan.specs.PlanCalls.{steps_of_call}
+use Rattle.ext_plan.proofs.KeyLists.{not_contained}
+use Rattle.ext_plan.proofs.PlanCalls.{of_steps_called}
 use Rattle.ext_plain.specs.ValueStates.{key_limit, ValueState, full, numbering_of}
 use Rattle.ext_plain.specs.NodeCalls.{call_run}
 use Rattle.ext_plain.specs.Laws.{NamesOneOf, NamesOnly, NumbersOnly}

@@ -4,7 +4,7 @@ use Rattle.std.specs.Prelude.{cond, fold, filter, is_some, not, if◌then◌else
 use mathlib.Core.Bool.{beq}
 use Rattle.std.proofs.lemmas.Grind.{fold-append}
 use Rattle.std.proofs.lemmas.List.{drop_more}
-use Rattle.ext_plan_model.specs.Plans.{PlanText}
+use Rattle.ext_plan.specs.Plans.{PlanText}
 use Rattle.ext_tree.specs.Trees.{IsTree}
 use Rattle.ext_tree.specs.Paths.{IsParentOf, IsPathOf, children_of}
 use Rattle.ext_tree.proofs.TreeLaws.{paths_are_unique}
@@ -17,16 +17,16 @@ use Rattle.ext_lifecycle.specs.FaultTexts.{NodeOutcome}
 use Rattle.ext_lifecycle.specs.Lifecycle.{MakesAll, MakesBefores, MakesCalls, endings_of, tally_of}
 use Rattle.ext_plain.specs.declared.callers.NodeCaller.{NodeCaller}
 use Rattle.ext_plain.specs.declared.setting.Setting.{Setting}
-use Rattle.ext_plain.specs.Helpers.{DoesCall, EndsNode, RunsAs, calls_end, chosen, plan_in, run_with, state_view}
-use Rattle.ext_plan_model.specs.PlanCalls.{registered, test_of}
+use Rattle.ext_plain.specs.Helpers.{DoesCall, EndsNode, RunSoFar, RunsAs, TellsLacks, calls_end, chosen, plan_in, run_with, state_view}
+use Rattle.ext_plan.specs.PlanCalls.{registered, test_of, concurrent_of}
 use Rattle.ext_plain.specs.NodeCalls.{CallsEnd, afters_run, befores_run, call_run, make_all, make_befores, make_if_successful}
-use Rattle.ext_plan_model.specs.PlanCalls.{concurrent_of}
 use Rattle.ext_plain.specs.PlainRun.{RunState, body_run, container_run, node_end, node_run, test_node_run}
 use Rattle.ext_plain.specs.ValueStates.{Memory, ValueState, with_memory}
 use Rattle.ext_lifecycle.specs.Modes.{in_run_order}
-use Rattle.ext_plan_model.specs.Laws.{ids_of_nodes}
-use Rattle.ext_plan_model.proofs.NodeIds.{ids-map}
+use Rattle.ext_plan.specs.Laws.{ids_of_nodes}
+use Rattle.ext_plan.proofs.NodeIds.{ids-map}
 use Rattle.ext_plain.proofs.Nodes.{child_path, node_run-more, node_run-zero, start_is}
+use Rattle.ext_plain.proofs.Telling.{tells-after, tells-before, tells-both, tells-none}
 use Rattle.ext_plain.proofs.NodeCalls.{Does, all-exact, all-holds, befores-exact, befores-hold, calls-exact, calls-hold, texts-successful}
 
 -- the children of a path's first context, so many levels deep
@@ -45,19 +45,22 @@ pub record IsAt (setting : Setting) (at : ℕ) (c : NodeCaller) : Type 0 where
 abbrev pub store_of : List Memory → NodeCaller → ValueState
 store_of memory c = with_memory memory (state_view c.store)
 
-abbrev pub between : NodeCaller → List NodeOutcome → RunState
-between c results = record { state = state_view c.store; results = results }
+abbrev pub lacked_of : NodeCaller → Bool
+lacked_of c = c.lacked
 
-pub does-calls : (setting : Setting) (at : ℕ) (path : List ℕ) → IsPathOf setting.tree.now at path → Does DoesCall (IsAt setting at) store_of (call_run (plan_in setting) path)
+abbrev pub between : NodeCaller → List NodeOutcome → RunSoFar
+between c results = record { state = state_view c.store; results = results; lacked = c.lacked }
+
+pub does-calls : (setting : Setting) (at : ℕ) (path : List ℕ) → IsPathOf setting.tree.now at path → Does DoesCall (IsAt setting at) store_of lacked_of (call_run (plan_in setting) path)
 does-calls setting at path is = record {
   keeps = λ c call o d made here. record { setting_is = made.setting ∙ here.setting_is; node_is = made.node ∙ here.node_is };
   exact = λ c call o d made here later.
       let is_here : IsPathOf c.setting.tree.now c.node path = subst (λ n. IsPathOf c.setting.tree.now n path) (sym here.node_is) (subst (λ (s : Setting). IsPathOf s.tree.now at path) (sym here.setting_is) is) in
       let one = made.end path is_here later in
-      (one.0, one.1 ∙ ap (λ (s : Setting). call_run (plan_in s) path call (store_of one.0 c)) here.setting_is);
+      (one.0, one.1 ∙ ap (λ (s : Setting). call_run (plan_in s) path call (store_of one.0 c)) here.setting_is, one.2);
 }
 
-pub test-runs : (setting : Setting) (at : ℕ) (p one two : List ℕ) (befores afters : List Call) (c d : NodeCaller) (os : List Outcome) (tally : Tally) (results : List NodeOutcome) (new : RunState)
+pub test-runs : (setting : Setting) (at : ℕ) (p one two : List ℕ) (befores afters : List Call) (c d : NodeCaller) (os : List Outcome) (tally : Tally) (results : List NodeOutcome) (new : RunSoFar)
     → IsTree setting.tree.now → IsPathOf setting.tree.now at p → one ≡ p → two ≡ p → befores ≡ befores_of (registered (plan_in setting)) true at one → afters ≡ afters_of (registered (plan_in setting)) true at two
     → IsAt setting at c → MakesCalls DoesCall befores (test_call at) afters c os d → tally ≡ tally_of os → EndsNode d.setting at true tally (between d results) new
     → RunsAs setting at (test_node_run (plan_in setting) at) (between c results) new
@@ -67,10 +70,10 @@ test-runs setting at p one two befores afters c d os tally results new tree is_p
       let same : p ≡ path = paths_are_unique.one_path setting.tree.now at p path tree is_p is_path in
       let run = call_run plan path in
       let does = does-calls setting at path is_path in
-      let after = calls-hold DoesCall (IsAt setting at) store_of run does befores (test_call at) afters c os d made here in
+      let after = calls-hold DoesCall (IsAt setting at) store_of lacked_of run does befores (test_call at) afters c os d made here in
       let firsts : befores ≡ befores_of (registered plan) true at path = befores_are ∙ ap (befores_of (registered plan) true at) (one_is ∙ same) in
       let lasts : afters ≡ afters_of (registered plan) true at path = afters_are ∙ ap (afters_of (registered plan) true at) (two_is ∙ same) in
-      let exact = calls-exact DoesCall (IsAt setting at) store_of run does befores (test_call at) afters c os d made here later in
+      let exact = calls-exact DoesCall (IsAt setting at) store_of lacked_of run does befores (test_call at) afters c os d made here later in
       let start = calls_end (store_of exact.0 c) [] in
       let calls : calls_end (store_of later d) os ≡ make_all run (afters_of (registered plan) true at path) (make_if_successful run (make_befores run (befores_of (registered plan) true at path) start) (test_call at)) =
       sym exact.1 ∙ ap (λ l. make_all run l (make_if_successful run (make_befores run befores start) (test_call at))) lasts
@@ -78,32 +81,33 @@ test-runs setting at p one two befores afters c d os tally results new tree is_p
         exact.0,
         ended.each os tallied later
             ∙ ap (λ e. node_end at true e results) calls,
+        tells-after c.lacked d.lacked new.lacked exact.0 later ended.same exact.2,
       );
 }
 
 pub container-runs : (setting : Setting) (at : ℕ) (p one two : List ℕ) (befores afters : List Call) (c d e f g : NodeCaller) (first third : List Outcome) (tally : Tally) (results left : List NodeOutcome) (go : Bool)
-    (path_run : Setting → List ℕ → RunState → RunState) (new : RunState)
+    (path_run : Setting → List ℕ → RunState → RunState) (new : RunSoFar)
     → IsTree setting.tree.now → IsPathOf setting.tree.now at p → one ≡ p → two ≡ p → befores ≡ befores_of (registered (plan_in setting)) false at one → afters ≡ afters_of (registered (plan_in setting)) false at two
     → IsAt setting at c → MakesBefores DoesCall befores c first d
     → go ≡ all_successful (endings_of first) → RunsAs d.setting at (body_run (plan_in d.setting) (path_run d.setting) go) (between d results) (between e left) → e.setting ≡ d.setting
-    → f.store ≡ e.store → f.setting ≡ e.setting → f.node ≡ at
+    → f.store ≡ e.store → f.setting ≡ e.setting → f.lacked ≡ e.lacked → f.node ≡ at
     → MakesAll DoesCall afters f third g → tally ≡ tally_of (first ++ third) → EndsNode g.setting at false tally (between g left) new
     → RunsAs setting at (container_run (plan_in setting) (path_run setting) at) (between c results) new
-container-runs setting at p one two befores afters c d e f g first third tally results left go path_run new tree is_p one_is two_is befores_are afters_are here made going body kept stored setting_kept there closing tallied ended = record {
+container-runs setting at p one two befores afters c d e f g first third tally results left go path_run new tree is_p one_is two_is befores_are afters_are here made going body kept stored setting_kept lacked_kept there closing tallied ended = record {
   each = λ path is_path later.
       let plan = plan_in setting in
       let same : p ≡ path = paths_are_unique.one_path setting.tree.now at p path tree is_p is_path in
       let run = call_run plan path in
       let does = does-calls setting at path is_path in
-      let opened = befores-hold DoesCall (IsAt setting at) store_of run does befores c first d made here in
+      let opened = befores-hold DoesCall (IsAt setting at) store_of lacked_of run does befores c first d made here in
       let back : IsAt setting at f = record { setting_is = setting_kept ∙ kept ∙ opened.setting_is; node_is = there } in
-      let last = all-holds DoesCall (IsAt setting at) store_of run does afters f third g closing back in
+      let last = all-holds DoesCall (IsAt setting at) store_of lacked_of run does afters f third g closing back in
       let firsts : befores ≡ befores_of (registered plan) false at path = befores_are ∙ ap (befores_of (registered plan) false at) (one_is ∙ same) in
       let lasts : afters ≡ afters_of (registered plan) false at path = afters_are ∙ ap (afters_of (registered plan) false at) (two_is ∙ same) in
-      let closed = all-exact DoesCall (IsAt setting at) store_of run does afters f third g first closing back later in
+      let closed = all-exact DoesCall (IsAt setting at) store_of lacked_of run does afters f third g first closing back later in
       let is_there : IsPathOf d.setting.tree.now at path = subst (λ (s : Setting). IsPathOf s.tree.now at path) (sym opened.setting_is) is_path in
       let middle = body.each path is_there closed.0 in
-      let begin = befores-exact DoesCall (IsAt setting at) store_of run does befores c first d [] refl made here middle.0 in
+      let begin = befores-exact DoesCall (IsAt setting at) store_of lacked_of run does befores c first d [] refl made here middle.0 in
       let begun : calls_end (store_of middle.0 d) first ≡ befores_run plan false at path (store_of begin.0 c) =
       sym begin.1 ∙ ap (λ l. make_befores run l (calls_end (store_of begin.0 c) [])) firsts in
       let go_on : all_successful (calls_end (store_of middle.0 d) first).calls ≡ go = texts-successful (endings_of first) ∙ sym going in
@@ -120,6 +124,9 @@ container-runs setting at p one two befores afters c d e f g first third tally r
             ∙ ap (λ x. node_end at false x left) calls
             ∙ ap (ends (calls_end (store_of middle.0 d) first)) bodied
             ∙ ap whole begun,
+        tells-after c.lacked g.lacked new.lacked begin.0 later ended.same
+            (tells-both c.lacked d.lacked g.lacked begin.0 middle.0 later begin.2
+            (tells-both d.lacked e.lacked g.lacked middle.0 closed.0 later middle.2 (tells-before e.lacked f.lacked g.lacked closed.0 later (sym lacked_kept) closed.2))),
       );
 }
 
@@ -128,25 +135,26 @@ container-runs setting at p one two befores afters c d e f g first third tally r
 pub calls-setting : (setting : Setting) (at : ℕ) (p : List ℕ) (befores : List Call) (body : Call) (afters : List Call) (c d : NodeCaller) (os : List Outcome) → IsPathOf setting.tree.now at p → IsAt setting at c
     → MakesCalls DoesCall befores body afters c os d → d.setting ≡ setting
 calls-setting setting at p befores body afters c d os is here made =
-    (calls-hold DoesCall (IsAt setting at) store_of (call_run (plan_in setting) p) (does-calls setting at p is) befores body afters c os d made here).setting_is
+    (calls-hold DoesCall (IsAt setting at) store_of lacked_of (call_run (plan_in setting) p) (does-calls setting at p is) befores body afters c os d made here).setting_is
 
 pub befores-setting : (setting : Setting) (at : ℕ) (p : List ℕ) (befores : List Call) (c d : NodeCaller) (os : List Outcome) → IsPathOf setting.tree.now at p → IsAt setting at c → MakesBefores DoesCall befores c os d → d.setting ≡ setting
 befores-setting setting at p befores c d os is here made =
-    (befores-hold DoesCall (IsAt setting at) store_of (call_run (plan_in setting) p) (does-calls setting at p is) befores c os d made here).setting_is
+    (befores-hold DoesCall (IsAt setting at) store_of lacked_of (call_run (plan_in setting) p) (does-calls setting at p is) befores c os d made here).setting_is
 
 pub afters-setting : (setting : Setting) (at : ℕ) (p : List ℕ) (afters : List Call) (c d : NodeCaller) (os : List Outcome) → IsPathOf setting.tree.now at p → IsAt setting at c → MakesAll DoesCall afters c os d → d.setting ≡ setting
 afters-setting setting at p afters c d os is here made =
-    (all-holds DoesCall (IsAt setting at) store_of (call_run (plan_in setting) p) (does-calls setting at p is) afters c os d made here).setting_is
+    (all-holds DoesCall (IsAt setting at) store_of lacked_of (call_run (plan_in setting) p) (does-calls setting at p is) afters c os d made here).setting_is
 
 -- ---- children, one after another
 
 -- what is still to be run of the children makes the run of all of them
-pub record StillRuns (setting : Setting) (at levels : ℕ) (concurrent : Bool) (children rest : List ℕ) (old now : RunState) : Type 0 where
+pub record StillRuns (setting : Setting) (at levels : ℕ) (concurrent : Bool) (children rest : List ℕ) (old now : RunSoFar) : Type 0 where
   pub each : (path : List ℕ) → IsPathOf setting.tree.now at path → (later : List Memory)
       → (memory : List Memory) × (each_child (plan_in setting) levels path (run_with memory old) (chosen_of setting concurrent children) ≡ each_child (plan_in setting) levels path (run_with later now) (chosen_of setting concurrent rest))
+      × TellsLacks old.lacked now.lacked memory later
 
-pub none-run : (setting : Setting) (at levels : ℕ) (concurrent : Bool) (children rest : List ℕ) (old : RunState) → children ≡ rest → StillRuns setting at levels concurrent children rest old old
-none-run setting at levels concurrent children rest old same = record { each = λ path is_path later. (later, ap (λ cs. each_child (plan_in setting) levels path (run_with later old) (chosen_of setting concurrent cs)) same) }
+pub none-run : (setting : Setting) (at levels : ℕ) (concurrent : Bool) (children rest : List ℕ) (old : RunSoFar) → children ≡ rest → StillRuns setting at levels concurrent children rest old old
+none-run setting at levels concurrent children rest old same = record { each = λ path is_path later. (later, ap (λ cs. each_child (plan_in setting) levels path (run_with later old) (chosen_of setting concurrent cs)) same, tells-none old.lacked later) }
 
 chosen-is : (concurrent x b : Bool) (f : ℕ → Bool) (child : ℕ) → x ≡ f child → beq x concurrent ≡ b → chosen concurrent f child ≡ b
 chosen-is true true b f child is same = sym is ∙ same
@@ -155,7 +163,7 @@ chosen-is false true b f child is same = ap not (sym is) ∙ same
 chosen-is false false b f child is same = ap not (sym is) ∙ same
 
 -- a child that is run now
-pub still-run : (setting : Setting) (at levels : ℕ) (concurrent x : Bool) (children : List ℕ) (i : ℕ) (old now next : RunState) → i < length children → IsParentOf setting.tree.now at (get_or children i 0)
+pub still-run : (setting : Setting) (at levels : ℕ) (concurrent x : Bool) (children : List ℕ) (i : ℕ) (old now next : RunSoFar) → i < length children → IsParentOf setting.tree.now at (get_or children i 0)
     → x ≡ concurrent_of (plan_in setting) (get_or children i 0) → beq x concurrent ≡ true → RunsAs setting (get_or children i 0) (node_run (plan_in setting) levels) now next
     → StillRuns setting at levels concurrent children (drop i children) old now → StillRuns setting at levels concurrent children (drop (i + 1) children) old next
 still-run setting at levels concurrent x children i old now next within parent is same ran still = record {
@@ -170,11 +178,12 @@ still-run setting at levels concurrent x children i old now next within parent i
             ∙ ap (λ cs. each_child (plan_in setting) levels path (run_with one.0 now) (chosen_of setting concurrent cs)) (drop_more children i 0 within)
             ∙ ap (λ b. each_child (plan_in setting) levels path (run_with one.0 now) (cond b (child ∷ rest) rest)) chosen_one
             ∙ ap (λ r. each_child (plan_in setting) levels path r rest) (sym one.1),
+        tells-both old.lacked now.lacked next.lacked before.0 one.0 later before.2 one.2,
       );
 }
 
 -- or that isn't
-pub still-waits : (setting : Setting) (at levels : ℕ) (concurrent x : Bool) (children : List ℕ) (i : ℕ) (old now : RunState) → i < length children
+pub still-waits : (setting : Setting) (at levels : ℕ) (concurrent x : Bool) (children : List ℕ) (i : ℕ) (old now : RunSoFar) → i < length children
     → x ≡ concurrent_of (plan_in setting) (get_or children i 0) → beq x concurrent ≡ false
     → StillRuns setting at levels concurrent children (drop i children) old now → StillRuns setting at levels concurrent children (drop (i + 1) children) old now
 still-waits setting at levels concurrent x children i old now within is same still = record {
@@ -187,11 +196,12 @@ still-waits setting at levels concurrent x children i old now within is same sti
         before.1
             ∙ ap (λ cs. each_child (plan_in setting) levels path (run_with later now) (chosen_of setting concurrent cs)) (drop_more children i 0 within)
             ∙ ap (λ b. each_child (plan_in setting) levels path (run_with later now) (cond b (child ∷ rest) rest)) chosen_one,
+        before.2,
       );
 }
 
 -- the concurrent ones and then the others
-pub both-run : (setting other : Setting) (at levels : ℕ) (old mid new : RunState) → other ≡ setting
+pub both-run : (setting other : Setting) (at levels : ℕ) (old mid new : RunSoFar) → other ≡ setting
     → RunsAs setting at (λ path run. each_child (plan_in setting) levels path run (chosen_of setting true (children_of setting.tree.now at))) old mid
     → RunsAs other at (λ path run. each_child (plan_in other) levels path run (chosen_of other false (children_of other.tree.now at))) mid new
     → RunsAs setting at (body_run (plan_in setting) (node_run (plan_in setting) levels) true) old new
@@ -207,14 +217,15 @@ both-run setting other at levels old mid new same first second = record {
         one.0,
         two.1 ∙ ap (λ r. each_child plan levels path r (chosen_of setting false ids)) one.1 ∙ sym whole
             ∙ ap (λ cs. each_child plan levels path (run_with one.0 old) (in_run_order (concurrent_of plan) cs)) (ap (λ is. children_of is at) (setting.planted ∙ ids-map setting.plan.now.nodes.items) ∙ ap (children_of (ids_of_nodes plan.nodes)) (sym start)),
+        tells-both old.lacked mid.lacked new.lacked one.0 two.0 later one.2 two.2,
       );
 }
 
 -- or none of them, where the body is skipped
-pub none-runs : (setting : Setting) (at levels : ℕ) (go : Bool) (old : RunState) → go ≡ false → RunsAs setting at (body_run (plan_in setting) (node_run (plan_in setting) levels) go) old old
-none-runs setting at levels go old stop = record { each = λ path is_path later. (later, sym (ap (λ b. body_run (plan_in setting) (node_run (plan_in setting) levels) b path (run_with later old)) stop)) }
+pub none-runs : (setting : Setting) (at levels : ℕ) (go : Bool) (old : RunSoFar) → go ≡ false → RunsAs setting at (body_run (plan_in setting) (node_run (plan_in setting) levels) go) old old
+none-runs setting at levels go old stop = record { each = λ path is_path later. (later, sym (ap (λ b. body_run (plan_in setting) (node_run (plan_in setting) levels) b path (run_with later old)) stop), tells-none old.lacked later) }
 
-pub all-run : (setting : Setting) (at levels : ℕ) (concurrent : Bool) (children rest : List ℕ) (old now : RunState) → children ≡ children_of setting.tree.now at → rest ≡ [] → StillRuns setting at levels concurrent children rest old now
+pub all-run : (setting : Setting) (at levels : ℕ) (concurrent : Bool) (children rest : List ℕ) (old now : RunSoFar) → children ≡ children_of setting.tree.now at → rest ≡ [] → StillRuns setting at levels concurrent children rest old now
     → RunsAs setting at (λ path run. each_child (plan_in setting) levels path run (chosen_of setting concurrent (children_of setting.tree.now at))) old now
 all-run setting at levels concurrent children rest old now are none still = record {
   each = λ path is_path later.
@@ -222,21 +233,22 @@ all-run setting at levels concurrent children rest old now are none still = reco
         before.0,
         sym (ap (λ cs. each_child (plan_in setting) levels path (run_with before.0 old) (chosen_of setting concurrent cs)) (sym are) ∙ before.1
             ∙ ap (λ cs. each_child (plan_in setting) levels path (run_with later now) (chosen_of setting concurrent cs)) none),
+        before.2,
       );
 }
 
 -- ---- a node, a test or a container
 
-pub no_levels-run : (setting : Setting) (at levels : ℕ) (old : RunState) → levels ≡ 0 → RunsAs setting at (node_run (plan_in setting) levels) old old
+pub no_levels-run : (setting : Setting) (at levels : ℕ) (old : RunSoFar) → levels ≡ 0 → RunsAs setting at (node_run (plan_in setting) levels) old old
 no_levels-run setting at levels old none = record {
-  each = λ path is_path later. (later, sym (ap (λ n. node_run (plan_in setting) n path (run_with later old)) none ∙ node_run-zero (plan_in setting) path (run_with later old)));
+  each = λ path is_path later. (later, sym (ap (λ n. node_run (plan_in setting) n path (run_with later old)) none ∙ node_run-zero (plan_in setting) path (run_with later old)), tells-none old.lacked later);
 }
 
-pub node-by : (setting : Setting) (at levels : ℕ) (is_test : Bool) (old new : RunState) → levels ≢ 0 → is_some (test_of (plan_in setting) at) ≡ is_test
+pub node-by : (setting : Setting) (at levels : ℕ) (is_test : Bool) (old new : RunSoFar) → levels ≢ 0 → is_some (test_of (plan_in setting) at) ≡ is_test
     → RunsAs setting at (λ path run. if is_test then test_node_run (plan_in setting) at path run else container_run (plan_in setting) (node_run (plan_in setting) (levels - 1)) at path run) old new
     → RunsAs setting at (node_run (plan_in setting) levels) old new
 node-by setting at levels is_test old new some is ran = record {
   each = λ path is_path later.
       let one = ran.each path is_path later in
-      (one.0, one.1 ∙ sym (node_run-more (plan_in setting) levels path (run_with one.0 old) at is_test some (start_is setting.tree.now at path is_path) is));
+      (one.0, one.1 ∙ sym (node_run-more (plan_in setting) levels path (run_with one.0 old) at is_test some (start_is setting.tree.now at path is_path) is), one.2);
 }

@@ -15,7 +15,7 @@ use Rattle.ext_lifecycle.specs.declared.closes.Closes.{Closes}
 use Rattle.ext_lifecycle.specs.Results.{closes_of}
 use Rattle.ext_lifecycle.specs.FaultTexts.{fault_text}
 use Rattle.ext_plain.specs.Helpers.{only_closeable, HasClosed}
-use Rattle.ext_steps.specs.Values.{ValueText, close_fault}
+use Rattle.ext_plan.specs.Values.{ValueText, close_fault}
 
 pub seal_keys-zero : (at : ℕ) (s : ValueState) → seal_keys 0 at s ≡ s
 unfolding seal_keys

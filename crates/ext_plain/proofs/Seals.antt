@@ -12,7 +12,7 @@ use Rattle.ext_model.specs.Events.{Reply, Happens, Answers, Refuses, claim_reply
 use Rattle.ext_model.specs.Plain.{Place, same_place, any_lane, state_by, next_state}
 use Rattle.ext_model.proofs.Changes.{here, same_place_is}
 use Rattle.ext_model.proofs.Steps.{others_stay, seals_stay, abandon_undoes_claim}
-use Rattle.ext_plan_model.specs.Plans.{PlanText}
+use Rattle.ext_plan.specs.Plans.{PlanText}
 use Rattle.ext_plain.specs.ValueStates.{key_limit, ValueState, run_numbers, refusal, reply_to, after_act, why_refused, next_number, keep_value}
 use Rattle.ext_plain.specs.Closes.{seal_keys}
 use Rattle.ext_plain.specs.PlainRun.{RunState, container_run, node_end, node_run, test_node_run}
@@ -20,9 +20,9 @@ use Rattle.ext_plain.specs.Laws.{HasNoClaims}
 use Rattle.ext_plain.proofs.Ends.{body_end, container_end, test_end}
 use Rattle.ext_plain.proofs.Kept.{IsKept, IsKeptNumbered, container-open, node-kept, seals-kept, test-open}
 use Rattle.ext_lifecycle.specs.FaultTexts.{NodeOutcome}
-use Rattle.ext_steps.specs.Values.{ValueText}
-use Rattle.ext_steps.specs.Calls.{start_of}
-use Rattle.ext_plan_model.specs.PlanCalls.{test_of}
+use Rattle.ext_plan.specs.Values.{ValueText}
+use Rattle.ext_plan.specs.Calls.{start_of}
+use Rattle.ext_plan.specs.PlanCalls.{test_of}
 use Rattle.ext_plain.specs.NodeCalls.{CallsEnd}
 
 -- ---- no claim is left

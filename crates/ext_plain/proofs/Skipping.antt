@@ -14,9 +14,9 @@ use Rattle.ext_lifecycle.specs.declared.status.Status.{Status}
 use Rattle.ext_lifecycle.specs.declared.status.Status.TheVariants as statuses
 use Rattle.ext_lifecycle.specs.FaultTexts.{NodeOutcome}
 use Rattle.ext_lifecycle.specs.Modes.{in_run_order}
-use Rattle.ext_plan_model.specs.Plans.{PlanText}
-use Rattle.ext_plan_model.specs.PlanCalls.{concurrent_of, test_of}
-use Rattle.ext_plan_model.specs.Laws.{ids_of_nodes, NodesAreTree, TestsHaveNoChildren}
+use Rattle.ext_plan.specs.Plans.{PlanText}
+use Rattle.ext_plan.specs.PlanCalls.{concurrent_of, test_of}
+use Rattle.ext_plan.specs.Laws.{ids_of_nodes, NodesAreTree, TestsHaveNoChildren}
 use Rattle.ext_plain.specs.ValueStates.{key_limit, Memory}
 use Rattle.ext_plain.specs.Closes.{seal_keys, closes}
 use Rattle.ext_plain.specs.Laws.{HasRun}

@@ -4,17 +4,16 @@ use Rattle.std.specs.Prelude.{fold, slice_get, slice_set, IfSome, if◌then◌el
 use Rattle.std.specs.List.{All, AllByRecursion, range_with_len}
 use Rattle.std.proofs.lemmas.List.{map-set}
 use Rattle.ext_tree.specs.Paths.{children_of}
-use Rattle.ext_plan_model.specs.Plans.{NodeText, PlanText}
-use Rattle.ext_plan_model.specs.Laws.{ids_of_nodes}
+use Rattle.ext_plan.specs.Plans.{NodeText, PlanText}
+use Rattle.ext_plan.specs.Laws.{ids_of_nodes}
 use Rattle.ext_lifecycle.specs.declared.node_result.NodeResult.{NodeResult}
 use Rattle.ext_lifecycle.specs.Endings.{all_successful}
 use Rattle.ext_lifecycle.specs.FaultTexts.{NodeOutcome, result_view}
 use Rattle.ext_lifecycle.specs.Modes.{in_run_order}
-use Rattle.ext_steps.specs.Calls.{start_of}
+use Rattle.ext_plan.specs.Calls.{start_of}
 use Rattle.ext_plain.specs.Closes.{seal_keys, closes}
-use Rattle.ext_plan_model.specs.PlanCalls.{test_in, test_of}
+use Rattle.ext_plan.specs.PlanCalls.{test_in, test_of, concurrent_of}
 use Rattle.ext_plain.specs.NodeCalls.{CallsEnd, befores_run}
-use Rattle.ext_plan_model.specs.PlanCalls.{concurrent_of}
 use Rattle.ext_plain.specs.PlainRun.{RunState, body_run, container_run, node_run, outcome_of, plain_run_by, run_opening, skipped_from, test_node_run, ArePlain}
 use Rattle.ext_plain.specs.ValueStates.{key_limit, Memory}
 use Rattle.ext_plain.proofs.Ends.{body_end, container_end, test_end}
@@ -110,7 +109,7 @@ all-results count (r ∷ results) h zero d within = h.0
 all-results count (r ∷ results) h (suc k) d within = all-results count results h.1 k d (omega (arith, within))
 
 -- what the report of a plain run needs
-pub results_within : (plan : PlanText) (results : List NodeResult) → ArePlain plan (map result_view results) → All (λ r. r.node < length plan.nodes) results
-results_within plan results are =
+pub results_within : (plan : PlanText) (results : List NodeResult) (lacked : Bool) → ArePlain plan (map result_view results) lacked → All (λ r. r.node < length plan.nodes) results
+results_within plan results lacked are =
     let numbers : map (λ r. r.node) (map result_view results) ≡ range_with_len 0 (length plan.nodes) = ap (map (λ r. r.node)) are.exact ∙ result_of_each_node are.memory plan in
     all-results (length plan.nodes) results (subst (AllByRecursion (λ n. n < length plan.nodes)) (sym numbers) (numbers_below 0 (length plan.nodes) (length plan.nodes) (omega arith)))

@@ -1,6 +1,6 @@
 -- The steps of a test, one after another.
 use Rattle.std.proofs.Common.{◌≡◌, ℕ, ◌+◌, List, [], ◌∷◌, true, false, refl, ap, ◌∙◌, arith}
-use Rattle.ext_plan_model.specs.Plans.{KeyText, StepText}
+use Rattle.ext_plan.specs.Plans.{KeyText, StepText}
 use Rattle.ext_lifecycle.specs.Endings.{successful, aborted, failed, is_successful}
 use Rattle.ext_plain.specs.ValueStates.{ValueState}
 use Rattle.ext_plain.specs.Steps.{StepEnd, ended, and_then, unless_ended, next_step, steps_run}

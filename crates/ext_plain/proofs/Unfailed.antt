@@ -14,14 +14,13 @@ use Rattle.ext_lifecycle.specs.Endings.{all_successful, fault_in, first_abort, f
 use Rattle.ext_lifecycle.specs.FaultTexts.{NodeOutcome, VerdictText}
 use Rattle.ext_lifecycle.specs.Modes.{in_run_order}
 use Rattle.ext_lifecycle.specs.Results.{close_ending}
-use Rattle.ext_plan_model.specs.Plans.{KeyText, PlanText, StepText}
-use Rattle.ext_plan_model.specs.PlanCalls.{concurrent_of, registered, steps_of_call, test_of}
-use Rattle.ext_plan_model.specs.Laws.{ids_of_nodes, NodesAreTree}
+use Rattle.ext_plan.specs.Plans.{KeyText, PlanText, StepText}
+use Rattle.ext_plan.specs.PlanCalls.{concurrent_of, registered, steps_of_call, test_of}
+use Rattle.ext_plan.specs.Laws.{ids_of_nodes, NodesAreTree}
 use Rattle.ext_plain.specs.ValueStates.{key_limit, Memory, ValueState, enough, found_later, next_found, with_memory}
 use Rattle.ext_plain.specs.Steps.{StepEnd, and_then, next_step, no_memory, step_by, step_run, steps_run, unless_ended}
 use Rattle.ext_plain.specs.NodeCalls.{CallsEnd, and_call, befores_run, call_run, make, make_all, make_befores, make_if_successful, no_calls, test_run}
 use Rattle.ext_plain.specs.Closes.{seal_keys, closes}
-use Rattle.ext_plain.specs.Helpers.{run_with}
 use Rattle.ext_plain.specs.PlainRun.{HasNoFailed, RunState, body_run, container_run, node_end, node_run, outcome_of, plain_run, plain_run_by, run_opening, test_node_run}
 use Rattle.ext_plain.proofs.Below.{children-all}
 use Rattle.ext_plain.proofs.Ends.{body_end, container_end, test_end}
@@ -92,6 +91,9 @@ steps-forget keys path (step ∷ more) s none =
 abbrev forgotten : CallsEnd → CallsEnd
 forgotten end = record { state = with_memory [] end.state; calls = end.calls; computed = end.computed; found = end.found }
 
+abbrev run_forgotten : RunState → RunState
+run_forgotten run = record { state = with_memory [] run.state; results = run.results }
+
 module _ (plan : PlanText) (path : List ℕ) where
   abbrev does : Call → ValueState → StepEnd
   does = call_run plan path
@@ -135,7 +137,7 @@ module _ (plan : PlanText) (path : List ℕ) where
       let next = make_if_successful does before call in
       befores-forget calls next none ∙ ap (make_befores does calls) (if-forgets (all_successful before.calls) before call (befores-earlier calls next none))
 
-  test-forgets : (at : ℕ) (run : RunState) → first_fault (test_end plan at path run).calls ≡ None → forgotten (test_end plan at path run) ≡ test_end plan at path (run_with [] run)
+  test-forgets : (at : ℕ) (run : RunState) → first_fault (test_end plan at path run).calls ≡ None → forgotten (test_end plan at path run) ≡ test_end plan at path (run_forgotten run)
   test-forgets at run none =
       let firsts = befores_of (registered plan) true at path in
       let lasts = afters_of (registered plan) true at path in
@@ -148,7 +150,7 @@ module _ (plan : PlanText) (path : List ℕ) where
 
 -- ---- the end of a node
 
-end-forgets : (at : ℕ) (is_test : Bool) (end : CallsEnd) (results : List NodeOutcome) → run_with [] (node_end at is_test end results) ≡ node_end at is_test (forgotten end) results
+end-forgets : (at : ℕ) (is_test : Bool) (end : CallsEnd) (results : List NodeOutcome) → run_forgotten (node_end at is_test end results) ≡ node_end at is_test (forgotten end) results
 end-forgets at is_test end results =
     ap (λ s. record { state = s; results = slice_set results at (outcome_of at is_test end (closes key_limit at s)) }) (seal_keys-with [] key_limit at end.state)
 
@@ -266,12 +268,12 @@ module _ (plan : PlanText) (tree : NodesAreTree plan) where
 
   abbrev Forgets : ℕ → ℕ → List ℕ → Type 0
   Forgets levels at above =
-      (run : RunState) → AreUnfailed ids (at ∷ above) (node_run plan levels (at ∷ above) run).results → run_with [] (node_run plan levels (at ∷ above) run) ≡ node_run plan levels (at ∷ above) (run_with [] run)
+      (run : RunState) → AreUnfailed ids (at ∷ above) (node_run plan levels (at ∷ above) run).results → run_forgotten (node_run plan levels (at ∷ above) run) ≡ node_run plan levels (at ∷ above) (run_forgotten run)
 
   fold-forgets : (levels at : ℕ) (above children : List ℕ) (run : RunState) → IsWalk ids at above → ((child : ℕ) → IsParentOf ids at child → Forgets levels child (at ∷ above))
       → Distinct children → AllByRecursion (IsParentOf ids at) children
       → ((child : ℕ) → IsParentOf ids at child → AreUnfailed ids (child ∷ at ∷ above) (fold (λ r other. node_run plan levels (other ∷ at ∷ above) r) run children).results)
-      → run_with [] (fold (λ r other. node_run plan levels (other ∷ at ∷ above) r) run children) ≡ fold (λ r other. node_run plan levels (other ∷ at ∷ above) r) (run_with [] run) children
+      → run_forgotten (fold (λ r other. node_run plan levels (other ∷ at ∷ above) r) run children) ≡ fold (λ r other. node_run plan levels (other ∷ at ∷ above) r) (run_forgotten run) children
   fold-forgets levels at above [] run walk one distinct all after = refl
   fold-forgets levels at above (child ∷ more) run walk one distinct all after =
       let next = node_run plan levels (child ∷ at ∷ above) run in
@@ -280,14 +282,14 @@ module _ (plan : PlanText) (tree : NodesAreTree plan) where
 
   body-forgets : (levels at : ℕ) (above : List ℕ) (go : Bool) (run : RunState) → IsWalk ids at above → at < length ids → ((child : ℕ) → IsParentOf ids at child → Forgets levels child (at ∷ above))
       → ((child : ℕ) → IsParentOf ids at child → AreUnfailed ids (child ∷ at ∷ above) (body_run plan (node_run plan levels) go (at ∷ above) run).results)
-      → run_with [] (body_run plan (node_run plan levels) go (at ∷ above) run) ≡ body_run plan (node_run plan levels) go (at ∷ above) (run_with [] run)
+      → run_forgotten (body_run plan (node_run plan levels) go (at ∷ above) run) ≡ body_run plan (node_run plan levels) go (at ∷ above) (run_forgotten run)
   body-forgets levels at above true run walk within one after =
       let children = children_of ids at in
       fold-forgets levels at above (in_run_order (concurrent_of plan) children) run walk one (distinct-ordered (concurrent_of plan) children (distinct-below ids at (length ids))) (children-all ids (concurrent_of plan) at within) after
   body-forgets levels at above false run walk within one after = refl
 
   test-node-forgets : (at : ℕ) (above : List ℕ) (run : RunState) → IsWalk ids at above → AreUnfailed ids (at ∷ above) (test_node_run plan at (at ∷ above) run).results
-      → run_with [] (test_node_run plan at (at ∷ above) run) ≡ test_node_run plan at (at ∷ above) (run_with [] run)
+      → run_forgotten (test_node_run plan at (at ∷ above) run) ≡ test_node_run plan at (at ∷ above) (run_forgotten run)
   test-node-forgets at above run walk after =
       let path = at ∷ above in
       let end = test_end plan at path run in
@@ -297,7 +299,7 @@ module _ (plan : PlanText) (tree : NodesAreTree plan) where
 
   container-forgets : (levels at : ℕ) (above : List ℕ) (run : RunState) → IsWalk ids at above → at < length ids → ((child : ℕ) → IsParentOf ids at child → Forgets levels child (at ∷ above))
       → AreUnfailed ids (at ∷ above) (container_run plan (node_run plan levels) at (at ∷ above) run).results
-      → run_with [] (container_run plan (node_run plan levels) at (at ∷ above) run) ≡ container_run plan (node_run plan levels) at (at ∷ above) (run_with [] run)
+      → run_forgotten (container_run plan (node_run plan levels) at (at ∷ above) run) ≡ container_run plan (node_run plan levels) at (at ∷ above) (run_forgotten run)
   container-forgets levels at above run walk within one after =
       let path = at ∷ above in
       let path_run = node_run plan levels in
@@ -320,18 +322,18 @@ module _ (plan : PlanText) (tree : NodesAreTree plan) where
             let differ : k ≢ at = λ same. longer below child path (one-path k (below ++ child ∷ path) path under (sym same, subst (λ c. IsWalk ids c above) (sym same) walk)) in
             subst (λ o. IsSomeAnd o Unfailed) (set-elsewhere body.results at k outcome differ) (after.each k (below ++ child ∷ []) whole);
       } in
-      let body_is : run_with [] body ≡ body_end plan path_run at path (run_with [] run) =
+      let body_is : run_forgotten body ≡ body_end plan path_run at path (run_forgotten run) =
       body-forgets levels at above (all_successful before.calls) opened walk within one in_body
       ∙ ap (λ (e : CallsEnd). body_run plan path_run (all_successful e.calls) path (record { state = e.state; results = run.results })) before_is in
-      let closing_is : forgotten closing ≡ record clean { state = (body_end plan path_run at path (run_with [] run)).state } =
+      let closing_is : forgotten closing ≡ record clean { state = (body_end plan path_run at path (run_forgotten run)).state } =
       ap (λ (e : CallsEnd). record e { state = with_memory [] body.state }) before_is ∙ ap (λ (r : RunState). record clean { state = r.state }) body_is in
-      let end_is : forgotten end ≡ container_end plan path_run at path (run_with [] run) = all-forgets plan path lasts closing none ∙ ap (make_all (call_run plan path) lasts) closing_is in
+      let end_is : forgotten end ≡ container_end plan path_run at path (run_forgotten run) = all-forgets plan path lasts closing none ∙ ap (make_all (call_run plan path) lasts) closing_is in
       end-forgets at false end body.results
       ∙ ap (λ e. node_end at false e body.results) end_is
-      ∙ ap (λ (r : RunState). node_end at false (container_end plan path_run at path (run_with [] run)) r.results) body_is
+      ∙ ap (λ (r : RunState). node_end at false (container_end plan path_run at path (run_forgotten run)) r.results) body_is
 
-  either-forgets : (path : List ℕ) (b : Bool) (x y clean other : RunState) → (AreUnfailed ids path x.results → run_with [] x ≡ clean) → (AreUnfailed ids path y.results → run_with [] y ≡ other)
-      → AreUnfailed ids path (if b then x else y).results → run_with [] (if b then x else y) ≡ (if b then clean else other)
+  either-forgets : (path : List ℕ) (b : Bool) (x y clean other : RunState) → (AreUnfailed ids path x.results → run_forgotten x ≡ clean) → (AreUnfailed ids path y.results → run_forgotten y ≡ other)
+      → AreUnfailed ids path (if b then x else y).results → run_forgotten (if b then x else y) ≡ (if b then clean else other)
   either-forgets path true x y clean other p q after = p after
   either-forgets path false x y clean other p q after = q after
 
@@ -340,8 +342,8 @@ module _ (plan : PlanText) (tree : NodesAreTree plan) where
   node-forgets zero at above walk within run after = refl
   node-forgets (suc levels) at above walk within run after =
       let path = at ∷ above in
-      either-forgets path (is_some (test_of plan at)) (test_node_run plan at path run) (container_run plan (node_run plan levels) at path run) (test_node_run plan at path (run_with [] run))
-      (container_run plan (node_run plan levels) at path (run_with [] run))
+      either-forgets path (is_some (test_of plan at)) (test_node_run plan at path run) (container_run plan (node_run plan levels) at path run) (test_node_run plan at path (run_forgotten run))
+      (container_run plan (node_run plan levels) at path (run_forgotten run))
       (test-node-forgets at above run walk)
       (container-forgets levels at above run walk within (λ child is. node-forgets levels child path (is, walk) is.child_within))
       after

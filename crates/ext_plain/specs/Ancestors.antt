@@ -5,9 +5,9 @@ use Rattle.ext_tree.specs.Paths.{IsPathOf, children_of}
 use Rattle.ext_lifecycle.specs.declared.status.Status.TheVariants as statuses
 use Rattle.ext_lifecycle.specs.FaultTexts.{NodeOutcome}
 use Rattle.ext_lifecycle.specs.Modes.{in_run_order}
-use Rattle.ext_plan_model.specs.Plans.{PlanText}
-use Rattle.ext_plan_model.specs.PlanCalls.{concurrent_of}
-use Rattle.ext_plan_model.specs.Laws.{ids_of_nodes, NodesAreTree, TestsHaveNoChildren}
+use Rattle.ext_plan.specs.Plans.{PlanText}
+use Rattle.ext_plan.specs.PlanCalls.{concurrent_of}
+use Rattle.ext_plan.specs.Laws.{ids_of_nodes, NodesAreTree, TestsHaveNoChildren}
 use Rattle.ext_plain.specs.ValueStates.{Memory}
 use Rattle.ext_plain.specs.NodeCalls.{befores_run}
 use Rattle.ext_plain.specs.PlainRun.{RunState, node_run, plain_run_by, run_opening}

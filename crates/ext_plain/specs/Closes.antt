@@ -3,12 +3,12 @@
 -- A close that fails does not stop the others.
 --
 -- JUnit 5 User Guide, "Keeping State in Extensions", and Javadoc `ExtensionContext.Store.CloseableResource`. Which numbers remain, and in which order, is the
--- definition of [ext_model Closing]. The close action, which is that of [ext_steps Values], is an own rule.
+-- definition of [ext_model Closing]. The close action, which is that of [ext_plan Values], is an own rule.
 use Rattle.std.specs.Prelude.{ℕ, zero, suc, List, [], ◌∷◌, map, Option, Some, None, if◌then◌else◌}
 use Rattle.ext_model.specs.declared.event.Act.TheVariants.{Seal}
 use Rattle.ext_model.specs.Plain.{under}
 use Rattle.ext_model.specs.Closing.{remaining}
-use Rattle.ext_steps.specs.Values.{ValueText, close_fault}
+use Rattle.ext_plan.specs.Values.{ValueText, close_fault}
 use Rattle.ext_plain.specs.ValueStates.{ValueState, after_act, value_of}
 
 -- the first so many keys are sealed in the context, in order

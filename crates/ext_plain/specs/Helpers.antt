@@ -11,16 +11,16 @@ use Rattle.ext_lifecycle.specs.declared.closes.Closes.{Closes}
 use Rattle.ext_lifecycle.specs.declared.outcome.Outcome.{Outcome}
 use Rattle.ext_lifecycle.specs.declared.tally.Tally.{Tally}
 use Rattle.ext_lifecycle.specs.Endings.{is_successful, with_fault}
-use Rattle.ext_lifecycle.specs.FaultTexts.{VerdictText, fault_text, results_view, verdict_text}
+use Rattle.ext_lifecycle.specs.FaultTexts.{NodeOutcome, VerdictText, fault_text, results_view, verdict_text}
 use Rattle.ext_lifecycle.specs.Lifecycle.{computed_in, endings_of, found_in, tally_of}
 use Rattle.ext_lifecycle.specs.Results.{closes_of}
 use Rattle.ext_tree.specs.Keys.{KeyValue}
-use Rattle.ext_plan_model.specs.Plans.{KeyText, PlanText, StepKeyText, step_key_view, plan_view}
-use Rattle.ext_steps.specs.declared.reason.Reason.{Reason}
-use Rattle.ext_steps.specs.declared.reason.Reason.TheVariants as reasons
-use Rattle.ext_steps.specs.declared.step_call.StepCall.{StepCall}
-use Rattle.ext_steps.specs.Calls.{keys_in, start_of}
-use Rattle.ext_steps.specs.Values.{ValueText, value_view}
+use Rattle.ext_plan.specs.Plans.{KeyText, PlanText, StepKeyText, step_key_view, plan_view}
+use Rattle.ext_plan.specs.declared.reason.Reason.{Reason}
+use Rattle.ext_plan.specs.declared.reason.Reason.TheVariants as reasons
+use Rattle.ext_plan.specs.declared.step_call.StepCall.{StepCall}
+use Rattle.ext_plan.specs.Calls.{keys_in, start_of}
+use Rattle.ext_plan.specs.Values.{ValueText, value_view}
 use Rattle.ext_plain.specs.declared.callers.NodeCaller.{NodeCaller}
 use Rattle.ext_plain.specs.declared.lack.Lack.{Lack}
 use Rattle.ext_plain.specs.declared.lack.Lack.TheVariants as lacks
@@ -211,6 +211,14 @@ pub record AreFew (o : Outcome) : Type 0 where
   pub computed : o.computed ≤ 1
   pub found : o.found ≤ 1
 
+-- ---- whether a step lacked memory
+
+-- By whether a step is told to have lacked memory before and after some steps, what these found of memory, and what those after them find: where none is told to have, none
+-- of them lacked any. A list that says nothing says that all find enough
+pub record TellsLacks (before after : Bool) (memory later : List Memory) : Type 0 where
+  pub kept : after ≡ false → before ≡ false
+  pub nothing : after ≡ false → later ≡ [] → memory ≡ []
+
 -- ---- the calls of a node
 
 abbrev pub plan_in : Setting → PlanText
@@ -221,12 +229,14 @@ pub record IsReady (caller : NodeCaller) : Type 0 where
   pub tree : IsTree caller.setting.tree.now
   pub within : caller.node < length caller.setting.tree.now
 
--- What a call does: its steps in the context of the node. Whatever the steps after it find of memory, there is something that its own steps found
+-- What a call does: its steps in the context of the node. Whatever the steps after it find of memory, there is something that its own steps found; and whether they lacked some
+-- is told
 pub record DoesCall (before : NodeCaller) (call : Call) (outcome : Outcome) (after : NodeCaller) : Type 0 where
   pub setting : after.setting ≡ before.setting
   pub node : after.node ≡ before.node
   pub end : (path : List ℕ) → IsPathOf before.setting.tree.now before.node path → (later : List Memory)
       → (memory : List Memory) × (step_end (with_memory later (state_view after.store)) outcome ≡ call_run (plan_in before.setting) path call (with_memory memory (state_view before.store)))
+      × TellsLacks before.lacked after.lacked memory later
 
 -- what calls with these outcomes leave
 abbrev pub calls_end : ValueState → List Outcome → CallsEnd
@@ -246,11 +256,17 @@ pub record HasClosed (closes : Closes) (told : List (Option (List ℕ))) : Type 
 
 -- ---- the plain run
 
-abbrev pub run_view : {L : Type 0} → PlainRunner L → RunState
-run_view r = record { state = state_view r.caller.store; results = results_view r.results.items }
+-- a run between two nodes, and whether a step has lacked memory
+pub record RunSoFar : Type 0 where
+  pub state : ValueState
+  pub results : List NodeOutcome
+  pub lacked : Bool
 
--- the same, where the next steps find this of memory
-abbrev pub run_with : List Memory → RunState → RunState
+abbrev pub run_view : {L : Type 0} → PlainRunner L → RunSoFar
+run_view r = record { state = state_view r.caller.store; results = results_view r.results.items; lacked = r.caller.lacked }
+
+-- the run itself, where the next steps find this of memory
+abbrev pub run_with : List Memory → RunSoFar → RunState
 run_with memory run = record { state = with_memory memory run.state; results = run.results }
 
 -- those children that are concurrent, or those that aren't
@@ -259,11 +275,13 @@ chosen true concurrent = concurrent
 chosen false concurrent = λ child. not (concurrent child)
 
 -- For the node of this number, whose path it goes by, the run became what this makes of it. Whatever later steps find of memory, there is something that those between
--- found
-pub record RunsAs (setting : Setting) (at : ℕ) (by : List ℕ → RunState → RunState) (old new : RunState) : Type 0 where
-  pub each : (path : List ℕ) → IsPathOf setting.tree.now at path → (later : List Memory) → (memory : List Memory) × (run_with later new ≡ by path (run_with memory old))
+-- found; and whether they lacked some is told
+pub record RunsAs (setting : Setting) (at : ℕ) (by : List ℕ → RunState → RunState) (old new : RunSoFar) : Type 0 where
+  pub each : (path : List ℕ) → IsPathOf setting.tree.now at path → (later : List Memory)
+      → (memory : List Memory) × (run_with later new ≡ by path (run_with memory old)) × TellsLacks old.lacked new.lacked memory later
 
 -- the end of a node whose calls came to this tally, whatever later steps find of memory
-pub record EndsNode (setting : Setting) (at : ℕ) (is_test : Bool) (tally : Tally) (old new : RunState) : Type 0 where
+pub record EndsNode (setting : Setting) (at : ℕ) (is_test : Bool) (tally : Tally) (old new : RunSoFar) : Type 0 where
+  pub same : new.lacked ≡ old.lacked
   pub each : (outcomes : List Outcome) → tally ≡ tally_of outcomes → (later : List Memory)
       → run_with later new ≡ node_end at is_test (calls_end (with_memory later old.state) outcomes) old.results

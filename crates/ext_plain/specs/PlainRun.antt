@@ -11,13 +11,13 @@ use Rattle.ext_lifecycle.specs.Endings.{all_successful}
 use Rattle.ext_lifecycle.specs.FaultTexts.{NodeOutcome}
 use Rattle.ext_lifecycle.specs.Modes.{in_run_order}
 use Rattle.ext_lifecycle.specs.Results.{result_of, skipped_result}
-use Rattle.ext_plan_model.specs.Plans.{NodeText, PlanText}
-use Rattle.ext_plan_model.specs.Laws.{ids_of_nodes}
-use Rattle.ext_steps.specs.Calls.{start_of}
+use Rattle.ext_plan.specs.Plans.{NodeText, PlanText}
+use Rattle.ext_plan.specs.Laws.{ids_of_nodes}
+use Rattle.ext_plan.specs.Calls.{start_of}
 use Rattle.ext_tree.specs.Paths.{children_of}
 use Rattle.ext_plain.specs.ValueStates.{key_limit, Memory, ValueState, value_opening, with_memory}
 use Rattle.ext_plain.specs.Closes.{seal_keys, closes}
-use Rattle.ext_plan_model.specs.PlanCalls.{concurrent_of, test_of}
+use Rattle.ext_plan.specs.PlanCalls.{concurrent_of, test_of}
 use Rattle.ext_plain.specs.NodeCalls.{CallsEnd, befores_run, test_run, afters_run}
 
 -- a run between two nodes: its store, and the nodes' results so far
@@ -93,8 +93,9 @@ abbrev pub HasNoFailed : List NodeOutcome → Type 0
 HasNoFailed results = All (λ r. r.status ≢ statuses.Failed) results
 
 -- They are those of a plain run of the plan: for each step that was made there is one answer to what memory it found, and all the rest follows from the plan. Where no
--- node failed no step lacked memory, and they are those of the one run that the plan has
-pub record ArePlain (plan : PlanText) (results : List NodeOutcome) : Type 0 where
+-- node failed no step lacked memory, and they are those of the one run that the plan has; and so they are where none is told to have lacked any
+pub record ArePlain (plan : PlanText) (results : List NodeOutcome) (lacked : Bool) : Type 0 where
   pub memory : List Memory
   pub exact : results ≡ plain_run_by memory plan
   pub planned : HasNoFailed results → results ≡ plain_run plan
+  pub unlacked : lacked ≡ false → results ≡ plain_run plan

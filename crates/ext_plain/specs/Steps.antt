@@ -12,15 +12,15 @@ use Rattle.ext_model.specs.declared.slot.Slot.{Slot}
 use Rattle.ext_model.specs.State.{lookup}
 use Rattle.ext_model.specs.Plain.{Place, under}
 use Rattle.ext_tree.specs.Keys.{KeyValue}
-use Rattle.ext_plan_model.specs.Plans.{KeyText, StepKeyText, StepText, put, put_closeable, want, nothing, remove, compute, compute_closeable, compute_fail, fail, abort}
-use Rattle.ext_plan_model.specs.KeyNumbers.{key_of_step}
+use Rattle.ext_plan.specs.Plans.{KeyText, StepKeyText, StepText, put, put_closeable, want, nothing, remove, compute, compute_closeable, compute_fail, fail, abort}
+use Rattle.ext_plan.specs.KeyNumbers.{key_of_step}
 use Rattle.ext_lifecycle.specs.Endings.{successful, aborted, failed}
 use Rattle.ext_lifecycle.specs.FaultTexts.{VerdictText}
-use Rattle.ext_steps.specs.declared.reason.Reason.{Reason}
-use Rattle.ext_steps.specs.declared.reason.Reason.TheVariants as reasons
-use Rattle.ext_steps.specs.Calls.{is_made, label_of, start_of}
-use Rattle.ext_steps.specs.Values.{ValueText}
-use Rattle.ext_steps.specs.Verdicts.{SeenText, seen_value, seen_fault, seen_nothing, seen_refused, refused, unless_refused, want_verdict, none_verdict, fail_verdict}
+use Rattle.ext_plan.specs.declared.reason.Reason.{Reason}
+use Rattle.ext_plan.specs.declared.reason.Reason.TheVariants as reasons
+use Rattle.ext_plan.specs.Calls.{is_made, label_of, start_of}
+use Rattle.ext_plan.specs.Values.{ValueText}
+use Rattle.ext_plan.specs.Verdicts.{SeenText, seen_value, seen_fault, seen_nothing, seen_refused, refused, unless_refused, want_verdict, none_verdict, fail_verdict}
 use Rattle.ext_plain.specs.ValueStates.{Memory, enough, no_key, no_value, no_number, no_place, no_words, ValueState, with_memory, next_found, found_later, after_act, why_refused, next_number, keep_value, value_of, Numbering, known, next, full, numbering_of, with_number}
 
 -- what a step, a test or a callback leaves, how it ended, how many values it computed, and how many it found where it would have computed one

@@ -13,6 +13,20 @@ pub struct NodeCaller<'a> {
     pub store: ValueStore<'a>,
     /// The node whose calls are made.
     pub node: ContextNo,
+    /// Whether a step has lacked memory.
+    pub lacked: bool,
+}
+
+impl NodeCaller<'_> {
+    ghost use Rattle.std.specs.Prelude.{◌≡◌, false};
+
+    /// Whether a step has lacked memory, before or now.
+    fn has_lacked(&self, now: bool) -> bool
+        ensures before { result ≡ false → self.now.lacked ≡ false }
+        ensures now { result ≡ false → now ≡ false }
+    {
+        self.lacked || now
+    }
 }
 
 impl Caller for NodeCaller<'_> {
@@ -29,6 +43,8 @@ impl Caller for NodeCaller<'_> {
         let keys = self.setting.keys;
         let path = self.setting.tree.path(self.node);
         let alloc = self.alloc;
-        self.store.run_steps(alloc, &keys, path.as_slice(), steps)
+        let end = self.store.run_steps(alloc, &keys, path.as_slice(), steps);
+        self.lacked = self.has_lacked(end.lacked);
+        end.outcome
     }
 }

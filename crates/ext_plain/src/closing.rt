@@ -1,6 +1,6 @@
 //! The end of a context.
 ghost use Rattle.std.specs.Prelude.{◌≡◌, ◌≤◌, length, map, option_map, IfOk, OnOk};
-ghost use Rattle.ext_steps.specs.Values.{close_fault, value_view};
+ghost use Rattle.ext_plan.specs.Values.{close_fault, value_view};
 ghost use Rattle.ext_plain.specs.ValueStates.{value_of};
 ghost use Rattle.ext_plain.specs.Closes.{seal_keys, numbers_left, closeables};
 ghost use Rattle.ext_plain.specs.Helpers.{state_view, only_closeable, HasClosed};
@@ -8,7 +8,7 @@ ghost use Rattle.ext_plain.specs.Helpers.{state_view, only_closeable, HasClosed}
 use crate::value_store::ValueStore;
 use ext_lifecycle::Closes;
 use ext_model::{ContextNo, FallingNumbers};
-use ext_steps::{PlanValue, close_fault};
+use ext_plan::{PlanValue, close_fault};
 use std::alloc::{AllocError, Global};
 
 impl<'a> ValueStore<'a> {

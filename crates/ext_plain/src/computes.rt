@@ -4,8 +4,8 @@ ghost use Rattle.ext_model.specs.declared.slot.Slot.TheVariants as slot;
 ghost use Rattle.ext_model.specs.declared.look.Look.TheVariants as look;
 ghost use Rattle.ext_model.specs.Plain.{any_lane};
 ghost use Rattle.ext_plain.specs.Steps.{compute_by, compute_numbered, computefail_by, computefail_numbered};
-ghost use Rattle.ext_steps.specs.Calls.{call_view};
-ghost use Rattle.ext_steps.specs.Values.{value_view};
+ghost use Rattle.ext_plan.specs.Calls.{call_view};
+ghost use Rattle.ext_plan.specs.Values.{value_view};
 ghost use Rattle.ext_plain.specs.Helpers.{answer_end, memory_of, place_of_call, state_view, Fails, Gives};
 
 use crate::lack::Lack;
@@ -13,7 +13,7 @@ use crate::said::say_refused;
 use crate::value_store::ValueStore;
 use ext_lifecycle::{Outcome, Verdict};
 use ext_model::{KeyNo, Look};
-use ext_steps::{PlanValue, Reason, StepCall};
+use ext_plan::{PlanValue, Reason, StepCall};
 use std::alloc::Global;
 
 impl<'a> ValueStore<'a> {

@@ -1,8 +1,8 @@
 //! Steps that look whether a value is found, and what it is.
 ghost use Rattle.std.specs.Prelude.{◌≡◌, option_map};
-ghost use Rattle.ext_steps.specs.Calls.{call_view};
-ghost use Rattle.ext_steps.specs.Values.{value_view};
-ghost use Rattle.ext_steps.specs.Verdicts.{fail_verdict, none_verdict, seen_view, want_verdict};
+ghost use Rattle.ext_plan.specs.Calls.{call_view};
+ghost use Rattle.ext_plan.specs.Values.{value_view};
+ghost use Rattle.ext_plan.specs.Verdicts.{fail_verdict, none_verdict, seen_view, want_verdict};
 ghost use Rattle.ext_plain.specs.Steps.{ended, found_along, none_numbered, said_by, seen_by, shown, shown_fault, want_numbered};
 ghost use Rattle.ext_plain.specs.ValueStates.{value_of};
 ghost use Rattle.ext_plain.specs.Helpers.{answer_end, counted_found, memory_of, state_view};
@@ -12,7 +12,7 @@ use crate::said::said;
 use crate::value_store::ValueStore;
 use ext_lifecycle::Outcome;
 use ext_model::{KeyNo, Look};
-use ext_steps::{PlanValue, Reason, Seen, StepCall, fail_verdict, none_verdict, want_verdict};
+use ext_plan::{PlanValue, Reason, Seen, StepCall, fail_verdict, none_verdict, want_verdict};
 use std::alloc::Global;
 
 impl<'a> ValueStore<'a> {

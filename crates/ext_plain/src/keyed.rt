@@ -1,7 +1,7 @@
 //! Steps that name a key: the key is made, gets its number, and then the step does what it does under that number.
 ghost use Rattle.std.specs.Prelude.{◌≡◌, false};
-ghost use Rattle.ext_steps.specs.Calls.{call_view};
-ghost use Rattle.ext_steps.specs.Values.{value_view};
+ghost use Rattle.ext_plan.specs.Calls.{call_view};
+ghost use Rattle.ext_plan.specs.Values.{value_view};
 ghost use Rattle.ext_plain.specs.Steps.{compute_numbered, computefail_numbered, keeping_by, keyed_by, lacks_value, none_numbered, put_in, remove_numbered, want_numbered};
 ghost use Rattle.ext_plain.specs.Helpers.{answer_end, end_of_step, keyed_view, memory_of, memory_of_step, place_of_call, state_view};
 
@@ -11,7 +11,7 @@ use crate::said::{say_refused, say_unless_refused};
 use crate::value_store::ValueStore;
 use ext_lifecycle::Outcome;
 use ext_model::KeyNo;
-use ext_steps::{PlanValue, StepCall};
+use ext_plan::{PlanValue, StepCall};
 use std::alloc::Global;
 
 impl<'a> ValueStore<'a> {

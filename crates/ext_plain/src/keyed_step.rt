@@ -1,15 +1,14 @@
 //! A step that names a key.
 ghost use Rattle.std.specs.Prelude.{◌≡◌, true, IfErr, IfOk};
-ghost use Rattle.ext_plan_model.specs.Plans.{step_key_view};
-ghost use Rattle.ext_plan_model.specs.KeyNumbers.{key_of_step};
-ghost use Rattle.ext_steps.specs.Calls.{call_key, call_view, is_made, keys_in, label_of};
+ghost use Rattle.ext_plan.specs.Plans.{step_key_view};
+ghost use Rattle.ext_plan.specs.KeyNumbers.{key_of_step};
+ghost use Rattle.ext_plan.specs.Calls.{call_key, call_view, is_made, keys_in, label_of};
 ghost use Rattle.ext_plain.specs.declared.lack.StepLack.TheVariants as step_lacks;
 ghost use Rattle.ext_plain.specs.Helpers.{keyed, keyed_view};
 
 use crate::lack::StepLack;
 use ext_model::ContextNo;
-use ext_plan_model::StepKey;
-use ext_steps::{CallKey, StepCall, StepKeys};
+use ext_plan::{CallKey, StepCall, StepKey, StepKeys};
 use ext_tree::Key;
 use std::alloc::Global;
 

@@ -25,4 +25,4 @@ mod steps;
 mod value_store;
 
 pub use laws::plain_run_laws;
-pub use plain::run_plain;
+pub use plain::{PlainRun, run_plain};

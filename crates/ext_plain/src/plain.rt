@@ -4,8 +4,8 @@ ghost use Rattle.ext_lifecycle.specs.FaultTexts.{result_view, results_view};
 ghost use Rattle.ext_lifecycle.specs.Lifecycle.{IsRoomy};
 ghost use Rattle.ext_tree.specs.Trees.{IsTree};
 ghost use Rattle.ext_tree.specs.Paths.{children_of};
-ghost use Rattle.ext_plan_model.specs.Plans.{plan_view};
-ghost use Rattle.ext_plan_model.specs.Laws.{CallbacksAreFew, NamespacesHaveParts, StepListsAreShort};
+ghost use Rattle.ext_plan.specs.Plans.{plan_view};
+ghost use Rattle.ext_plan.specs.Laws.{CallbacksAreFew, NamespacesHaveParts, StepListsAreShort};
 ghost use Rattle.ext_plain.specs.PlainRun.{ArePlain};
 
 use crate::callers::NodeCaller;
@@ -17,7 +17,7 @@ use ext_lifecycle::{
     run_calls,
 };
 use ext_model::ContextNo;
-use ext_plan_model::Plan;
+use ext_plan::Plan;
 use ext_tree::Tree;
 use std::alloc::{AllocError, Global};
 
@@ -30,6 +30,13 @@ pub struct PlainRunner<'a, L> {
     pub results: Vec<NodeResult>,
 }
 
+/// What a plain run tells: the results of the nodes, in the order of the plan, and whether a step lacked memory.
+#[derive(Drop)]
+pub struct PlainRun {
+    pub results: Vec<NodeResult>,
+    pub lacked: bool,
+}
+
 /// The results of the plain run of a plan, in the order of its nodes, which are the contexts of the tree. The listener is told of each node that
 /// has ended.
 ///
@@ -40,7 +47,8 @@ pub struct PlainRunner<'a, L> {
 /// `directory full`. A step that puts has kept its value before, which drew a number. The end of a node seals all 64 places of its context.
 ///
 /// Takes memory for the keys, the lists of calls, the store, the values, the texts of faults and the results. A step that finds none
-/// fails with `Fault::Memory`, and the run goes on: the results are those of the plain run in which these steps found none.
+/// fails with `Fault::Memory`, and the run goes on: the results are those of the plain run in which these steps found none. Whether there was such a step
+/// is told as `lacked`: where there was none, the results are those of the one plain run that the plan has.
 /// `AllocError` comes only where memory is refused elsewhere, as for the declared keys, for results or for the end of a context. Source: JUnit 5 User Guide, sections "Keeping State in Extensions" and "Relative
 /// Execution Order of User Code and Extensions"; what is run in which order, and what is told of a node, are own rules.
 pub fn run_plain<'x, L: RunListener>(
@@ -48,14 +56,14 @@ pub fn run_plain<'x, L: RunListener>(
     plan: &'x Plan,
     tree: &'x Tree,
     listener: &'x L,
-) -> Result<Vec<NodeResult>, AllocError>
+) -> Result<PlainRun, AllocError>
     requires namespaces { NamespacesHaveParts (plan_view plan.now) }
     requires tree { IsTree tree.now }
     requires nodes { tree.now ≡ map (λ n. n.id) plan.now.nodes.items }
     requires short { StepListsAreShort (plan_view plan.now) }
     requires called { CallbacksAreFew (plan_view plan.now) }
-    ensures results { IfOk result (λ results. ArePlain (plan_view plan.now) (results_view results.items)) }
-    ensures in_tree { IfOk result (λ results. All (λ r. r.node < length tree.now) results.items) }
+    ensures results { IfOk result (λ run. ArePlain (plan_view plan.now) (results_view run.results.items) run.lacked) }
+    ensures in_tree { IfOk result (λ run. All (λ r. r.node < length tree.now) run.results.items) }
 {
     let made = plan.store_keys(alloc)?;
     let caller = NodeCaller {
@@ -63,6 +71,7 @@ pub fn run_plain<'x, L: RunListener>(
         setting: Setting::of(plan, made.as_slice(), tree),
         store: ValueStore::new(alloc, plan.keep_faults),
         node: 0,
+        lacked: false,
     };
     let mut runner = PlainRunner {
         caller,
@@ -72,12 +81,14 @@ pub fn run_plain<'x, L: RunListener>(
     // No tree is deeper than it has nodes, so that as many levels reach all of them.
     let levels = plan.nodes.len();
     runner.run_node(alloc, levels, 0)?;
-    Ok(runner.results)
+    Ok(PlainRun {
+        lacked: runner.caller.lacked,
+        results: runner.results,
+    })
 }
 
 impl<'a, L: RunListener> PlainRunner<'a, L> {
-    ghost use Rattle.ext_plan_model.specs.PlanCalls.{test_of};
-    ghost use Rattle.ext_plan_model.specs.PlanCalls.{concurrent_of};
+    ghost use Rattle.ext_plan.specs.PlanCalls.{test_of, concurrent_of};
     ghost use Rattle.ext_plain.specs.PlainRun.{body_run, container_run, node_run, test_node_run, with_result};
     ghost use Rattle.ext_plain.specs.Helpers.{EndsNode, RunsAs, chosen, plan_in, run_view};
 

@@ -6,7 +6,7 @@ ghost use Rattle.ext_plain.specs.Helpers.{Told};
 
 use crate::lack::Lack;
 use ext_model::PlainFault;
-use ext_steps::Reason;
+use ext_plan::Reason;
 
 /// Why a call of the store was refused, if it was; or that there is no memory for its place.
 pub fn told<T: Drop>(answer: Result<T, PlainFault>) -> Result<Option<Reason>, Lack>

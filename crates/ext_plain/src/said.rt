@@ -2,13 +2,13 @@
 ghost use Rattle.std.specs.Prelude.{◌≡◌, false, string_bytes, IfErr, IfOk};
 ghost use Rattle.ext_lifecycle.specs.Endings.{aborted, failed, is_successful};
 ghost use Rattle.ext_lifecycle.specs.FaultTexts.{VerdictText, verdict_text};
-ghost use Rattle.ext_steps.specs.Calls.{call_view};
-ghost use Rattle.ext_steps.specs.Verdicts.{refused, unless_refused};
+ghost use Rattle.ext_plan.specs.Calls.{call_view};
+ghost use Rattle.ext_plan.specs.Verdicts.{refused, unless_refused};
 ghost use Rattle.ext_plain.specs.Helpers.{Says};
 
 use crate::lack::Lack;
 use ext_lifecycle::{Outcome, Verdict};
-use ext_steps::{Reason, StepCall, aborted, failed, refused, unless_refused};
+use ext_plan::{Reason, StepCall, aborted, failed, refused, unless_refused};
 use std::alloc::{AllocError, Global};
 
 /// The end of a step with this verdict, which lacks memory where there was none for its words.

@@ -1,16 +1,15 @@
 //! What a plain run reads of its plan.
 ghost use Rattle.std.specs.Prelude.{◌≡◌, ◌≤◌, is_some, length, map};
 ghost use Rattle.std.proofs.Props.{props};
-ghost use Rattle.ext_plan_model.specs.Plans.{keys_view, plan_view, step_view};
-ghost use Rattle.ext_plan_model.specs.KeyNumbers.{named_key};
-ghost use Rattle.ext_plan_model.specs.Laws.{CallbacksAreFew, StepListsAreShort};
-ghost use Rattle.ext_plan_model.specs.Steps.{step_limit};
-ghost use Rattle.ext_plan_model.specs.PlanCalls.{steps_called};
+ghost use Rattle.ext_plan.specs.Plans.{keys_view, plan_view, step_view};
+ghost use Rattle.ext_plan.specs.KeyNumbers.{named_key};
+ghost use Rattle.ext_plan.specs.Laws.{CallbacksAreFew, StepListsAreShort};
+ghost use Rattle.ext_plan.specs.Steps.{step_limit};
+ghost use Rattle.ext_plan.specs.PlanCalls.{steps_called};
 
 use ext_lifecycle::{Call, Callbacks, Kind};
 use ext_model::ContextNo;
-use ext_plan_model::{Plan, Step};
-use ext_steps::StepKeys;
+use ext_plan::{Plan, Step, StepKeys};
 use ext_tree::{Key, Tree};
 
 /// A plan, its declared keys and the tree of its nodes.
@@ -27,8 +26,7 @@ pub struct Setting<'a> {
 
 impl<'a> Setting<'a> {
     ghost use Rattle.ext_plain.specs.Helpers.{plan_in};
-    ghost use Rattle.ext_plan_model.specs.PlanCalls.{steps_of_call, test_of};
-    ghost use Rattle.ext_plan_model.specs.PlanCalls.{concurrent_of};
+    ghost use Rattle.ext_plan.specs.PlanCalls.{steps_of_call, test_of, concurrent_of};
 
     /// The plan with its tree, and with the keys of the store that its labels name, in order.
     pub fn of(plan: &'a Plan, made: &'a [Key], tree: &'a Tree) -> Setting<'a>
@@ -72,7 +70,7 @@ impl<'a> Setting<'a> {
 
 impl Callbacks for Setting<'_> {
     ghost use Rattle.ext_plain.specs.Helpers.{plan_in};
-    ghost use Rattle.ext_plan_model.specs.PlanCalls.{registered};
+    ghost use Rattle.ext_plan.specs.PlanCalls.{registered};
 
     ghost registered = { λ s kind node. registered (plan_in s) kind node };
 

@@ -1,11 +1,11 @@
 //! The results of the nodes before any has run.
 ghost use Rattle.std.specs.Prelude.{◌≡◌, IfOk};
-ghost use Rattle.ext_plan_model.specs.Plans.{nodes_view};
+ghost use Rattle.ext_plan.specs.Plans.{nodes_view};
 ghost use Rattle.ext_lifecycle.specs.FaultTexts.{results_view};
 ghost use Rattle.ext_plain.specs.PlainRun.{skipped_from};
 
 use ext_lifecycle::NodeResult;
-use ext_plan_model::PlanNode;
+use ext_plan::PlanNode;
 use std::alloc::{AllocError, Global};
 
 /// A result for each node before any has run: each is skipped.

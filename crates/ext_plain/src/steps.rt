@@ -1,8 +1,10 @@
 //! The steps of a test or of a callback.
-ghost use Rattle.std.specs.Prelude.{◌≡◌, ◌≤◌, List, length, map};
-ghost use Rattle.ext_plan_model.specs.Plans.{step_view};
-ghost use Rattle.ext_steps.specs.Calls.{keys_in};
-ghost use Rattle.ext_plain.specs.ValueStates.{Memory, with_memory};
+ghost use Rattle.std.specs.Prelude.{◌≡◌, ◌≤◌, true, false, List, [], length, map};
+ghost use Rattle.ext_lifecycle.specs.Endings.{is_successful};
+ghost use Rattle.ext_lifecycle.specs.Lifecycle.{ending_of};
+ghost use Rattle.ext_plan.specs.Plans.{step_view};
+ghost use Rattle.ext_plan.specs.Calls.{keys_in};
+ghost use Rattle.ext_plain.specs.ValueStates.{Memory, enough, with_memory};
 ghost use Rattle.ext_plain.specs.Steps.{step_by, steps_run};
 ghost use Rattle.ext_plain.specs.Helpers.{end_of_step, end_view, memory_of_step, state_view, step_end, AreFew};
 
@@ -12,9 +14,15 @@ use crate::said::{say_aborted, say_failed};
 use crate::value_store::ValueStore;
 use ext_lifecycle::{Outcome, Verdict};
 use ext_model::ContextNo;
-use ext_plan_model::Step;
-use ext_steps::{PlanValue, StepKeys};
+use ext_plan::{PlanValue, Step, StepKeys};
 use std::alloc::Global;
+
+/// How a step, or the steps of a call, ended, and whether one of them lacked memory.
+#[derive(Drop)]
+pub struct StepsOutcome {
+    pub outcome: Outcome,
+    pub lacked: bool,
+}
 
 impl<'a> ValueStore<'a> {
     /// The steps of a call in the context of this path, in order, up to the first that isn't successful.
@@ -24,29 +32,36 @@ impl<'a> ValueStore<'a> {
         keys: &StepKeys<'_>,
         path: &[ContextNo],
         steps: &'a [Step],
-    ) -> Outcome
+    ) -> StepsOutcome
         requires { length steps.now ≤ 4294967295 }
         ensures { (later : List Memory) → (memory : List Memory)
-            × (step_end (with_memory later (state_view self.new)) result ≡ steps_run (keys_in keys.now) path.now (map step_view steps.now) (with_memory memory (state_view self.old))) }
+            × (step_end (with_memory later (state_view self.new)) result.outcome ≡ steps_run (keys_in keys.now) path.now (map step_view steps.now) (with_memory memory (state_view self.old)))
+            × (result.lacked ≡ false → later ≡ [] → memory ≡ []) }
     {
         let mut computed = 0;
         let mut found = 0;
         for step in steps {
-            let outcome = self.make_step(alloc, keys, path, step);
-            computed += outcome.computed;
-            found += outcome.found;
-            if !outcome.verdict.is_successful() {
-                return Outcome {
-                    verdict: outcome.verdict,
-                    computed,
-                    found,
+            let made = self.make_step(alloc, keys, path, step);
+            computed += made.outcome.computed;
+            found += made.outcome.found;
+            if !made.outcome.verdict.is_successful() {
+                return StepsOutcome {
+                    outcome: Outcome {
+                        verdict: made.outcome.verdict,
+                        computed,
+                        found,
+                    },
+                    lacked: made.lacked,
                 };
             }
         }
-        Outcome {
-            verdict: Verdict::Successful,
-            computed,
-            found,
+        StepsOutcome {
+            outcome: Outcome {
+                verdict: Verdict::Successful,
+                computed,
+                found,
+            },
+            lacked: false,
         }
     }
 
@@ -57,13 +72,22 @@ impl<'a> ValueStore<'a> {
         keys: &StepKeys<'_>,
         path: &[ContextNo],
         step: &'a Step,
-    ) -> Outcome
-        ensures end { (memory : Memory) × (end_view self.new result ≡ step_by (keys_in keys.now) memory path.now (step_view step.now) (state_view self.old)) }
-        ensures few { AreFew result }
+    ) -> StepsOutcome
+        ensures end { (memory : Memory)
+            × (end_view self.new result.outcome ≡ step_by (keys_in keys.now) memory path.now (step_view step.now) (state_view self.old))
+            × (result.lacked ≡ false → memory ≡ enough) }
+        ensures few { AreFew result.outcome }
+        ensures going { is_successful (ending_of result.outcome.verdict) ≡ true → result.lacked ≡ false }
     {
         match self.run_step(alloc, keys, path, step) {
-            Ok(outcome) => outcome,
-            Err(lack) => lack.outcome(),
+            Ok(outcome) => StepsOutcome {
+                outcome,
+                lacked: false,
+            },
+            Err(lack) => StepsOutcome {
+                outcome: lack.outcome(),
+                lacked: true,
+            },
         }
     }
 

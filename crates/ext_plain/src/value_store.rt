@@ -5,14 +5,14 @@ ghost use Rattle.ext_model.specs.declared.slot.Slot.TheVariants as slot;
 ghost use Rattle.ext_model.specs.State.{lookup};
 ghost use Rattle.ext_model.specs.Plain.{any_lane, under};
 ghost use Rattle.ext_model.specs.Closing.{kept_by};
-ghost use Rattle.ext_steps.specs.Values.{value_view};
+ghost use Rattle.ext_plan.specs.Values.{value_view};
 ghost use Rattle.ext_plain.specs.declared.lack.Lack.TheVariants as lacks;
 ghost use Rattle.ext_plain.specs.ValueStates.{after_act, why_refused, value_of, value_opening};
 
 use crate::lack::{Lack, StepLack};
 use crate::reasons::told;
 use ext_model::{ContextNo, KeyNo, LaneNo, Look, PlainFault, PlainStore};
-use ext_steps::{PlanValue, Reason};
+use ext_plan::{PlanValue, Reason};
 use ext_tree::{Directory, Key};
 use std::alloc::{AllocError, Global};
 

@@ -1,2 +1,9 @@
-pub mod Laws
-pub mod NeverNotUtf8
+mod Counted
+pub mod Declared
+pub mod KeyLists
+pub mod KeysMade
+pub mod Lists
+pub mod Named
+pub mod Names
+pub mod NodeIds
+pub mod PlanCalls

@@ -1,1 +1,11 @@
-pub mod Reading
+pub mod Calls
+pub mod KeyNumbers
+pub mod Keys
+pub mod Laws
+pub mod Locks
+pub mod PlanCalls
+pub mod Plans
+pub mod StepTexts
+pub mod Steps
+pub mod Values
+pub mod Verdicts

@@ -8,11 +8,11 @@ use Rattle.std.proofs.lemmas.Str.{IsUtf8-from_is_utf8, is_utf8-from_IsUtf8}
 use Rattle.ext_lifecycle.specs.declared.node_result.NodeResult.{NodeResult}
 use Rattle.ext_lifecycle.specs.FaultTexts.{fault_text, result_view, results_view}
 use Rattle.ext_lifecycle.specs.Results.{told, with_fault_told}
-use Rattle.ext_plan_tables.specs.declared.fault.PlanFault.{PlanFault}
-use Rattle.ext_plan_tables.specs.declared.fault.PlanFault.TheVariants as plan
-use Rattle.ext_plan_model.specs.Plans.{PlanText}
-use Rattle.ext_plan_tables.specs.Faults.{Fails}
-use Rattle.ext_plan.specs.Reading.{plan_of_text}
+use Rattle.ext_plan_reading.specs.declared.fault.PlanFault.{PlanFault}
+use Rattle.ext_plan_reading.specs.declared.fault.PlanFault.TheVariants as plan
+use Rattle.ext_plan.specs.Plans.{PlanText}
+use Rattle.ext_plan_reading.specs.Faults.{Fails}
+use Rattle.ext_plan_reading.specs.Reading.{plan_of_text}
 use Rattle.ext_run.specs.declared.fault.RunFault.{RunFault}
 use Rattle.ext_run.specs.declared.fault.RunFault.TheVariants as faults
 use Rattle.ext_run.specs.declared.options.Options.{Options}
@@ -61,8 +61,9 @@ pub AnswersAs-read : (options : Options) (r : Result Output RunFault) (text : Pl
 AnswersAs-read options (Ok o) text read answer why is = rw is answer
 AnswersAs-read options (Err e) text read answer why is = rw is (RefusedAs-read options text e why)
 
-pub answer_is : (report report' : List ℕ) (failed failed' : Bool) → report ≡ report' → failed ≡ failed' → (let old : Answer = record { report = report; failed = failed } in let new : Answer = record { report = report'; failed = failed' } in old ≡ new)
-answer_is report report' failed failed' e f = ap (λ r. record { report = r; failed = failed }) e ∙ ap (λ b. record { report = report'; failed = b }) f
+pub answer_is : (report report' : List ℕ) (failed failed' lacked : Bool) → report ≡ report' → failed ≡ failed'
+    → (let old : Answer = record { report = report; failed = failed; lacked = lacked } in let new : Answer = record { report = report'; failed = failed'; lacked = lacked } in old ≡ new)
+answer_is report report' failed failed' lacked e f = ap (λ r. record { report = r; failed = failed; lacked = lacked }) e ∙ ap (λ b. record { report = report'; failed = b; lacked = lacked }) f
 
 -- what is told of the results, with the texts of their faults
 pub with_texts : (results : List NodeResult) → results_view results ≡ map (with_fault_told fault_text) (map told results)
@@ -76,13 +77,13 @@ unfolding plan_of_input
 plan_of_short input short = rw (le-ltb input_limit (length input) short) refl
 
 -- the report that was written of it
-pub written : (options : Options) (whole : Option (List ℕ)) (items bytes : List ℕ) (report wrote : List ℕ) (failed : Bool) (Written : List ℕ → Type 0) → IfSome whole (λ input. items ≡ input)
-    → length items ≤ input_limit → bytes ≡ items → Answers options (plan_of_bytes bytes) (record { report = report; failed = failed }) → wrote ≡ report → Written wrote
-    → IfSome whole (λ input. (x : List ℕ) × Answers options (plan_of_input input) (record { report = x; failed = failed }) × Written x)
-written options None items bytes report wrote failed Written same short read answer is done = tt
-written options (Some input) items bytes report wrote failed Written same short read answer is done =
+pub written : (options : Options) (whole : Option (List ℕ)) (items bytes : List ℕ) (report wrote : List ℕ) (failed lacked : Bool) (Written : List ℕ → Type 0) → IfSome whole (λ input. items ≡ input)
+    → length items ≤ input_limit → bytes ≡ items → Answers options (plan_of_bytes bytes) (record { report = report; failed = failed; lacked = lacked }) → wrote ≡ report → Written wrote
+    → IfSome whole (λ input. (x : List ℕ) × Answers options (plan_of_input input) (record { report = x; failed = failed; lacked = lacked }) × Written x)
+written options None items bytes report wrote failed lacked Written same short read answer is done = tt
+written options (Some input) items bytes report wrote failed lacked Written same short read answer is done =
     let plan_is : plan_of_input input ≡ plan_of_bytes bytes = ap plan_of_input (sym same) ∙ plan_of_short items short ∙ ap plan_of_bytes (sym read) in
-    (report, subst (λ p. Answers options p (record { report = report; failed = failed })) (sym plan_is) answer, subst Written is done)
+    (report, subst (λ p. Answers options p (record { report = report; failed = failed; lacked = lacked })) (sym plan_is) answer, subst Written is done)
 
 answered : (options : Options) (read : Result PlanText RunFault) (answer : Answer) → Answers options read answer → IsOk read
 answered options (Ok text) answer h = refl

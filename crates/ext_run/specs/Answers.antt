@@ -5,14 +5,14 @@ use Rattle.std.specs.Str.{is_utf8}
 use Rattle.ext_model.specs.declared.look.Fault.{Fault}
 use Rattle.ext_lifecycle.specs.FaultTexts.{NodeOutcome, fault_text}
 use Rattle.ext_lifecycle.specs.Results.{ResultOf, with_fault_told}
-use Rattle.ext_plan_tables.specs.declared.fault.PlanFault.{PlanFault}
-use Rattle.ext_plan_tables.specs.declared.fault.PlanFault.TheVariants as plan
-use Rattle.ext_plan_model.specs.Plans.{PlanText}
-use Rattle.ext_plan.specs.Reading.{plan_of_text}
-use Rattle.ext_plan_model.specs.Laws.{ids_of_nodes}
+use Rattle.ext_plan_reading.specs.declared.fault.PlanFault.{PlanFault}
+use Rattle.ext_plan_reading.specs.declared.fault.PlanFault.TheVariants as plan
+use Rattle.ext_plan.specs.Plans.{PlanText}
+use Rattle.ext_plan_reading.specs.Reading.{plan_of_text}
+use Rattle.ext_plan.specs.Laws.{ids_of_nodes}
 use Rattle.ext_report.specs.Report.{report_of, any_failed}
 use Rattle.ext_plain.specs.PlainRun.{ArePlain}
-use Rattle.ext_node_run.specs.declared.fault.EngineFault.{EngineFault}
+use Rattle.ext_engine.specs.declared.node.fault.EngineFault.{EngineFault}
 use Rattle.ext_parallel.specs.ParallelRun.{IsRefusedRun, ParallelRun}
 use Rattle.ext_run.specs.declared.fault.RunFault.{RunFault}
 use Rattle.ext_run.specs.declared.fault.RunFault.TheVariants as faults
@@ -45,31 +45,33 @@ pub record RunsOnLanes (plan : PlanText) (lanes : ℕ) (results : List NodeOutco
   pub run : ParallelRun plan lanes ran
   pub told : results ≡ map (with_fault_told fault_text) ran
 
--- what is told of the nodes by a plain run, or by some run on several lanes
-abbrev pub IsRunBy : Bool → ℕ → PlanText → List NodeOutcome → Type 0
-IsRunBy true lanes plan results = ArePlain plan results
-IsRunBy false lanes plan results = RunsOnLanes plan lanes results
+-- What is told of the nodes, and whether a step may have lacked memory, by a plain run, or by some run on several lanes, of which that none did isn't told
+abbrev pub IsRunBy : Bool → ℕ → PlanText → List NodeOutcome → Bool → Type 0
+IsRunBy true lanes plan results lacked = ArePlain plan results lacked
+IsRunBy false lanes plan results lacked = RunsOnLanes plan lanes results × (lacked ≡ true)
 
-abbrev pub IsRunAs : Options → PlanText → List NodeOutcome → Type 0
-IsRunAs options plan results = IsRunBy options.plain options.lanes plan results
+abbrev pub IsRunAs : Options → PlanText → List NodeOutcome → Bool → Type 0
+IsRunAs options plan results lacked = IsRunBy options.plain options.lanes plan results lacked
 
--- a report, and whether a node failed
+-- a report, whether a node failed, and whether a step may have lacked memory
 pub record Answer : Type 0 where
   pub report : List ℕ
   pub failed : Bool
+  pub lacked : Bool
 
 -- of these results
-abbrev pub answer_of : PlanText → List NodeOutcome → Answer
-answer_of plan results = record {
+abbrev pub answer_of : PlanText → List NodeOutcome → Bool → Answer
+answer_of plan results lacked = record {
   report = report_of (ids_of_nodes plan.nodes) results;
   failed = any_failed results;
+  lacked = lacked;
 }
 
 -- the answer to a plan: the report of a run of it
 pub record IsAnswerTo (options : Options) (plan : PlanText) (answer : Answer) : Type 0 where
   pub results : List NodeOutcome
-  pub run : IsRunAs options plan results
-  pub report_is : answer ≡ answer_of plan results
+  pub run : IsRunAs options plan results answer.lacked
+  pub report_is : answer ≡ answer_of plan results answer.lacked
 
 -- the answer to what was read
 abbrev pub Answers : Options → Result PlanText RunFault → Answer → Type 0

@@ -2,7 +2,7 @@
 use Rattle.std.specs.Prelude.{◌≡◌, ◌<◌, ◌≤◌, ℕ, ◌+◌, false, List, ◌++◌, length, Option, Result, Ok, Err, string_bytes}
 use Rattle.std.specs.Io.KnownBytes.{Consumes, IsAtEnd}
 use Rattle.ext_parallel.specs.ParallelRun.{IsRefusedRun}
-use Rattle.ext_plan_model.specs.Plans.{PlanText}
+use Rattle.ext_plan.specs.Plans.{PlanText}
 use Rattle.ext_run.specs.declared.fault.RunFault.{RunFault}
 use Rattle.ext_run.specs.declared.fault.RunFault.TheVariants as faults
 use Rattle.ext_run.specs.declared.options.Options.{Options}
@@ -46,7 +46,7 @@ IsPlanFault options plan faults.Memory = Unit {0}
 -- ---- the answer
 
 abbrev pub output_view : Output → Answer
-output_view o = record { report = string_bytes o.report; failed = o.failed }
+output_view o = record { report = string_bytes o.report; failed = o.failed; lacked = o.lacked }
 
 -- what a function returned is an answer to what was read, or a fault that goes with it
 abbrev pub AnswersAs : Options → Result Output RunFault → Result PlanText RunFault → Type 0

@@ -1,14 +1,14 @@
 //! Reading a plan without running it.
 ghost use Rattle.std.specs.Prelude.{◌≡◌, ◌≢◌, ◌≤◌, ◌+◌, ℕ, List, length, string_bytes, IfOk, IfErr, IfSome, OnOk};
 ghost use Rattle.std.specs.Io.KnownBytes.{Consumes, Appends};
-ghost use Rattle.ext_plan_model.specs.Plans.{nodes_view, plan_view};
+ghost use Rattle.ext_plan.specs.Plans.{nodes_view, plan_view};
 ghost use Rattle.ext_run.specs.Answers.{input_limit, plan_of_bytes, plan_of_input};
 ghost use Rattle.ext_run.specs.Checks.{ChecksAs, counts_line, IsCountsOf, RefusedUnrun, test_count};
 
 use crate::fault::RunFault;
 use crate::input::read_input;
 use crate::runs::write_whole;
-use ext_plan::{Plan, PlanFault, PlanNode, read_plan};
+use ext_plan_reading::{Plan, PlanFault, PlanNode, read_plan};
 use std::alloc::{AllocError, Global};
 use std::io::{Read, Write};
 

@@ -50,7 +50,7 @@ pub fn read_id<W: Write>(alloc: Global, writer: &mut W, text: &str) -> Result<Su
     if write_whole(writer, lines.as_bytes()).is_err() {
         return Err(RequestFault::Run(RunFault::Write));
     }
-    Ok(Summary { failed: false })
+    Ok(Summary::done())
 }
 
 /// The lines of an id.

@@ -4,7 +4,7 @@
 //! (`ext_plain`), and writes the report of this run. A plan that is refused, or a device that fails, is a `RunFault`. What a run answers to its
 //! input stands in `specs/Answers.antt`. `check` reads a plan and does not run it; `read_input` and `explain` are for those who tell more of a plan
 //! that was refused. `read_id` writes the lines of an id, and `status_of` is the exit status of a program that is asked for any of this.
-//! The names of `ext_plan`, `ext_plain`, `ext_lifecycle` and `ext_report` that callers need stand here too. Own rule.
+//! The names of `ext_plan_reading`, `ext_plain`, `ext_lifecycle` and `ext_report` that callers need stand here too. Own rule.
 #![tactic(auto)]
 
 mod checks;
@@ -20,7 +20,7 @@ pub use checks::check;
 pub use ext_ids::IdFault;
 pub use ext_lifecycle::{NoListener, NodeResult, RunListener, Status};
 pub use ext_plain::plain_run_laws;
-pub use ext_plan::{
+pub use ext_plan_reading::{
     LabelNo, Place, Plan, PlanFault, PlanKey, PlanLock, PlanNode, Step, explain, read_plan,
 };
 pub use ext_tree::Tree;

@@ -1,4 +1,5 @@
 //! How a plan is run, and what became of its run.
+ghost use Rattle.std.specs.Prelude.{◌≡◌, false};
 
 /// How a plan is run. Own rule.
 #[derive(Clone, Copy, Debug, PartialEq, Eq)]
@@ -14,4 +15,19 @@ pub struct Options {
 pub struct Summary {
     /// Whether a node failed, be it a test or a container.
     pub failed: bool,
+    /// Whether a step may have lacked memory. Where it is false after a plain run, none did, and the report is that of the one plain run that the plan has. A run on
+    /// several lanes doesn't tell, and has true; a request that runs no step has false.
+    pub lacked: bool,
+}
+
+impl Summary {
+    /// Of a request that was done and runs no step. Takes no memory. Own rule.
+    pub fn done() -> Summary
+        ensures { result ≡ record { failed = false; lacked = false } }
+    {
+        Summary {
+            failed: false,
+            lacked: false,
+        }
+    }
 }

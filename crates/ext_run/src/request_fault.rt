@@ -25,8 +25,8 @@ pub fn status_of(outcome: &Result<Summary, RequestFault>) -> u8
     ensures { result ≡ status_of outcome.now }
 {
     match outcome {
-        Ok(Summary { failed: false }) => 0,
-        Ok(Summary { failed: true }) => 1,
+        Ok(Summary { failed: false, .. }) => 0,
+        Ok(Summary { failed: true, .. }) => 1,
         Err(fault) => status_of_fault(*fault),
     }
 }

@@ -1,7 +1,7 @@
 //! What a run of a plan tells of its nodes.
 ghost use Rattle.std.specs.Prelude.{◌≡◌, ◌≤◌, ◌<◌, false, length, IfOk, IfErr, All};
-ghost use Rattle.ext_plan_model.specs.Laws.{CallbacksAreFew, HasFewLocks, NamespacesHaveParts, NodesAreTree, StepListsAreShort, TestsHaveNoChildren, ids_of_nodes};
-ghost use Rattle.ext_plan_model.specs.Plans.{plan_view};
+ghost use Rattle.ext_plan.specs.Laws.{CallbacksAreFew, HasFewLocks, NamespacesHaveParts, NodesAreTree, StepListsAreShort, TestsHaveNoChildren, ids_of_nodes};
+ghost use Rattle.ext_plan.specs.Plans.{plan_view};
 ghost use Rattle.ext_lifecycle.specs.FaultTexts.{results_view};
 ghost use Rattle.ext_plain.specs.PlainRun.{ArePlain};
 ghost use Rattle.ext_run.specs.Answers.{IsRunAs};
@@ -12,13 +12,20 @@ use crate::options::Options;
 use ext_lifecycle::{NodeResult, RunListener};
 use ext_parallel::parallel_results;
 use ext_plain::run_plain;
-use ext_plan_model::Plan;
+use ext_plan::Plan;
 use ext_tree::Tree;
 use std::alloc::{AllocError, Global};
 use std::sync::Wait;
 use std::thread::Threads;
 
-/// One result for each node of a plan, by its plain run or by a run on several lanes.
+/// What is told of the nodes of a plan: a result for each, and whether a step may have lacked memory.
+#[derive(Drop)]
+pub(crate) struct PlanResults {
+    pub(crate) results: Vec<NodeResult>,
+    pub(crate) lacked: bool,
+}
+
+/// One result for each node of a plan, by its plain run or by a run on several lanes, which doesn't tell whether a step lacked memory.
 pub(crate) fn results_of<R: Threads + Wait + Sync, L: RunListener + Sync>(
     rt: &R,
     alloc: Global,
@@ -26,7 +33,7 @@ pub(crate) fn results_of<R: Threads + Wait + Sync, L: RunListener + Sync>(
     tree: &Tree,
     options: Options,
     listener: &L,
-) -> Result<Vec<NodeResult>, RunFault>
+) -> Result<PlanResults, RunFault>
     requires lanes { options.plain ≡ false → (1 ≤ options.lanes) × (options.lanes ≤ 16) }
     requires tree { NodesAreTree (plan_view plan.now) }
     requires contexts { tree.now ≡ ids_of_nodes (plan_view plan.now).nodes }
@@ -35,33 +42,40 @@ pub(crate) fn results_of<R: Threads + Wait + Sync, L: RunListener + Sync>(
     requires namespaces { NamespacesHaveParts (plan_view plan.now) }
     requires short { StepListsAreShort (plan_view plan.now) }
     requires few { CallbacksAreFew (plan_view plan.now) }
-    ensures run { IfOk result (λ results. IsRunAs options (plan_view plan.now) (results_view results.items)) }
-    ensures in_tree { IfOk result (λ results. All (λ r. r.node < length tree.now) results.items) }
+    ensures run { IfOk result (λ told. IsRunAs options (plan_view plan.now) (results_view told.results.items) told.lacked) }
+    ensures in_tree { IfOk result (λ told. All (λ r. r.node < length tree.now) told.results.items) }
     ensures fault { IfErr result (IsPlanFault options (plan_view plan.now)) }
 {
     if options.plain {
         return Ok(plain_results(alloc, plan, tree, listener)?);
     }
     match parallel_results(rt, alloc, plan, options.lanes, listener) {
-        Ok(results) => Ok(results),
+        Ok(results) => Ok(PlanResults {
+            results,
+            lacked: true,
+        }),
         Err(fault) => Err(RunFault::Engine(fault)),
     }
 }
 
-/// One result for each node of a plan, by its plain run.
+/// One result for each node of a plan, by its plain run, and whether a step of it lacked memory.
 fn plain_results<L: RunListener>(
     alloc: Global,
     plan: &Plan,
     tree: &Tree,
     listener: &L,
-) -> Result<Vec<NodeResult>, AllocError>
+) -> Result<PlanResults, AllocError>
     requires tree { NodesAreTree (plan_view plan.now) }
     requires contexts { tree.now ≡ ids_of_nodes (plan_view plan.now).nodes }
     requires namespaces { NamespacesHaveParts (plan_view plan.now) }
     requires short { StepListsAreShort (plan_view plan.now) }
     requires few { CallbacksAreFew (plan_view plan.now) }
-    ensures run { IfOk result (λ results. ArePlain (plan_view plan.now) (results_view results.items)) }
-    ensures in_tree { IfOk result (λ results. All (λ r. r.node < length tree.now) results.items) }
+    ensures run { IfOk result (λ told. ArePlain (plan_view plan.now) (results_view told.results.items) told.lacked) }
+    ensures in_tree { IfOk result (λ told. All (λ r. r.node < length tree.now) told.results.items) }
 {
-    run_plain(alloc, plan, tree, listener)
+    let run = run_plain(alloc, plan, tree, listener)?;
+    Ok(PlanResults {
+        results: run.results,
+        lacked: run.lacked,
+    })
 }

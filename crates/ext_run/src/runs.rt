@@ -1,8 +1,8 @@
 //! A run from the bytes of a plan to those of its report.
 ghost use Rattle.std.specs.Prelude.{◌≡◌, ◌≢◌, ◌≤◌, ◌<◌, ◌+◌, ℕ, false, List, length, string_bytes, IfOk, IfErr, IfSome, OnOk, All};
 ghost use Rattle.std.specs.Io.KnownBytes.{Consumes, Appends};
-ghost use Rattle.ext_plan_model.specs.Plans.{plan_view};
-ghost use Rattle.ext_plan_model.specs.Laws.{CallbacksAreFew, HasFewLocks, NamespacesHaveParts, NodesAreTree, StepListsAreShort, TestsHaveNoChildren};
+ghost use Rattle.ext_plan.specs.Plans.{plan_view};
+ghost use Rattle.ext_plan.specs.Laws.{CallbacksAreFew, HasFewLocks, NamespacesHaveParts, NodesAreTree, StepListsAreShort, TestsHaveNoChildren};
 ghost use Rattle.ext_lifecycle.specs.FaultTexts.{results_view};
 ghost use Rattle.ext_report.specs.Report.{report_of};
 ghost use Rattle.ext_run.specs.Answers.{input_limit, Answers, IsAnswerTo, plan_of_bytes, plan_of_input, RefusedAs};
@@ -13,7 +13,7 @@ use crate::input::read_input;
 use crate::options::{Options, Summary};
 use crate::results::results_of;
 use ext_lifecycle::{NoListener, NodeResult, RunListener};
-use ext_plan::{Plan, PlanFault, read_plan};
+use ext_plan_reading::{Plan, PlanFault, read_plan};
 use ext_report::any_failed;
 use ext_tree::Tree;
 use std::alloc::Global;
@@ -21,18 +21,20 @@ use std::io::{Read, Write};
 use std::sync::Wait;
 use std::thread::Threads;
 
-/// A report, and whether a node failed.
+/// A report, whether a node failed, and whether a step may have lacked memory.
 #[derive(Debug, Drop)]
 struct Output {
     report: String,
     failed: bool,
+    lacked: bool,
 }
 
 /// Reads a plan, runs it and writes the report of its run, and nothing else. Own rule.
 ///
 /// With `plain` the plan is run on this thread over the one-thread store: its plain run, which has one report where memory suffices. Else it is run on so
 /// many lanes, 1 to 16, each at most by one thread, over a store for several threads (`ext_parallel::parallel_results`). In either run a step for which memory
-/// is refused fails with `no memory`, and one that names a key beside 64 others that were named before with `directory full`.
+/// is refused fails with `no memory`, and one that names a key beside 64 others that were named before with `directory full`. A plain run tells whether there was a step
+/// for which memory was refused (`Summary::lacked`): where there was none, its report is that of the one plain run that the plan has.
 ///
 /// The input is read to its end, but at most 1,048,577 bytes of it, and the first read that fails ends the
 /// run. The whole report stands before its first byte is written; at last the writer is flushed.
@@ -60,7 +62,7 @@ pub fn run<R: Threads + Wait + Sync, I: Read, W: Write>(
 ) -> Result<Summary, RunFault>
     requires lanes { options.plain ≡ false → (1 ≤ options.lanes) × (options.lanes ≤ 16) }
     ensures written { IfOk result (λ summary. IfSome (I.remaining reader.old) (λ input. (report : List ℕ)
-        × Answers options (plan_of_input input) (record { report = report; failed = summary.failed })
+        × Answers options (plan_of_input input) (record { report = report; failed = summary.failed; lacked = summary.lacked })
         × Appends (W.contents writer.old) (W.contents writer.new) report)) }
     ensures refused { IfErr result (λ fault. IfSome (I.remaining reader.old)
         (λ input. RefusedAs options fault (plan_of_input input))) }
@@ -85,7 +87,7 @@ pub fn run_with_listener<R: Threads + Wait + Sync, I: Read, W: Write, L: RunList
 ) -> Result<Summary, RunFault>
     requires lanes { options.plain ≡ false → (1 ≤ options.lanes) × (options.lanes ≤ 16) }
     ensures written { IfOk result (λ summary. IfSome (I.remaining reader.old) (λ input. (report : List ℕ)
-        × Answers options (plan_of_input input) (record { report = report; failed = summary.failed })
+        × Answers options (plan_of_input input) (record { report = report; failed = summary.failed; lacked = summary.lacked })
         × Appends (W.contents writer.old) (W.contents writer.new) report)) }
     ensures refused { IfErr result (λ fault. IfSome (I.remaining reader.old)
         (λ input. RefusedAs options fault (plan_of_input input))) }
@@ -98,6 +100,7 @@ pub fn run_with_listener<R: Threads + Wait + Sync, I: Read, W: Write, L: RunList
     write_whole(writer, output.report.as_bytes())?;
     Ok(Summary {
         failed: output.failed,
+        lacked: output.lacked,
     })
 }
 
@@ -163,13 +166,14 @@ fn output_of<R: Threads + Wait + Sync, L: RunListener + Sync>(
     ensures fault { IfErr result (IsPlanFault options (plan_view plan.now)) }
 {
     let tree = plan.tree(alloc)?;
-    let results = match results_of(rt, alloc, plan, &tree, options, listener) {
-        Ok(results) => results,
+    let told = match results_of(rt, alloc, plan, &tree, options, listener) {
+        Ok(told) => told,
         Err(fault) => return Err(fault),
     };
-    let report = report_text(alloc, &tree, results.as_slice())?;
+    let report = report_text(alloc, &tree, told.results.as_slice())?;
     Ok(Output {
         report,
-        failed: any_failed(results.as_slice()),
+        failed: any_failed(told.results.as_slice()),
+        lacked: told.lacked,
     })
 }

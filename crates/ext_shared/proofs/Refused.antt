@@ -1,5 +1,5 @@
 -- For what the cells refuse a call: for nothing that is no matter of that call.
-use Rattle.std.proofs.Common.{ℕ, Bool, true, false, List, sym, subst, Option, None, Some}
+use Rattle.std.proofs.Common.{◌≡◌, ◌∙◌, ℕ, Bool, true, false, List, sym, ap, refl, subst, Option, None, Some}
 use Rattle.std.specs.Prelude.{Result, Ok, Err}
 use Rattle.ext_model.specs.declared.event.Act.{Act}
 use Rattle.ext_model.specs.declared.event.Act.TheVariants.{Put, Remove}
@@ -12,7 +12,9 @@ use Rattle.ext_cells.specs.declared.refusal.CellRefusal.{CellRefusal}
 use Rattle.ext_cells.specs.declared.refusal.CellRefusal.TheVariants as cell
 use Rattle.ext_cells.specs.Lanes.{Lane}
 use Rattle.ext_cells.specs.Calls as cells
-use Rattle.ext_shared.specs.Refusals.{IsOfCell}
+use Rattle.ext_shared.specs.declared.fault.Refusal.{Refusal}
+use Rattle.ext_shared.specs.declared.fault.Refusal.TheVariants as refusal
+use Rattle.ext_shared.specs.Refusals.{IsOfCell, refusal_at}
 
 abbrev OfCell : {A : Type 0} → Result A CellRefusal → Type 0
 OfCell (Ok value) = Unit {0}
@@ -84,3 +86,23 @@ module _ (tries : ℕ) (before after : Lane) (at : ℕ) where
   seal_refusal cell.NumbersFull h = subst OfCell h.point.2 (seal_of _)
   seal_refusal cell.Memory h = subst OfCell h.point.2 (seal_of _)
   seal_refusal cell.BadLimit h = subst OfCell h.point.2 (seal_of _)
+
+-- ---- what comes last
+
+-- only the cells' own refusal is answered so
+contended_of : (context : ℕ) (why : CellRefusal) → IsOfCell why → refusal_at context why ≡ refusal.Contended → why ≡ cell.Contended
+contended_of context cell.Busy of e = absurd (cc e)
+contended_of context cell.Closed of e = absurd (cc e)
+contended_of context cell.Exhausted of e = absurd (cc e)
+contended_of context cell.Contended of e = refl
+contended_of context cell.NumbersFull of e = absurd of
+contended_of context cell.Memory of e = absurd of
+contended_of context cell.BadLimit of e = absurd of
+
+same_said : {A : Type 0} (a b : Refusal) → (let x : Result A Refusal = Err a in let y : Result A Refusal = Err b in x ≡ y) → a ≡ b
+same_said a b e = cc e
+
+-- so it comes last, as there
+pub comes_last : {A : Type 0} (tries : ℕ) (before after : Lane) (context : ℕ) (act : Act ℕ) (why : CellRefusal) (said : Refusal) → IsOfCell why → said ≡ refusal_at context why
+    → (let r : Result A CellRefusal = Err why in cells.ComesLast cell.Contended tries before after act r) → (let r : Result A Refusal = Err said in cells.ComesLast refusal.Contended tries before after act r)
+comes_last {A} tries before after context act why said of is last e = last (ap Err (contended_of context why of (sym is ∙ same_said {A = A} said refusal.Contended e)))

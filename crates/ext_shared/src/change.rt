@@ -1,6 +1,9 @@
 //! Changes of a context's cell: a put, a remove and a seal.
 ghost use Rattle.std.specs.Prelude.{◌≡◌, ◌+◌, ◌<◌, ◌≤◌, length};
 ghost use Rattle.ext_model.specs.Calls.{MayStoreNow};
+ghost use Rattle.ext_model.specs.declared.event.Act.TheVariants as act_is;
+ghost use Rattle.ext_cells.specs.Calls.{ComesLast};
+ghost use Rattle.ext_shared.specs.Stores.{cell_in};
 ghost use Rattle.ext_shared.specs.Calls.{Puts, Removes, steps_of, with_kept};
 ghost use Rattle.ext_shared.specs.Sealing.{SealsKey};
 
@@ -13,7 +16,7 @@ impl<V> Shared<V> {
     /// answers the number that stood. It is a condition that the lane drew the number and has not stored it. Takes no memory.
     ///
     /// Refused, in this order, as `Busy` where a lane computes a value for the context, as `Closed`, as `Exhausted`
-    /// where there were more than 2^40 - 3 events there, and as `Contended`.
+    /// where there were more than 2^40 - 3 events there, and as `Contended`, of events on this cell alone.
     ///
     /// Javadoc `ExtensionContext.Store`, `put`. The answer and the refusals are own rules.
     #[tactic(auto, unfolding(crate::specs::Calls::Puts))]
@@ -30,6 +33,7 @@ impl<V> Shared<V> {
         requires number { MayStoreNow lane.old.view number }
         ensures lane { lane.new.cells ≡ lane.old.cells }
         ensures answer { Puts self.now context key number lane.old lane.new (with_kept number result) }
+        ensures contended { ComesLast Refusal.Contended self.now.tries lane.old lane.new (act_is.Put (cell_in self.now key context) number) result }
         ensures steps { steps_of lane.old lane.new ≤ self.now.tries + 1 }
     {
         let cell = self.cell(context, key);
@@ -43,7 +47,7 @@ impl<V> Shared<V> {
     /// stands the answer is `None`, and nothing happens. Takes no memory.
     ///
     /// Refused, in this order, as `Busy` where a lane computes a value for the context, as `Closed`, as `Exhausted`
-    /// where a number stands and there were more than 2^40 - 3 events there, and as `Contended`.
+    /// where a number stands and there were more than 2^40 - 3 events there, and as `Contended`, of events on this cell alone.
     ///
     /// Javadoc `ExtensionContext.Store`, `remove`. The refusals are own rules.
     #[tactic(auto, unfolding(crate::specs::Calls::Removes))]
@@ -58,6 +62,7 @@ impl<V> Shared<V> {
         requires key { key < length self.now.id.keys }
         ensures lane { lane.new.cells ≡ lane.old.cells }
         ensures answer { Removes self.now context key lane.old lane.new result }
+        ensures contended { ComesLast Refusal.Contended self.now.tries lane.old lane.new (act_is.Remove (cell_in self.now key context)) result }
         ensures steps { steps_of lane.old lane.new ≤ self.now.tries + 1 }
     {
         let cell = self.cell(context, key);
@@ -70,8 +75,8 @@ impl<V> Shared<V> {
     /// Seals the key in the context for good, and answers the number of the value that stood there, which the seal keeps; a
     /// kept fault goes. A key that is sealed already answers what its seal kept, and nothing happens. Takes no memory.
     ///
-    /// Refused as `Busy` with the context where a lane computes a value for it under this key, and else as `Contended`.
-    /// Own rule.
+    /// Refused as `Busy` with the context where a lane computes a value for it under this key, and else as `Contended`, of
+    /// events on this cell alone. Own rule.
     pub fn seal_at(
         &self,
         lane: &mut CellLane,
@@ -83,6 +88,7 @@ impl<V> Shared<V> {
         requires key { key < length self.now.id.keys }
         ensures lane { lane.new.cells ≡ lane.old.cells }
         ensures answer { SealsKey self.now context key lane.old lane.new result }
+        ensures contended { ComesLast Refusal.Contended self.now.tries lane.old lane.new (act_is.Seal (cell_in self.now key context)) result }
         ensures steps { steps_of lane.old lane.new ≤ self.now.tries + 1 }
     {
         let cell = self.cell(context, key);

@@ -19,7 +19,8 @@ pub enum Refusal {
     /// This context, which decides, is closed.
     #[error("context {0} is closed")]
     Closed(ContextNo),
-    /// Other lanes were in the way: they made at least as many events as a call has tries.
+    /// Other lanes were in the way: they made at least as many events as a call has tries, and on the call's own cell where it
+    /// is a change.
     #[error("contended")]
     Contended,
     /// There were too many events in this context under this key: more than 2^40 - 3 for a put or a remove, and more

@@ -13,13 +13,17 @@ use crate::{Refusal, Shared, Unused};
 use ext_cells::{CellLane, CellRefusal, Claim};
 use ext_model::{ContextNo, KeyNo, Look};
 use ext_waiters::Waiting;
-use std::sync::Wait;
+use std::sync::{Forever, Wait};
 
-// What a lane does before it tries again: where it met a running factory it announces that it waits, or sleeps; where
-// other lanes were in the way, nothing.
+// What a lane does before it tries again: where it met a running factory it announces that it waits, or, where it has
+// announced that and has tried once more since, it sleeps; where other lanes were in the way, nothing.
 fn pause<R: Wait>(rt: &R, waiting: &mut Waiting<'_>, met: Refusal) {
     if matches!(met, Refusal::Busy(_)) {
-        waiting.announce_or_sleep(rt);
+        if waiting.is_announced() {
+            waiting.sleep(rt);
+        } else {
+            waiting.announce();
+        }
     }
 }
 
@@ -143,16 +147,21 @@ impl<V> Shared<V> {
         unreachable!()
     }
 
-    /// Draws the next number, however often other lanes are in the way. Refused as `NumbersFull` where all numbers were
-    /// drawn. Takes no memory. It may wait: it promises its clauses if it returns. It does not sleep. Own rule.
-    pub fn wait_to_draw<R: Wait>(&self, rt: &R, lane: &mut CellLane) -> Result<u32, CellRefusal>
+    /// Draws the next number, however often other lanes are in the way. It is handed endless rounds and no runtime, so it
+    /// does not sleep. Refused as `NumbersFull` where all numbers were drawn. Takes no memory. It may go on for ever: it
+    /// promises its clauses if it returns. Own rule.
+    pub fn wait_to_draw<R: Wait>(
+        &self,
+        rounds: Forever<'_, R>,
+        lane: &mut CellLane,
+    ) -> Result<u32, CellRefusal>
         requires lane { lane.old.cells ≡ self.now.id.cells }
         ensures lane { lane.new.cells ≡ lane.old.cells }
         ensures reply { cells.Answers self.now.tries lane.old lane.new cells.number_acts (cells.number_reply lane.old) result }
         ensures storable { IfOk result (MayStoreNow lane.new.view) }
         ensures decided { result ≢ Err cell_refusal.Contended }
     {
-        for _ in rt.forever() {
+        for _ in rounds {
             let why = match self.cells.next_number(lane) {
                 Ok(number) => return Ok(number),
                 Err(why) => why,

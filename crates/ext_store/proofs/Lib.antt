@@ -11,3 +11,4 @@ pub mod Filling
 pub mod Composing
 pub mod Waited
 pub mod Faulting
+pub mod Contended

@@ -12,7 +12,7 @@ ghost use Rattle.ext_store.specs.Frames.{Frame};
 ghost use Rattle.ext_store.specs.Calls.{KeepsFault, KeepsNoFault, steps_of};
 ghost use Rattle.ext_store.specs.Computing.{Computes, EndsFailed, Fails, Fills, HandsBack, IfComputed, IsFaultless, IsUnkept, Uses, without_factory};
 
-use crate::computed::hand_back;
+use crate::computed::{hand_back, run_factory};
 use crate::{Compute, KeepFault, Lane, Refusal, Store, StoreValue};
 use ext_cells::Claim;
 use ext_model::{ContextNo, Fault, KeyNo};
@@ -23,8 +23,9 @@ impl<V: StoreValue + Drop> Store<V> {
     /// key, keeps its value, and stores the number in the context itself. The factory is called at most once, after the
     /// lane has claimed the context's cell and has looked at the ancestors again. It claims only where a first look-up
     /// along the whole path found nothing: while the claim stands, calls of other lanes on the cell are refused as
-    /// `Busy`. A value that an ancestor gets after the second look does not stop the factory. Takes memory for the
-    /// value, and may take it for a key that is new to the lane.
+    /// `Busy`. A value that an ancestor gets after the second look does not stop the factory. That the claim stands while
+    /// the factory runs is tested: no clause can say it. Takes memory for the value, and may take it for a key that is new
+    /// to the lane.
     ///
     /// `Found` where a value stands in the context or in an ancestor, the nearest first. Between two values that were
     /// computed for one place a remove of the place stands, as `history_laws` of ext_model says.
@@ -135,7 +136,7 @@ impl<V: StoreValue + Drop> Store<V> {
             Ok(claim) => claim,
             Err(why) => return hand_back(why, factory),
         };
-        let value = match factory(name) {
+        let value = match run_factory(lane, &claim, name, factory) {
             Ok(value) => value,
             Err(fault) => return self.end_failed(lane, claim, fault),
         };

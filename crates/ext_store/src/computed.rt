@@ -1,10 +1,14 @@
 //! What comes of a call that computes a missing value.
 ghost use Rattle.std.specs.Prelude.{◌≡◌};
+ghost use Rattle.std.specs.Fn.{FnOnceReturnsAt};
+ghost use Rattle.ext_model.specs.Calls.{IsHeld};
 ghost use Rattle.ext_store.specs.Computing.{with_factory};
 
-use crate::{KeepFault, Refusal};
+use crate::{KeepFault, Lane, Refusal};
+use ext_cells::Claim;
 use ext_model::{ContextNo, Fault};
 use ext_shared::Unused;
+use ext_tree::Key;
 
 /// What `Store::compute` answers. A factory that was not called is handed back as it was, and can be called later.
 /// Own rule.
@@ -49,6 +53,21 @@ pub enum Compute<V, F> {
         refusal: Refusal,
         unused: F,
     },
+}
+
+// Calls the factory with the key, for a lane that holds its claim, which it borrows: so it can't be called before the claim
+// is won, nor once it is filled or given up. That no factory is called but here is read off the source.
+pub(crate) fn run_factory<V, F: FnOnce(&Key) -> Result<V, Fault>>(
+    lane: &Lane<V>,
+    claim: &Claim,
+    key: &Key,
+    factory: F,
+) -> Result<V, Fault>
+    requires held { IsHeld lane.now.cells.view claim.now }
+    requires factory { F.IsAlwaysCallable factory }
+    ensures { FnOnceReturnsAt F.FnOnce factory key.now result }
+{
+    factory(key)
 }
 
 // The result that hands the factory back, which was not called.

@@ -14,7 +14,7 @@ pub enum KeepFault {
     /// All numbers were drawn.
     #[error("numbers full")]
     NumbersFull,
-    /// Other lanes were in the way: they made at least as many events as a call has tries.
+    /// Other lanes were in the way: they drew at least as many numbers as a call has tries.
     #[error("contended")]
     Contended,
     /// The number's place did not take the value, and the number is lost. Tests show that it never comes.

@@ -1,5 +1,5 @@
 //! A number whose value is kept, and which can be stored.
-ghost use Rattle.std.specs.Prelude.{◌≡◌};
+ghost use Rattle.std.specs.Prelude.{◌≡◌, ◌≤◌};
 ghost use Rattle.ext_store.specs.Calls.{with_kept};
 
 use crate::Refusal;
@@ -13,17 +13,20 @@ pub struct Kept {
 }
 
 impl Model for Kept {
-    ghost use Rattle.std.specs.Prelude.{ℕ};
+    ghost use Rattle.std.specs.Prelude.{ℕ, ◌≤◌};
 
     ghost Value = { ℕ };
 
     ghost view = { λ k. k.number };
+
+    ghost invariant = { λ k. 1 ≤ k.number };
 }
 
 impl Kept {
     /// The number, from 1. Takes no memory. Own rule.
     pub fn number(&self) -> u32
-        ensures { result ≡ self.now }
+        ensures number { result ≡ self.now }
+        ensures from_one { 1 ≤ result }
     {
         self.number
     }

@@ -1,5 +1,5 @@
 //! A lane of a store, which a thread owns.
-ghost use Rattle.std.specs.Prelude.{◌≡◌, [], is_some};
+ghost use Rattle.std.specs.Prelude.{◌≡◌, ◌<◌, [], is_some};
 ghost use Rattle.ext_model.specs.History.{IsLegal};
 ghost use Rattle.ext_history.specs.Views.{Follow, seen_by};
 ghost use Rattle.ext_tree.specs.KeyPlaces.{key_at};
@@ -32,9 +32,11 @@ impl<V> Model for Lane<V> {
 }
 
 impl<V> Lane<V> {
-    /// The lane's number, from 0 in the order in which `Store::open` gave the lanes out. Takes no memory. Own rule.
+    /// The lane's number, from 0 in the order in which `Store::open` gave the lanes out, and so below their count. Takes no
+    /// memory. Own rule.
     pub fn number(&self) -> LaneNo
-        ensures { result ≡ self.now.cells.view.number }
+        ensures number { result ≡ self.now.cells.view.number }
+        ensures below { result < self.now.cells.cells.limits.lanes }
     {
         self.cells.number()
     }

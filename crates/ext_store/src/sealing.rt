@@ -1,7 +1,9 @@
 //! What the store gives to those who close a context.
 ghost use Rattle.std.specs.Prelude.{◌≡◌, ◌+◌, ◌<◌, ◌≤◌, [], length, is_some};
+ghost use Rattle.ext_model.specs.declared.event.Act.TheVariants as act_is;
 ghost use Rattle.ext_values.specs.Known.{known_at};
-ghost use Rattle.ext_store.specs.Stores.{IsCloserOf, IsLaneOf, StillKeeps};
+ghost use Rattle.ext_cells.specs.Calls.{ComesLast};
+ghost use Rattle.ext_store.specs.Stores.{IsCloserOf, IsLaneOf, StillKeeps, cell_in};
 ghost use Rattle.ext_store.specs.Frames.{Frame};
 ghost use Rattle.ext_store.specs.Calls.{steps_of};
 ghost use Rattle.ext_shared.specs.Sealing.{SealsKey};
@@ -14,7 +16,7 @@ impl<V> Store<V> {
     /// keeps; a kept fault goes. A key that is sealed already answers what its seal kept, and nothing happens. Takes no memory.
     ///
     /// Refused as `Busy` with the context where a lane computes a value for it under this key, and else as
-    /// `Contended`. Own rule.
+    /// `Contended`, of events in this context under this key alone. Own rule.
     #[tactic(auto, unfolding(crate::specs::Frames::Frame))]
     pub fn seal(
         &self,
@@ -26,6 +28,7 @@ impl<V> Store<V> {
         requires closer { IsCloserOf self.now closer.now }
         requires key { key < length self.now.id.keys }
         ensures answer { SealsKey self.now closer.now.context key lane.old.cells lane.new.cells result }
+        ensures contended { ComesLast Refusal.Contended self.now.tries lane.old.cells lane.new.cells (act_is.Seal (cell_in self.now key closer.now.context)) result }
         ensures known { lane.new.known ≡ lane.old.known }
         ensures faults { lane.new.faults ≡ lane.old.faults }
         ensures keys { lane.new.keys ≡ lane.old.keys }

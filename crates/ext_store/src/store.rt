@@ -2,12 +2,14 @@
 ghost use Rattle.std.specs.Prelude.{ℕ, ◌≡◌, ◌≢◌, ◌↔◌, ◌+◌, ◌*◌, ◌<◌, ◌≤◌, [], All, Contains, IfErr, IfNone, IfOk, IfSome, IsFalse, IsNone, MatchResult, Ok, Err, length, map};
 ghost use mathlib.Core.List.{IsPrefix};
 ghost use Rattle.ext_model.specs.Calls.{Calls};
+ghost use Rattle.ext_model.specs.declared.event.Act.TheVariants as act_is;
 ghost use Rattle.ext_history.specs.Views.{seen_by};
 ghost use Rattle.ext_tree.specs.KeyPlaces.{IsKeyNumber, KeepsKeys, OneKey, OneNumber};
 ghost use Rattle.ext_values.specs.Known.{AllAgree, KeepsKnown, Learns, known_at};
+ghost use Rattle.ext_cells.specs.Calls.{ComesLast};
 ghost use Rattle.ext_cells.specs.Lanes.{AreLimits, fresh_lanes};
 ghost use Rattle.ext_store.specs.declared.limits.StoreFault.TheVariants as store_fault;
-ghost use Rattle.ext_store.specs.Stores.{AreStoreLimits, IsCloserOf, IsKeptBy, IsLaneOf, StillKeeps, StillKeepsBut, closers_below, fresh_store_lane};
+ghost use Rattle.ext_store.specs.Stores.{AreStoreLimits, IsCloserOf, IsKeptBy, IsLaneOf, StillKeeps, StillKeepsBut, cell_in, closers_below, fresh_store_lane};
 ghost use Rattle.ext_store.specs.Opening.{fault_count};
 ghost use Rattle.ext_store.specs.Frames.{Frame, stored_by};
 ghost use Rattle.ext_store.specs.Keys.{IsKeyRefused, OfKey, key_refusal};
@@ -126,12 +128,13 @@ impl<V: StoreValue + Drop> Store<V> {
     /// the last plus one, and the order of the numbers is the order of addition. Takes memory for the value.
     ///
     /// Refused, in this order and with the value handed back, as `Memory`, as `NumbersFull` where all numbers were
-    /// drawn, as `Contended`, and as `Unplaced`, where the number is lost. Own rule: JUnit numbers values as they are
-    /// stored.
+    /// drawn, as `Contended`, where other lanes have drawn at least as many as there are tries and a number is left, and as
+    /// `Unplaced`, where the number is lost. Own rule: JUnit numbers values as they are stored.
     #[tactic(auto, unfolding(crate::specs::Calls::KeepFails, crate::specs::Frames::Frame))]
     pub fn keep(&self, lane: &mut Lane<V>, value: V) -> Result<Kept, (V, KeepFault)>
         requires lane { IsLaneOf self.now.id lane.old }
         ensures answer { MatchResult result (KeepsAs value lane.old lane.new) (λ e. KeepsNothing self.now value lane.old lane.new e.0 e.1) }
+        ensures contended { ComesLast (value, KeepFault.Contended) self.now.tries lane.old.cells lane.new.cells (act_is.Keep 0) result }
         ensures lane { IsLaneOf self.now.id lane.new }
         ensures known { KeepsKnown lane.old.known lane.new.known }
         ensures faults { lane.new.faults ≡ lane.old.faults }
@@ -238,7 +241,8 @@ impl<V: StoreValue + Drop> Store<V> {
     ///
     /// Refused, in this order, for the key as `number` is, as `DirectoryFull` or `Memory`, which is no step on the cells, as
     /// `Busy` where a lane computes a value for the context, as `Closed`, as `Exhausted` where there were more than
-    /// 2^40 - 3 events there, and as `Contended`. The kept number is then handed back, and can still be put.
+    /// 2^40 - 3 events there, and as `Contended`, of events in this context under this key alone. The kept number is then
+    /// handed back, and can still be put.
     ///
     /// Javadoc `ExtensionContext.Store`, `put`. JUnit 5 answers nothing; the answer and the refusals are own rules.
     #[tactic(auto, unfolding(crate::specs::Frames::Frame))]
@@ -253,6 +257,7 @@ impl<V: StoreValue + Drop> Store<V> {
         requires context { context < length self.now.tree }
         requires kept { IsKeptBy lane.old kept }
         ensures answer { OfKey lane.old lane.new key.now (λ why. result ≡ Err (kept, why)) (λ number. Puts self.now context number kept lane.old.cells lane.new.cells result) }
+        ensures contended { OfKey lane.old lane.new key.now (λ why. result ≡ Err (kept, why)) (λ number. ComesLast (kept, Refusal.Contended) self.now.tries lane.old.cells lane.new.cells (act_is.Put (cell_in self.now number context) kept) result) }
         ensures handed_back { IfErr result (λ e. e.0 ≡ kept) }
         ensures known { lane.new.known ≡ lane.old.known }
         ensures faults { lane.new.faults ≡ lane.old.faults }
@@ -282,6 +287,7 @@ impl<V: StoreValue + Drop> Store<V> {
         requires key { key < 64 }
         requires kept { IsKeptBy lane.old kept }
         ensures answer { Puts self.now context key kept lane.old.cells lane.new.cells result }
+        ensures contended { ComesLast (kept, Refusal.Contended) self.now.tries lane.old.cells lane.new.cells (act_is.Put (cell_in self.now key context) kept) result }
         ensures handed_back { IfErr result (λ e. e.0 ≡ kept) }
         ensures known { lane.new.known ≡ lane.old.known }
         ensures faults { lane.new.faults ≡ lane.old.faults }
@@ -304,7 +310,7 @@ impl<V: StoreValue + Drop> Store<V> {
     ///
     /// Refused, in this order, for the key as `number` is, as `DirectoryFull` or `Memory`, which is no step on the cells, as
     /// `Busy` where a lane computes a value for the context, as `Closed`, as `Exhausted` where a number stands and there
-    /// were more than 2^40 - 3 events there, and as `Contended`.
+    /// were more than 2^40 - 3 events there, and as `Contended`, of events in this context under this key alone.
     ///
     /// Javadoc `ExtensionContext.Store`, `remove`, which answers the value; the refusals are own rules.
     #[tactic(auto, unfolding(crate::specs::Frames::Frame))]
@@ -317,6 +323,7 @@ impl<V: StoreValue + Drop> Store<V> {
         requires lane { IsLaneOf self.now.id lane.old }
         requires context { context < length self.now.tree }
         ensures answer { OfKey lane.old lane.new key.now (λ why. result ≡ Err why) (λ number. Removes self.now context number lane.old.cells lane.new.cells result) }
+        ensures contended { OfKey lane.old lane.new key.now (λ why. result ≡ Err why) (λ number. ComesLast Refusal.Contended self.now.tries lane.old.cells lane.new.cells (act_is.Remove (cell_in self.now number context)) result) }
         ensures known { lane.new.known ≡ lane.old.known }
         ensures faults { lane.new.faults ≡ lane.old.faults }
         ensures lane { IsLaneOf self.now.id lane.new }
@@ -344,6 +351,7 @@ impl<V: StoreValue + Drop> Store<V> {
         requires context { context < length self.now.tree }
         requires key { key < 64 }
         ensures answer { Removes self.now context key lane.old.cells lane.new.cells result }
+        ensures contended { ComesLast Refusal.Contended self.now.tries lane.old.cells lane.new.cells (act_is.Remove (cell_in self.now key context)) result }
         ensures known { lane.new.known ≡ lane.old.known }
         ensures faults { lane.new.faults ≡ lane.old.faults }
         ensures keys { lane.new.keys ≡ lane.old.keys }

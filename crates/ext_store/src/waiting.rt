@@ -14,12 +14,12 @@ ghost use Rattle.ext_store.specs.Calls.{Gets, IsFaultlessLook, KeepsAs, KeepsFau
 ghost use Rattle.ext_store.specs.Computing.{EndsFailed, Fails, Fills, HandsBack, IfComputed, IsFaultless, IsUnkept, Uses, without_factory};
 ghost use Rattle.ext_store.specs.Waiting.{ComputesAfterWaits, IsDecided, IsDecidedCompute, IsDecidedFault, IsDecidedLook};
 
-use crate::computed::hand_back;
+use crate::computed::{hand_back, run_factory};
 use crate::{Compute, KeepFault, Kept, Lane, Refusal, Store, StoreValue};
 use ext_cells::Claim;
 use ext_model::{ContextNo, Fault, KeyNo, Look};
 use ext_tree::Key;
-use std::sync::Wait;
+use std::sync::{Forever, Wait};
 
 impl<V: StoreValue + Drop> Store<V> {
     /// As `get`, but where a context that computes a value decides, it waits, parked, until a claim has ended, and looks
@@ -228,12 +228,34 @@ impl<V: StoreValue + Drop> Store<V> {
         ensures apart { IfOk result (λ number. (m : ℕ) → IsKeptBy lane.old m → m ≢ number) }
         ensures frame { Frame self.now.id [] lane.old lane.new }
     {
+        self.keep_again(rt.forever(), lane, value)
+    }
+
+    // The same by endless rounds, without the runtime: who holds a claim calls it, and can't sleep in it.
+    #[tactic(auto, unfolding(crate::specs::Calls::KeepFails, crate::specs::Frames::Frame))]
+    fn keep_again<R: Wait>(
+        &self,
+        rounds: Forever<'_, R>,
+        lane: &mut Lane<V>,
+        value: V,
+    ) -> Result<Kept, (V, KeepFault)>
+        requires lane { IsLaneOf self.now.id lane.old }
+        ensures answer { MatchResult result (KeepsAs value lane.old lane.new) (λ e. KeepsNothing self.now value lane.old lane.new e.0 e.1) }
+        ensures decided { IfErr result (λ e. IsDecidedFault e.1) }
+        ensures lane { IsLaneOf self.now.id lane.new }
+        ensures known { KeepsKnown lane.old.known lane.new.known }
+        ensures faults { lane.new.faults ≡ lane.old.faults }
+        ensures keys { lane.new.keys ≡ lane.old.keys }
+        ensures kept { StillKeeps lane.old lane.new }
+        ensures apart { IfOk result (λ number. (m : ℕ) → IsKeptBy lane.old m → m ≢ number) }
+        ensures frame { Frame self.now.id [] lane.old lane.new }
+    {
         self.shared.recall();
         let boxed = match Box::new(self.alloc, value) {
             Ok(boxed) => boxed,
             Err(failed) => return Err((failed.value, KeepFault::Memory)),
         };
-        let drawn = self.shared.wait_to_draw(rt, &mut lane.cells);
+        let drawn = self.shared.wait_to_draw(rounds, &mut lane.cells);
         self.place_drawn(&mut lane.notes, drawn, boxed)
     }
 
@@ -242,8 +264,10 @@ impl<V: StoreValue + Drop> Store<V> {
     /// factory has run. So it is never refused as `Busy` or `Contended`, nor is its value `Unkept` as `Contended`, and
     /// else it answers as `compute` does. Before its last attempt it may claim the context's cell and give it up several
     /// times, each time since a factory runs in an ancestor or other lanes were in the way; it holds no claim while it
-    /// sleeps, so that no two lanes wait for each other. The factory is called at most once. Takes memory for the value,
-    /// and may take it for a key that is new to the lane. It may wait: it promises its clauses if it returns.
+    /// sleeps, so that no two lanes wait for each other: what it calls with a claim in hand is handed no means to sleep.
+    /// The factory is called at most once. That its claim stands meanwhile, the last one, is tested: no clause can say it.
+    /// Takes memory for the value, and may take it for a key that is new to the lane. It may wait: it promises its clauses
+    /// if it returns.
     ///
     /// Javadoc `ExtensionContext.Store`, `getOrComputeIfAbsent`, which waits for a running factory too.
     #[tactic(auto, unfolding(crate::specs::Frames::Frame))]
@@ -342,21 +366,22 @@ impl<V: StoreValue + Drop> Store<V> {
             Ok(claim) => claim,
             Err(why) => return hand_back(why, factory),
         };
-        let value = match factory(name) {
+        let value = match run_factory(lane, &claim, name, factory) {
             Ok(value) => value,
-            Err(fault) => return self.wait_to_end_failed(rt, lane, claim, fault),
+            Err(fault) => return self.wait_to_end_failed(rt.forever(), lane, claim, fault),
         };
-        match self.wait_to_fill(rt, lane, claim, value) {
+        match self.wait_to_fill(rt.forever(), lane, claim, value) {
             Ok(number) => Compute::Computed { number },
             Err((value, cause)) => Compute::Unkept { value, cause },
         }
     }
 
     // Ends the claim of a factory that failed: keeps its fault where the store keeps faults, and else gives the claim up.
+    // This and what it calls hold a claim, so they are handed endless rounds and no runtime: they can't sleep.
     #[tactic(auto, unfolding(crate::specs::Frames::Frame))]
     fn wait_to_end_failed<R: Wait, F>(
         &self,
-        rt: &R,
+        rounds: Forever<'_, R>,
         lane: &mut Lane<V>,
         claim: Claim,
         fault: Fault,
@@ -371,7 +396,7 @@ impl<V: StoreValue + Drop> Store<V> {
             self.shared.abandon(&mut lane.cells, claim);
             return Compute::Failed(fault);
         }
-        match self.wait_to_fail(rt, lane, claim, fault) {
+        match self.wait_to_fail(rounds, lane, claim, fault) {
             Ok(number) => Compute::FaultKept { number },
             Err((fault, cause)) => Compute::FaultUnkept { fault, cause },
         }
@@ -381,7 +406,7 @@ impl<V: StoreValue + Drop> Store<V> {
     #[tactic(auto, unfolding(crate::specs::Frames::Frame))]
     fn wait_to_fail<R: Wait>(
         &self,
-        rt: &R,
+        rounds: Forever<'_, R>,
         lane: &mut Lane<V>,
         claim: Claim,
         fault: Fault,
@@ -395,7 +420,7 @@ impl<V: StoreValue + Drop> Store<V> {
         ensures faults { MatchResult result (λ number. Learns lane.old.faults lane.new.faults number fault) (λ e. (e.0 ≡ fault) × (lane.new.faults ≡ lane.old.faults)) }
         ensures frame { Frame self.now.id [] lane.old lane.new }
     {
-        match self.keep_fault_wait(rt, lane, fault) {
+        match self.keep_fault_wait(rounds, lane, fault) {
             Ok(number) => {
                 self.shared.fail(&mut lane.cells, claim, number);
                 Ok(number)
@@ -411,7 +436,7 @@ impl<V: StoreValue + Drop> Store<V> {
     #[tactic(auto, unfolding(crate::specs::Calls::KeepFails, crate::specs::Frames::Frame))]
     fn keep_fault_wait<R: Wait>(
         &self,
-        rt: &R,
+        rounds: Forever<'_, R>,
         lane: &mut Lane<V>,
         fault: Fault,
     ) -> Result<u32, (Fault, KeepFault)>
@@ -428,15 +453,16 @@ impl<V: StoreValue + Drop> Store<V> {
             Ok(boxed) => boxed,
             Err(failed) => return Err((failed.value, KeepFault::Memory)),
         };
-        let drawn = self.shared.wait_to_draw(rt, &mut lane.cells);
+        let drawn = self.shared.wait_to_draw(rounds, &mut lane.cells);
         self.place_drawn_fault(&mut lane.faults, drawn, boxed)
     }
 
-    // Keeps the value and stores its number in the claimed cell, or gives the claim up.
+    // Keeps the value and stores its number in the claimed cell, or gives the claim up. It holds a claim, so it is handed
+    // endless rounds and no runtime: it can't sleep.
     #[tactic(auto, unfolding(crate::specs::Frames::Frame))]
     fn wait_to_fill<R: Wait>(
         &self,
-        rt: &R,
+        rounds: Forever<'_, R>,
         lane: &mut Lane<V>,
         claim: Claim,
         value: V,
@@ -450,7 +476,7 @@ impl<V: StoreValue + Drop> Store<V> {
         ensures apart { IfOk result (λ number. (m : ℕ) → IsKeptBy lane.old m → m ≢ number) }
         ensures frame { Frame self.now.id [] lane.old lane.new }
     {
-        match self.keep_wait(rt, lane, value) {
+        match self.keep_again(rounds, lane, value) {
             Ok(kept) => {
                 let number = kept.number;
                 self.shared.fill(&mut lane.cells, claim, number);

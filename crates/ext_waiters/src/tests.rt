@@ -44,7 +44,11 @@ fn wait_for<R: Wait>(rt: &R, waiters: &Waiters, ended: &AtomicU64, round: u64) {
         if ended.load(Ordering::SeqCst) >= round {
             break;
         }
-        waiting.announce_or_sleep(rt);
+        if waiting.is_announced() {
+            waiting.sleep(rt);
+        } else {
+            waiting.announce();
+        }
     }
 }
 

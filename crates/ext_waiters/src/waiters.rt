@@ -1,5 +1,5 @@
 //! Who waits, and a wait that has begun.
-ghost use Rattle.std.specs.Prelude.{◌≡◌, false, not};
+ghost use Rattle.std.specs.Prelude.{◌≡◌, false, true};
 
 use crossbeam_utils::sync::{EventCount, Key};
 use std::marker::Model;
@@ -54,19 +54,34 @@ impl<'a> Model for Waiting<'a> {
 }
 
 impl<'a> Waiting<'a> {
-    /// What a lane does each time that it has tried in vain: it announces that it waits, and returns at once; or,
-    /// where it has announced that, and has tried once more since, it sleeps until somebody calls `wake_all`, if nobody
-    /// has since it announced itself. Takes no memory. It may wait: it promises its clause if it returns.
+    /// Whether the lane has announced that it waits. Takes no memory and never waits. Own rule.
+    pub fn is_announced(&self) -> bool
+        ensures { result ≡ self.now }
+    {
+        self.announced.is_some()
+    }
+
+    /// Announces that the lane waits: it is to try once more before it sleeps. Takes no memory, and takes no runtime, so it
+    /// does not sleep. Own rule.
+    pub fn announce(&mut self)
+        ensures { self.new ≡ true }
+    {
+        self.announced = Some(self.waiters.ended.prepare_wait());
+    }
+
+    /// Sleeps until somebody calls `wake_all`, if nobody has since the lane announced itself, which it has to have done: the
+    /// lane is to have tried once more since then. Takes no memory. It may wait: it promises its clause if it returns.
     ///
     /// That second try is why no wake is missed. Who ends something ends it first, and then reads whether anybody has
     /// announced himself. So either it finds this lane, and keeps it from sleeping or wakes it; or this lane announced
     /// itself later than that, and its second try finds that the thing has ended. Own rule.
-    pub fn announce_or_sleep<R: Wait>(&mut self, rt: &R)
-        ensures { self.new ≡ not self.old }
+    pub fn sleep<R: Wait>(&mut self, rt: &R)
+        requires { self.old ≡ true }
+        ensures { self.new ≡ false }
     {
         match self.announced.take() {
             Some(key) => key.wait(rt),
-            None => self.announced = Some(self.waiters.ended.prepare_wait()),
+            None => unreachable!(),
         }
     }
 }

@@ -1,4 +1,10 @@
 //! The command line, over clap.
+ghost use Rattle.std.specs.Prelude.{◌≡◌, ◌↔◌, codes, Some, IfOk, IsTrue};
+ghost use Rattle.clap.specs.Matches.{found_of, first_value, one_text};
+ghost use Rattle.clap.specs.Simple.{subcommand_rows_of};
+ghost use Rattle.clap.specs.Walk.{rows_of};
+ghost use Rattle.extrun.specs.Words.{AsksCommand, AsksFor, AsksId, AsksOfPlan, AsksRun, IsFlag, IsLaneCount};
+
 use crate::help::AFTER_HELP;
 use clap::error::ErrorKind;
 use clap::{Arg, ArgAction, ArgMatches, Command, Error, value_parser};
@@ -70,14 +76,11 @@ fn request_in<R: AllocGlobal + Print + Eprint>(
 }
 
 /// What the words that clap took ask for.
-fn asked_for(alloc: Global, matches: &ArgMatches<'_>) -> Result<Request, AllocError> {
+fn asked_for(alloc: Global, matches: &ArgMatches<'_>) -> Result<Request, AllocError>
+    ensures { IfOk result (AsksFor (subcommand_rows_of matches.now)) }
+{
     match matches.subcommand() {
-        Some(("id", id)) => {
-            let text = id.get_str("TEXT").unwrap_or("");
-            Ok(Request::Id(String::from_str(alloc, text)?))
-        }
-        Some(("check", check)) => Ok(plan_request(Task::Check, check)),
-        Some((_, run)) => Ok(plan_request(run_of(run), run)),
+        Some((name, words)) => asked_by(alloc, name, words),
         None => Ok(Request::Plan {
             task: run_on(LANES, false, false),
             explain: false,
@@ -85,17 +88,59 @@ fn asked_for(alloc: Global, matches: &ArgMatches<'_>) -> Result<Request, AllocEr
     }
 }
 
+/// What the command of this name asks for.
+fn asked_by(alloc: Global, name: &str, words: &ArgMatches<'_>) -> Result<Request, AllocError>
+    ensures { IfOk result (AsksCommand name.now (rows_of (found_of words.now))) }
+{
+    if name == "id" {
+        return id_request(alloc, words);
+    }
+    if name == "check" {
+        return Ok(plan_request(Task::Check, words));
+    }
+    Ok(plan_request(run_of(words), words))
+}
+
+/// To read the id that these words say.
+fn id_request(alloc: Global, words: &ArgMatches<'_>) -> Result<Request, AllocError>
+    ensures { IfOk result (AsksId (rows_of (found_of words.now))) }
+{
+    let text = words.get_str("TEXT").unwrap_or("");
+    Ok(Request::Id(String::from_str(alloc, text)?))
+}
+
 /// To run the plan as these words say.
-fn run_of(words: &ArgMatches<'_>) -> Task {
-    run_on(
-        words.get_one::<u8>("lanes").unwrap_or(LANES),
-        words.get_str("store") == Some("plain"),
-        words.get_flag("progress"),
-    )
+fn run_of(words: &ArgMatches<'_>) -> Task
+    ensures { AsksRun (rows_of (found_of words.now)) result }
+{
+    run_on(lanes_of(words), is_plain(words), is_told(words))
+}
+
+/// How many lanes there are: as many as the value of `--lanes` says, and 4 where it has none.
+fn lanes_of(words: &ArgMatches<'_>) -> u8
+    ensures { IsLaneCount (one_text (found_of words.now) (codes "lanes")) result }
+{
+    words.get_one::<u8>("lanes").unwrap_or(LANES)
+}
+
+/// Whether the plan is run on one thread: where the value of `--store` is `plain`.
+fn is_plain(words: &ArgMatches<'_>) -> bool
+    ensures { IsTrue result ↔ (first_value (found_of words.now) (codes "store") ≡ Some (codes "plain")) }
+{
+    words.get_str("store") == Some("plain")
+}
+
+/// Whether it is told how far the run is: where the flag `--progress` stands.
+fn is_told(words: &ArgMatches<'_>) -> bool
+    ensures { IsFlag (one_text (found_of words.now) (codes "progress")) result }
+{
+    words.get_flag("progress")
 }
 
 /// To run the plan on so many lanes, or as a plain run, and to tell how far the run is or not.
-fn run_on(lanes: u8, plain: bool, progress: bool) -> Task {
+fn run_on(lanes: u8, plain: bool, progress: bool) -> Task
+    ensures { result ≡ Task.Run (record { lanes = lanes; plain = plain }) progress }
+{
     let options = Options {
         lanes: usize::from(lanes),
         plain,
@@ -104,7 +149,9 @@ fn run_on(lanes: u8, plain: bool, progress: bool) -> Task {
 }
 
 /// To do this with a plan, explained or not.
-fn plan_request(task: Task, words: &ArgMatches<'_>) -> Request {
+fn plan_request(task: Task, words: &ArgMatches<'_>) -> Request
+    ensures { AsksOfPlan (rows_of (found_of words.now)) (λ asked. asked ≡ task) result }
+{
     Request::Plan {
         task,
         explain: words.get_flag("explain"),

@@ -36,7 +36,7 @@ fn outcome_of<R: Threads + Wait + Sync + Clock + Env + AllocGlobal + Input + Pri
     let outcome = match request_of(rt) {
         Request::Plan { task, explain } => return outcome_of_plan(rt, &mut writer, task, explain),
         Request::Id(text) => read_id(rt.alloc(), &mut writer, text.as_str()),
-        Request::Help => Ok(Summary { failed: false }),
+        Request::Help => Ok(Summary::done()),
         Request::Refused => Err(RequestFault::CommandLine),
         Request::Unwritten => Err(RequestFault::Run(RunFault::Write)),
         Request::Memory => Err(RequestFault::Run(RunFault::Memory)),

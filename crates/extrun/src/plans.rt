@@ -1,5 +1,7 @@
 //! What is asked of a plan: to run it or to check it, with its fault explained or not.
-ghost use Rattle.std.specs.Prelude.{◌≡◌, ◌≤◌};
+ghost use Rattle.std.specs.Prelude.{◌≡◌, ◌≤◌, IfOk, IfSome};
+ghost use Rattle.std.specs.Io.KnownBytes.{Appends};
+ghost use Rattle.extrun.specs.Tasks.{IsDone};
 
 use crate::command::Task;
 use crate::progress::Progress;
@@ -60,7 +62,9 @@ fn outcome_of_task<R: Threads + Wait + Sync + Clock + AllocGlobal + Eprint, I: R
     reader: &mut I,
     writer: &mut W,
     task: Task,
-) -> Result<Summary, RunFault> {
+) -> Result<Summary, RunFault>
+    ensures { IfOk result (λ summary. IfSome (I.remaining reader.old) (λ input. IsDone task input summary (Appends (W.contents writer.old) (W.contents writer.new)))) }
+{
     match task {
         Task::Run { options, progress } => {
             let options = in_range(options);
@@ -72,7 +76,7 @@ fn outcome_of_task<R: Threads + Wait + Sync + Clock + AllocGlobal + Eprint, I: R
         }
         Task::Check => {
             check(rt.alloc(), reader, writer)?;
-            Ok(Summary { failed: false })
+            Ok(Summary::done())
         }
     }
 }

@@ -13,7 +13,10 @@ split_seat-seat-requires c =
     (c.loop-number.invariant.table, c.requires.words, splits_lane c.args.shared.now.key _ _ c.loop-number.number 0 (ap (λ (x : View). x.given) v) (ap (λ (x : View). x.lane) v) (omega (arith, few, lanes)))
 
 pub invariant_of-push : goal.invariant_of-push
-invariant_of-push c = born_lane c.split_seat-seat.result.me.0 c.loop-number.first.me.0 c.args.shared.now.key c.loop-number.number (ap (λ z. z.0) c.split_seat-seat.ensures.4) c.loop-number.invariant.view
+invariant_of-push c =
+    let few = c.loop-number-test.true in
+    let lanes = c.requires.lanes.1 in
+    born_lane c.split_seat-seat.result.me.0 c.loop-number.first.me.0 c.args.shared.now.key c.loop-number.number (ap (λ z. z.0) c.split_seat-seat.ensures.4) c.loop-number.invariant.view (omega (arith, few, lanes))
 
 pub loop-number-preserved : goal.loop-number-preserved
 loop-number-preserved c =
@@ -31,4 +34,7 @@ loop-number-preserved c =
     }
 
 pub invariant_of-insert : goal.invariant_of-insert
-invariant_of-insert c = giver_lane c.loop-number.first.me.0 c.args.shared.now.key c.loop-number.number c.loop-number.invariant.view
+invariant_of-insert c =
+    let some = c.requires.lanes.0 in
+    let lanes = c.requires.lanes.1 in
+    giver_lane c.loop-number.first.me.0 c.args.shared.now.key c.loop-number.number c.loop-number.invariant.view (omega (arith, some, lanes))

@@ -2,8 +2,22 @@ use Rattle.std.proofs.Common.{◌≡◌, refl, sym, subst, ◌∙◌}
 use Rattle.std.proofs.Math.ListN.{set}
 use Rattle.ext_closing.specs.Lanes.{IsGreatestUnjoined}
 use Rattle.ext_closing.specs.Closing.{ClosesNumbers}
-use Rattle.ext_closing.proofs.InHand.{first_ends, first_left, names_none, only_first, still_kept, still_own}
+use Rattle.ext_closing.proofs.InHand.{first_ends, first_left, first_steps, names_none, only_first, still_kept, still_own}
 use Rattle.ext_closing.proofs.closing.close.Goals as goal
+
+-- ---- how many steps
+
+pub returns-in-Err-clause-steps : goal.returns-in-Err-clause-steps
+returns-in-Err-clause-steps g c =
+    first_steps c.args.lanes.now (set c.args.lanes.now 0 c.seal_all.new.lane) c.seal_all.new.lane c.index-lanes-first.result refl c.requires.lanes c.args.store.now _ c.in-Err.ensures.steps
+
+pub returns-in-Some-clause-steps : goal.returns-in-Some-clause-steps
+returns-in-Some-clause-steps g c =
+    first_steps c.args.lanes.now (set c.args.lanes.now 0 c.seal_all.new.lane) c.seal_all.new.lane c.index-lanes-first.result refl c.requires.lanes c.args.store.now _ c.in-Ok.ensures.steps
+
+pub returns-clause-steps : goal.returns-clause-steps
+returns-clause-steps g c =
+    first_steps c.args.lanes.now _ c.seal_all.new.lane c.index-lanes-first.result c.close_all.ensures.unchanged c.requires.lanes c.args.store.now _ c.in-Ok.ensures.steps
 
 -- ---- a key is refused
 

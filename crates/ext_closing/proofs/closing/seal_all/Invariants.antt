@@ -1,4 +1,4 @@
-use Rattle.std.proofs.Common.{◌≡◌, ◌≤◌, length}
+use Rattle.std.proofs.Common.{◌≡◌, ◌≤◌, ◌+◌, ◌*◌, length}
 use Rattle.ext_store.specs.Stores.{IsLaneOf, StillKeeps}
 use Rattle.ext_closing.specs.Steps.{SealedSoFar}
 use Rattle.ext_closing.proofs.closing.seal_all.Given as goal
@@ -7,6 +7,7 @@ abbrev pub invariant-loop-key : goal.invariant-loop-key
 invariant-loop-key g l = record {
   so_far : SealedSoFar l.store l.closer.context l.key l.fn.lane.cells l.lane.cells l.numbers;
   few : length l.numbers ≤ l.key;
+  steps : length l.lane.cells.view.fronts ≤ length l.fn.lane.cells.view.fronts + l.key * (l.store.tries + 1);
   known : l.lane.known ≡ l.fn.lane.known;
   faults : l.lane.faults ≡ l.fn.lane.faults;
   keys : l.lane.keys ≡ l.fn.lane.keys;

@@ -2,11 +2,11 @@ use Rattle.std.proofs.Common.{rules, ◌≡◌, ◌<◌, ◌-◌, ◌+◌, ℕ, 
 use Rattle.std.specs.Prelude.{All}
 use Rattle.std.proofs.lemmas.List.Elements.{All-push}
 use Rattle.atomic_table.specs.Table.{Me}
-use Rattle.ext_jobs.specs.Counter.{Hand, drawn, hirer, hired}
+use Rattle.ext_crew.specs.Counter.{Hand, drawn, hirer, hired}
 use Rattle.ext_crew.specs.Hands.{IsReady}
-use Rattle.ext_jobs.specs.declared.rule.Drawn.{Drawn}
-use Rattle.ext_jobs.specs.declared.slot.Slot.{Slot}
-use Rattle.ext_jobs.proofs.Draws.{hires}
+use Rattle.ext_crew.specs.declared.jobs.rule.Drawn.{Drawn}
+use Rattle.ext_crew.specs.declared.jobs.slot.Slot.{Slot}
+use Rattle.ext_crew.proofs.Draws.{hires}
 use Rattle.ext_crew.proofs.hand.make_hands.Goals as goal
 
 pub split_seat-requires : goal.split_seat-requires

@@ -1,10 +1,10 @@
 use Rattle.std.proofs.Common.{refl, ◌≡◌, ◌≤◌, ℕ, [], ◌∷◌, ◌++◌, List, length, ap, ◌∙◌, subst, sym, arith}
 use Rattle.std.specs.Prelude.{Some, slice_get}
 use Rattle.std.proofs.lemmas.List.{length_push}
-use Rattle.ext_jobs.specs.Counter.{HasDrawn, done_by}
+use Rattle.ext_crew.specs.Counter.{HasDrawn, done_by}
 use Rattle.ext_crew.specs.Dealing.{Share, Runs, InTurn}
-use Rattle.ext_jobs.specs.declared.done.Done.{Done}
-use Rattle.ext_jobs.proofs.Draws.{idle_draws}
+use Rattle.ext_crew.specs.declared.jobs.done.Done.{Done}
+use Rattle.ext_crew.proofs.Draws.{idle_draws}
 use Rattle.std.proofs.lemmas.Option.{slice_get_within}
 use Rattle.ext_crew.proofs.Turns.{turn-step}
 use Rattle.ext_crew.proofs.hand.work.Goals as goal

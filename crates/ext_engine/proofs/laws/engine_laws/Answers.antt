@@ -1,4 +1,5 @@
 use Rattle.ext_engine.specs.TreeRun.{setting_of}
+use Rattle.ext_engine.proofs.Failures.{unknown_to_all}
 use Rattle.ext_engine.proofs.Lanes.{keeps_lanes}
 use Rattle.ext_engine.proofs.Told.{grown}
 use Rattle.ext_engine.proofs.RunLaws.{one_result_each, runs_once, skipped_below, skips_exactly}
@@ -32,3 +33,8 @@ returns-clause-results_skipped g c = λ suite store locks before ran after r.
     let t = setting_of store locks (g.S.Suite.nodes suite) (g.S.Callbacks.registered suite) g.V.StoreValue.is_closeable in
     skipped_below store.tree t.suite r.tree r.depth ran
     (grown t (g.S.Suite.call_gives suite store) (g.S.Suite.action_gives suite) g.S.Action.CloseAction.close_gives r.tree r.fit r.depth 0 before ran after r.run)
+
+pub returns-clause-unknown : goal.returns-clause-unknown
+returns-clause-unknown g c = λ suite store locks depth top context number after none named.
+    unknown_to_all (setting_of store locks (g.S.Suite.nodes suite) (g.S.Callbacks.registered suite) g.V.StoreValue.is_closeable) (g.S.Suite.call_gives suite store) (g.S.Suite.action_gives suite)
+    g.S.Action.CloseAction.close_gives depth top context number after none named

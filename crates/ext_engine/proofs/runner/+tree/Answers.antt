@@ -1,4 +1,4 @@
-use Rattle.std.proofs.Common.{rules, ◌≡◌, ◌≤◌, ◌++◌, ◌-◌, ℕ, true, false, List, ◌∷◌, [], ◌∙◌, length, map, refl, arith, ap, subst, sym, append_assoc}
+use Rattle.std.proofs.Common.{rules, ◌≡◌, ◌≤◌, ◌++◌, ◌-◌, ℕ, true, false, true≢false, List, ◌∷◌, [], ◌∙◌, length, map, refl, arith, ap, subst, sym, append_assoc}
 use Rattle.std.specs.Prelude.{All, IfOk, IfErr, Result, Vec}
 use Rattle.std.specs.declared.alloc.Global.{Global}
 use Rattle.std.proofs.lemmas.List.{length-map, map-append}
@@ -8,12 +8,14 @@ use Rattle.ext_tree.specs.Paths.{IsPathOf}
 use Rattle.ext_store.specs.Stores.{StoreLane, IsLaneOf}
 use Rattle.ext_locks.specs.Views.{Lane}
 use Rattle.ext_crew.proofs.Runs.{run-weaker, run-keeps, turn-keeps, calls-from, meet_split, meet_join}
-use Rattle.ext_node_run.specs.declared.closers.Item.{Item}
-use Rattle.ext_node_run.specs.declared.fault.EngineFault.{EngineFault}
-use Rattle.ext_node_run.specs.declared.results.RanNode.{RanNode}
-use Rattle.ext_node_run.specs.Closers.{IsNode}
-use Rattle.ext_node_run.specs.Helpers.{ran_view}
+use Rattle.ext_engine.specs.declared.node.closers.Item.{Item}
+use Rattle.ext_engine.specs.declared.node.fault.EngineFault.{EngineFault}
+use Rattle.ext_engine.specs.declared.node.results.RanNode.{RanNode}
+use Rattle.ext_engine.specs.Closers.{IsNode}
+use Rattle.ext_engine.specs.Helpers.{ran_view}
 use Rattle.ext_engine.specs.TreeRun.{Lanes, setting_of, IsUsable, IsIdle, IsFault, TreeRun, TestRun, BodyMade}
+use Rattle.ext_engine.specs.Failing.{OnUnjoined}
+use Rattle.ext_engine.proofs.Failures.{Names, Below, Turn, test_err, no_value, the_fault, told_fault, besides_named, others_named, item_among, turn_named, below_named, own_named}
 use Rattle.ext_engine.proofs.Trees.{usable_part, usable-met, met_mine, usable-shown, usable-then, at_item, node_at, outcomes-meet, ran-none, ran-push, tree-of-test, tree-of-container, body-of}
 use Rattle.ext_engine.proofs.runner.+tree.Goals as goal
 
@@ -48,10 +50,11 @@ TreeRunner::run_beside-returns-in-Ok g t c = record {
     (
         let r = c.args.self.now.nodes in
         let Tree : ℕ → Lanes g.row.V.Denot → List _ → Lanes g.row.V.Denot → Type 0 = TreeRun (setting_of r.store.now r.locks.now (g.S.Suite.nodes r.suite.now) (g.S.Callbacks.registered r.suite.now) g.V.StoreValue.is_closeable) (g.S.Suite.call_gives r.suite.now r.store.now) (g.S.Suite.action_gives r.suite.now) g.S.Action.CloseAction.close_gives c.args.depth in
+        let Named : ℕ → Lanes g.row.V.Denot → ℕ → ℕ → Type 0 = λ n z. Names (setting_of r.store.now r.locks.now (g.S.Suite.nodes r.suite.now) (g.S.Callbacks.registered r.suite.now) g.V.StoreValue.is_closeable) (g.S.Suite.call_gives r.suite.now r.store.now) (g.S.Suite.action_gives r.suite.now) g.S.Action.CloseAction.close_gives c.args.depth n z in
         run-weaker _ _ c.in-Ok.ensures.run (λ job u o v r.
-        let X : Lanes g.row.V.Denot → Lanes g.row.V.Denot → Type 0 = λ s z. IfOk o (λ w. Tree r.item.node s (map ran_view w.items) z) in
+        let X : Lanes g.row.V.Denot → Lanes g.row.V.Denot → Type 0 = λ s z. IfOk o (λ w. Tree r.item.node s (map ran_view w.items) z) × IfErr o (OnUnjoined (Named r.item.node z)) in
         let call : X u v = calls-from _ _ X r.calls (search rules) in
-        let I : ℕ → Type 0 = λ n. IfOk o (λ w. Tree n u (map ran_view w.items) v) in
+        let I : ℕ → Type 0 = λ n. IfOk o (λ w. Tree n u (map ran_view w.items) v) × IfErr o (OnUnjoined (Named n v)) in
         subst I (sym (node_at c.args.items.items job r.item r.item_is)) call)
         ),
     (
@@ -61,6 +64,7 @@ TreeRunner::run_beside-returns-in-Ok g t c = record {
         let X : Lanes g.row.V.Denot → Lanes g.row.V.Denot → Type 0 = λ s z. P o in
         calls-from _ _ X r.calls (search rules)) c.in-Ok.ensures.run
         ),
+    tt,
     tt,
   );
 }
@@ -88,10 +92,10 @@ TreeRunner::run_body-returns g t c =
     let body = body-of ts makes actions gives (TreeRun ts makes actions gives c.args.depth) c.args.node (map (λ i. i.node) c.args.children.beside.items) (map (λ i. i.node) c.args.children.in_turn.items)
     (record { first = c.args.lanes.now; second = c.args.lock_lanes.now }) c.fork.new.lanes (record { first = c.run_beside.new.lanes; second = c.run_beside.new.lock_lanes }) c.join.new.lanes (record { first = c.run_in_turn.new.lanes; second = c.run_in_turn.new.lock_lanes })
     c.in_ok-outcomes.outcomes.items (map ran_view c.in_ok-others.others.items) (map ran_view c.append.new.self.items) (map ran_view c.in_ok-ran.ran.items) (length c.args.children.beside.items) c.fork.ensures.forked c.join.ensures.joined size c.requires.children.concurrent c.requires.children.same_thread
-    c.in_ok-outcomes.ensures.left.2 c.in_ok-ran.ensures.all.0 c.in_ok-ran.ensures.all.1 c.in_ok-others.ensures.left.2 views in
+    (run-weaker _ _ c.in_ok-outcomes.ensures.left.2 (λ job u o v r. r.0)) c.in_ok-ran.ensures.all.0 c.in_ok-ran.ensures.all.1 c.in_ok-others.ensures.left.2 views in
     let met = met_mine r.store.now c.args.lanes.now c.fork.new.lanes c.fork.ensures.forked.only_meet in
     let back = met_mine r.store.now c.run_beside.new.lanes c.join.new.lanes c.join.ensures.joined.only_meet in
-    record { left = (c.in_ok-others.ensures.left.0, c.in_ok-others.ensures.left.1 ∙ (back.1 ∙ (c.in_ok-outcomes.ensures.left.1 ∙ met.1)), record { made = λ _. body; skipped = λ bad. absurd (let e : c.args.go ≡ true = search rules in let f : true ≡ false = sym e ∙ bad in cc) }, tt) }
+    record { left = (c.in_ok-others.ensures.left.0, c.in_ok-others.ensures.left.1 ∙ (back.1 ∙ (c.in_ok-outcomes.ensures.left.1 ∙ met.1)), record { made = λ _. body; skipped = λ bad. absurd (let e : c.args.go ≡ true = search rules in true≢false (sym e ∙ bad)) }, tt, tt) }
 
 pub TreeRunner::run_in_turn-loop-item-init : goal.TreeRunner::run_in_turn-loop-item-init
 TreeRunner::run_in_turn-loop-item-init g t c =
@@ -132,8 +136,9 @@ TreeRunner::run_node-returns-then-is_test g t c =
     let z : Lanes g.row.V.Denot = record { first = c.run_test.new.lanes; second = c.run_test.new.lock_lanes } in
     let deep : 1 ≤ c.args.depth = (let e = ap (λ ids. length (id_at ids c.args.item.node)) c.tree.ensures in omega (arith, c.requires.item.depth_is, c.path-path.ensures.depth, c.path-path.ensures.few, e)) in
     let Node : Vec RanNode Global → Type 0 = λ v. (path : List ℕ) × IsPathOf r.store.now.tree c.args.item.node path × TestRun ts makes actions gives c.args.item.node path s (map ran_view v.items) z in
+    let test_names = test_err ts makes actions gives c.args.depth c.args.item.node z c.run_test.result deep c.run_test.ensures.fault c.run_test.ensures.unjoined in
     let Below : Vec RanNode Global → Type 0 = λ v. TreeRun ts makes actions gives c.args.depth c.args.item.node s (map ran_view v.items) z in
-    record { left = (c.run_test.ensures.lanes, c.run_test.ensures.count, IfOk-weaker c.run_test.result Node Below (λ v run. tree-of-test ts makes actions gives c.args.depth c.args.item.node s (map ran_view v.items) z deep (search rules) run) c.run_test.ensures.run, c.run_test.ensures.fault) }
+    record { left = (c.run_test.ensures.lanes, c.run_test.ensures.count, IfOk-weaker c.run_test.result Node Below (λ v run. tree-of-test ts makes actions gives c.args.depth c.args.item.node s (map ran_view v.items) z deep (search rules) run) c.run_test.ensures.run, c.run_test.ensures.fault, test_names) }
 
 pub TreeRunner::run_node-returns : goal.TreeRunner::run_node-returns
 TreeRunner::run_node-returns g t c =
@@ -177,5 +182,120 @@ TreeRunner::run_node-returns g t c =
           },
         ),
         tt,
+        tt,
+      );
+    }
+
+pub TreeRunner::run_body-returns-in_err-ran : goal.TreeRunner::run_body-returns-in_err-ran
+TreeRunner::run_body-returns-in_err-ran g t c =
+    let r = c.args.self.now.nodes in
+    let ts = setting_of r.store.now r.locks.now (g.S.Suite.nodes r.suite.now) (g.S.Callbacks.registered r.suite.now) g.V.StoreValue.is_closeable in
+    let makes = g.S.Suite.call_gives r.suite.now r.store.now in
+    let actions = g.S.Suite.action_gives r.suite.now in
+    let gives = g.S.Action.CloseAction.close_gives in
+    let after : Lanes g.row.V.Denot = record { first = c.run_beside.new.lanes; second = c.run_beside.new.lock_lanes } in
+    let why = c.in_err-ran.field-0.0 in
+    let told = c.from_residual-in_err-ran.ensures in
+    let met = met_mine r.store.now c.args.lanes.now c.fork.new.lanes c.fork.ensures.forked.only_meet in
+    let size = length-map c.args.children.beside.items (λ (i : Item). i.node) in
+    let named = besides_named ts makes actions gives c.args.depth c.args.node (map (λ i. i.node) c.args.children.beside.items) (record { first = c.fork.new.lanes; second = c.args.lock_lanes.now }) after c.in_ok-outcomes.outcomes.items (length c.args.children.beside.items) why
+    size c.requires.children.concurrent c.in_ok-outcomes.ensures.left.2 c.in_ok-outcomes.ensures.left.3 c.in_err-ran.ensures.fault in
+    record {
+      left = (
+        c.in_ok-outcomes.ensures.left.0,
+        c.in_ok-outcomes.ensures.left.1 ∙ met.1,
+        no_value _ c.from_residual-in_err-ran.result why told,
+        the_fault (IsFault ts actions gives) c.from_residual-in_err-ran.result why told (told_fault ts makes actions gives c.in_ok-outcomes.outcomes.items why c.in_ok-outcomes.ensures.left.3 c.in_err-ran.ensures.fault),
+        the_fault (OnUnjoined (Below ts makes actions gives c.args.depth c.args.node after)) c.from_residual-in_err-ran.result why told named,
+      );
+    }
+
+pub TreeRunner::run_body-returns-in_err-others : goal.TreeRunner::run_body-returns-in_err-others
+TreeRunner::run_body-returns-in_err-others g t c =
+    let r = c.args.self.now.nodes in
+    let ts = setting_of r.store.now r.locks.now (g.S.Suite.nodes r.suite.now) (g.S.Callbacks.registered r.suite.now) g.V.StoreValue.is_closeable in
+    let makes = g.S.Suite.call_gives r.suite.now r.store.now in
+    let actions = g.S.Suite.action_gives r.suite.now in
+    let gives = g.S.Action.CloseAction.close_gives in
+    let after : Lanes g.row.V.Denot = record { first = c.run_in_turn.new.lanes; second = c.run_in_turn.new.lock_lanes } in
+    let why = c.in_err-others.field-0.0 in
+    let told = c.from_residual-in_err-others.ensures in
+    let met = met_mine r.store.now c.args.lanes.now c.fork.new.lanes c.fork.ensures.forked.only_meet in
+    let back = met_mine r.store.now c.run_beside.new.lanes c.join.new.lanes c.join.ensures.joined.only_meet in
+    let named = others_named ts makes actions gives c.args.depth c.args.node (map (λ i. i.node) c.args.children.in_turn.items) after why c.requires.children.same_thread c.in_err-others.ensures.left.4 in
+    record {
+      left = (
+        c.in_err-others.ensures.left.0,
+        c.in_err-others.ensures.left.1 ∙ (back.1 ∙ (c.in_ok-outcomes.ensures.left.1 ∙ met.1)),
+        no_value _ c.from_residual-in_err-others.result why told,
+        the_fault (IsFault ts actions gives) c.from_residual-in_err-others.result why told c.in_err-others.ensures.left.3,
+        the_fault (OnUnjoined (Below ts makes actions gives c.args.depth c.args.node after)) c.from_residual-in_err-others.result why told named,
+      );
+    }
+
+pub TreeRunner::run_in_turn-returns-in_err-below : goal.TreeRunner::run_in_turn-returns-in_err-below
+TreeRunner::run_in_turn-returns-in_err-below g t c =
+    let r = c.args.self.now.nodes in
+    let ts = setting_of r.store.now r.locks.now (g.S.Suite.nodes r.suite.now) (g.S.Callbacks.registered r.suite.now) g.V.StoreValue.is_closeable in
+    let makes = g.S.Suite.call_gives r.suite.now r.store.now in
+    let actions = g.S.Suite.action_gives r.suite.now in
+    let gives = g.S.Action.CloseAction.close_gives in
+    let after : Lanes g.row.V.Denot = record { first = c.run_node.new.lanes; second = c.run_node.new.lock_lanes } in
+    let why = c.in_err-below.field-0.0 in
+    let told = c.from_residual.ensures in
+    let list : c.loop-item.yielded ++ c.in-Some.item ∷ c.next.new.self.rest.items ≡ c.args.items.items = search rules in
+    let nodes = map (λ (i : Item). i.node) c.args.items.items in
+    let named = turn_named ts makes actions gives c.args.depth nodes c.in-Some.item.node after why (item_among c.loop-item.yielded c.next.new.self.rest.items c.args.items.items c.in-Some.item list) c.in_err-below.ensures.left.4 in
+    record {
+      left = (
+        c.in_err-below.ensures.left.0,
+        c.in_err-below.ensures.left.1 ∙ c.loop-item.invariant.count,
+        no_value _ c.from_residual.result why told,
+        the_fault (IsFault ts actions gives) c.from_residual.result why told c.in_err-below.ensures.left.3,
+        the_fault (OnUnjoined (Turn ts makes actions gives c.args.depth nodes after)) c.from_residual.result why told named,
+      );
+    }
+
+pub TreeRunner::run_node-returns-in_err-below : goal.TreeRunner::run_node-returns-in_err-below
+TreeRunner::run_node-returns-in_err-below g t c =
+    let r = c.args.self.now.nodes in
+    let ts = setting_of r.store.now r.locks.now (g.S.Suite.nodes r.suite.now) (g.S.Callbacks.registered r.suite.now) g.V.StoreValue.is_closeable in
+    let makes = g.S.Suite.call_gives r.suite.now r.store.now in
+    let actions = g.S.Suite.action_gives r.suite.now in
+    let gives = g.S.Action.CloseAction.close_gives in
+    let after : Lanes g.row.V.Denot = record { first = c.run_body.new.lanes; second = c.run_body.new.lock_lanes } in
+    let why = c.in_err-below.field-0.0 in
+    let told = c.from_residual-in_err-below.ensures in
+    let named = below_named ts makes actions gives c.args.depth c.args.item.node after why c.in_ok-begun.ensures.children.1 c.in_err-below.ensures.left.4 in
+    record {
+      left = (
+        c.in_err-below.ensures.left.0,
+        c.in_err-below.ensures.left.1 ∙ c.open_container.ensures.count,
+        no_value _ c.from_residual-in_err-below.result why told,
+        the_fault (IsFault ts actions gives) c.from_residual-in_err-below.result why told c.in_err-below.ensures.left.3,
+        the_fault (OnUnjoined (Names ts makes actions gives c.args.depth c.args.item.node after)) c.from_residual-in_err-below.result why told named,
+      );
+    }
+
+pub TreeRunner::run_node-returns-in_err-own : goal.TreeRunner::run_node-returns-in_err-own
+TreeRunner::run_node-returns-in_err-own g t c =
+    let r = c.args.self.now.nodes in
+    let ts = setting_of r.store.now r.locks.now (g.S.Suite.nodes r.suite.now) (g.S.Callbacks.registered r.suite.now) g.V.StoreValue.is_closeable in
+    let makes = g.S.Suite.call_gives r.suite.now r.store.now in
+    let actions = g.S.Suite.action_gives r.suite.now in
+    let gives = g.S.Action.CloseAction.close_gives in
+    let body : Lanes g.row.V.Denot = record { first = c.run_body.new.lanes; second = c.run_body.new.lock_lanes } in
+    let after : Lanes g.row.V.Denot = record { first = c.close_container.new.lanes; second = c.run_body.new.lock_lanes } in
+    let why = c.in_err-own.field-0.0 in
+    let told = c.from_residual-in_err-own.ensures in
+    let kept = c.in_ok-below.ensures.left.0 in
+    let named = own_named ts makes actions gives c.args.depth c.args.item.node after why c.in_ok-begun.ensures.children.1 c.in_err-own.ensures.unjoined in
+    record {
+      left = (
+        usable-then r.store.now r.locks.now body after kept c.close_container.ensures.count refl (c.close_container.ensures.own_lanes, kept.idle),
+        c.close_container.ensures.count ∙ c.in_ok-below.ensures.left.1 ∙ c.open_container.ensures.count,
+        no_value _ c.from_residual-in_err-own.result why told,
+        the_fault (IsFault ts actions gives) c.from_residual-in_err-own.result why told c.in_err-own.ensures.fault,
+        the_fault (OnUnjoined (Names ts makes actions gives c.args.depth c.args.item.node after)) c.from_residual-in_err-own.result why told named,
       );
     }

@@ -1,6 +1,6 @@
 use Rattle.std.proofs.Common.{◌≡◌, ◌+◌, ◌*◌, ◌++◌, length, map}
 use Rattle.ext_engine.specs.TreeRun.{setting_of, IsUsable, TreeRun, RanInTurn}
-use Rattle.ext_node_run.specs.Helpers.{ran_view}
+use Rattle.ext_engine.specs.Helpers.{ran_view}
 use Rattle.ext_engine.proofs.runner.+tree.Given as goal
 
 abbrev pub decreases-TreeRunner::run_beside-run : goal.decreases-TreeRunner::run_beside-run

@@ -1,6 +1,6 @@
 use Rattle.std.proofs.Common.{rules, ◌≡◌, length, map, vec_len, arith, refl, subst}
 use Rattle.ext_tree.specs.Trees.{IsTree}
-use Rattle.ext_node_run.specs.Helpers.{ran_view}
+use Rattle.ext_engine.specs.Helpers.{ran_view}
 use Rattle.ext_engine.specs.TreeRun.{setting_of}
 use Rattle.ext_engine.proofs.Roots.{root-item, ran-placed, skipped-count}
 use Rattle.ext_engine.proofs.RunLaws.{ran_within}

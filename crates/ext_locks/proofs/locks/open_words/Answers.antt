@@ -1,6 +1,6 @@
-use Rattle.std.proofs.Common.{◌+◌, arith, sym, refl, ap, length, ◌∙◌, subst}
+use Rattle.std.proofs.Common.{◌≡◌, arith, sym, refl, ap, ◌∙◌, subst}
 use Rattle.std.proofs.lemmas.List.{length-map}
-use Rattle.ext_locks.specs.Opening.{AreLimits}
+use Rattle.ext_locks.specs.Opening.{AreLimits, fresh_lanes}
 use Rattle.ext_locks.proofs.Texts.{names_count, sorted_texts}
 use Rattle.ext_locks.proofs.locks.open_words.Goals as goal
 
@@ -17,15 +17,15 @@ returns c =
       different = c.requires.different;
       same_names = c.in_ok-names.ensures.names;
       sorted = sorted_texts c.in_ok-names.names.items c.in_ok-names.ensures.sorted;
-      same_lanes = ap (λ x. x.lanes) c.in_ok-table.ensures.1;
+      same_lanes = ap (λ t. t.shared.key.lanes) c.of.ensures ∙ ap (λ x. x.lanes) c.in_ok-table.ensures.1;
       same_tries = refl;
-      lanes_made = c.in_ok-made.ensures.0;
+      lanes_made = subst (λ t. c.in_ok-made.made.items ≡ fresh_lanes t.shared.table_id c.args.lanes c.args.lanes) (sym c.of.ensures) c.in_ok-made.ensures.0;
     }
 
 pub invariant_of-result : goal.invariant_of-result
 invariant_of-result c =
-    let key = c.in_ok-table.ensures.1 in
-    let words = c.in_ok-table.ensures.0 in
+    let key = ap (λ t. t.shared.key) c.of.ensures ∙ c.in_ok-table.ensures.1 in
+    let words = ap (λ t. t.shared.table_id.words) c.of.ensures ∙ c.in_ok-table.ensures.0 in
     let locks = ap (λ x. x.locks) key in
     let names = c.len-locks.ensures in
     let same = names_count c.args.names.now c.in_ok-names.names.items c.in_ok-names.ensures.names in

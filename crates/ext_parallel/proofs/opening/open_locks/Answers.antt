@@ -2,8 +2,8 @@ use Rattle.std.proofs.Common.{rules, ◌≡◌, ◌≢◌, ◌∙◌, ℕ, List,
 use Rattle.std.specs.Prelude.{AllPairs}
 use Rattle.std.specs.Borrow.{Bor}
 use Rattle.ext_locks.specs.Names.{IsFirstTwice}
-use Rattle.ext_plan_model.specs.Plans.{nodes_view}
-use Rattle.ext_plan_model.proofs.Names.{lock_names-differ}
+use Rattle.ext_plan.specs.Plans.{nodes_view}
+use Rattle.ext_plan.proofs.Names.{lock_names-differ}
 use Rattle.ext_parallel.proofs.Names.{not_twice}
 use Rattle.ext_parallel.proofs.opening.open_locks.Goals as goal
 

@@ -1,15 +1,15 @@
 use Rattle.std.proofs.Common.{◌≡◌, ◌∙◌, ℕ, ◌<◌, All, List, length, map, ap, sym, subst}
 use Rattle.std.proofs.lemmas.List.Sorted.{Contains-permutation}
-use Rattle.ext_plan_model.specs.Locks.{lock_names}
+use Rattle.ext_plan.specs.Locks.{lock_names}
 use Rattle.ext_lifecycle.specs.Results.{told}
-use Rattle.ext_plan_model.specs.Plans.{PlanText, node_view, plan_view}
+use Rattle.ext_plan.specs.Plans.{PlanText, node_view, plan_view}
 use Rattle.ext_store.specs.Stores.{StoreLane}
-use Rattle.ext_store_steps.specs.declared.stored_value.StoredValue.{StoredValue}
+use Rattle.ext_parallel.specs.declared.steps.stored_value.StoredValue.{StoredValue}
 use Rattle.std.proofs.lemmas.List.{length-map}
-use Rattle.ext_plan_model.specs.PlanCalls.{registered}
+use Rattle.ext_plan.specs.PlanCalls.{registered}
 use Rattle.ext_engine.specs.TreeRun.{IsFit, IsUsable, Lanes, TreeRun, all_results, setting_of}
-use Rattle.ext_suite.specs.PlanSuites.{suite_of}
-use Rattle.ext_suite.proofs.Fitting.{tree_fits}
+use Rattle.ext_parallel.specs.PlanSuites.{suite_of}
+use Rattle.ext_parallel.proofs.Fitting.{tree_fits}
 use Rattle.ext_parallel.specs.ParallelRun.{MakesCall, IsAction, ClosesValue}
 use Rattle.ext_parallel.proofs.InTree.{if_err, if_ok, results_within}
 use Rattle.ext_parallel.proofs.Refusals.{refused_run}

@@ -2,9 +2,9 @@ use Rattle.std.proofs.Common.{◌≡◌, ◌∙◌, ◌<◌, [], ◌∷◌, leng
 use Rattle.std.proofs.lemmas.List.{length-map}
 use Rattle.ext_lifecycle.specs.FaultTexts.{results_view}
 use Rattle.ext_tree.specs.Trees.{IsTree}
-use Rattle.ext_plan_model.specs.Laws.{ids_of_nodes}
-use Rattle.ext_plan_model.specs.Plans.{node_view, nodes_view, plan_view}
-use Rattle.ext_plan_model.proofs.NodeIds.{ids-map}
+use Rattle.ext_plan.specs.Laws.{ids_of_nodes}
+use Rattle.ext_plan.specs.Plans.{node_view, nodes_view, plan_view}
+use Rattle.ext_plan.proofs.NodeIds.{ids-map}
 use Rattle.ext_plain.specs.Helpers.{state_view}
 use Rattle.ext_plain.specs.PlainRun.{RunState, node_run, plain_run_by, run_opening, skipped_from, ArePlain, HasNoFailed}
 use Rattle.ext_plain.specs.ValueStates.{with_memory}
@@ -17,6 +17,7 @@ returns g c =
     let nodes = c.args.plan.now.nodes.items in
     let plan = plan_view c.args.plan.now in
     let ran = c.in_ok-run_node.ensures.run.each (0 ∷ []) (refl, refl) [] in
+    let lacked = c.run_node.new.self.caller.lacked in
     let memory = ran.0 in
     let results = results_view c.in_ok-skipped.field-0.items in
     let skipped = c.in_ok-skipped.ensures ∙ ap (λ ns. skipped_from 0 (nodes_view ns)) c.as_slice-2.ensures.value in
@@ -27,13 +28,14 @@ returns g c =
     let is : results_view c.run_node.new.self.results.items ≡ plain_run_by memory plan =
     ap (λ (r : RunState). r.results) (ran.1 ∙ ap (λ p. node_run p c.len-levels.result (0 ∷ []) opening) c.of.ensures.plan ∙ ap (λ n. node_run plan n (0 ∷ []) opening) levels ∙ ap (node_run plan (length plan.nodes) (0 ∷ [])) opened) in
     let tree_is : c.args.tree.now ≡ ids_of_nodes plan.nodes = c.requires.nodes ∙ ids-map nodes in
-    let are : ArePlain plan (results_view c.run_node.new.self.results.items) = record {
+    let are : ArePlain plan (results_view c.run_node.new.self.results.items) lacked = record {
       memory = memory;
       exact = is;
       planned = λ unfailed. is ∙ runs_as_planned memory plan (subst IsTree tree_is c.requires.tree) (subst HasNoFailed is unfailed);
+      unlacked = λ none. is ∙ ap (λ m. plain_run_by m plan) (ran.2.nothing none refl);
     } in
     let count : length plan.nodes ≡ length c.args.tree.now = length-map nodes node_view ∙ sym (ap length c.requires.nodes ∙ length-map nodes (λ n. n.id)) in
     record {
       results = are;
-      in_tree = subst (λ n. All (λ r. r.node < n) c.run_node.new.self.results.items) count (results_within plan c.run_node.new.self.results.items are);
+      in_tree = subst (λ n. All (λ r. r.node < n) c.run_node.new.self.results.items) count (results_within plan c.run_node.new.self.results.items lacked are);
     }

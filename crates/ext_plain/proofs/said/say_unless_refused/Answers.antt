@@ -1,6 +1,6 @@
 use Rattle.ext_plain.proofs.said.say_unless_refused.Goals as goal
-use Rattle.ext_steps.specs.Calls.{call_view}
-use Rattle.ext_steps.specs.Verdicts.{unless_refused}
+use Rattle.ext_plan.specs.Calls.{call_view}
+use Rattle.ext_plan.specs.Verdicts.{unless_refused}
 
 pub returns : goal.returns
 returns c =

@@ -1,7 +1,7 @@
 use Rattle.std.proofs.Common.{◌≡◌, ◌∙◌, is_some, ap, sym, arith, append_assoc}
 use Rattle.std.specs.Prelude.{option_map}
-use Rattle.ext_plan_model.specs.Plans.{node_view, steps_view}
-use Rattle.ext_plan_model.proofs.Lists.{map-push, map-drop}
+use Rattle.ext_plan.specs.Plans.{node_view, steps_view}
+use Rattle.ext_plan.proofs.Lists.{map-push, map-drop}
 use Rattle.ext_lifecycle.specs.Results.{skipped_result, with_fault_told}
 use Rattle.ext_lifecycle.specs.FaultTexts.{fault_text, result_view}
 use Rattle.ext_plain.proofs.Outcomes.{is_some-map}

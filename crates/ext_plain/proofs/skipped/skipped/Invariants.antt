@@ -1,5 +1,5 @@
 use Rattle.std.proofs.Common.{◌≡◌, ◌++◌, drop}
-use Rattle.ext_plan_model.specs.Plans.{nodes_view}
+use Rattle.ext_plan.specs.Plans.{nodes_view}
 use Rattle.ext_lifecycle.specs.FaultTexts.{results_view}
 use Rattle.ext_plain.specs.PlainRun.{skipped_from}
 use Rattle.ext_plain.proofs.skipped.skipped.Given as goal

@@ -1,7 +1,7 @@
-use Rattle.std.proofs.Common.{Bool, map, sym, subst}
+use Rattle.std.proofs.Common.{Bool, true, map, refl, sym, subst}
 use Rattle.ext_lifecycle.specs.FaultTexts.{results_view}
 use Rattle.ext_lifecycle.specs.Results.{told}
-use Rattle.ext_plan_model.specs.Plans.{plan_view}
+use Rattle.ext_plan.specs.Plans.{plan_view}
 use Rattle.ext_run.specs.declared.fault.RunFault.TheVariants as faults
 use Rattle.ext_run.specs.Answers.{IsRunBy}
 use Rattle.ext_run.specs.Helpers.{IsPlanFault}
@@ -21,15 +21,15 @@ returns-in_err-plain_results g c = record {
 
 pub returns-then-options : goal.returns-then-options
 returns-then-options g c =
-    let results = c.in_ok-plain_results.field-0.items in
-    let P : Bool → Type 0 = λ plain. IsRunBy plain c.args.options.lanes (plan_view c.args.plan.now) (results_view results) in
+    let told = c.in_ok-plain_results.field-0 in
+    let P : Bool → Type 0 = λ plain. IsRunBy plain c.args.options.lanes (plan_view c.args.plan.now) (results_view told.results.items) told.lacked in
     record { run = subst P (sym c.if-options.true) c.in_ok-plain_results.ensures.run; in_tree = c.in_ok-plain_results.ensures.in_tree; fault = tt }
 
 pub returns-in-Ok-clause-run : goal.returns-in-Ok-clause-run
 returns-in-Ok-clause-run g c =
     let results = c.in-Ok.results.items in
-    let P : Bool → Type 0 = λ plain. IsRunBy plain c.args.options.lanes (plan_view c.args.plan.now) (results_view results) in
-    subst P (sym c.if-options.false) (record { ran = map told results; run = c.in-Ok.ensures.run; told = with_texts results })
+    let P : Bool → Type 0 = λ plain. IsRunBy plain c.args.options.lanes (plan_view c.args.plan.now) (results_view results) true in
+    subst P (sym c.if-options.false) (record { ran = map told results; run = c.in-Ok.ensures.run; told = with_texts results }, refl)
 
 pub returns-in-Ok-clause-fault : goal.returns-in-Ok-clause-fault
 returns-in-Ok-clause-fault g c = tt

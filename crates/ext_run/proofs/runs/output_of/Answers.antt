@@ -9,11 +9,11 @@ report_text-requires g c = record { in_tree = subst (All (λ r. r.node < length 
 
 pub returns-clause-ok : goal.returns-clause-ok
 returns-clause-ok g c =
-    let results = results_view c.in-Ok.results.items in
+    let results = results_view c.in-Ok.told.results.items in
     let first : results_view c.as_slice.result.now ≡ results = ap results_view c.as_slice.ensures.value in
     let again : results_view c.as_slice-2.result.now ≡ results = ap results_view c.as_slice-2.ensures.value in
     record {
       results = results;
       run = c.in-Ok.ensures.run;
-      report_is = answer_is _ _ _ _ (c.in_ok-report.ensures.text ∙ ap (report_of c.in_ok-tree.tree) first ∙ ap (λ ids. report_of ids results) c.in_ok-tree.ensures) (c.any_failed.ensures ∙ ap any_failed again);
+      report_is = answer_is _ _ _ _ _ (c.in_ok-report.ensures.text ∙ ap (report_of c.in_ok-tree.tree) first ∙ ap (λ ids. report_of ids results) c.in_ok-tree.ensures) (c.any_failed.ensures ∙ ap any_failed again);
     }

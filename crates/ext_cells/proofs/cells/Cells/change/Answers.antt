@@ -1,6 +1,7 @@
 use Rattle.std.proofs.Common.{◌≡◌, ◌<◌, ◌^◌, sym, ap, ◌∙◌, subst, arith}
 use Rattle.ext_cells.specs.Lanes.{Lane}
 use Rattle.ext_cells.proofs.Tries.{first_on, next_on, overtaken, steps_next}
+use Rattle.ext_cells.proofs.Rising.{own_cell}
 use Rattle.ext_cells.proofs.Changing.{place_is, place_in_is, word_now, act_now, may_change, changed, done, would_happen, settled_otherwise}
 use Rattle.ext_cells.proofs.cells.Cells.change.Goals as goal
 
@@ -81,7 +82,11 @@ pub returns-in-Change-decide-clause-contended : goal.returns-in-Change-decide-cl
 returns-in-Change-decide-clause-contended c e =
     let few : c.args.lane.now.cells.limits.numbers < 2 ^ 20 = subst (λ z. z.limits.numbers < 2 ^ 20) (sym c.requires.lane) c.read-word.ensures.numbers in
     let less : c.args.cell < c.args.lane.now.cells.limits.cells = subst (λ z. c.args.cell < z.limits.cells) (sym c.requires.lane) c.requires.cell in
-    would_happen c.args.lane.now c.loop.lane c.loop.word c.loop.counter c.args.cell c.args.act few less c.requires.act c.requires.number c.loop.invariant c.in-Change-decide.next c.in-Change-decide.stood c.in-Change-decide.ensures
+    let tries : c.self.inside.tries ≡ c.args.self.now.tries = ap (λ z. z.tries) c.self.view_is in
+    let all = c.loop-test.false in record {
+      would_happen = would_happen c.args.lane.now c.loop.lane c.loop.word c.loop.counter c.args.cell c.args.act few less c.requires.act c.requires.number c.loop.invariant c.in-Change-decide.next c.in-Change-decide.stood c.in-Change-decide.ensures;
+      own_word = own_cell c.args.lane.now.cells.limits _ _ c.args.cell c.loop.counter c.args.self.now.tries c.args.act (place_is c.args.cell c.args.act c.requires.act) less (omega (arith, tries, all)) c.loop.invariant.tries.rises;
+    }
 
 pub returns-in-Change-decide-clause-reply : goal.returns-in-Change-decide-clause-reply
 returns-in-Change-decide-clause-reply c =

@@ -1,5 +1,6 @@
 use Rattle.std.proofs.Common.{sym, subst}
 use Rattle.ext_model.specs.declared.event.Act.TheVariants.{Put}
+use Rattle.ext_cells.specs.declared.refusal.CellRefusal.TheVariants as refusal
 use Rattle.ext_cells.specs.Calls.{Answers, ComesLast, change_reply, put_acts}
 use Rattle.ext_cells.proofs.Answered.{put_answers, number_last}
 use Rattle.ext_cells.proofs.Storable.{refused_storable}
@@ -12,8 +13,8 @@ returns-clause-reply c =
 
 pub returns-clause-contended : goal.returns-clause-contended
 returns-clause-contended c =
-    subst (ComesLast c.args.lane.now c.change.new.lane (Put c.args.cell c.args.number)) (sym c.any_number.ensures)
-    (number_last c.args.lane.now c.change.new.lane (Put c.args.cell c.args.number) c.change.result c.change.ensures.contended)
+    subst (ComesLast refusal.Contended c.args.self.now.tries c.args.lane.now c.change.new.lane (Put c.args.cell c.args.number)) (sym c.any_number.ensures)
+    (number_last c.args.self.now.tries c.args.lane.now c.change.new.lane (Put c.args.cell c.args.number) c.change.result c.change.ensures.contended)
 
 pub returns-clause-storable : goal.returns-clause-storable
 returns-clause-storable c = refused_storable c.args.self.now.tries c.args.lane.now c.change.new.lane c.args.cell c.args.number c.requires.number _ (returns-clause-reply c)

@@ -4,7 +4,7 @@ use Rattle.ext_lifecycle.specs.FaultTexts.{results_view}
 use Rattle.ext_tree.specs.Trees.{IsTree}
 use Rattle.ext_plain.specs.declared.setting.Setting.{Setting}
 use Rattle.ext_plain.specs.Helpers.{RunsAs, plan_in, run_view}
-use Rattle.ext_plan_model.specs.PlanCalls.{concurrent_of}
+use Rattle.ext_plan.specs.PlanCalls.{concurrent_of}
 use Rattle.ext_plain.specs.PlainRun.{body_run, node_run}
 use Rattle.ext_plain.proofs.Nodes.{child_is}
 use Rattle.ext_plain.proofs.Outcomes.{OnOk-map}
@@ -106,7 +106,7 @@ run_container-returns-clause-run g t c =
     container-runs setting c.args.at c.path-path.result.now _ _ _ _ _ c.run_befores-tally.new.caller c.run_body.new.self.caller _ c.run_afters.new.caller first.0 third.0 c.run_afters.new.tally
     (results_view old.results.items) (results_view c.run_body.new.self.results.items) c.is_successful.result (λ s. node_run (plan_in s) c.args.levels) _
     c.requires.tree c.path-path.ensures.path c.as_slice.ensures.contexts c.as_slice-2.ensures.contexts (c.as_slice-3.ensures.value ∙ c.in_ok-befores.ensures.calls) (c.as_slice-4.ensures.value ∙ c.in_ok-afters.ensures.calls)
-    (record { setting_is = refl; node_is = refl }) first.1 (c.is_successful.ensures first.0 first.2) body.run body.setting refl refl refl third.1 (third.2 first.0 first.2) ended)
+    (record { setting_is = refl; node_is = refl }) first.1 (c.is_successful.ensures first.0 first.2) body.run body.setting refl refl refl refl third.1 (third.2 first.0 first.2) ended)
 
 pub run_container-returns-clause-setting : goal.run_container-returns-clause-setting
 run_container-returns-clause-setting g t c =

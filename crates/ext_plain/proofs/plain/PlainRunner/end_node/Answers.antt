@@ -1,6 +1,6 @@
 use Rattle.std.proofs.Common.{◌≡◌, ◌∙◌, map, ap}
 use Rattle.ext_lifecycle.specs.FaultTexts.{result_view, results_view}
-use Rattle.ext_steps.specs.Values.{close_fault}
+use Rattle.ext_plan.specs.Values.{close_fault}
 use Rattle.ext_plain.specs.Closes.{closeables, closes}
 use Rattle.ext_plain.specs.Helpers.{calls_end, state_view}
 use Rattle.ext_plain.specs.ValueStates.{key_limit, with_memory}
@@ -10,6 +10,7 @@ use Rattle.ext_plain.proofs.plain.PlainRunner.end_node.Goals as goal
 
 pub returns-clause-end : goal.returns-clause-end
 returns-clause-end g c = record {
+  same = ap (λ caller. caller.lacked) c.set_result.ensures.caller;
   each = λ outcomes tallied later.
       let old = c.args.self.now in
       let at = c.args.at in

@@ -1,5 +1,5 @@
-use Rattle.ext_plan_model.specs.Plans.{plan_view}
-use Rattle.ext_plan_model.proofs.PlanCalls.{are_short}
+use Rattle.ext_plan.specs.Plans.{plan_view}
+use Rattle.ext_plan.proofs.PlanCalls.{are_short}
 use Rattle.ext_plain.proofs.setting.Setting.steps_of.Goals as goal
 
 pub returns-clause-short : goal.returns-clause-short

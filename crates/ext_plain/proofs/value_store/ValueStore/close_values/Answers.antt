@@ -6,7 +6,7 @@ use Rattle.ext_plain.specs.Helpers.{state_view, HasClosed}
 use Rattle.ext_plain.proofs.Sealing.{closes-more, closes-same, HasClosed-is, HasClosed-more}
 use Rattle.ext_plain.proofs.value_store.ValueStore.close_values.Goals as goal
 use Rattle.ext_plain.proofs.value_store.ValueStore.close_values.Goals.{in-Some+in_ok-close_fault, in_default}
-use Rattle.ext_steps.specs.Values.{close_fault, value_view}
+use Rattle.ext_plan.specs.Values.{close_fault, value_view}
 
 pub loop-number-init : goal.loop-number-init
 loop-number-init c = record {

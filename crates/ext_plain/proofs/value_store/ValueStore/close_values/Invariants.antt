@@ -2,7 +2,7 @@ use Rattle.std.proofs.Common.{◌≤◌, take, map}
 use Rattle.ext_plain.specs.Closes.{closeables}
 use Rattle.ext_plain.specs.Helpers.{state_view, HasClosed}
 use Rattle.ext_plain.proofs.value_store.ValueStore.close_values.Given as goal
-use Rattle.ext_steps.specs.Values.{close_fault}
+use Rattle.ext_plan.specs.Values.{close_fault}
 
 abbrev pub invariant-loop-number : goal.invariant-loop-number
 invariant-loop-number l = record {

@@ -6,10 +6,10 @@ use Rattle.ext_plain.specs.Steps.{compute_by, compute_looked}
 use Rattle.ext_plain.specs.Helpers.{memory_of, place_of_call, state_view}
 use Rattle.ext_plain.proofs.Lacks.{compute-met, says-by}
 use Rattle.ext_plain.proofs.value_store.ValueStore.compute.Goals as goal
-use Rattle.ext_steps.specs.Calls.{call_view}
-use Rattle.ext_steps.specs.Values.{value_view}
-use Rattle.ext_steps.specs.declared.reason.Reason.TheVariants as reasons
-use Rattle.ext_steps.specs.Verdicts.{refused}
+use Rattle.ext_plan.specs.Calls.{call_view}
+use Rattle.ext_plan.specs.Values.{value_view}
+use Rattle.ext_plan.specs.declared.reason.Reason.TheVariants as reasons
+use Rattle.ext_plan.specs.Verdicts.{refused}
 
 pub returns-in-Found : goal.returns-in-Found
 returns-in-Found c =

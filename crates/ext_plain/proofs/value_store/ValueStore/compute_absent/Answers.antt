@@ -7,8 +7,8 @@ use Rattle.ext_plain.specs.Steps.{compute_by, factory_gave}
 use Rattle.ext_plain.specs.Helpers.{place_of_call, state_view}
 use Rattle.ext_plain.proofs.Lacks.{at_lack, given-by, refusal-says, refused-same, unplaced}
 use Rattle.ext_plain.proofs.value_store.ValueStore.compute_absent.Goals as goal
-use Rattle.ext_steps.specs.Calls.{call_view}
-use Rattle.ext_steps.specs.Values.{value_view}
+use Rattle.ext_plan.specs.Calls.{call_view}
+use Rattle.ext_plan.specs.Values.{value_view}
 
 pub returns-in_err-why : goal.returns-in_err-why
 returns-in_err-why c =

@@ -4,8 +4,8 @@ use Rattle.ext_plain.specs.Steps.{StepEnd, compute_numbered}
 use Rattle.ext_plain.specs.ValueStates.{Memory, ValueState}
 use Rattle.ext_plain.proofs.KeyedSteps.{full-says, numbered-goes}
 use Rattle.ext_plain.proofs.value_store.ValueStore.compute_step.Goals as goal
-use Rattle.ext_steps.specs.Calls.{CallText, call_view}
-use Rattle.ext_steps.specs.Values.{value_view}
+use Rattle.ext_plan.specs.Calls.{CallText, call_view}
+use Rattle.ext_plan.specs.Values.{value_view}
 
 pub returns-in-Err : goal.returns-in-Err
 returns-in-Err c =

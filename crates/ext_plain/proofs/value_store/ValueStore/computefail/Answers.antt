@@ -6,9 +6,9 @@ use Rattle.ext_plain.specs.Steps.{computefail_by}
 use Rattle.ext_plain.specs.Helpers.{memory_of, place_of_call, state_view}
 use Rattle.ext_plain.proofs.Lacks.{computefail-found, computefail-met, says-by}
 use Rattle.ext_plain.proofs.value_store.ValueStore.computefail.Goals as goal
-use Rattle.ext_steps.specs.Calls.{call_view}
-use Rattle.ext_steps.specs.declared.reason.Reason.TheVariants as reasons
-use Rattle.ext_steps.specs.Verdicts.{refused}
+use Rattle.ext_plan.specs.Calls.{call_view}
+use Rattle.ext_plan.specs.declared.reason.Reason.TheVariants as reasons
+use Rattle.ext_plan.specs.Verdicts.{refused}
 
 pub returns-in-Found : goal.returns-in-Found
 returns-in-Found c =

@@ -7,7 +7,7 @@ use Rattle.ext_plain.specs.Steps.{computefail_by, factory_failed}
 use Rattle.ext_plain.specs.Helpers.{place_of_call, state_view}
 use Rattle.ext_plain.proofs.Lacks.{at_lack, failed-by, refusal-says, refused-same, unplaced}
 use Rattle.ext_plain.proofs.value_store.ValueStore.fail_claimed.Goals as goal
-use Rattle.ext_steps.specs.Calls.{call_view}
+use Rattle.ext_plan.specs.Calls.{call_view}
 
 pub returns-in_err-why : goal.returns-in_err-why
 returns-in_err-why c =

@@ -4,8 +4,8 @@ use Rattle.ext_plain.specs.Steps.{shown}
 use Rattle.ext_plain.specs.Helpers.{counted_found, state_view}
 use Rattle.ext_plain.proofs.Lacks.{found_unsaid}
 use Rattle.ext_plain.proofs.value_store.ValueStore.fail_found.Goals as goal
-use Rattle.ext_steps.specs.Calls.{call_view}
-use Rattle.ext_steps.specs.Verdicts.{none_verdict}
+use Rattle.ext_plan.specs.Calls.{call_view}
+use Rattle.ext_plan.specs.Verdicts.{none_verdict}
 
 pub returns-in-Ok : goal.returns-in-Ok
 returns-in-Ok c =

@@ -3,8 +3,8 @@ use Rattle.ext_plain.specs.Steps.{ended, said_by, shown_fault}
 use Rattle.ext_plain.specs.Helpers.{memory_of, state_view}
 use Rattle.ext_plain.proofs.Lacks.{says-by}
 use Rattle.ext_plain.proofs.value_store.ValueStore.fault_met.Goals as goal
-use Rattle.ext_steps.specs.Calls.{call_view}
-use Rattle.ext_steps.specs.Verdicts.{seen_view, none_verdict}
+use Rattle.ext_plan.specs.Calls.{call_view}
+use Rattle.ext_plan.specs.Verdicts.{seen_view, none_verdict}
 
 pub returns : goal.returns
 returns c =

@@ -4,8 +4,8 @@ use Rattle.ext_plain.specs.ValueStates.{after_act}
 use Rattle.ext_plain.specs.Helpers.{Keeps, IsNotKept, LacksGiven, place_of_call, state_view}
 use Rattle.ext_plain.proofs.Lacks.{refusal-gives}
 use Rattle.ext_plain.proofs.value_store.ValueStore.fill_claim.Goals as goal
-use Rattle.ext_steps.specs.Calls.{call_view}
-use Rattle.ext_steps.specs.Values.{value_view}
+use Rattle.ext_plan.specs.Calls.{call_view}
+use Rattle.ext_plan.specs.Values.{value_view}
 
 pub abandon-requires : goal.abandon-requires
 abandon-requires c =

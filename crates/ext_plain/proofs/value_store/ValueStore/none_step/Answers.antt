@@ -4,7 +4,7 @@ use Rattle.ext_plain.specs.Steps.{StepEnd, none_numbered}
 use Rattle.ext_plain.specs.ValueStates.{Memory, ValueState}
 use Rattle.ext_plain.proofs.KeyedSteps.{full-says, numbered-goes}
 use Rattle.ext_plain.proofs.value_store.ValueStore.none_step.Goals as goal
-use Rattle.ext_steps.specs.Calls.{CallText, call_view}
+use Rattle.ext_plan.specs.Calls.{CallText, call_view}
 
 pub returns-in-Err : goal.returns-in-Err
 returns-in-Err c =

@@ -5,7 +5,7 @@ use Rattle.ext_plain.specs.Steps.{put_in}
 use Rattle.ext_plain.specs.Helpers.{place_of_call, state_view}
 use Rattle.ext_plain.proofs.Lacks.{act-says}
 use Rattle.ext_plain.proofs.value_store.ValueStore.put_value.Goals as goal
-use Rattle.ext_steps.specs.Calls.{call_view}
+use Rattle.ext_plan.specs.Calls.{call_view}
 
 pub returns-clause-end : goal.returns-clause-end
 returns-clause-end c =

@@ -4,7 +4,7 @@ use Rattle.std.proofs.lemmas.Option.{slice_get-map}
 use Rattle.ext_plain.specs.ValueStates.{value_of}
 use Rattle.ext_plain.proofs.Outcomes.{copied_get}
 use Rattle.ext_plain.proofs.value_store.ValueStore.value_of.Goals as goal
-use Rattle.ext_steps.specs.Values.{value_view}
+use Rattle.ext_plan.specs.Values.{value_view}
 
 pub returns-in-Some : goal.returns-in-Some
 returns-in-Some c =

@@ -1,9 +1,12 @@
+use Rattle.std.specs.Prelude.{ℕ, Option, Ok, Err}
+use Rattle.ext_model.specs.declared.event.Act.TheVariants.{Put}
+use Rattle.ext_cells.specs.Calls.{ComesLast}
+use Rattle.ext_shared.specs.declared.fault.Refusal.TheVariants as refusal
 use Rattle.std.proofs.Common.{ap, subst, sym}
-use Rattle.std.specs.Prelude.{Ok, Err}
 use Rattle.ext_shared.specs.Calls.{Puts}
 use Rattle.ext_shared.specs.Stores.{StoreView}
 use Rattle.ext_shared.proofs.Replies.{stored}
-use Rattle.ext_shared.proofs.Refused.{put_refusal}
+use Rattle.ext_shared.proofs.Refused.{put_refusal, comes_last}
 use Rattle.ext_shared.proofs.shared.Shared.put_at.Goals as goal
 
 pub at-requires : goal.at-requires
@@ -23,3 +26,11 @@ returns-in-Ok-clause-lane g c = c.put.ensures.lane
 
 pub returns-in-Err-clause-lane : goal.returns-in-Err-clause-lane
 returns-in-Err-clause-lane g c = c.put.ensures.lane
+
+pub returns-in-Ok-clause-contended : goal.returns-in-Ok-clause-contended
+returns-in-Ok-clause-contended g c e = absurd (cc e)
+
+pub returns-in-Err-clause-contended : goal.returns-in-Err-clause-contended
+returns-in-Err-clause-contended g c =
+    subst (λ (z : ℕ × ℕ). ComesLast {A = Option ℕ} refusal.Contended z.0 c.args.lane.now c.put.new.lane (Put z.1 c.args.number) (Err c.at.result)) (λ i. (ap (λ (s : StoreView). s.tries) c.self.view_is i, c.cell-cell.ensures.cell i))
+    (comes_last {A = Option ℕ} c.self.inside.cells.tries c.args.lane.now c.put.new.lane c.args.context (Put c.cell-cell.result c.args.number) c.in-Err.why c.at.result (put_refusal c.self.inside.cells.tries c.args.lane.now c.put.new.lane _ _ c.in-Err.why c.in-Err.ensures.reply) c.at.ensures c.in-Err.ensures.contended)

@@ -1,9 +1,12 @@
+use Rattle.std.specs.Prelude.{ℕ, Option, Ok, Err}
+use Rattle.ext_model.specs.declared.event.Act.TheVariants.{Remove}
+use Rattle.ext_cells.specs.Calls.{ComesLast}
+use Rattle.ext_shared.specs.declared.fault.Refusal.TheVariants as refusal
 use Rattle.std.proofs.Common.{ap, subst, sym}
-use Rattle.std.specs.Prelude.{Ok, Err}
 use Rattle.ext_shared.specs.Calls.{Removes}
 use Rattle.ext_shared.specs.Stores.{StoreView}
 use Rattle.ext_shared.proofs.Replies.{removed}
-use Rattle.ext_shared.proofs.Refused.{remove_refusal}
+use Rattle.ext_shared.proofs.Refused.{remove_refusal, comes_last}
 use Rattle.ext_shared.proofs.shared.Shared.remove_at.Goals as goal
 
 pub at-requires : goal.at-requires
@@ -23,3 +26,11 @@ returns-in-Ok-clause-lane g c = c.remove.ensures.lane
 
 pub returns-in-Err-clause-lane : goal.returns-in-Err-clause-lane
 returns-in-Err-clause-lane g c = c.remove.ensures.lane
+
+pub returns-in-Ok-clause-contended : goal.returns-in-Ok-clause-contended
+returns-in-Ok-clause-contended g c e = absurd (cc e)
+
+pub returns-in-Err-clause-contended : goal.returns-in-Err-clause-contended
+returns-in-Err-clause-contended g c =
+    subst (λ (z : ℕ × ℕ). ComesLast {A = Option ℕ} refusal.Contended z.0 c.args.lane.now c.remove.new.lane (Remove z.1) (Err c.at.result)) (λ i. (ap (λ (s : StoreView). s.tries) c.self.view_is i, c.cell-cell.ensures.cell i))
+    (comes_last {A = Option ℕ} c.self.inside.cells.tries c.args.lane.now c.remove.new.lane c.args.context (Remove c.cell-cell.result) c.in-Err.why c.at.result (remove_refusal c.self.inside.cells.tries c.args.lane.now c.remove.new.lane _ c.in-Err.why c.in-Err.ensures.reply) c.at.ensures c.in-Err.ensures.contended)

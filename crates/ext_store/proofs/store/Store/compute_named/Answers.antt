@@ -1,6 +1,6 @@
 use Rattle.std.proofs.Common.{◌≡◌, [], sym, refl, ap, ◌∙◌, subst}
 use Rattle.std.specs.Prelude.{Ok, Err}
-use Rattle.std.specs.Fn.{FnOnceReturns, FnOnceReturnsAt}
+use Rattle.std.specs.Fn.{FnOnceReturnsAt}
 use Rattle.ext_cells.specs.Lanes.{Lane}
 use Rattle.ext_values.specs.Known.{Learns}
 use Rattle.ext_store.specs.Stores.{StoreLane, StoreView}
@@ -91,14 +91,14 @@ returns-in-Ok-keep_and_fill-clause-apart g c m kept =
 
 pub returns-in-Ok-keep_and_fill-clause-factory : goal.returns-in-Ok-keep_and_fill-clause-factory
 returns-in-Ok-keep_and_fill-clause-factory g c =
-    let learnt = subst (λ (l : StoreLane g.row.V.Denot). Learns l.known c.keep_and_fill.new.lane.known c.in-Ok-keep_and_fill.number c.in-Ok-factory.value) c.lane.view_is c.in-Ok-keep_and_fill.ensures.known in
-    (c.in-Ok-factory.value, (c.args.name, c.in-Ok-factory.ensures, refl), learnt, c.keep_and_fill.ensures.faults ∙ ap (λ (l : StoreLane g.row.V.Denot). l.faults) c.lane.view_is)
+    let learnt = subst (λ (l : StoreLane g.row.V.Denot). Learns l.known c.keep_and_fill.new.lane.known c.in-Ok-keep_and_fill.number c.in-Ok-run_factory.value) c.lane.view_is c.in-Ok-keep_and_fill.ensures.known in
+    (c.in-Ok-run_factory.value, c.in-Ok-run_factory.ensures, learnt, c.keep_and_fill.ensures.faults ∙ ap (λ (l : StoreLane g.row.V.Denot). l.faults) c.lane.view_is)
 
 pub returns-in-Err-keep_and_fill-clause-factory : goal.returns-in-Err-keep_and_fill-clause-factory
 returns-in-Err-keep_and_fill-clause-factory g c =
     let kept = c.in-Err-keep_and_fill.ensures.known in
-    let returned = subst (λ value. FnOnceReturns g.F.FnOnce c.args.factory (c.args.name, tt {0}) (Ok value)) (sym kept.0) c.in-Ok-factory.ensures in
-    ((c.args.name, returned, refl), kept.1 ∙ ap (λ (l : StoreLane g.row.V.Denot). l.known) c.lane.view_is, c.keep_and_fill.ensures.faults ∙ ap (λ (l : StoreLane g.row.V.Denot). l.faults) c.lane.view_is)
+    let returned = subst (λ value. FnOnceReturnsAt g.F.FnOnce c.args.factory c.args.name.now (Ok value)) (sym kept.0) c.in-Ok-run_factory.ensures in
+    (returned, kept.1 ∙ ap (λ (l : StoreLane g.row.V.Denot). l.known) c.lane.view_is, c.keep_and_fill.ensures.faults ∙ ap (λ (l : StoreLane g.row.V.Denot). l.faults) c.lane.view_is)
 
 -- ---- what the frames say, and what comes of a factory that is not called
 
@@ -140,8 +140,8 @@ returns-in-Err-clause-factory g c = unused_uses c.args.factory c.in-Err.why c.ha
 
 -- ---- where the factory failed
 
-pub returns-in-Err-factory-clause-answer : goal.returns-in-Err-factory-clause-answer
-returns-in-Err-factory-clause-answer g c =
+pub returns-in-Err-run_factory-clause-answer : goal.returns-in-Err-run_factory-clause-answer
+returns-in-Err-run_factory-clause-answer g c =
     let s = c.args.self.now in
     let lane : c.lane.inside.cells ≡ c.args.lane.now.cells = ap (λ (l : StoreLane g.row.V.Denot). l.cells) c.lane.view_is in
     let a = c.args.lane.now.cells in
@@ -150,40 +150,40 @@ returns-in-Err-factory-clause-answer g c =
     let m : ClaimsMissing s c.args.context c.args.key a.view b.view (Ok c.in-Ok.claim) =
     subst (λ (z : StoreView × Lane). ClaimsMissing z.0 c.args.context c.args.key z.1.view b.view (Ok c.in-Ok.claim)) (λ i. (c.self.view_is i, lane i)) c.in-Ok.ensures.claim in
     for_path s c.args.context m.0 c.args.key a c.end_failed.new.lane.cells _ c.requires.lane.cells m.1
-    (ends_failed s c.in-Err-factory.fault c.in-Ok.claim claimed c.end_failed.new.lane c.args.context m.0 c.args.key a.view m.2 (without_factory c.end_failed.result) c.end_failed.ensures.ends)
+    (ends_failed s c.in-Err-run_factory.fault c.in-Ok.claim claimed c.end_failed.new.lane c.args.context m.0 c.args.key a.view m.2 (without_factory c.end_failed.result) c.end_failed.ensures.ends)
 
-pub returns-in-Err-factory-clause-frame : goal.returns-in-Err-factory-clause-frame
-returns-in-Err-factory-clause-frame g c =
+pub returns-in-Err-run_factory-clause-frame : goal.returns-in-Err-run_factory-clause-frame
+returns-in-Err-run_factory-clause-frame g c =
     let s = c.args.self.now in
     let inside : StoreLane g.row.V.Denot = record { cells = c.lane.inside.cells; known = c.lane.inside.notes; faults = c.lane.inside.faults; keys = c.lane.inside.keys } in
     let claimed : StoreLane g.row.V.Denot = (record { cells = c.claim_missing.new.lane; known = c.lane.inside.notes; faults = c.lane.inside.faults; keys = c.lane.inside.keys }) in
     frames_compose s.id [] [] c.args.lane.now claimed c.end_failed.new.lane
     (claim_frame s.id inside c.args.lane.now claimed c.lane.view_is c.requires.lane c.claim_missing.ensures.lane refl c.self.inside.shared (ap (λ (s : StoreView). s.id) c.self.view_is) c.args.context c.args.key (Ok c.in-Ok.claim) c.in-Ok.ensures.claim) c.end_failed.ensures.frame
 
-pub returns-in-Err-factory-clause-kept : goal.returns-in-Err-factory-clause-kept
-returns-in-Err-factory-clause-kept g c = frame_keeps c.args.self.now.id c.args.lane.now c.end_failed.new.lane (returns-in-Err-factory-clause-frame g c)
+pub returns-in-Err-run_factory-clause-kept : goal.returns-in-Err-run_factory-clause-kept
+returns-in-Err-run_factory-clause-kept g c = frame_keeps c.args.self.now.id c.args.lane.now c.end_failed.new.lane (returns-in-Err-run_factory-clause-frame g c)
 
-pub returns-in-Err-factory-clause-lane : goal.returns-in-Err-factory-clause-lane
-returns-in-Err-factory-clause-lane g c = frame_lane c.args.self.now.id [] c.args.lane.now c.end_failed.new.lane (returns-in-Err-factory-clause-frame g c)
+pub returns-in-Err-run_factory-clause-lane : goal.returns-in-Err-run_factory-clause-lane
+returns-in-Err-run_factory-clause-lane g c = frame_lane c.args.self.now.id [] c.args.lane.now c.end_failed.new.lane (returns-in-Err-run_factory-clause-frame g c)
 
-pub returns-in-Err-factory-clause-known : goal.returns-in-Err-factory-clause-known
-returns-in-Err-factory-clause-known g c = frame_known c.args.self.now.id [] c.args.lane.now c.end_failed.new.lane (returns-in-Err-factory-clause-frame g c)
+pub returns-in-Err-run_factory-clause-known : goal.returns-in-Err-run_factory-clause-known
+returns-in-Err-run_factory-clause-known g c = frame_known c.args.self.now.id [] c.args.lane.now c.end_failed.new.lane (returns-in-Err-run_factory-clause-frame g c)
 
-pub returns-in-Err-factory-clause-factory : goal.returns-in-Err-factory-clause-factory
-returns-in-Err-factory-clause-factory g c =
+pub returns-in-Err-run_factory-clause-factory : goal.returns-in-Err-run_factory-clause-factory
+returns-in-Err-run_factory-clause-factory g c =
     let s = c.args.self.now in
     let claimed : StoreLane g.row.V.Denot = (record { cells = c.claim_missing.new.lane; known = c.lane.inside.notes; faults = c.lane.inside.faults; keys = c.lane.inside.keys }) in
-    let used = failed_uses s c.in-Err-factory.fault c.in-Ok.claim claimed c.end_failed.new.lane (λ answer. FnOnceReturnsAt g.F.FnOnce c.args.factory c.args.name.now answer) (c.args.name, c.in-Err-factory.ensures, refl) (without_factory c.end_failed.result) c.end_failed.ensures.ends in
+    let used = failed_uses s c.in-Err-run_factory.fault c.in-Ok.claim claimed c.end_failed.new.lane (λ answer. FnOnceReturnsAt g.F.FnOnce c.args.factory c.args.name.now answer) c.in-Err-run_factory.ensures (without_factory c.end_failed.result) c.end_failed.ensures.ends in
     subst (λ (z : StoreLane g.row.V.Denot). Uses (λ answer. FnOnceReturnsAt g.F.FnOnce c.args.factory c.args.name.now answer) (record { cells = claimed.cells; known = z.known; faults = z.faults; keys = z.keys }) c.end_failed.new.lane (without_factory c.end_failed.result)) c.lane.view_is used
 
-pub returns-in-Err-factory-clause-handed_back : goal.returns-in-Err-factory-clause-handed_back
-returns-in-Err-factory-clause-handed_back g c = failed_back c.args.self.now c.in-Err-factory.fault c.in-Ok.claim (record { cells = c.claim_missing.new.lane; known = c.lane.inside.notes; faults = c.lane.inside.faults; keys = c.lane.inside.keys }) c.end_failed.new.lane c.args.factory c.end_failed.result c.end_failed.ensures.ends
+pub returns-in-Err-run_factory-clause-handed_back : goal.returns-in-Err-run_factory-clause-handed_back
+returns-in-Err-run_factory-clause-handed_back g c = failed_back c.args.self.now c.in-Err-run_factory.fault c.in-Ok.claim (record { cells = c.claim_missing.new.lane; known = c.lane.inside.notes; faults = c.lane.inside.faults; keys = c.lane.inside.keys }) c.end_failed.new.lane c.args.factory c.end_failed.result c.end_failed.ensures.ends
 
-pub returns-in-Err-factory-clause-apart : goal.returns-in-Err-factory-clause-apart
-returns-in-Err-factory-clause-apart g c = failed_apart c.args.self.now c.in-Err-factory.fault c.in-Ok.claim (record { cells = c.claim_missing.new.lane; known = c.lane.inside.notes; faults = c.lane.inside.faults; keys = c.lane.inside.keys }) c.end_failed.new.lane _ c.end_failed.result c.end_failed.ensures.ends
+pub returns-in-Err-run_factory-clause-apart : goal.returns-in-Err-run_factory-clause-apart
+returns-in-Err-run_factory-clause-apart g c = failed_apart c.args.self.now c.in-Err-run_factory.fault c.in-Ok.claim (record { cells = c.claim_missing.new.lane; known = c.lane.inside.notes; faults = c.lane.inside.faults; keys = c.lane.inside.keys }) c.end_failed.new.lane _ c.end_failed.result c.end_failed.ensures.ends
 
-pub returns-in-Err-factory-clause-no_faults : goal.returns-in-Err-factory-clause-no_faults
-returns-in-Err-factory-clause-no_faults g c off = failed_faultless c.args.self.now c.in-Err-factory.fault c.in-Ok.claim (record { cells = c.claim_missing.new.lane; known = c.lane.inside.notes; faults = c.lane.inside.faults; keys = c.lane.inside.keys }) c.end_failed.new.lane off c.end_failed.result c.end_failed.ensures.ends
+pub returns-in-Err-run_factory-clause-no_faults : goal.returns-in-Err-run_factory-clause-no_faults
+returns-in-Err-run_factory-clause-no_faults g c off = failed_faultless c.args.self.now c.in-Err-run_factory.fault c.in-Ok.claim (record { cells = c.claim_missing.new.lane; known = c.lane.inside.notes; faults = c.lane.inside.faults; keys = c.lane.inside.keys }) c.end_failed.new.lane off c.end_failed.result c.end_failed.ensures.ends
 
 pub returns-in-Err-clause-no_faults : goal.returns-in-Err-clause-no_faults
 returns-in-Err-clause-no_faults g c off =

@@ -3,6 +3,12 @@ use Rattle.ext_cells.specs.Lanes.{CellsId}
 use Rattle.ext_store.specs.Stores.{StoreView, StoreLane}
 use Rattle.ext_store.specs.Keeping.{PlacesDrawn}
 use Rattle.ext_store.proofs.Placing.{kept_by_drawn, drawn_fits, no_memory}
+use Rattle.ext_model.specs.declared.event.Act.TheVariants.{Keep}
+use Rattle.ext_cells.specs.Lanes.{Lane}
+use Rattle.ext_cells.specs.Calls.{ComesLast}
+use Rattle.ext_store.specs.declared.fault.KeepFault.TheVariants as fault
+use Rattle.ext_store.proofs.Contended.{keep_last, unkept_last}
+use Rattle.std.specs.Prelude.{ℕ}
 use Rattle.ext_store.proofs.store.Store.keep.Goals as goal
 
 pub place_drawn-requires-clause-drawn : goal.place_drawn-requires-clause-drawn
@@ -74,3 +80,17 @@ returns-in-Err-clause-apart g c = (no_memory c.args.self.now c.args.value c.in-E
 
 pub returns-in-Err-clause-frame : goal.returns-in-Err-clause-frame
 returns-in-Err-clause-frame g c = (no_memory c.args.self.now c.args.value c.in-Err.failed.value c.args.lane.now c.requires.lane c.in-Err.ensures.value_returned).frame
+
+-- ---- what comes last
+
+pub returns-clause-contended : goal.returns-clause-contended
+returns-clause-contended g c =
+    subst (λ (z : ℕ × Lane). ComesLast (c.args.value, fault.Contended) z.0 z.1 c.next_number-drawn.new.lane (Keep 0) c.place_drawn.result) (λ i. ((c.cells.ensures.tries ∙ ap (λ (s : StoreView). s.tries) c.self.view_is) i, (c.lane.view_is i).cells))
+    (keep_last c.cells.result.now.tries c.lane.inside.cells c.next_number-drawn.new.lane (Keep 0) _ c.args.value c.lane.inside.notes c.place_drawn.new.notes c.next_number-drawn.result c.place_drawn.result
+    (drawn_fits c.args.self.now c.cells.result.now.tries (c.cells.ensures.tries ∙ ap (λ (s : StoreView). s.tries) c.self.view_is) c.lane.inside.cells c.next_number-drawn.new.lane c.next_number-drawn.result c.next_number-drawn.ensures.reply _
+    (ap (λ (l : StoreLane g.row.V.Denot). l.cells.cells.limits.numbers) c.lane.view_is ∙ (ap (λ (i : CellsId). i.limits.numbers) c.requires.lane.cells ∙ subst (λ (s : StoreView). s.id.cells.limits.numbers ≡ length s.id.places) c.self.view_is c.recall.ensures.numbers)))
+    (subst (λ v. PlacesDrawn v c.next_number-drawn.result c.lane.inside.notes c.place_drawn.new.notes c.place_drawn.result) c.in-Ok.ensures.ok c.place_drawn.ensures)
+    c.next_number-drawn.ensures.contended)
+
+pub returns-in-Err-clause-contended : goal.returns-in-Err-clause-contended
+returns-in-Err-clause-contended g c = unkept_last c.args.self.now.tries c.args.lane.now.cells c.args.lane.now.cells (Keep 0) c.args.value c.in-Err.failed.value

@@ -4,6 +4,10 @@ use Rattle.ext_store.specs.Calls.{Puts}
 use Rattle.ext_store.specs.Frames.{stored_by}
 use Rattle.ext_store.proofs.Frames.{frames_compose}
 use Rattle.ext_store.proofs.Numbered.{kept_later, of_number, of_refusal, refused_steps, steps_later}
+use Rattle.ext_model.specs.declared.event.Act.TheVariants.{Put}
+use Rattle.ext_cells.specs.Calls.{ComesLast}
+use Rattle.ext_shared.specs.declared.fault.Refusal.TheVariants as refusal
+use Rattle.ext_store.specs.Stores.{cell_in}
 use Rattle.ext_store.proofs.store.Store.put.Goals as goal
 
 pub returns-in-Ok-clause-answer : goal.returns-in-Ok-clause-answer
@@ -59,3 +63,14 @@ returns-in-Ok-clause-faults g c = c.put_numbered.ensures.faults ∙ c.number.ens
 
 pub returns-in-Err-clause-faults : goal.returns-in-Err-clause-faults
 returns-in-Err-clause-faults g c = c.number.ensures.faults
+
+pub returns-in-Ok-clause-contended : goal.returns-in-Ok-clause-contended
+returns-in-Ok-clause-contended g c =
+    of_number c.args.lane.now c.number.new.lane c.put_numbered.new.lane c.number.ensures.still c.args.self.now.id (stored_by c.args.kept c.put_numbered.result) c.args.key.now c.in-Ok.key (λ why. c.put_numbered.result ≡ Err (c.args.kept, why))
+    (λ l n. ComesLast (c.args.kept, refusal.Contended) c.args.self.now.tries l c.put_numbered.new.lane.cells (Put (cell_in c.args.self.now n c.args.context) c.args.kept) c.put_numbered.result)
+    c.in-Ok.ensures.number c.put_numbered.ensures.frame c.put_numbered.ensures.contended
+
+pub returns-in-Err-clause-contended : goal.returns-in-Err-clause-contended
+returns-in-Err-clause-contended g c =
+    of_refusal c.args.lane.now c.number.new.lane c.args.key.now c.in-Err.why c.in-Err.ensures.refused (λ why. Err (c.args.kept, c.in-Err.why) ≡ Err (c.args.kept, why))
+    (λ n. ComesLast (c.args.kept, refusal.Contended) c.args.self.now.tries c.args.lane.now.cells c.number.new.lane.cells (Put (cell_in c.args.self.now n c.args.context) c.args.kept) (Err (c.args.kept, c.in-Err.why))) refl

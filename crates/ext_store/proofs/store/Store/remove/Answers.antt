@@ -3,6 +3,10 @@ use Rattle.std.specs.Prelude.{Err}
 use Rattle.ext_store.specs.Calls.{Removes}
 use Rattle.ext_store.proofs.Frames.{frames_compose}
 use Rattle.ext_store.proofs.Numbered.{of_number, of_refusal, refused_steps, steps_later}
+use Rattle.ext_model.specs.declared.event.Act.TheVariants.{Remove}
+use Rattle.ext_cells.specs.Calls.{ComesLast}
+use Rattle.ext_shared.specs.declared.fault.Refusal.TheVariants as refusal
+use Rattle.ext_store.specs.Stores.{cell_in}
 use Rattle.ext_store.proofs.store.Store.remove.Goals as goal
 
 pub returns-in-Ok-clause-answer : goal.returns-in-Ok-clause-answer
@@ -49,3 +53,14 @@ returns-in-Ok-clause-faults g c = c.remove_numbered.ensures.faults ∙ c.number.
 
 pub returns-in-Err-clause-faults : goal.returns-in-Err-clause-faults
 returns-in-Err-clause-faults g c = c.number.ensures.faults
+
+pub returns-in-Ok-clause-contended : goal.returns-in-Ok-clause-contended
+returns-in-Ok-clause-contended g c =
+    of_number c.args.lane.now c.number.new.lane c.remove_numbered.new.lane c.number.ensures.still c.args.self.now.id [] c.args.key.now c.in-Ok.key (λ why. c.remove_numbered.result ≡ Err why)
+    (λ l n. ComesLast refusal.Contended c.args.self.now.tries l c.remove_numbered.new.lane.cells (Remove (cell_in c.args.self.now n c.args.context)) c.remove_numbered.result)
+    c.in-Ok.ensures.number c.remove_numbered.ensures.frame c.remove_numbered.ensures.contended
+
+pub returns-in-Err-clause-contended : goal.returns-in-Err-clause-contended
+returns-in-Err-clause-contended g c =
+    of_refusal c.args.lane.now c.number.new.lane c.args.key.now c.in-Err.why c.in-Err.ensures.refused (λ why. Err c.in-Err.why ≡ Err why)
+    (λ n. ComesLast refusal.Contended c.args.self.now.tries c.args.lane.now.cells c.number.new.lane.cells (Remove (cell_in c.args.self.now n c.args.context)) (Err c.in-Err.why)) refl

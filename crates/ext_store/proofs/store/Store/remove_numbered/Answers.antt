@@ -4,6 +4,10 @@ use Rattle.ext_store.specs.Stores.{StoreView, StoreLane}
 use Rattle.ext_store.specs.Calls.{Removes}
 use Rattle.ext_shared.proofs.Events.{remove_calls}
 use Rattle.ext_store.proofs.Frames.{frame_keeps, frame_lane, remove_frame}
+use Rattle.ext_model.specs.declared.event.Act.TheVariants.{Remove}
+use Rattle.ext_cells.specs.Calls.{ComesLast}
+use Rattle.ext_shared.specs.declared.fault.Refusal.TheVariants as refusal
+use Rattle.ext_store.specs.Stores.{cell_in}
 use Rattle.ext_store.proofs.store.Store.remove_numbered.Goals as goal
 
 pub returns-clause-answer : goal.returns-clause-answer
@@ -22,3 +26,7 @@ returns-clause-lane g c = frame_lane c.args.self.now.id [] c.args.lane.now (reco
 
 pub returns-clause-kept : goal.returns-clause-kept
 returns-clause-kept g c = frame_keeps c.args.self.now.id c.args.lane.now (record { cells = c.remove_at.new.lane; known = c.lane.inside.notes; faults = c.lane.inside.faults; keys = c.lane.inside.keys }) (returns-clause-frame g c)
+
+pub returns-clause-contended : goal.returns-clause-contended
+returns-clause-contended g c =
+    subst (λ (z : StoreView × Lane). ComesLast refusal.Contended z.0.tries z.1 c.remove_at.new.lane (Remove (cell_in z.0 c.args.key c.args.context)) c.remove_at.result) (λ i. (c.self.view_is i, (c.lane.view_is i).cells)) c.remove_at.ensures.contended

@@ -4,6 +4,10 @@ use Rattle.ext_store.specs.Stores.{StoreView, StoreLane, CloserView}
 use Rattle.ext_shared.specs.Sealing.{SealsKey}
 use Rattle.ext_store.proofs.Frames.{frame_keeps, frame_lane}
 use Rattle.ext_store.proofs.SealsKeep.{seal_frame}
+use Rattle.ext_model.specs.declared.event.Act.TheVariants.{Seal}
+use Rattle.ext_cells.specs.Calls.{ComesLast}
+use Rattle.ext_shared.specs.declared.fault.Refusal.TheVariants as refusal
+use Rattle.ext_store.specs.Stores.{cell_in}
 use Rattle.ext_store.proofs.store.Store.seal.Goals as goal
 
 pub returns-clause-answer : goal.returns-clause-answer
@@ -28,3 +32,7 @@ returns-clause-kept g c = frame_keeps c.args.self.now.id c.args.lane.now (record
 
 pub returns-clause-keys : goal.returns-clause-keys
 returns-clause-keys g c = ap (λ (l : StoreLane g.row.V.Denot). l.keys) c.lane.view_is
+
+pub returns-clause-contended : goal.returns-clause-contended
+returns-clause-contended g c =
+    subst (λ (z : StoreView × Lane × CloserView). ComesLast refusal.Contended z.0.tries z.1 c.seal_at.new.lane (Seal (cell_in z.0 c.args.key z.2.context)) c.seal_at.result) (λ i. (c.self.view_is i, (c.lane.view_is i).cells, c.closer.view_is i)) c.seal_at.ensures.contended

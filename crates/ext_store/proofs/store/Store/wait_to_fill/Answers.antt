@@ -13,19 +13,19 @@ use Rattle.ext_store.proofs.store.Store.wait_to_fill.Goals as goal
 pub fill-requires-clause-held : goal.fill-requires-clause-held
 fill-requires-clause-held g c =
     subst (λ (l : Lane). IsHeld l.view c.args.claim) (sym (ap (λ (l : StoreLane g.row.V.Denot). l.cells) c.lane.view_is))
-    (kept_held c.args.self.now c.args.lane.now.cells c.keep_wait.new.lane.cells c.requires.lane.cells c.args.claim c.in-Ok.kept c.in-Ok.ensures.answer.drawn c.requires.held)
+    (kept_held c.args.self.now c.args.lane.now.cells c.keep_again.new.lane.cells c.requires.lane.cells c.args.claim c.in-Ok.kept c.in-Ok.ensures.answer.drawn c.requires.held)
 
 pub abandon-requires-clause-held : goal.abandon-requires-clause-held
 abandon-requires-clause-held g c =
     subst (λ (l : Lane). IsHeld l.view c.args.claim) (sym (ap (λ (l : StoreLane g.row.V.Denot). l.cells) c.lane.view_is))
-    (fails_held c.args.self.now c.args.lane.now.cells c.keep_wait.new.lane.cells c.requires.lane.cells c.args.claim c.in-Err.unkept.1 c.in-Err.ensures.answer.fails c.requires.held)
+    (fails_held c.args.self.now c.args.lane.now.cells c.keep_again.new.lane.cells c.requires.lane.cells c.args.claim c.in-Err.unkept.1 c.in-Err.ensures.answer.fails c.requires.held)
 
 pub returns-in-Ok-clause-events : goal.returns-in-Ok-clause-events
 returns-in-Ok-clause-events g c =
-    let b = c.keep_wait.new.lane.cells in
+    let b = c.keep_again.new.lane.cells in
     let number : c.kept.inside.number ≡ c.in-Ok.kept = c.kept.view_is in
     let two : Calls c.args.self.now.id.cells.limits b.view c.fill.new.lane.view (Fill c.args.claim c.in-Ok.kept ∷ []) =
-    subst (λ (z : CellsId × ℕ). Calls z.0.limits b.view c.fill.new.lane.view (Fill c.args.claim z.1 ∷ [])) {x = (b.cells, c.kept.inside.number)} (λ i. (c.keep_wait.ensures.lane.cells i, number i))
+    subst (λ (z : CellsId × ℕ). Calls z.0.limits b.view c.fill.new.lane.view (Fill c.args.claim z.1 ∷ [])) {x = (b.cells, c.kept.inside.number)} (λ i. (c.keep_again.ensures.lane.cells i, number i))
     (subst (λ (z : Lane). Calls z.cells.limits z.view c.fill.new.lane.view (Fill c.args.claim c.kept.inside.number ∷ [])) (ap (λ (l : StoreLane g.row.V.Denot). l.cells) c.lane.view_is) c.fill.ensures.filled.calls) in
     subst (Fills c.args.self.now.id.cells.limits [] c.args.claim c.args.lane.now.cells.view c.fill.new.lane.view) (sym number)
     (fills c.args.self.now c.args.lane.now.cells b c.requires.lane.cells c.args.claim c.fill.new.lane c.in-Ok.kept c.in-Ok.ensures.answer.drawn two)
@@ -35,19 +35,19 @@ returns-in-Ok-clause-apart g c m kept e = c.in-Ok.ensures.apart m kept (e ∙ c.
 
 pub returns-in-Ok-clause-frame : goal.returns-in-Ok-clause-frame
 returns-in-Ok-clause-frame g c =
-    fill_frame c.args.self.now.id c.args.lane.now (record { cells = c.lane.inside.cells; known = c.lane.inside.notes; faults = c.lane.inside.faults; keys = c.lane.inside.keys }) _ (record { cells = c.fill.new.lane; known = c.lane.inside.notes; faults = c.lane.inside.faults; keys = c.lane.inside.keys }) c.lane.view_is c.keep_wait.ensures.frame c.fill.ensures.lane refl
+    fill_frame c.args.self.now.id c.args.lane.now (record { cells = c.lane.inside.cells; known = c.lane.inside.notes; faults = c.lane.inside.faults; keys = c.lane.inside.keys }) _ (record { cells = c.fill.new.lane; known = c.lane.inside.notes; faults = c.lane.inside.faults; keys = c.lane.inside.keys }) c.lane.view_is c.keep_again.ensures.frame c.fill.ensures.lane refl
     c.args.claim c.kept.inside.number c.fill.ensures.filled.calls (λ m kept e. c.in-Ok.ensures.apart m kept (e ∙ c.kept.view_is))
 
 pub returns-in-Err-clause-events : goal.returns-in-Err-clause-events
 returns-in-Err-clause-events g c =
-    let b = c.keep_wait.new.lane.cells in
+    let b = c.keep_again.new.lane.cells in
     let two : Calls c.args.self.now.id.cells.limits b.view c.abandon.new.lane.view (Abandon c.args.claim ∷ []) =
-    subst (λ (z : CellsId). Calls z.limits b.view c.abandon.new.lane.view (Abandon c.args.claim ∷ [])) {x = b.cells} c.keep_wait.ensures.lane.cells
+    subst (λ (z : CellsId). Calls z.limits b.view c.abandon.new.lane.view (Abandon c.args.claim ∷ [])) {x = b.cells} c.keep_again.ensures.lane.cells
     (subst (λ (z : Lane). Calls z.cells.limits z.view c.abandon.new.lane.view (Abandon c.args.claim ∷ [])) (ap (λ (l : StoreLane g.row.V.Denot). l.cells) c.lane.view_is) c.abandon.ensures.abandoned.calls) in
     unkept c.args.self.now c.args.lane.now.cells b c.requires.lane.cells c.args.claim c.abandon.new.lane c.in-Err.unkept.1 c.in-Err.ensures.answer.fails two
 
 pub returns-in-Err-clause-frame : goal.returns-in-Err-clause-frame
 returns-in-Err-clause-frame g c =
-    frames_compose c.args.self.now.id [] [] c.args.lane.now c.keep_wait.new.lane (record { cells = c.abandon.new.lane; known = c.lane.inside.notes; faults = c.lane.inside.faults; keys = c.lane.inside.keys }) c.keep_wait.ensures.frame
-    (storing_frame c.args.self.now.id (record { cells = c.lane.inside.cells; known = c.lane.inside.notes; faults = c.lane.inside.faults; keys = c.lane.inside.keys }) c.keep_wait.new.lane (record { cells = c.abandon.new.lane; known = c.lane.inside.notes; faults = c.lane.inside.faults; keys = c.lane.inside.keys }) c.lane.view_is c.keep_wait.ensures.lane c.abandon.ensures.lane refl
+    frames_compose c.args.self.now.id [] [] c.args.lane.now c.keep_again.new.lane (record { cells = c.abandon.new.lane; known = c.lane.inside.notes; faults = c.lane.inside.faults; keys = c.lane.inside.keys }) c.keep_again.ensures.frame
+    (storing_frame c.args.self.now.id (record { cells = c.lane.inside.cells; known = c.lane.inside.notes; faults = c.lane.inside.faults; keys = c.lane.inside.keys }) c.keep_again.new.lane (record { cells = c.abandon.new.lane; known = c.lane.inside.notes; faults = c.lane.inside.faults; keys = c.lane.inside.keys }) c.lane.view_is c.keep_again.ensures.lane c.abandon.ensures.lane refl
     (Abandon c.args.claim ∷ []) (nor_this (Abandon c.args.claim) [] refl none_stored) c.abandon.ensures.abandoned.calls)

@@ -1,0 +1,17 @@
+-- How many steps the seals of a close make at most, counted in fronts.
+use Rattle.std.proofs.Common.{◌≡◌, ◌≤◌, ℕ, ◌+◌, ◌*◌, List, length, drop, arith, length-drop}
+use Rattle.std.proofs.Math.Nat.{add-mul, mul-le-mul_right}
+use Rattle.ext_cells.specs.Lanes.{Lane}
+use Rattle.ext_store.specs.Calls.{steps_of}
+
+pub fronts_within : (a c : Lane) (n : ℕ) → steps_of a c ≤ n → length c.view.fronts ≤ length a.view.fronts + n
+fronts_within a c n few = let long = length-drop (length a.view.fronts) c.view.fronts in omega (arith, long, few)
+
+pub steps_within : (a c : Lane) (n : ℕ) → length c.view.fronts ≤ length a.view.fronts + n → steps_of a c ≤ n
+steps_within a c n few = let long = length-drop (length a.view.fronts) c.view.fronts in omega (arith, long, few)
+
+pub one_more_within : (a b c key tries : ℕ) → b ≤ a + key * tries → c ≤ b + tries → c ≤ a + (key + 1) * tries
+one_more_within a b c key tries first second = let e = add-mul key 1 tries in omega (arith, first, second)
+
+pub some_within : (a c keys all tries : ℕ) → keys ≤ all → c ≤ a + keys * tries → c ≤ a + all * tries
+some_within a c keys all tries within few = let m = mul-le-mul_right tries within in omega (arith, m, few)

@@ -1,0 +1,10 @@
+//! A job that was drawn.
+
+/// A job that was drawn: an item with its place in the list of items. Own rule.
+#[derive(Drop)]
+pub(crate) struct Job<T> {
+    /// The place of the item, from 0, which is also the job's index.
+    pub index: usize,
+    /// The item.
+    pub item: T,
+}

@@ -1,0 +1,86 @@
+//! The rule of the counter from which workers draw jobs, what its steps tell, and how seats are split off and joined in.
+//! What stands here is for the proofs alone: it takes no bytes and runs no code.
+use crate::jobs::Done;
+use crate::jobs::slot::Slot;
+use atomic_table::{Join, Play, Seat, Shared, Split, Table, TableRule};
+use std::alloc::Allocator;
+use std::collections::LinkedList;
+use std::snapshot::Snapshot;
+
+/// The counter, word 0, and a slot for each job, as workers share them. The key is the list of items. Own rule.
+pub(crate) type Counter<T, O, M> = Shared<Slot<T, O>, Drawn<T, O>, Snapshot<Vec<T, M>>, Drawing>;
+
+/// The counter and the slots with their memory. Workers share `shared` of it. Own rule.
+pub(crate) type CounterTable<T, O, M> = Table<
+    Slot<T, O>,
+    Drawn<T, O>,
+    Snapshot<Vec<T, M>>,
+    Drawing,
+    M,
+>;
+
+/// What a worker has in hand: a seat at the counter, with which it draws jobs and gives back what they gave. It takes no bytes. Own rule.
+pub(crate) type Hand<T, O> = Seat<Slot<T, O>, Drawn<T, O>>;
+
+/// The view of a seat. No value of it is made.
+pub(crate) struct Drawn<T, O> {
+    /// For how many of the seats that were split off at first this one stands. A seat that stands for none is spent.
+    pub parts: u64,
+    /// The numbers that it drew.
+    pub draws: LinkedList<u64>,
+    /// The jobs that it did and whose slots it gave back, with their outcomes.
+    pub given: LinkedList<Done<O>>,
+    /// The items that there are to draw.
+    pub items: LinkedList<T>,
+}
+
+/// The views hold each number below the counter once in all, each slot from the counter on has its item, and each slot that was
+/// given back has its job's outcome.
+pub(crate) struct Drawing;
+
+impl<T, O, M: Allocator> TableRule<Slot<T, O>, Drawn<T, O>, Snapshot<Vec<T, M>>> for Drawing {
+    ghost use Rattle.std.specs.Prelude.{[]};
+    ghost use Rattle.ext_crew.specs.Counter.{Kept, drawn};
+
+    ghost holds = { λ key s. Kept key.value.items s };
+
+    ghost first = { λ key. drawn 17 [] [] key.value.items };
+}
+
+/// A load of the counter.
+pub(crate) struct Loads;
+
+impl<T, O> Play<Slot<T, O>, Drawn<T, O>> for Loads {
+    ghost use Rattle.ext_crew.specs.Counter.{Loaded};
+
+    ghost then = { λ _ v found w. Loaded v found w };
+}
+
+/// A draw: the counter goes from the number that it is told of to the next one.
+pub(crate) struct Draws;
+
+impl<T, O> Play<Slot<T, O>, Drawn<T, O>> for Draws {
+    ghost use Rattle.std.specs.Prelude.{◌==◌};
+    ghost use Rattle.ext_crew.specs.Counter.{DrawsIf};
+
+    ghost then = { λ s v found w. DrawsIf (found == s.first) v found w };
+}
+
+/// A worker's seat is split off the first one, and joined in again.
+pub(crate) struct Hires;
+
+impl<T, O> Split<Drawn<T, O>> for Hires {
+    ghost use Rattle.ext_crew.specs.Counter.{hirer, hired};
+
+    ghost left = { hirer };
+
+    ghost right = { hired };
+}
+
+impl<T, O> Join<Drawn<T, O>> for Hires {
+    ghost use Rattle.ext_crew.specs.Counter.{together, spent};
+
+    ghost both = { together };
+
+    ghost spent = { spent };
+}

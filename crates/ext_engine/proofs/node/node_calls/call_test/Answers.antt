@@ -1,0 +1,18 @@
+use Rattle.std.proofs.Common.{rules}
+use Rattle.std.specs.Prelude.{Some}
+use Rattle.ext_store.specs.Stores.{IsLaneOf}
+use Rattle.ext_lifecycle.specs.Lifecycle.{MakesCalls}
+use Rattle.ext_engine.proofs.NodeCalls.{at_same}
+use Rattle.ext_engine.proofs.node.node_calls.call_test.Goals as goal
+
+pub returns-clause-lane : goal.returns-clause-lane
+returns-clause-lane g c = at_same (λ x. IsLaneOf c.args.store.now.id x) _ c.calls-tally.new.self.lane.now (search rules) c.calls-tally.ensures.lane
+
+pub returns-clause-calls : goal.returns-clause-calls
+returns-clause-calls g c =
+    let m = c.calls-tally.ensures.calls in (
+      m.0,
+      at_same (λ x. MakesCalls (λ a call o b. g.S.Suite.call_gives c.args.suite.now c.args.store.now c.args.node call (Some c.args.held.now) a o b) c.args.befores.now c.args.body c.args.afters.now c.args.lane.now m.0 x)
+          _ c.calls-tally.new.self.lane.now (search rules) m.1,
+      m.2,
+    )

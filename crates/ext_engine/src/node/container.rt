@@ -1,0 +1,134 @@
+//! What is done for a container before its children and after them.
+ghost use Rattle.std.specs.Prelude.{◌≡◌, ℕ, ◌-◌, ◌<◌, ◌≤◌, List, length, All, IfOk, IfErr, false};
+ghost use Rattle.ext_lifecycle.specs.declared.outcome.Outcome.{Outcome};
+ghost use Rattle.ext_store.specs.Stores.{IsLaneOf};
+ghost use Rattle.ext_engine.specs.declared.node.fault.EngineFault.TheVariants as engine_fault;
+ghost use Rattle.ext_engine.specs.Closers.{IsNode};
+ghost use Rattle.ext_engine.specs.NodeRun.{IsFault, IsUnjoinedNode, setting_of};
+ghost use Rattle.ext_engine.specs.Helpers.{ran_view};
+ghost use Rattle.ext_engine.specs.Containers.{AreChildren, IsOpen, IsOpenBy, Opens, Ends};
+
+use crate::Suite;
+use crate::node::parts::{Parts, container_parts};
+use crate::node::{Children, EngineFault, Item, NodeRunner, RanNode, call_afters, call_befores};
+use ext_lifecycle::{Call, Tally};
+use ext_model::ContextNo;
+use ext_store::{Closer, Lane, StoreValue};
+use std::alloc::Global;
+use std::sync::Wait;
+
+/// A container whose before-callbacks were called. Own rule.
+#[derive(Drop)]
+pub(crate) struct OpenContainer {
+    /// The closer of its context.
+    pub closer: Closer,
+    /// Its after-callbacks, in the order in which they are called.
+    pub afters: Vec<Call>,
+    /// What its calls came to so far.
+    pub tally: Tally,
+    /// Whether all before-callbacks were successful, so that its children are run.
+    pub went_on: bool,
+}
+
+/// Makes what a container is run with, calls its before-callbacks on the first lane, in order, up to the first that isn't successful, and gives what is
+/// left to be done after its children, and these.
+///
+/// The item is a container with the closers of its subtree, and `depth` is 17 less the levels from the root to it. There is at least one lane, all are of
+/// the store, and the store is one that the suite may be run over. Refused as `Memory` where memory for its lists is refused: then nothing was called, the lanes are as they were,
+/// and the closers are dropped, so that its context stays open. Takes memory, and what more a call takes, and for whom it waits, is its own matter.
+///
+/// JUnit 5 User Guide, section "Relative Execution Order of User Code and Extensions".
+pub(crate) fn open_container<'a, R: Wait, V: StoreValue + Drop, S: Suite<V>>(
+    nodes: &NodeRunner<'a, R, V, S>,
+    alloc: Global,
+    depth: usize,
+    item: Item,
+    lanes: &mut [Lane<V>],
+) -> Result<(OpenContainer, Children), EngineFault>
+    requires item { IsNode nodes.now.store.now depth item }
+    requires container { (S.nodes nodes.now.suite.now).is_test item.node ≡ false }
+    requires suite_fits { S.fits nodes.now.suite.now nodes.now.store.now }
+    requires lanes { 0 < length lanes.old }
+    requires own_lanes { All (IsLaneOf nodes.now.store.now.id) lanes.old }
+    ensures own_lanes { All (IsLaneOf nodes.now.store.now.id) lanes.new }
+    ensures count { length lanes.new ≡ length lanes.old }
+    ensures begun { IfOk result (λ r. IsOpen nodes.now.store.now item.node r.0) }
+    ensures befores { IfOk result (λ r. Opens (setting_of nodes.now.store.now nodes.now.locks.now (S.nodes nodes.now.suite.now) (S.registered nodes.now.suite.now) V.is_closeable) (S.call_gives nodes.now.suite.now nodes.now.store.now) (S.action_gives nodes.now.suite.now) S.Action.close_gives item.node lanes.old r.0 lanes.new) }
+    ensures children { IfOk result (λ r. AreChildren nodes.now.store.now (S.nodes nodes.now.suite.now) (depth - 1) item.node r.1 × (1 ≤ depth)) }
+    ensures fault { IfErr result (λ why. why ≡ engine_fault.Memory) }
+    ensures untouched { IfErr result (λ _. lanes.new ≡ lanes.old) }
+{
+    let node = item.node;
+    let Parts {
+        closer,
+        befores,
+        afters,
+        children,
+    } = container_parts(nodes, alloc, depth, item)?;
+    let tally = call_befores(
+        nodes.rt,
+        nodes.suite,
+        nodes.store,
+        node,
+        &mut lanes[0],
+        befores.as_slice(),
+    );
+    let went_on = tally.is_successful();
+    let begun = OpenContainer {
+        closer,
+        afters,
+        tally,
+        went_on,
+    };
+    Ok((begun, children))
+}
+
+/// Calls the after-callbacks of a container on the first lane, in order, however each ends, closes its context with all lanes, and gives what is told of
+/// it.
+///
+/// The container is one that `open_container` gave. There is at least one lane, all are of the store, and the store is one that the suite may be run over.
+/// Refused as `Unjoined` where its context can't be closed, as no lane in hand knows a value that remains in it: its calls were made then, and its context
+/// stays open. What memory a call takes is its own matter. May wait: it promises its clauses if it returns.
+///
+/// JUnit 5 User Guide, sections "Relative Execution Order of User Code and Extensions" and "Keeping State in Extensions".
+pub(crate) fn close_container<'a, R: Wait, V: StoreValue + Drop, S: Suite<V>>(
+    nodes: &NodeRunner<'a, R, V, S>,
+    node: ContextNo,
+    begun: OpenContainer,
+    lanes: &mut [Lane<V>],
+) -> Result<RanNode, EngineFault>
+    requires begun { IsOpen nodes.now.store.now node begun }
+    requires container { (S.nodes nodes.now.suite.now).is_test node ≡ false }
+    requires suite_fits { S.fits nodes.now.suite.now nodes.now.store.now }
+    requires lanes { 0 < length lanes.old }
+    requires own_lanes { All (IsLaneOf nodes.now.store.now.id) lanes.old }
+    ensures own_lanes { All (IsLaneOf nodes.now.store.now.id) lanes.new }
+    ensures count { length lanes.new ≡ length lanes.old }
+    ensures ends { IfOk result (λ ran. (path : List ℕ) (befores : List Outcome) → IsOpenBy (S.registered nodes.now.suite.now) node path befores begun
+        → Ends (setting_of nodes.now.store.now nodes.now.locks.now (S.nodes nodes.now.suite.now) (S.registered nodes.now.suite.now) V.is_closeable) (S.call_gives nodes.now.suite.now nodes.now.store.now) (S.action_gives nodes.now.suite.now) S.Action.close_gives node path befores lanes.old (ran_view ran) lanes.new) }
+    ensures fault { IfErr result (IsFault (setting_of nodes.now.store.now nodes.now.locks.now (S.nodes nodes.now.suite.now) (S.registered nodes.now.suite.now) V.is_closeable) (S.action_gives nodes.now.suite.now) S.Action.close_gives) }
+    ensures unjoined { IfErr result (IsUnjoinedNode (setting_of nodes.now.store.now nodes.now.locks.now (S.nodes nodes.now.suite.now) (S.registered nodes.now.suite.now) V.is_closeable) (S.action_gives nodes.now.suite.now) S.Action.close_gives node lanes.new) }
+{
+    let OpenContainer {
+        closer,
+        afters,
+        mut tally,
+        went_on,
+    } = begun;
+    call_afters(
+        nodes.rt,
+        nodes.suite,
+        nodes.store,
+        node,
+        &mut lanes[0],
+        afters.as_slice(),
+        &mut tally,
+    );
+    match nodes.close_node(node, closer, lanes) {
+        Ok(closes) => Ok(RanNode {
+            result: tally.result(node, false, closes),
+            went_on,
+        }),
+        Err(number) => Err(EngineFault::Unjoined(node, number)),
+    }
+}

@@ -1,0 +1,88 @@
+//! What a suite says of its nodes, and its calls.
+
+use ext_closing::CloseAction;
+use ext_lifecycle::{Call, Callbacks, Mode, Outcome};
+use ext_locks::{Held, LockRequest};
+use ext_model::ContextNo;
+use ext_store::{Lane, Store, StoreValue};
+use std::sync::Wait;
+
+/// The nodes of a tree of tests, and their calls. Nodes are the contexts of the store's tree, numbered from 0.
+///
+/// It is shared by all workers of a run, and what it says of a node doesn't change. Its calls may come from several threads at once.
+/// Own rule.
+pub trait Suite<V: StoreValue + Drop>: Callbacks {
+    ghost use Rattle.std.specs.Prelude.{◌≡◌, ◌<◌, ◌≤◌, ℕ, Bool, Option, length, slice_get, Some, option_map};
+    ghost use Rattle.ext_locks.specs.Sets.{HeldView};
+    ghost use Rattle.ext_store.specs.Stores.{StoreView, StoreLane, IsLaneOf};
+    ghost use Rattle.ext_lifecycle.specs.Modes.{is_concurrent};
+    ghost use Rattle.ext_lifecycle.specs.declared.call.Call.{Call};
+    ghost use Rattle.ext_lifecycle.specs.declared.outcome.Outcome.{Outcome};
+    ghost use Rattle.ext_engine.specs.Suites.{SuiteView, asks, IsLent};
+
+    /// What closes the values of a context.
+    type Action: CloseAction<V> + Drop + Send + Sync;
+
+    /// The nodes: their modes, tests and locks.
+    ghost nodes: { Self → SuiteView };
+
+    /// Which stores it may be run over.
+    ghost fits: { Self → StoreView → Type 0 };
+
+    /// What a call does: the store, the node, the call, what it is lent, the lane before it, its outcome, and the lane after it.
+    ghost call_gives: { Self → StoreView → ℕ → Call → Option HeldView → StoreLane V → Outcome → StoreLane V → Type 0 };
+
+    /// The actions that a node may be given.
+    ghost action_gives: { Self → ℕ → Self.Action → Type 0 };
+
+    /// Whether the node runs beside the others of its container. Of the root it is never asked. JUnit 5 User Guide, section
+    /// "Parallel Execution".
+    fn mode(&self, node: ContextNo) -> Mode
+        ensures { is_concurrent result ≡ (nodes self.now).is_concurrent node };
+
+    /// Whether no other test runs beside one at or below the node. Javadoc `Isolated`.
+    fn isolated(&self, node: ContextNo) -> bool
+        ensures { result ≡ (nodes self.now).is_isolated node };
+
+    /// Whether it is a test; else it is a container.
+    fn is_test(&self, node: ContextNo) -> bool
+        ensures { result ≡ (nodes self.now).is_test node };
+
+    /// How many locks it names. Javadoc `ResourceLock`.
+    fn lock_count(&self, node: ContextNo) -> usize
+        ensures { result ≡ length ((nodes self.now).locks node) };
+
+    /// One of them, from 0, and `None` past the last. Javadoc `ResourceLock`.
+    fn lock<'a>(&'a self, node: ContextNo, i: usize) -> Option<LockRequest<'a>>
+        ensures { option_map asks result ≡ slice_get ((nodes self.now).locks node) i };
+
+    /// What closes the values of the node's context. A run that closes a context asks for it once, and gives the context's values to no
+    /// other action; that it asks for no second one is tested, since a clause can't speak of an action that was let go again. JUnit 5 User
+    /// Guide, section "Keeping State in Extensions"; that the suite gives it is an own rule.
+    fn action(&self, node: ContextNo) -> Self::Action
+        ensures { action_gives self.now node result };
+
+    /// The node has ended: its calls were made and its context was closed. Told once for each node of which that is so, by the thread that ran
+    /// it, and not for those that were skipped, nor where the run is refused before that. Does nothing, unless the suite says otherwise.
+    /// JUnit Platform, Javadoc `EngineExecutionListener`, `executionFinished`.
+    fn ended(&self, _node: ContextNo) {}
+
+    /// Makes one call of the node, on a lane of the store: a callback of the node or of one above it, or the test. A test is lent the
+    /// locks that it holds, and a container none. The store is one that the suite may be run over. What memory the call takes, and for
+    /// whom it waits, is its own matter: want of memory is an outcome. Own rule.
+    fn call<R: Wait>(
+        &self,
+        rt: &R,
+        store: &Store<V>,
+        node: ContextNo,
+        call: &Call,
+        lane: &mut Lane<V>,
+        held: Option<&Held>,
+    ) -> Outcome
+        requires fits { fits self.now store.now }
+        requires lane { IsLaneOf store.now.id lane.old }
+        requires node { node < length store.now.tree }
+        requires held { IsLent (nodes self.now) store.now.tree node (option_map (λ h. h.now) held) }
+        ensures call { call_gives self.now store.now node call.now (option_map (λ h. h.now) held.entry) lane.old result lane.new }
+        ensures lane { IsLaneOf store.now.id lane.new };
+}

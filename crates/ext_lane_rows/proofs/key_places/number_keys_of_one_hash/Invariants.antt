@@ -1,5 +1,0 @@
-use Rattle.ext_tree.specs.KeyPlaces.{AreKeyNotesOf}
-use Rattle.ext_lane_rows.proofs.key_places.number_keys_of_one_hash.Given as goal
-
-abbrev pub invariant-loop-number : goal.invariant-loop-number
-invariant-loop-number g l = AreKeyNotesOf l.places l.notes

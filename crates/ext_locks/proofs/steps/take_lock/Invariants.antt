@@ -1,5 +1,0 @@
-use Rattle.ext_locks.proofs.Trying.{Tried}
-use Rattle.ext_locks.proofs.steps.take_lock.Given as goal
-
-abbrev pub invariant-loop-attempt : goal.invariant-loop-attempt
-invariant-loop-attempt l = Tried l.initial.seat l.seat l.lane l.lock l.found l.attempt

@@ -1,0 +1,155 @@
+//! The suite of a plan.
+ghost use Rattle.std.specs.Prelude.{◌≡◌, IfOk};
+ghost use Rattle.ext_plan.specs.Laws.{CallbacksAreFew, NamespacesHaveParts, StepListsAreShort};
+ghost use Rattle.ext_plan.specs.Plans.{lock_view, plan_view};
+ghost use Rattle.ext_engine.specs.Suites.{asks};
+ghost use Rattle.ext_parallel.specs.PlanSuites.{asked};
+
+use crate::PlanAction;
+use crate::steps::{StoreSteps, StoredValue};
+use ext_engine::{Call, Callbacks, Kind, Mode, Outcome, Suite};
+use ext_lifecycle::RunListener;
+use ext_locks::{Held, LockMode, LockRequest, Resource};
+use ext_model::ContextNo;
+use ext_plan::{Plan, PlanLock, StepKeys};
+use ext_store::{Lane, Store};
+use ext_tree::Key;
+use std::alloc::{AllocError, Global};
+use std::marker::Model;
+use std::sync::Wait;
+
+/// The suite of a plan: its nodes are those of the plan, in the order of the plan, and their calls make the plan's steps. It is seen as
+/// the plan. A listener is told of each node that has ended. Own rule.
+#[derive(Drop)]
+pub struct PlanSuite<'a, L> {
+    alloc: Global,
+    plan: &'a Plan,
+    listener: &'a L,
+    // For each label, in the order of the plan.
+    keys: Vec<Key>,
+}
+
+impl<'a, L> Model for PlanSuite<'a, L> {
+    ghost use Rattle.ext_plan.specs.Plans.{PlanText, plan_view};
+    ghost use Rattle.ext_parallel.specs.Helpers.{IsSuiteOf};
+
+    ghost Value = { PlanText };
+
+    ghost view = { λ s. plan_view s.plan.now };
+
+    ghost invariant = { λ s. IsSuiteOf (plan_view s.plan.now) s.keys.items };
+}
+
+impl<'a, L> PlanSuite<'a, L> {
+    /// The suite of a plan, and who is told of the nodes that have ended. It takes memory for the keys of the plan's labels, which it makes, and for what the steps of a run take:
+    /// among it for the key of a step that names no label, which is made where the step runs.
+    ///
+    /// A namespace that is given has a part; lists of steps and of callbacks are not longer than a plan's. All this holds of each plan that was read. `AllocError` comes only where
+    /// memory is refused. Own rule.
+    pub fn new(
+        alloc: Global,
+        plan: &'a Plan,
+        listener: &'a L,
+    ) -> Result<PlanSuite<'a, L>, AllocError>
+        requires parts { NamespacesHaveParts (plan_view plan.now) }
+        requires short { StepListsAreShort (plan_view plan.now) }
+        requires few { CallbacksAreFew (plan_view plan.now) }
+        ensures { IfOk result (λ suite. suite ≡ plan_view plan.now) }
+    {
+        let keys = plan.store_keys(alloc)?;
+        Ok(PlanSuite {
+            alloc,
+            plan,
+            listener,
+            keys,
+        })
+    }
+}
+
+impl<L> Callbacks for PlanSuite<'_, L> {
+    ghost use Rattle.ext_plan.specs.PlanCalls.{registered};
+
+    ghost registered = { registered };
+
+    fn count(&self, kind: Kind, node: ContextNo) -> usize {
+        self.plan.callback_count(kind, node)
+    }
+}
+
+impl<'a, L: RunListener> Suite<StoredValue<'a>> for PlanSuite<'a, L> {
+    ghost use Rattle.ext_parallel.specs.PlanSuites.{suite_of, RunsCall};
+
+    type Action = PlanAction;
+
+    ghost nodes = { suite_of };
+
+    ghost fits = { λ plan store. Unit {0} };
+
+    ghost call_gives = { λ plan store node call held before outcome after. RunsCall plan store node call before outcome after };
+
+    ghost action_gives = { λ plan node action. Unit {0} };
+
+    fn mode(&self, node: ContextNo) -> Mode {
+        self.plan.mode(node)
+    }
+
+    fn isolated(&self, node: ContextNo) -> bool {
+        self.plan.is_isolated(node)
+    }
+
+    fn is_test(&self, node: ContextNo) -> bool {
+        self.plan.is_test(node)
+    }
+
+    fn lock_count(&self, node: ContextNo) -> usize {
+        self.plan.locks_of(node).len()
+    }
+
+    fn lock<'l>(&'l self, node: ContextNo, i: usize) -> Option<LockRequest<'l>> {
+        let lock = self.plan.locks_of(node).get(i)?;
+        Some(request(lock))
+    }
+
+    /// An action that closes the node's values, as it does those of each node.
+    fn action(&self, _node: ContextNo) -> PlanAction {
+        PlanAction::new(self.alloc)
+    }
+
+    /// Tells the listener.
+    fn ended(&self, node: ContextNo) {
+        self.listener.ended(node, self.plan.nodes.len());
+    }
+
+    /// Makes the steps of the call, in the node's context, up to the first that isn't successful.
+    fn call<R: Wait>(
+        &self,
+        rt: &R,
+        store: &Store<StoredValue<'a>>,
+        node: ContextNo,
+        call: &Call,
+        lane: &mut Lane<StoredValue<'a>>,
+        _held: Option<&Held>,
+    ) -> Outcome {
+        let plan: &'a Plan = self.plan;
+        let names = StepKeys::of(plan.keys.as_slice(), self.keys.as_slice());
+        let steps = StoreSteps::of(self.alloc, names);
+        let path = store.tree().path(node);
+        steps.run(rt, store, lane, path.as_slice(), plan.steps_of(call))
+    }
+}
+
+/// The request for a lock that a node names.
+fn request(lock: &PlanLock) -> LockRequest<'_>
+    ensures { asks result ≡ asked (lock_view lock.now) }
+{
+    match lock {
+        PlanLock::Read(name) => LockRequest {
+            resource: Resource::Named(name.as_str()),
+            mode: LockMode::Read,
+        },
+        PlanLock::ReadWrite(name) => LockRequest {
+            resource: Resource::Named(name.as_str()),
+            mode: LockMode::ReadWrite,
+        },
+    }
+}

@@ -1,0 +1,63 @@
+//! How steps end whose call of the store was refused.
+ghost use Rattle.std.specs.Prelude.{◌≡◌, ◌≢◌, IfOk, IfErr};
+ghost use Rattle.ext_shared.specs.declared.fault.Refusal.TheVariants as refusal;
+ghost use Rattle.ext_store.specs.Waiting.{IsDecided, IsDecidedFault};
+ghost use Rattle.ext_plan.specs.Calls.{call_view};
+ghost use Rattle.ext_plan.specs.Verdicts.{refused};
+ghost use Rattle.ext_parallel.specs.Saying.{Ends, EndsRefused, EndsUnkept, no_memory};
+
+use ext_lifecycle::{Outcome, Verdict};
+use ext_model::Fault;
+use ext_plan::{Reason, StepCall, refused};
+use ext_store::{KeepFault, Refusal};
+use std::alloc::{AllocError, Global};
+
+/// The verdict, or that memory ran out.
+pub(crate) fn or_no_memory(verdict: Result<Verdict, AllocError>) -> Verdict
+    ensures verdict { IfOk verdict (λ v. result ≡ v) }
+    ensures memory { IfErr verdict (λ _. result ≡ no_memory) }
+{
+    match verdict {
+        Ok(verdict) => verdict,
+        Err(_) => Verdict::Failed(Fault::Memory),
+    }
+}
+
+/// How a step ends whose call was refused so.
+pub(crate) fn end_refused(alloc: Global, call: &StepCall<'_>, why: Refusal) -> Outcome
+    requires decided { IsDecided why }
+    requires placed { why ≢ refusal.Unplaced }
+    ensures { EndsRefused (call_view call.now).name (call_view call.now).label why result }
+{
+    match why {
+        Refusal::Closed(_) => end_for(alloc, call, Reason::Closed),
+        Refusal::Exhausted => end_for(alloc, call, Reason::Exhausted),
+        Refusal::DirectoryFull => end_for(alloc, call, Reason::DirectoryFull),
+        Refusal::Memory => Outcome::of(Verdict::Failed(Fault::Memory)),
+        // Waiting forms are not refused for these, and it does not come that a key is not placed.
+        Refusal::Busy(_) => unreachable!(),
+        Refusal::Contended => unreachable!(),
+        Refusal::Unplaced => unreachable!(),
+    }
+}
+
+/// How a step ends whose value was not kept.
+pub(crate) fn end_unkept(alloc: Global, call: &StepCall<'_>, why: KeepFault) -> Outcome
+    requires { IsDecidedFault why }
+    ensures { EndsUnkept (call_view call.now).name (call_view call.now).label why result }
+{
+    match why {
+        KeepFault::Memory => Outcome::of(Verdict::Failed(Fault::Memory)),
+        KeepFault::NumbersFull => end_for(alloc, call, Reason::NumbersFull),
+        KeepFault::Unplaced => end_for(alloc, call, Reason::Unplaced),
+        // Waiting forms are not refused because other lanes were in the way.
+        KeepFault::Contended => unreachable!(),
+    }
+}
+
+/// How a step ends that was refused for this reason.
+fn end_for(alloc: Global, call: &StepCall<'_>, why: Reason) -> Outcome
+    ensures { Ends (refused (call_view call.now).name (call_view call.now).label why) 0 0 result }
+{
+    Outcome::of(or_no_memory(refused(alloc, call, why)))
+}

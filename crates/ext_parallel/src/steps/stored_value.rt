@@ -1,0 +1,43 @@
+//! A value of a plan, as a store keeps it.
+ghost use Rattle.std.specs.Prelude.{◌≡◌, true, false};
+
+use ext_plan::PlanValue;
+use ext_store::StoreValue;
+
+/// A value of a plan, as a store keeps it: its text, and whether it is closed with its context. Own rule.
+#[derive(Clone, Copy, Debug, PartialEq, Eq)]
+pub struct StoredValue<'a> {
+    /// The value.
+    pub value: PlanValue<'a>,
+}
+
+impl StoreValue for StoredValue<'_> {
+    ghost is_closeable = { λ v. v.value.closeable };
+
+    /// As the value says of itself.
+    fn closeable(&self) -> bool {
+        self.value.closeable
+    }
+}
+
+impl<'a> StoredValue<'a> {
+    ghost use Rattle.ext_parallel.specs.StoreCalls.{stored_view};
+
+    // A value of this text that isn't closeable.
+    pub(crate) fn not_closeable(text: &'a str) -> StoredValue<'a>
+        ensures { stored_view result ≡ record { text = text.now; closeable = false } }
+    {
+        StoredValue {
+            value: PlanValue::not_closeable(text),
+        }
+    }
+
+    // A closeable value of this text.
+    pub(crate) fn closeable_of(text: &'a str) -> StoredValue<'a>
+        ensures { stored_view result ≡ record { text = text.now; closeable = true } }
+    {
+        StoredValue {
+            value: PlanValue::closeable(text),
+        }
+    }
+}

@@ -1,0 +1,7 @@
+use Rattle.std.proofs.Common.{rules, append_assoc}
+use Rattle.ext_plan.specs.StepTexts.{other_fault_text}
+use Rattle.ext_plan.proofs.step_text.other_fault_text.Goals as goal
+
+pub returns : goal.returns
+unfolding other_fault_text
+returns c = search (rules, append_assoc)

@@ -1,0 +1,104 @@
+//! The keys of the store that a plan's labels name.
+ghost use Rattle.std.specs.Prelude.{◌≡◌, ◌≤◌, ◌<◌, ◌⊎◌, All, Err, IfErr, IfOk, OnOk, length, map, nat_le, string_bytes};
+ghost use Rattle.ext_tree.specs.declared.fault.TreeFault.TheVariants as fault;
+ghost use Rattle.ext_plan.specs.Plans.{key_view, keys_view, plan_view};
+ghost use Rattle.ext_plan.specs.KeyNumbers.{named_key, with_key, different_keys, HasParts};
+ghost use Rattle.ext_plan.specs.Laws.{NamespacesHaveParts};
+
+use crate::plan::{Plan, PlanKey};
+use ext_model::KeyNo;
+use ext_tree::{Directory, Key, Namespace, TreeFault};
+use std::alloc::{AllocError, Global};
+
+impl PlanKey {
+    ghost use Rattle.ext_plan.specs.KeyNumbers.{named_key, HasParts};
+    ghost use Rattle.ext_plan.specs.Plans.{key_view};
+
+    /// The key of the store that the label names: of the key's namespace, which has a part where it was created, and of the
+    /// key's name. Takes memory for both; refused as `Memory` alone. Source: Javadoc types `ExtensionContext.Store` and
+    /// `ExtensionContext.Namespace`, `create`.
+    pub fn store_key(&self, alloc: Global) -> Result<Key, TreeFault>
+        requires { HasParts (key_view self.now) }
+        ensures value { IfOk result (λ k. k ≡ named_key (key_view self.now)) }
+        ensures memory { IfErr result (λ e. e ≡ fault.Memory) }
+    {
+        let namespace = match &self.namespace {
+            None => Namespace::global(),
+            Some(parts) => {
+                let parts = texts_of(alloc, parts.as_slice())?;
+                Namespace::create(alloc, parts.as_slice())?
+            }
+        };
+        Key::new(alloc, namespace, self.name.as_str())
+    }
+}
+
+impl Plan {
+    /// The keys of the store that the labels name, one for each label, in the order of the plan. Takes memory for them and for their
+    /// list; `AllocError` comes only where that is refused.
+    ///
+    /// Each namespace that is given has a part, as in each plan that was read. Source: Javadoc type `ExtensionContext.Store`.
+    pub fn store_keys(&self, alloc: Global) -> Result<Vec<Key>, AllocError>
+        requires { NamespacesHaveParts (plan_view self.now) }
+        ensures { IfOk result (λ v. v.items ≡ map named_key (plan_view self.now).keys) }
+    {
+        store_keys_of(alloc, self.keys.as_slice())
+    }
+}
+
+/// The key of the store for each label, in order.
+fn store_keys_of(alloc: Global, keys: &[PlanKey]) -> Result<Vec<Key>, AllocError>
+    requires { All HasParts (keys_view keys.now) }
+    ensures { IfOk result (λ v. v.items ≡ map named_key (keys_view keys.now)) }
+{
+    let mut list = Vec::new(alloc);
+    for key in keys {
+        match key.store_key(alloc) {
+            Ok(key) => list.push(key)?,
+            Err(_) => return Err(AllocError),
+        }
+    }
+    Ok(list)
+}
+
+/// Tests whether the labels of these keys name at most 64 different keys. Each namespace that is given has a part.
+///
+/// Takes memory for up to 64 of the keys, which it gives back before it returns; `AllocError` comes only where that is refused. Own rule.
+pub fn keys_are_few(alloc: Global, keys: &[PlanKey]) -> Result<bool, AllocError>
+    requires { All HasParts (keys_view keys.now) }
+    ensures { IfOk result (λ few. few ≡ nat_le (length (different_keys (keys_view keys.now))) 64) }
+{
+    let mut directory = Directory::new(alloc);
+    for key in keys {
+        match declare(alloc, &mut directory, key) {
+            Ok(_) => {}
+            Err(TreeFault::TooMany) => return Ok(false),
+            Err(_) => return Err(AllocError),
+        }
+    }
+    Ok(true)
+}
+
+/// The number of the key that a label names, from now on.
+fn declare(alloc: Global, directory: &mut Directory, key: &PlanKey) -> Result<KeyNo, TreeFault>
+    requires parts { HasParts (key_view key.now) }
+    requires few { length directory.old ≤ 64 }
+    ensures keys { OnOk result (directory.new ≡ with_key directory.old (named_key (key_view key.now))) }
+    ensures few { OnOk result (length directory.new ≤ 64) }
+    ensures full { result ≡ Err fault.TooMany → 64 < length (with_key directory.old (named_key (key_view key.now))) }
+    ensures refusal { IfErr result (λ e. (e ≡ fault.TooMany) ⊎ (e ≡ fault.Memory)) }
+{
+    let key = key.store_key(alloc)?;
+    directory.declare(key)
+}
+
+/// The texts, each where it lies.
+fn texts_of<'a>(alloc: Global, texts: &'a [String]) -> Result<Vec<&'a str>, AllocError>
+    ensures { IfOk result (λ v. map (λ t. t.now) v.items ≡ map string_bytes texts.now) }
+{
+    let mut list = Vec::new(alloc);
+    for text in texts {
+        list.push(text.as_str())?;
+    }
+    Ok(list)
+}

@@ -1,0 +1,98 @@
+//! The keys that steps name.
+ghost use Rattle.std.specs.Prelude.{◌≡◌, drop, map, true, IfErr, IfOk};
+ghost use Rattle.ext_plan.specs.Plans.{keys_view, step_key_view};
+ghost use Rattle.ext_plan.specs.KeyNumbers.{key_of_step, named_key};
+
+use crate::call_key::CallKey;
+use crate::step_call::StepCall;
+use crate::{PlanKey, StepKey};
+use ext_model::ContextNo;
+use ext_tree::Key;
+use std::alloc::{AllocError, Global};
+
+/// The declared keys of a plan, and for each of them the key of the store that was made of it. Own rule.
+#[derive(Clone, Copy)]
+pub struct StepKeys<'b> {
+    keys: &'b [PlanKey],
+    made: &'b [Key],
+    ghost all: { made.now ≡ map named_key (keys_view keys.now) },
+}
+
+impl<'b> StepKeys<'b> {
+    ghost use Rattle.ext_plan.specs.Calls.{call_key, call_view, is_made, keys_in, label_of};
+
+    /// The declared keys, with the key of the store of each, in order (`Plan::store_keys`). Takes no memory. Own rule.
+    pub fn of(keys: &'b [PlanKey], made: &'b [Key]) -> StepKeys<'b>
+        requires { made.now ≡ map named_key (keys_view keys.now) }
+        ensures { keys_in result ≡ keys_view keys.now }
+    {
+        StepKeys { keys, made }
+    }
+
+    /// The key of the store that a step names: that of its label, or the one of its name in the global namespace. A label that the plan
+    /// doesn't have names the key of the empty name in the global namespace.
+    ///
+    /// Takes memory for a key that is no label's; `AllocError` comes only where that is refused. Own rule.
+    pub fn key_of(&self, alloc: Global, key: &StepKey) -> Result<CallKey<'b>, AllocError>
+        ensures key { IfOk result (λ k. call_key k ≡ key_of_step (keys_in self.now) (step_key_view key.now)) }
+        ensures made { IfErr result (λ _. is_made (keys_in self.now) (step_key_view key.now) ≡ true) }
+    {
+        match key {
+            StepKey::Label(label) => match self.made.get(*label) {
+                Some(key) => Ok(CallKey::Declared(key)),
+                None => CallKey::global(alloc, ""),
+            },
+            StepKey::Named(name) => CallKey::global(alloc, name.as_str()),
+        }
+    }
+
+    /// The call of a step of this name and this key, which goes up so many contexts on the path of the context in which it runs. `made`
+    /// is the key of the store. A label that the plan doesn't have is the empty text.
+    ///
+    /// Takes no memory. Own rule.
+    pub fn call<'c>(
+        &'c self,
+        name: &'c str,
+        key: &'c StepKey,
+        made: &'c Key,
+        path: &'c [ContextNo],
+        up: usize,
+    ) -> StepCall<'c>
+        ensures { call_view result ≡ record {
+          name = name.now;
+          label = label_of (keys_in self.now) (step_key_view key.now);
+          path = drop up path.now;
+          key = made.now;
+        } }
+    {
+        StepCall {
+            name,
+            label: self.label_of(key),
+            path: ancestor(path, up),
+            key: made,
+        }
+    }
+
+    /// The word by which a step names its key.
+    fn label_of<'c>(&'c self, key: &'c StepKey) -> &'c str
+        ensures { result.now ≡ label_of (keys_in self.now) (step_key_view key.now) }
+    {
+        match key {
+            StepKey::Label(label) => match self.keys.get(*label) {
+                Some(key) => key.label.as_str(),
+                None => "",
+            },
+            StepKey::Named(name) => name.as_str(),
+        }
+    }
+}
+
+/// The path of the ancestor so many contexts up.
+fn ancestor(path: &[ContextNo], up: usize) -> &[ContextNo]
+    ensures { result.now ≡ drop up path.now }
+{
+    match path.get(up..) {
+        Some(path) => path,
+        None => &[],
+    }
+}

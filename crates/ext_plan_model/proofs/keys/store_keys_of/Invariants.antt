@@ -1,7 +1,0 @@
-use Rattle.std.proofs.Common.{◌≡◌, map, take}
-use Rattle.ext_plan_model.specs.KeyNumbers.{named_key}
-use Rattle.ext_plan_model.specs.Plans.{keys_view}
-use Rattle.ext_plan_model.proofs.keys.store_keys_of.Given as goal
-
-abbrev pub invariant-loop-key : goal.invariant-loop-key
-invariant-loop-key l = l.list.items ≡ map named_key (keys_view (take l.key-index l.keys))

@@ -1,0 +1,13 @@
+pub mod Callbacks
+pub mod Depths
+pub mod Explaining
+pub mod Faults
+pub mod Fields
+pub mod Helpers
+pub mod Keys
+pub mod Locks
+pub mod Modes
+pub mod Nodes
+pub mod Places
+pub mod Reading
+pub mod Steps

@@ -1,0 +1,42 @@
+-- Which texts are plans, and of which keys and nodes: the text's TOML document, read in order with the first fault that is met. Own rule.
+use Rattle.std.specs.Prelude.{ℕ, nat_le, Bool, codes, List, [], ◌∷◌, length, Result, Ok}
+use Rattle.toml.specs.Data.{Members, get_member}
+use Rattle.toml.specs.Parse.{parse_document}
+use Rattle.ext_plan.specs.Plans.{PlanText}
+use Rattle.ext_plan.specs.Keys.{labels_of}
+use Rattle.ext_plan.specs.KeyNumbers.{different_keys}
+use Rattle.ext_plan.specs.Locks.{lock_names, lock_limit}
+use Rattle.ext_plan_reading.specs.declared.fault.PlanFault.{PlanFault}
+use Rattle.ext_plan_reading.specs.declared.fault.PlanFault.TheVariants as faults
+use Rattle.ext_plan_reading.specs.declared.fault.Place.TheVariants as places
+use Rattle.ext_plan_reading.specs.Faults.{some_or, check, ◌>>=◌}
+use Rattle.ext_plan_reading.specs.Fields.{has_only, tables_or_none, truth_or_false}
+use Rattle.ext_plan_reading.specs.Keys.{keys_after}
+use Rattle.ext_plan_reading.specs.Nodes.{nodes_of_tables}
+
+abbrev pub top_fields : List (List ℕ)
+top_fields = codes "keep_faults" ∷ codes "key" ∷ codes "node" ∷ []
+
+-- the plan of the tables of its keys and its nodes, whose store keeps faults or not
+unfoldable pub plan_of_tables : Bool → List Members → List Members → Result PlanText PlanFault
+plan_of_tables keep_faults key_tables node_tables = do
+  keys ← keys_after [] key_tables
+  nodes ← nodes_of_tables (labels_of keys) node_tables
+  _ ← check faults.TooMany (nat_le (length (different_keys keys)) 64)
+  _ ← check faults.TooMany (nat_le (length (lock_names nodes)) lock_limit)
+  Ok (record { keep_faults = keep_faults; keys = keys; nodes = nodes })
+
+-- the plan of a document
+unfoldable pub plan_of : Members → Result PlanText PlanFault
+plan_of top = do
+  _ ← check (faults.UnknownField places.Whole) (has_only top_fields top)
+  keep_faults ← truth_or_false (faults.BadField places.Whole) (get_member (codes "keep_faults") top)
+  key_tables ← tables_or_none (faults.BadField places.Whole) (get_member (codes "key") top)
+  node_tables ← tables_or_none (faults.BadField places.Whole) (get_member (codes "node") top)
+  plan_of_tables keep_faults key_tables node_tables
+
+-- the plan of a text
+unfoldable pub plan_of_text : List ℕ → Result PlanText PlanFault
+plan_of_text text = do
+  top ← some_or faults.NotToml (parse_document text)
+  plan_of top

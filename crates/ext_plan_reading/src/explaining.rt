@@ -1,0 +1,115 @@
+//! What is meant by the fault of a plan that was refused.
+ghost use Rattle.std.specs.Prelude.{◌≡◌, ◌++◌, string_bytes, IfOk, OnOk};
+ghost use Rattle.ext_plan_reading.specs.Explaining.{Explains, place_words};
+
+mod fields;
+mod nodes;
+mod steps;
+mod words;
+
+use crate::fault::{Place, PlanFault};
+use fields::{bad_field, bad_label, unknown_field};
+use nodes::{bad_id, bad_nodes, too_many};
+use std::alloc::{AllocError, Global};
+use steps::bad_step;
+use toml::Table;
+use toml::de::Error;
+use words::said;
+
+/// What is meant by the fault for which the bytes of a plan are refused, in a line without its line feed: `the plan`, `key 1` or `node 2`, which is what
+/// the fault names, a colon, and then the field, the label, the id with its own fault, the lock or the step that is meant, or the place in the text.
+/// Texts of the plan stand in quotes, with a line feed as `\n`. Own rule.
+///
+/// The fault is the one that `read_plan` answered to this text, or `NotUtf8` where it is none. Of any other fault the line says that the plan has another
+/// one, or none.
+///
+/// Takes memory for what `read_plan` takes it for, and for the line; `AllocError` comes only where that is refused. It waits for nobody.
+pub fn explain(alloc: Global, input: &[u8], fault: PlanFault) -> Result<String, AllocError>
+    ensures { IfOk result (λ line. Explains fault (string_bytes line)) }
+{
+    let meaning = told(alloc, input, fault)?;
+    line_of(alloc, fault, meaning.as_str())
+}
+
+/// The line that says this meaning of a fault, behind its place.
+fn line_of(alloc: Global, fault: PlanFault, meaning: &str) -> Result<String, AllocError>
+    ensures { IfOk result (λ line. Explains fault (string_bytes line)) }
+{
+    let mut line = String::new(alloc);
+    write_place(&mut line, fault.place())?;
+    line.push_str(": ")?;
+    line.push_str(meaning)?;
+    Ok(line)
+}
+
+/// Writes a place in words at the end of a line.
+fn write_place(line: &mut String, place: Place) -> Result<(), AllocError>
+    ensures { OnOk result (string_bytes line.new ≡ string_bytes line.old ++ place_words place) }
+{
+    match place {
+        Place::Whole => line.push_str("the plan"),
+        Place::Key(key) => write!(line, "key {key}"),
+        Place::Node(node) => write!(line, "node {node}"),
+    }
+}
+
+/// What is told as the meaning of a fault of these bytes, whether they have it or not.
+fn told(alloc: Global, input: &[u8], fault: PlanFault) -> Result<String, AllocError> {
+    match meaning(alloc, input, fault) {
+        Ok(Some(meaning)) => Ok(meaning),
+        Ok(None) => String::from_str(alloc, "it has no such fault"),
+        Err(PlanFault::Memory) => Err(AllocError),
+        Err(_) => String::from_str(alloc, "another fault comes before"),
+    }
+}
+
+/// What is meant by a fault of these bytes, if they have it. Another fault that comes before it is an error.
+fn meaning(alloc: Global, input: &[u8], fault: PlanFault) -> Result<Option<String>, PlanFault> {
+    let text = match std::str::from_utf8(input) {
+        Ok(text) => text,
+        Err(e) => return no_utf8(alloc, e.valid_up_to()),
+    };
+    match toml::table_from_str(alloc, text) {
+        Ok(top) => meaning_in(alloc, &top, fault),
+        Err(e) => no_toml(alloc, text, &e),
+    }
+}
+
+/// Up to which byte the bytes are UTF-8.
+fn no_utf8(alloc: Global, at: usize) -> Result<Option<String>, PlanFault> {
+    Ok(Some(format!(in alloc; "it is no UTF-8 at byte {at}")?))
+}
+
+/// Where and why a text is no TOML document, in the words of its reader.
+fn no_toml(alloc: Global, text: &str, error: &Error) -> Result<Option<String>, PlanFault> {
+    let Some(span) = error.span() else {
+        return Err(PlanFault::Memory);
+    };
+    let line = line_at(text, span.start);
+    let message = error.message();
+    Ok(Some(format!(in alloc; "line {line}: {message}")?))
+}
+
+/// The number of the line in which a byte of a text is, from 1.
+fn line_at(text: &str, byte: usize) -> usize {
+    let before = text.as_bytes().iter().take(byte);
+    let feeds = before.filter(|byte| **byte == b'\n').count();
+    feeds.saturating_add(1)
+}
+
+/// What is meant by a fault of a document, if it has it.
+fn meaning_in(alloc: Global, top: &Table, fault: PlanFault) -> Result<Option<String>, PlanFault> {
+    match fault {
+        PlanFault::NotUtf8 | PlanFault::NotToml => Ok(None),
+        PlanFault::UnknownField(place) => unknown_field(alloc, top, place),
+        PlanFault::BadField(place) => bad_field(alloc, top, place),
+        PlanFault::BadLabel(key) => bad_label(alloc, top, key),
+        PlanFault::BadId(node) => bad_id(alloc, top, node),
+        PlanFault::BadStep(node) => bad_step(alloc, top, node),
+        PlanFault::BadTree | PlanFault::BadLock(_) | PlanFault::BadTest(_) => {
+            bad_nodes(alloc, top, fault)
+        }
+        PlanFault::TooMany => too_many(alloc, top),
+        PlanFault::Memory => said(alloc, "memory was refused while it was read"),
+    }
+}

@@ -1,0 +1,211 @@
+//! What is meant by a fault of fields.
+use crate::explaining::words::{quoted, said};
+use crate::fault::{Place, PlanFault};
+use crate::fields::{
+    TOP_FIELDS, first_other, tables_at, text_at, text_if_given, text_lists_at, texts_at, truth_at,
+};
+use crate::keys::{KEY_FIELDS, has_parts, is_word};
+use crate::nodes::NODE_FIELDS;
+use std::alloc::Global;
+use toml::Table;
+
+/// What a field has to be.
+#[derive(Clone, Copy)]
+enum FieldType {
+    Text,
+    TextIfGiven,
+    TruthIfGiven,
+    TextsIfGiven,
+    TextListsIfGiven,
+    TablesIfGiven,
+}
+
+/// The top fields, in the order in which they are read.
+const TOP_TYPES: [(&str, FieldType); 3] = [
+    ("keep_faults", FieldType::TruthIfGiven),
+    ("key", FieldType::TablesIfGiven),
+    ("node", FieldType::TablesIfGiven),
+];
+
+/// The fields of a key, in the order in which they are read.
+const KEY_TYPES: [(&str, FieldType); 3] = [
+    ("label", FieldType::Text),
+    ("name", FieldType::TextIfGiven),
+    ("namespace", FieldType::TextsIfGiven),
+];
+
+/// The fields of a node, in the order in which they are read.
+const NODE_TYPES: [(&str, FieldType); 9] = [
+    ("id", FieldType::Text),
+    ("mode", FieldType::TextIfGiven),
+    ("isolated", FieldType::TruthIfGiven),
+    ("locks", FieldType::TextsIfGiven),
+    ("before_all", FieldType::TextListsIfGiven),
+    ("after_all", FieldType::TextListsIfGiven),
+    ("before_each", FieldType::TextListsIfGiven),
+    ("after_each", FieldType::TextListsIfGiven),
+    ("test", FieldType::TextsIfGiven),
+];
+
+/// The table of a place, if the document has it.
+pub(crate) fn table_of<'a>(
+    alloc: Global,
+    top: &'a Table,
+    place: Place,
+) -> Result<Option<&'a Table>, PlanFault> {
+    let (name, number) = match place {
+        Place::Whole => return Ok(Some(top)),
+        Place::Key(key) => ("key", key),
+        Place::Node(node) => ("node", node),
+    };
+    let tables = tables_at(alloc, top, name, PlanFault::BadField(Place::Whole))?;
+    Ok(tables.get(number).copied())
+}
+
+/// The first field of a place that it may not have.
+pub(crate) fn unknown_field(
+    alloc: Global,
+    top: &Table,
+    place: Place,
+) -> Result<Option<String>, PlanFault> {
+    let Some(table) = table_of(alloc, top, place)? else {
+        return Ok(None);
+    };
+    let other = match place {
+        Place::Whole => first_other(&TOP_FIELDS, table),
+        Place::Key(_) => first_other(&KEY_FIELDS, table),
+        Place::Node(_) => first_other(&NODE_FIELDS, table),
+    };
+    match other {
+        None => Ok(None),
+        Some(name) => quoted(alloc, "it may not have a field ", name, ""),
+    }
+}
+
+/// The first field of a place that is missing, or has another type.
+pub(crate) fn bad_field(
+    alloc: Global,
+    top: &Table,
+    place: Place,
+) -> Result<Option<String>, PlanFault> {
+    let Some(table) = table_of(alloc, top, place)? else {
+        return Ok(None);
+    };
+    match place {
+        Place::Whole => first_bad(alloc, table, &TOP_TYPES),
+        Place::Key(_) => first_bad(alloc, table, &KEY_TYPES),
+        Place::Node(_) => first_bad(alloc, table, &NODE_TYPES),
+    }
+}
+
+/// The first of these fields that is missing in the table, or has another type.
+fn first_bad(
+    alloc: Global,
+    table: &Table,
+    fields: &[(&str, FieldType)],
+) -> Result<Option<String>, PlanFault> {
+    for (name, kind) in fields {
+        if !is_right(alloc, table, name, *kind)? {
+            return quoted(alloc, "its field ", name, what_is_wrong(*kind));
+        }
+    }
+    Ok(None)
+}
+
+/// Tests whether a field is what it has to be, by the reader's own functions.
+fn is_right(alloc: Global, table: &Table, name: &str, kind: FieldType) -> Result<bool, PlanFault> {
+    let fault = PlanFault::BadField(Place::Whole);
+    match kind {
+        FieldType::Text => Ok(text_at(table, name).is_some()),
+        FieldType::TextIfGiven => was_read(text_if_given(table, name, fault)),
+        FieldType::TruthIfGiven => was_read(truth_at(table, name, fault)),
+        FieldType::TextsIfGiven => was_read(texts_at(alloc, table, name, fault)),
+        FieldType::TextListsIfGiven => was_read(text_lists_at(alloc, table, name, fault)),
+        FieldType::TablesIfGiven => was_read(tables_at(alloc, table, name, fault)),
+    }
+}
+
+/// Whether a field was read; want of memory tells nothing of it.
+fn was_read<T: Drop>(read: Result<T, PlanFault>) -> Result<bool, PlanFault> {
+    match read {
+        Ok(_) => Ok(true),
+        Err(PlanFault::Memory) => Err(PlanFault::Memory),
+        Err(_) => Ok(false),
+    }
+}
+
+/// What a field of another type is.
+fn what_is_wrong(kind: FieldType) -> &'static str {
+    match kind {
+        FieldType::Text => " is missing, or no text",
+        FieldType::TextIfGiven => " is no text",
+        FieldType::TruthIfGiven => " is neither true nor false",
+        FieldType::TextsIfGiven => " is no array of texts",
+        FieldType::TextListsIfGiven => " is no array of arrays of texts",
+        FieldType::TablesIfGiven => " is no array of tables",
+    }
+}
+
+/// What is wrong with the label of a key, or with its namespace.
+pub(crate) fn bad_label(
+    alloc: Global,
+    top: &Table,
+    key: usize,
+) -> Result<Option<String>, PlanFault> {
+    let tables = tables_at(alloc, top, "key", PlanFault::BadField(Place::Whole))?;
+    bad_label_among(alloc, tables.as_slice(), key)
+}
+
+/// The same, among the tables of all keys.
+fn bad_label_among(
+    alloc: Global,
+    tables: &[&Table],
+    key: usize,
+) -> Result<Option<String>, PlanFault> {
+    let Some(table) = tables.get(key) else {
+        return Ok(None);
+    };
+    let Some(label) = text_at(table, "label") else {
+        return Ok(None);
+    };
+    if !is_word(label) {
+        return no_word(alloc, label);
+    }
+    if !has_own_parts(alloc, table)? {
+        return said(alloc, "its namespace has no part");
+    }
+    same_label(alloc, tables, key, label)
+}
+
+/// Why a label is no word.
+fn no_word(alloc: Global, label: &str) -> Result<Option<String>, PlanFault> {
+    if label.is_empty() {
+        return said(alloc, "its label is empty");
+    }
+    quoted(alloc, "its label ", label, " has a space")
+}
+
+/// Tests whether the namespace of a key has a part, if one is given.
+fn has_own_parts(alloc: Global, table: &Table) -> Result<bool, PlanFault> {
+    let fault = PlanFault::BadField(Place::Whole);
+    let namespace = texts_at(alloc, table, "namespace", fault)?;
+    Ok(has_parts(&namespace))
+}
+
+/// The key before this one that has its label.
+fn same_label(
+    alloc: Global,
+    tables: &[&Table],
+    key: usize,
+    label: &str,
+) -> Result<Option<String>, PlanFault> {
+    match tables
+        .iter()
+        .position(|other| text_at(other, "label") == Some(label))
+    {
+        Some(first) if first < key => Ok(Some(format!(in alloc;
+            "its label {label:?} is that of key {first}"
+        )?)),
+        _ => Ok(None),
+    }
+}

@@ -1,0 +1,206 @@
+//! What is meant by a fault of a node that is no step, or of all nodes.
+ghost use Rattle.std.specs.Prelude.{All, IfOk};
+ghost use Rattle.ext_plan.specs.Plans.{keys_view};
+ghost use Rattle.ext_plan.specs.KeyNumbers.{HasParts};
+
+use crate::explaining::fields::table_of;
+use crate::explaining::words::{quoted, said};
+use crate::fault::{Place, PlanFault};
+use crate::fields::{tables_at, text_at};
+use crate::keys::{Keys, keys_of};
+use crate::locks::lock_at;
+use crate::modes::mode_at;
+use crate::nodes::{NodeSketch, ids_of, sketches_of};
+use ext_ids::{IdFault, UniqueId};
+use ext_plan::keys_are_few;
+use ext_tree::{Tree, TreeFault};
+use std::alloc::Global;
+use toml::Table;
+
+/// The keys of a document, with their labels.
+pub(crate) fn keys_in<'a>(alloc: Global, top: &'a Table) -> Result<Keys<'a>, PlanFault>
+    ensures { IfOk result (λ r. All HasParts (keys_view r.keys.items)) }
+{
+    let tables = tables_at(alloc, top, "key", PlanFault::BadField(Place::Whole))?;
+    keys_of(alloc, tables.as_slice())
+}
+
+/// The nodes of a document after the first pass.
+pub(crate) fn sketches_in<'a>(
+    alloc: Global,
+    top: &'a Table,
+) -> Result<Vec<NodeSketch<'a>>, PlanFault> {
+    let tables = tables_at(alloc, top, "node", PlanFault::BadField(Place::Whole))?;
+    sketches_of(alloc, tables.as_slice())
+}
+
+/// The fault of a node's id.
+pub(crate) fn bad_id(alloc: Global, top: &Table, node: usize) -> Result<Option<String>, PlanFault> {
+    let Some(table) = table_of(alloc, top, Place::Node(node))? else {
+        return Ok(None);
+    };
+    match text_at(table, "id") {
+        None => Ok(None),
+        Some(text) => no_id(alloc, text),
+    }
+}
+
+/// Why a text is no id.
+fn no_id(alloc: Global, text: &str) -> Result<Option<String>, PlanFault> {
+    match UniqueId::parse(alloc, text) {
+        Ok(_) => Ok(None),
+        Err(IdFault::Memory) => Err(PlanFault::Memory),
+        Err(fault) => Ok(Some(format!(in alloc; "{fault} in {text:?}")?)),
+    }
+}
+
+/// What is meant by a fault of the nodes after the first pass: of their ids, or of a node's mode, locks or test.
+pub(crate) fn bad_nodes(
+    alloc: Global,
+    top: &Table,
+    fault: PlanFault,
+) -> Result<Option<String>, PlanFault> {
+    let sketches = sketches_in(alloc, top)?;
+    match fault.place() {
+        Place::Node(node) => bad_node(alloc, sketches.as_slice(), node, fault),
+        _ => bad_tree(alloc, sketches.as_slice()),
+    }
+}
+
+/// The same, of a node's mode, locks or test.
+fn bad_node(
+    alloc: Global,
+    sketches: &[NodeSketch<'_>],
+    node: usize,
+    fault: PlanFault,
+) -> Result<Option<String>, PlanFault> {
+    match sketches.get(node) {
+        None => Ok(None),
+        Some(sketch) => match fault {
+            PlanFault::BadTest(_) => said(alloc, unfit_for_test(sketch)),
+            _ => bad_lock(alloc, sketch, node),
+        },
+    }
+}
+
+/// The first node that is in the way of a tree, and why.
+fn bad_tree(alloc: Global, sketches: &[NodeSketch<'_>]) -> Result<Option<String>, PlanFault> {
+    match tree_fault(alloc, sketches)? {
+        None => Ok(None),
+        Some(fault) => in_the_way(alloc, sketches, fault),
+    }
+}
+
+/// Why the ids of the nodes are those of no tree.
+fn tree_fault(alloc: Global, sketches: &[NodeSketch<'_>]) -> Result<Option<TreeFault>, PlanFault> {
+    let ids = ids_of(alloc, sketches)?;
+    Ok(Tree::build(alloc, ids.as_slice()).err())
+}
+
+/// The node that a fault of the ids names, and why it is in the way of a tree.
+fn in_the_way(
+    alloc: Global,
+    sketches: &[NodeSketch<'_>],
+    fault: TreeFault,
+) -> Result<Option<String>, PlanFault> {
+    match fault {
+        TreeFault::Memory => Err(PlanFault::Memory),
+        TreeFault::TooMany => said(alloc, "it has more than 256 nodes"),
+        TreeFault::NoRoot => {
+            let why = "has more than one segment, so that it is no root";
+            named(alloc, sketches, 0, why)
+        }
+        TreeFault::TwoRoots(node) => named(alloc, sketches, node, "is a second root"),
+        TreeFault::NoParent(node) => named(alloc, sketches, node, "has no parent before it"),
+        TreeFault::Twice(node) => named(alloc, sketches, node, "stands before already"),
+    }
+}
+
+/// What is said of a node, behind its id.
+fn named(
+    alloc: Global,
+    sketches: &[NodeSketch<'_>],
+    node: usize,
+    why: &str,
+) -> Result<Option<String>, PlanFault> {
+    match sketches.get(node) {
+        None => said(alloc, "it has no node"),
+        Some(sketch) => named_by(alloc, &sketch.id, node, why),
+    }
+}
+
+/// What is said of the node of this id.
+fn named_by(
+    alloc: Global,
+    id: &UniqueId,
+    node: usize,
+    why: &str,
+) -> Result<Option<String>, PlanFault> {
+    let mut text = String::new(alloc);
+    id.write_to(&mut text)?;
+    Ok(Some(format!(in alloc; "the id of node {node}, {:?}, {why}", text.as_str())?))
+}
+
+/// What a node has that no test may have.
+fn unfit_for_test(sketch: &NodeSketch<'_>) -> &'static str {
+    if sketch.callbacks.are_of_container() {
+        "it is a test, and has before_all or after_all"
+    } else {
+        "it is a test, and has children"
+    }
+}
+
+/// The mode of a node that is none, or its first lock that is none.
+fn bad_lock(
+    alloc: Global,
+    sketch: &NodeSketch<'_>,
+    node: usize,
+) -> Result<Option<String>, PlanFault> {
+    if let Some(mode) = sketch.mode
+        && mode_at(node, Some(mode)).is_err()
+    {
+        return quoted(
+            alloc,
+            "its mode ",
+            mode,
+            " is neither same_thread nor concurrent",
+        );
+    }
+    match &sketch.locks {
+        None => Ok(None),
+        Some(texts) => first_bad_lock(alloc, node, texts.as_slice()),
+    }
+}
+
+/// The first of a node's texts that is no lock.
+fn first_bad_lock(alloc: Global, node: usize, texts: &[&str]) -> Result<Option<String>, PlanFault> {
+    for (i, text) in texts.iter().enumerate() {
+        if !is_lock(alloc, node, text)? {
+            return no_lock(alloc, i, text);
+        }
+    }
+    Ok(None)
+}
+
+/// What a text is that is no lock.
+fn no_lock(alloc: Global, i: usize, text: &str) -> Result<Option<String>, PlanFault> {
+    Ok(Some(format!(in alloc; "its lock {i}, {text:?}, is neither READ NAME nor READ_WRITE NAME")?))
+}
+
+/// Tests whether a text of a node is a lock.
+fn is_lock(alloc: Global, node: usize, text: &str) -> Result<bool, PlanFault> {
+    match lock_at(alloc, node, text) {
+        Ok(_) => Ok(true),
+        Err(PlanFault::Memory) => Err(PlanFault::Memory),
+        Err(_) => Ok(false),
+    }
+}
+
+/// What there are too many of.
+pub(crate) fn too_many(alloc: Global, top: &Table) -> Result<Option<String>, PlanFault> {
+    let keys = keys_in(alloc, top)?;
+    if keys_are_few(alloc, keys.keys.as_slice())? {
+        return said(alloc, "its locks have more than 63 different names");
+    }
+    said(alloc, "it declares more than 64 different keys")
+}

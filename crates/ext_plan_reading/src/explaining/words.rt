@@ -1,0 +1,18 @@
+//! The words that say what is meant.
+use crate::fault::PlanFault;
+use std::alloc::Global;
+
+/// These words.
+pub(crate) fn said(alloc: Global, words: &str) -> Result<Option<String>, PlanFault> {
+    Ok(Some(String::from_str(alloc, words)?))
+}
+
+/// These words with a text of the plan between, in quotes.
+pub(crate) fn quoted(
+    alloc: Global,
+    before: &str,
+    text: &str,
+    after: &str,
+) -> Result<Option<String>, PlanFault> {
+    Ok(Some(format!(in alloc; "{before}{text:?}{after}")?))
+}

@@ -1,0 +1,139 @@
+//! Why a text is no plan.
+ghost use Rattle.std.specs.Prelude.{◌≡◌};
+ghost use Rattle.ext_plan_reading.specs.Places.{place_of};
+ghost use Rattle.ext_plan_reading.specs.declared.fault.PlanFault.TheVariants.{Memory};
+
+use std::alloc::{AllocError, AllocFailed};
+use std::fmt;
+use thiserror::Error;
+
+/// Where in a plan a fault is. Keys and nodes are numbered from 0 in the order of the plan. Own rule.
+///
+/// Its text stands behind a code: nothing for the plan as a whole, else as ` key 1` or ` node 2`.
+#[derive(Clone, Copy, Debug, PartialEq, Eq)]
+pub enum Place {
+    /// The plan as a whole.
+    Whole,
+    /// The key of this number.
+    Key(usize),
+    /// The node of this number.
+    Node(usize),
+}
+
+impl fmt::Display for Place {
+    fn fmt<W: fmt::Write>(&self, f: &mut fmt::Formatter<W>) -> fmt::Result {
+        match self {
+            Place::Whole => Ok(()),
+            Place::Key(key) => write!(f, " key {key}"),
+            Place::Node(node) => write!(f, " node {node}"),
+        }
+    }
+}
+
+/// Why a plan was refused: the first fault of its text, in this order. Own rule.
+///
+/// 1. `NotUtf8`, `NotToml`.
+/// 2. `UnknownField`, then `BadField`, of the top fields.
+/// 3. For each key in order `UnknownField`, `BadField`, `BadLabel`.
+/// 4. For each node in order `UnknownField`, `BadField`, `BadId`.
+/// 5. `BadTree`.
+/// 6. For each node in order `BadTest`, `BadLock`, `BadStep`.
+/// 7. `TooMany`.
+///
+/// `Memory` stands in place of any of them where a growth was refused. A number in a variant is that of the key or
+/// the node, from 0. The text of a fault is its line on standard error, as `plan: P5 key 1`.
+#[derive(Clone, Copy, Debug, PartialEq, Eq, Error)]
+pub enum PlanFault {
+    /// P1: the bytes are no text in UTF-8. It is for callers that hold bytes: `read_plan` takes text and never answers it.
+    NotUtf8,
+    /// P2: the text is no TOML document.
+    NotToml,
+    /// P3: a field other than `key` and `node` at the top, `label`, `name` and `namespace` in a key, `id`, `test`, `mode`,
+    /// `isolated`, `locks`, `before_all`, `after_all`, `before_each` and `after_each` in a node.
+    UnknownField(Place),
+    /// P4: `key` or `node` is no array of tables; `label` or `id` is missing or no text; `name` or `mode` is no text;
+    /// `namespace`, `test` or `locks` is no array of texts; `isolated` is neither true nor false; `before_all`, `after_all`,
+    /// `before_each` or `after_each` is no array of arrays of texts.
+    BadField(Place),
+    /// P5: a key's label is empty, has a space or is that of a key before, or its namespace is an empty array.
+    BadLabel(usize),
+    /// P6: the id of a node is no unique id, or has more than 16 segments.
+    BadId(usize),
+    /// P7: the ids are those of no tree: there is none or more than 256, the first has more than one segment, or a
+    /// further one stands twice, has one segment or has no parent before it.
+    BadTree,
+    /// P8: a text in the `test` or in a callback of a node is no step, or goes up past the root
+    /// from a test or container in which it will run; or a test or a callback has 2^32 steps or more, or a node more than
+    /// 1,048,576 callbacks of a kind, which takes a text of over 12 GB or 3 MB.
+    BadStep(usize),
+    /// P9: a text in the `locks` of a node is not `READ NAME` or `READ_WRITE NAME`, with one space and one word NAME, or its
+    /// `mode` is another text than `same_thread` and `concurrent`.
+    BadLock(usize),
+    /// P10: a node is a test and has children, or has `before_all` or `after_all`, be it an empty array.
+    BadTest(usize),
+    /// P11: more than 64 different keys are declared, or there are more than 63 different names of locks.
+    TooMany,
+    /// P12: memory was wanted and refused.
+    Memory,
+}
+
+impl PlanFault {
+    /// Where in the plan the fault is. Takes no memory. Own rule.
+    pub fn place(self) -> Place
+        ensures { result ≡ place_of self }
+    {
+        match self {
+            PlanFault::UnknownField(place) | PlanFault::BadField(place) => place,
+            PlanFault::BadLabel(key) => Place::Key(key),
+            PlanFault::BadId(node)
+            | PlanFault::BadStep(node)
+            | PlanFault::BadLock(node)
+            | PlanFault::BadTest(node) => Place::Node(node),
+            PlanFault::NotUtf8
+            | PlanFault::NotToml
+            | PlanFault::BadTree
+            | PlanFault::TooMany
+            | PlanFault::Memory => Place::Whole,
+        }
+    }
+
+    /// The number behind the `P` of the fault's text.
+    fn code(self) -> u8 {
+        match self {
+            PlanFault::NotUtf8 => 1,
+            PlanFault::NotToml => 2,
+            PlanFault::UnknownField(_) => 3,
+            PlanFault::BadField(_) => 4,
+            PlanFault::BadLabel(_) => 5,
+            PlanFault::BadId(_) => 6,
+            PlanFault::BadTree => 7,
+            PlanFault::BadStep(_) => 8,
+            PlanFault::BadLock(_) => 9,
+            PlanFault::BadTest(_) => 10,
+            PlanFault::TooMany => 11,
+            PlanFault::Memory => 12,
+        }
+    }
+}
+
+impl fmt::Display for PlanFault {
+    fn fmt<W: fmt::Write>(&self, f: &mut fmt::Formatter<W>) -> fmt::Result {
+        write!(f, "plan: P{}{}", self.code(), self.place())
+    }
+}
+
+impl From<AllocError> for PlanFault {
+    ghost from_gives = { λ _ e. e ≡ Memory };
+
+    fn from(_e: AllocError) -> PlanFault {
+        PlanFault::Memory
+    }
+}
+
+impl<T: Drop> From<AllocFailed<T>> for PlanFault {
+    ghost from_gives = { λ _ e. e ≡ Memory };
+
+    fn from(_e: AllocFailed<T>) -> PlanFault {
+        PlanFault::Memory
+    }
+}

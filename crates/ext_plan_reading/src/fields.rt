@@ -1,0 +1,225 @@
+//! The fields of a TOML table.
+ghost use Rattle.std.specs.Prelude.{◌≡◌, [], false, not, is_some, map, option_map, IfSome};
+ghost use Rattle.std.specs.Str.{bytes_eq};
+ghost use Rattle.std.specs.List.{list_any};
+ghost use Rattle.toml.specs.View.{view, table_view, items_view};
+ghost use Rattle.toml.specs.Data.{get_member};
+ghost use Rattle.ext_plan_reading.specs.Faults.{Gives, GivesAll};
+ghost use Rattle.ext_plan_reading.specs.Fields.{has_only, text_at, texts_in, tables_in, texts_after, tables_after, text_or_none, texts_or_none, text_lists_in, text_lists_after, text_lists_or_none, tables_or_none, truth_or_false};
+ghost use Rattle.ext_plan_reading.specs.Helpers.{lists_view};
+
+use crate::fault::PlanFault;
+use std::alloc::Global;
+use toml::{Table, Value};
+
+/// The names of the top fields.
+pub(crate) const TOP_FIELDS: [&str; 3] = ["keep_faults", "key", "node"];
+
+/// Tests whether each field of a table has one of the names.
+pub(crate) fn has_only(names: &[&str], table: &Table) -> bool
+    ensures { result ≡ has_only (map (λ n. n.now) names.now) (table_view table.now) }
+{
+    match first_other(names, table) {
+        None => true,
+        Some(_) => false,
+    }
+}
+
+/// The name of the first field of a table that is none of the names.
+pub(crate) fn first_other<'a>(names: &[&str], table: &'a Table) -> Option<&'a str>
+    ensures other { IfSome result (λ name. list_any (λ n. bytes_eq n.now name.now) names.now ≡ false) }
+    ensures none { not (is_some result) ≡ has_only (map (λ n. n.now) names.now) (table_view table.now) }
+{
+    for name in table.keys() {
+        if !is_among(names, name.as_str()) {
+            return Some(name.as_str());
+        }
+    }
+    None
+}
+
+/// Tests whether a text is one of the names.
+fn is_among(names: &[&str], text: &str) -> bool
+    ensures { result ≡ list_any (λ n. bytes_eq n.now text.now) names.now }
+{
+    names.iter().any(|name| *name == text)
+}
+
+/// The text at a name, if a text is there.
+pub(crate) fn text_at<'a>(table: &'a Table, name: &str) -> Option<&'a str>
+    ensures { option_map (λ s. s.now) result ≡ text_at name.now (table_view table.now) }
+{
+    match field(table, name) {
+        Some(value) => value.as_str(),
+        None => None,
+    }
+}
+
+/// The text at a name, which may be left out, or the fault where something else is there.
+pub(crate) fn text_if_given<'a>(
+    table: &'a Table,
+    name: &str,
+    fault: PlanFault,
+) -> Result<Option<&'a str>, PlanFault>
+    ensures { Gives (option_map (λ s. s.now)) result (text_or_none fault (get_member name.now (table_view table.now))) }
+{
+    match field(table, name) {
+        None => Ok(None),
+        Some(value) => match value.as_str() {
+            None => Err(fault),
+            Some(text) => Ok(Some(text)),
+        },
+    }
+}
+
+/// The truth at a name, which may be left out and is false then, or the fault where something else is there.
+pub(crate) fn truth_at(table: &Table, name: &str, fault: PlanFault) -> Result<bool, PlanFault>
+    ensures { Gives (λ b. b) result (truth_or_false fault (get_member name.now (table_view table.now))) }
+{
+    match field(table, name) {
+        None => Ok(false),
+        Some(value) => match value.as_bool() {
+            None => Err(fault),
+            Some(truth) => Ok(truth),
+        },
+    }
+}
+
+/// The texts at a name, which may be left out, or the fault where something else is there.
+pub(crate) fn texts_at<'a>(
+    alloc: Global,
+    table: &'a Table,
+    name: &str,
+    fault: PlanFault,
+) -> Result<Option<Vec<&'a str>>, PlanFault>
+    ensures { Gives (option_map (λ v. map (λ t. t.now) v.items)) result (texts_or_none fault (get_member name.now (table_view table.now))) }
+{
+    match field(table, name) {
+        None => Ok(None),
+        Some(value) => match texts_in(alloc, value)? {
+            None => Err(fault),
+            Some(texts) => Ok(Some(texts)),
+        },
+    }
+}
+
+/// The lists of texts at a name, which may be left out, or the fault where something else is there.
+pub(crate) fn text_lists_at<'a>(
+    alloc: Global,
+    table: &'a Table,
+    name: &str,
+    fault: PlanFault,
+) -> Result<Option<Vec<Vec<&'a str>>>, PlanFault>
+    ensures { Gives (option_map lists_view) result (text_lists_or_none fault (get_member name.now (table_view table.now))) }
+{
+    match field(table, name) {
+        None => Ok(None),
+        Some(value) => match text_lists_in(alloc, value)? {
+            None => Err(fault),
+            Some(lists) => Ok(Some(lists)),
+        },
+    }
+}
+
+/// The tables at a name, which may be left out, or the fault where something else is there.
+pub(crate) fn tables_at<'a>(
+    alloc: Global,
+    table: &'a Table,
+    name: &str,
+    fault: PlanFault,
+) -> Result<Vec<&'a Table>, PlanFault>
+    ensures { Gives (λ v. map (λ t. table_view t.now) v.items) result (tables_or_none fault (get_member name.now (table_view table.now))) }
+{
+    match field(table, name) {
+        None => Ok(Vec::new(alloc)),
+        Some(value) => match tables_in(alloc, value)? {
+            None => Err(fault),
+            Some(tables) => Ok(tables),
+        },
+    }
+}
+
+/// The texts of a value, if it is an array of texts.
+fn texts_in<'a>(alloc: Global, value: &'a Value) -> Result<Option<Vec<&'a str>>, PlanFault>
+    ensures { GivesAll (option_map (λ v. map (λ t. t.now) v.items)) result (texts_in (view value.now)) }
+{
+    match value {
+        Value::Array(items) => texts_of(alloc, items.as_slice()),
+        _ => Ok(None),
+    }
+}
+
+/// The lists of texts of a value, if it is an array of arrays of texts.
+fn text_lists_in<'a>(
+    alloc: Global,
+    value: &'a Value,
+) -> Result<Option<Vec<Vec<&'a str>>>, PlanFault>
+    ensures { GivesAll (option_map lists_view) result (text_lists_in (view value.now)) }
+{
+    match value {
+        Value::Array(items) => text_lists_of(alloc, items.as_slice()),
+        _ => Ok(None),
+    }
+}
+
+/// The tables of a value, if it is an array of tables.
+fn tables_in<'a>(alloc: Global, value: &'a Value) -> Result<Option<Vec<&'a Table>>, PlanFault>
+    ensures { GivesAll (option_map (λ v. map (λ t. table_view t.now) v.items)) result (tables_in (view value.now)) }
+{
+    match value {
+        Value::Array(items) => tables_of(alloc, items.as_slice()),
+        _ => Ok(None),
+    }
+}
+
+/// The texts that the items are, if each is one.
+fn texts_of<'a>(alloc: Global, items: &'a [Value]) -> Result<Option<Vec<&'a str>>, PlanFault>
+    ensures { GivesAll (option_map (λ v. map (λ t. t.now) v.items)) result (texts_after [] (items_view items.now)) }
+{
+    let mut texts = Vec::new(alloc);
+    for item in items {
+        let Some(text) = item.as_str() else {
+            return Ok(None);
+        };
+        texts.push(text)?;
+    }
+    Ok(Some(texts))
+}
+
+/// The lists of texts that the items are, if each is one.
+fn text_lists_of<'a>(
+    alloc: Global,
+    items: &'a [Value],
+) -> Result<Option<Vec<Vec<&'a str>>>, PlanFault>
+    ensures { GivesAll (option_map lists_view) result (text_lists_after [] (items_view items.now)) }
+{
+    let mut lists = Vec::new(alloc);
+    for item in items {
+        let Some(texts) = texts_in(alloc, item)? else {
+            return Ok(None);
+        };
+        lists.push(texts)?;
+    }
+    Ok(Some(lists))
+}
+
+/// The tables that the items are, if each is one.
+fn tables_of<'a>(alloc: Global, items: &'a [Value]) -> Result<Option<Vec<&'a Table>>, PlanFault>
+    ensures { GivesAll (option_map (λ v. map (λ t. table_view t.now) v.items)) result (tables_after [] (items_view items.now)) }
+{
+    let mut tables = Vec::new(alloc);
+    for item in items {
+        let Some(table) = item.as_table() else {
+            return Ok(None);
+        };
+        tables.push(table)?;
+    }
+    Ok(Some(tables))
+}
+
+/// The value at a name.
+fn field<'a>(table: &'a Table, name: &str) -> Option<&'a Value>
+    ensures { option_map (λ v. view v.now) result ≡ get_member name.now (table_view table.now) }
+{
+    table.get(name)
+}

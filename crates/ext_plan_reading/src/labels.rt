@@ -1,0 +1,74 @@
+//! The labels of a plan's keys, each found without going over the others.
+ghost use Rattle.std.specs.Prelude.{◌≡◌, ◌++◌, ◌∷◌, [], not, length, if◌then◌else◌, is_ok, IfOk};
+ghost use Rattle.ext_plan.specs.Keys.{is_label};
+ghost use Rattle.ext_plan_reading.specs.Keys.{label_number};
+
+use std::alloc::{AllocFailed, Global};
+use std::collections::BTreeMap;
+use std::marker::Model;
+
+/// Labels, all different, numbered from 0 in the order in which they were added. They are found by the order of their bytes and
+/// not by a hash: who writes a plan picks its labels, and could pick many of one hash.
+#[derive(Drop)]
+pub(crate) struct Labels<'a> {
+    labels: Vec<&'a str>,
+    numbers: BTreeMap<&'a str, usize>,
+}
+
+impl<'a> Model for Labels<'a> {
+    ghost use Rattle.std.specs.Prelude.{ℕ, List, map, ◌≡◌};
+    ghost use Rattle.ext_plan_reading.specs.Keys.{label_number};
+    ghost use Rattle.ext_plan_reading.specs.Helpers.{number_in};
+
+    ghost Value = { List (List ℕ) };
+
+    ghost view = { λ l. map (λ label. label.now) l.labels.items };
+
+    ghost invariant = { λ l. (text : List ℕ) → number_in l.numbers text ≡ label_number (map (λ label. label.now) l.labels.items) text };
+}
+
+impl<'a> Labels<'a> {
+    /// No labels.
+    pub fn new(alloc: Global) -> Labels<'a>
+        ensures { result ≡ [] }
+    {
+        Labels {
+            labels: Vec::new(alloc),
+            numbers: BTreeMap::new(alloc),
+        }
+    }
+
+    /// The number of a label, if it was added.
+    pub fn number_of(&self, label: &str) -> Option<usize>
+        ensures { result ≡ label_number self.now label.now }
+    {
+        self.numbers.get(label).copied()
+    }
+
+    /// How many labels there are.
+    pub fn len(&self) -> usize
+        ensures { result ≡ length self.now }
+    {
+        self.labels.len()
+    }
+
+    /// Adds a label behind the others, and tells whether it is new. One that was added before stays where it is. After a
+    /// refused growth the labels are as before.
+    pub fn add(&mut self, label: &'a str) -> Result<bool, AllocFailed<&'a str>>
+        ensures new { IfOk result (λ added. added ≡ not (is_label self.old label.now)) }
+        ensures labels { self.new ≡ (if is_ok result then (if is_label self.old label.now then self.old else self.old ++ label.now ∷ []) else self.old) }
+    {
+        if self.numbers.contains_key(label) {
+            return Ok(false);
+        }
+        let number = self.labels.len();
+        self.labels.push(label)?;
+        match self.numbers.insert(label, number) {
+            Ok(_) => Ok(true),
+            Err(failed) => {
+                self.labels.pop();
+                Err(AllocFailed { value: label })
+            }
+        }
+    }
+}

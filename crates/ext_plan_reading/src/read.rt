@@ -1,0 +1,117 @@
+//! Reading a plan from its text.
+ghost use Rattle.std.specs.Prelude.{◌≡◌, ◌≢◌, Err, map, IfOk};
+ghost use Rattle.toml.specs.View.{table_view};
+ghost use Rattle.ext_plan.specs.Plans.{plan_view};
+ghost use Rattle.ext_plan.specs.Laws.{NodesAreTree, TestsHaveNoChildren, HasFewKeys, HasFewLocks, HasOwnLabels, NamespacesHaveParts, StepsNameLabels, StepsStayBelowRoot, StepListsAreShort, CallbacksAreFew, TestsHaveNoContainerCallbacks};
+ghost use Rattle.ext_plan_reading.specs.Faults.{Gives};
+ghost use Rattle.ext_plan_reading.specs.Reading.{plan_of, plan_of_tables, plan_of_text};
+
+use crate::{
+    Place, PlanFault, TOP_FIELDS, has_only, keys_of, locks_are_few, nodes_of_tables, tables_at,
+    truth_at,
+};
+use ext_plan::{Plan, keys_are_few};
+use std::alloc::Global;
+use toml::Table;
+
+/// Reads the plan that the text of a TOML document writes. Own rule.
+///
+/// The plan has the text's keys, nodes, callbacks and steps, each in the order of the text. The document has two arrays of
+/// tables, which may be left out.
+///
+/// Each `key` has a `label` and, where they are given, a `name`, in place of the label, and a `namespace`, an array of
+/// texts. At most 64 of them are different.
+///
+/// Each `node` has an `id` and, where it is a test, `test`, an array of steps. It may have `mode`, which is `same_thread`
+/// or `concurrent` and else `SameThread`; `isolated`, true or false; `locks`, an array of texts `READ NAME` or
+/// `READ_WRITE NAME`, with at most 63 different names in the plan; and `before_all`, `after_all`, `before_each` and
+/// `after_each`, each an array of at most 1,048,576 callbacks, which are arrays of steps. The ids are those of a tree
+/// (`ext_tree::Tree::build`): the first has one segment, and the parent of each further one stands before it. A test has
+/// no children, and neither `before_all` nor `after_all` is given in it, be it an empty array. A step is one of
+///
+/// ```text
+/// none KEY      put KEY TEXT      want KEY TEXT       computefail KEY TEXT      fail TEXT
+/// remove KEY    put! KEY TEXT     compute KEY TEXT    compute! KEY TEXT         abort TEXT
+/// ```
+///
+/// with one space between two words, where KEY and TEXT are words. A KEY is a label of the plan, or else the name of a key in the
+/// global namespace, which needs no declaration. All but `fail` and `abort` may end with ` up N`. There N is from 1 to 15, and less than the number of segments of the node's id; in `before_each` and
+/// `after_each` it is less than that of the id of each test at or below the node, which are the ones that these callbacks
+/// run round. A test and a callback have at most 2^32 - 1 steps.
+///
+/// Everything else is refused with its first fault. In order: `NotToml`; `UnknownField`, then `BadField`, of the top
+/// fields; for each key `UnknownField`, `BadField`, `BadLabel`; for each node `UnknownField`, `BadField`, `BadId`;
+/// `BadTree`; for each node `BadTest`, `BadLock`, `BadStep`; `TooMany`. `Memory` comes in place of any of these where a growth
+/// was refused. `NotUtf8` is never answered, since a `&str` is UTF-8.
+///
+/// Memory is taken for the TOML document, for the lists of its tables and texts, for the set of labels, for the tree of
+/// the ids, for the words of one step at a time, for the different keys and for the plan, all in proportion to the
+/// text; all but the plan is given back before the call returns. It waits for nobody.
+#[tactic(auto, unfolding(crate::specs::Reading::plan_of_text))]
+pub fn read_plan(alloc: Global, text: &str) -> Result<Plan, PlanFault>
+    ensures exact { Gives plan_view result (plan_of_text text.now) }
+    ensures utf8 { result ≢ Err PlanFault.NotUtf8 }
+
+    // What holds of every plan, whatever the text was.
+    ensures tree { IfOk result (λ p. NodesAreTree (plan_view p)) }
+    ensures tests { IfOk result (λ p. TestsHaveNoChildren (plan_view p)) }
+    ensures different { IfOk result (λ p. HasFewKeys (plan_view p)) }
+    ensures labels { IfOk result (λ p. HasOwnLabels (plan_view p)) }
+    ensures namespaces { IfOk result (λ p. NamespacesHaveParts (plan_view p)) }
+    ensures keys { IfOk result (λ p. StepsNameLabels (plan_view p)) }
+    ensures up { IfOk result (λ p. StepsStayBelowRoot (plan_view p)) }
+    ensures locks { IfOk result (λ p. HasFewLocks (plan_view p)) }
+    ensures containers { IfOk result (λ p. TestsHaveNoContainerCallbacks (plan_view p)) }
+    ensures few { IfOk result (λ p. CallbacksAreFew (plan_view p)) }
+    ensures short { IfOk result (λ p. StepListsAreShort (plan_view p)) }
+{
+    match toml::table_from_str(alloc, text) {
+        Ok(top) => plan_of(alloc, &top),
+        Err(fault) if fault.is_memory() => Err(PlanFault::Memory),
+        Err(_) => Err(PlanFault::NotToml),
+    }
+}
+
+/// The plan of a document.
+#[tactic(auto, unfolding(crate::specs::Reading::plan_of))]
+fn plan_of(alloc: Global, top: &Table) -> Result<Plan, PlanFault>
+    ensures { Gives plan_view result (plan_of (table_view top.now)) }
+{
+    if !has_only(&TOP_FIELDS, top) {
+        return Err(PlanFault::UnknownField(Place::Whole));
+    }
+    let keep_faults = truth_at(top, "keep_faults", PlanFault::BadField(Place::Whole))?;
+    let key_tables = tables_at(alloc, top, "key", PlanFault::BadField(Place::Whole))?;
+    let node_tables = tables_at(alloc, top, "node", PlanFault::BadField(Place::Whole))?;
+    plan_of_tables(
+        alloc,
+        keep_faults,
+        key_tables.as_slice(),
+        node_tables.as_slice(),
+    )
+}
+
+/// The plan of the tables of its keys and its nodes, whose store keeps faults or not.
+#[tactic(auto, unfolding(crate::specs::Reading::plan_of_tables))]
+fn plan_of_tables(
+    alloc: Global,
+    keep_faults: bool,
+    key_tables: &[&Table],
+    node_tables: &[&Table],
+) -> Result<Plan, PlanFault>
+    ensures { Gives plan_view result (plan_of_tables keep_faults (map (λ t. table_view t.now) key_tables.now) (map (λ t. table_view t.now) node_tables.now)) }
+{
+    let keys = keys_of(alloc, key_tables)?;
+    let nodes = nodes_of_tables(alloc, &keys.labels, node_tables)?;
+    if !keys_are_few(alloc, keys.keys.as_slice())? {
+        return Err(PlanFault::TooMany);
+    }
+    if !locks_are_few(alloc, nodes.as_slice())? {
+        return Err(PlanFault::TooMany);
+    }
+    Ok(Plan {
+        keep_faults,
+        keys: keys.keys,
+        nodes,
+    })
+}

@@ -1,8 +1,0 @@
-use Rattle.std.proofs.Common.{◌≡◌, drop, map, []}
-use Rattle.toml.specs.View.{table_view, items_view}
-use Rattle.ext_plan_tables.specs.Fields.{tables_after}
-use Rattle.ext_plan_tables.proofs.fields.tables_of.Given as goal
-
-abbrev pub invariant-loop-item : goal.invariant-loop-item
-invariant-loop-item l =
-    tables_after [] (items_view l.items) ≡ tables_after (map (λ t. table_view t.now) l.tables.items) (items_view (drop l.item-index l.items))

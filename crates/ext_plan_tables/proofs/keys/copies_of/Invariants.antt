@@ -1,6 +1,0 @@
-use Rattle.std.proofs.Common.{◌≡◌, map, take}
-use Rattle.ext_plan_model.specs.Plans.{texts_view}
-use Rattle.ext_plan_tables.proofs.keys.copies_of.Given as goal
-
-abbrev pub invariant-loop-text : goal.invariant-loop-text
-invariant-loop-text l = texts_view l.copies ≡ map (λ t. t.now) (take l.text-index l.texts)

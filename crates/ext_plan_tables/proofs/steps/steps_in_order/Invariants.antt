@@ -1,8 +1,0 @@
-use Rattle.std.proofs.Common.{◌≡◌, drop, map, []}
-use Rattle.ext_plan_model.specs.Plans.{steps_view}
-use Rattle.ext_plan_tables.specs.Steps.{steps_after}
-use Rattle.ext_plan_tables.proofs.steps.steps_in_order.Given as goal
-
-abbrev pub invariant-loop-text : goal.invariant-loop-text
-invariant-loop-text l =
-    steps_after l.labels l.depth l.node [] (map (λ t. t.now) l.texts) ≡ steps_after l.labels l.depth l.node (steps_view l.steps) (map (λ t. t.now) (drop l.text-index l.texts))

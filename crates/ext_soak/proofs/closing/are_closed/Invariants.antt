@@ -1,5 +1,0 @@
-use Rattle.ext_store.specs.Stores.{IsLaneOf}
-use Rattle.ext_soak.proofs.closing.are_closed.Given as goal
-
-abbrev pub invariant-loop-context : goal.invariant-loop-context
-invariant-loop-context l = IsLaneOf l.shared.store.id l.lane

@@ -1,7 +1,0 @@
-use Rattle.std.proofs.Common.{rules, append_assoc}
-use Rattle.ext_steps.specs.StepTexts.{other_text}
-use Rattle.ext_steps.proofs.step_text.other_text.Goals as goal
-
-pub returns : goal.returns
-unfolding other_text
-returns c = search (rules, append_assoc)

@@ -1,4 +1,0 @@
-pub mod StepTexts
-pub mod Calls
-pub mod Values
-pub mod Verdicts

@@ -1,5 +1,0 @@
-pub mod Placed
-pub mod Keyed
-pub mod Ends
-pub mod Steps
-pub mod Framed

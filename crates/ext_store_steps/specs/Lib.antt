@@ -1,4 +1,0 @@
-pub mod Saying
-pub mod StoreCalls
-pub mod StoreSteps
-pub mod PlanKeys

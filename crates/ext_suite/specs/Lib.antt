@@ -1,3 +1,0 @@
-pub mod PlanSuites
-pub mod PlanActions
-pub mod Helpers

@@ -1,5 +1,0 @@
-use Rattle.ext_store.specs.Stores.{IsLaneOf}
-use Rattle.ext_thread_rows.proofs.moving.all_are_shown.Given as goal
-
-abbrev pub invariant-loop-number : goal.invariant-loop-number
-invariant-loop-number l = IsLaneOf l.store.id l.lane

@@ -1,5 +1,0 @@
-use Rattle.ext_store.specs.Stores.{IsLaneOf}
-use Rattle.ext_thread_rows.proofs.naming.ask.Given as goal
-
-abbrev pub invariant-loop-at : goal.invariant-loop-at
-invariant-loop-at g l = IsLaneOf l.store.id l.lane

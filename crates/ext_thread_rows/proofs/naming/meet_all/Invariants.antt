@@ -1,6 +1,0 @@
-use Rattle.std.specs.Prelude.{All}
-use Rattle.ext_store.specs.Stores.{IsLaneOf}
-use Rattle.ext_thread_rows.proofs.naming.meet_all.Given as goal
-
-abbrev pub invariant-loop-at : goal.invariant-loop-at
-invariant-loop-at l = All (IsLaneOf l.store.id) l.lanes

@@ -1,5 +1,0 @@
-use Rattle.ext_store.specs.Stores.{IsLaneOf}
-use Rattle.ext_thread_rows.proofs.rising.look_on.Given as goal
-
-abbrev pub invariant-loop : goal.invariant-loop
-invariant-loop l = IsLaneOf l.store.id l.lane

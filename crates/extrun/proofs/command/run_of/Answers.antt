@@ -1,0 +1,15 @@
+use Rattle.std.proofs.Common.{◌≡◌, ◌↔◌, codes, Some, IsTrue, subst, sym}
+use Rattle.clap.specs.Matches.{found_of}
+use Rattle.clap.specs.Walk.{rows_of}
+use Rattle.clap.proofs.WalkLemmas.{first_value-rows, one_text-rows}
+use Rattle.extrun.specs.Words.{AsksRun, IsFlag, IsLaneCount}
+use Rattle.extrun.proofs.command.run_of.Goals as goal
+
+pub returns : goal.returns
+returns c =
+    let found = found_of c.args.words.now in
+    subst (AsksRun (rows_of found)) (sym c.run_on.ensures) (record {
+      lanes = subst (λ text. IsLaneCount text c.lanes_of.result) (one_text-rows found (codes "lanes")) c.lanes_of.ensures;
+      plain = subst (λ text. IsTrue c.is_plain.result ↔ (text ≡ Some (codes "plain"))) (first_value-rows found (codes "store")) c.is_plain.ensures;
+      told = subst (λ text. IsFlag text c.is_told.result) (one_text-rows found (codes "progress")) c.is_told.ensures;
+    })

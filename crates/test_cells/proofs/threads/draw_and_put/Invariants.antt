@@ -1,0 +1,5 @@
+use Rattle.std.proofs.Common.{◌≡◌}
+use Rattle.test_cells.proofs.threads.draw_and_put.Given as goal
+
+abbrev pub invariant-loop : goal.invariant-loop
+invariant-loop l = l.lane.cells ≡ l.cells.id

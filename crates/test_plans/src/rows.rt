@@ -1,0 +1,139 @@
+//! A plan that is run, plans that are refused, and what other tests of whole runs need. Further worked rows are files: examples/rows has the plans with
+//! their reports, which the program is run on (scripts/worked-rows).
+ghost use Rattle.std.specs.Prelude.{◌≡◌, ◌≤◌, false};
+
+use ext_run::{Options, RunFault, Summary, run};
+use std::alloc::Global;
+use std::fmt::Debug;
+use std::process::Abort;
+use std::sync::Wait;
+use std::test::Fail;
+use std::thread::Threads;
+
+/// As a plain run.
+pub(crate) const PLAIN: Options = Options {
+    lanes: 4,
+    plain: true,
+};
+
+/// On one lane, over the store for several threads.
+const ONE_LANE: Options = Options {
+    lanes: 1,
+    plain: false,
+};
+
+/// On four lanes, over the store for several threads.
+pub(crate) const FOUR_LANES: Options = Options {
+    lanes: 4,
+    plain: false,
+};
+
+/// The contexts of the chain before its method, with one key.
+const CHAIN_HEAD: &str =
+    "[[key]]\nlabel = \"a\"\n\n[[node]]\nid = \"[engine:x]\"\n\n[[node]]\nid = \"[engine:x]/[class:A]\"\n\n[[node]]\nid = \"[engine:x]/[class:A]/[method:m()]\"\n";
+
+/// The report of the chain whose method passes.
+pub(crate) const CHAIN_PASSED: &str =
+    "[engine:x] successful closed 0\n[engine:x]/[class:A] successful closed 0\n[engine:x]/[class:A]/[method:m()] successful closed 0\ntests 1 successful 1 aborted 0 failed 0 skipped 0\ncomputed 0 found 0 closed 0 close faults 0\n";
+
+/// Asserts that this was answered. Tests assert by it, since a call is cheaper to prove than what `assert_eq!` writes.
+pub(crate) fn same<T: Debug + Drop + PartialEq>(rt: &impl Abort, answer: T, wanted: T, what: &str) {
+    assert_eq!(rt; answer, wanted, "{what}");
+}
+
+/// What a run of these bytes answers, and what it writes.
+pub(crate) fn outcome<R: Threads + Wait + Sync>(
+    rt: &R,
+    alloc: Global,
+    plan: &[u8],
+    written: &mut Vec<u8>,
+    options: Options,
+) -> Result<Summary, RunFault>
+    requires { options.plain ≡ false → (1 ≤ options.lanes) × (options.lanes ≤ 16) }
+{
+    let mut reader = plan;
+    run(rt, alloc, &mut reader, written, options)
+}
+
+/// What became of a run of this plan, and the report.
+fn report<R: Threads + Wait + Sync>(
+    rt: &R,
+    alloc: Global,
+    plan: &str,
+    options: Options,
+) -> Result<(Summary, String), Fail>
+    requires { options.plain ≡ false → (1 ≤ options.lanes) × (options.lanes ≤ 16) }
+{
+    let mut written = Vec::new(alloc);
+    let summary = outcome(rt, alloc, plan.as_bytes(), &mut written, options)?;
+    let text = std::str::from_utf8(written.as_slice()).map_err(|_| "the report is text")?;
+    Ok((summary, String::from_str(alloc, text)?))
+}
+
+/// Asserts that the plan has this report, in which a node failed or none did, run so.
+fn reports_run<R: Threads + Wait + Sync + Abort>(
+    rt: &R,
+    alloc: Global,
+    plan: &str,
+    options: Options,
+    failed: bool,
+    wanted: &str,
+) -> Result<(), Fail>
+    requires { options.plain ≡ false → (1 ≤ options.lanes) × (options.lanes ≤ 16) }
+{
+    let (summary, text) = report(rt, alloc, plan, options)?;
+    // A run on several lanes doesn't tell whether a step lacked memory.
+    let lacked = !options.plain;
+    same(rt, summary, Summary { failed, lacked }, "the summary");
+    same(rt, text.as_str(), wanted, "the report");
+    Ok(())
+}
+
+/// Asserts that the plan has this report, in which a node failed or none did: as a plain run, and on one lane and four.
+fn reports<R: Threads + Wait + Sync + Abort>(
+    rt: &R,
+    alloc: Global,
+    plan: &str,
+    failed: bool,
+    wanted: &str,
+) -> Result<(), Fail> {
+    reports_run(rt, alloc, plan, PLAIN, failed, wanted)?;
+    reports_run(rt, alloc, plan, ONE_LANE, failed, wanted)?;
+    reports_run(rt, alloc, plan, FOUR_LANES, failed, wanted)
+}
+
+/// The chain whose method has these steps.
+pub(crate) fn chain(alloc: Global, steps: &str) -> Result<String, Fail> {
+    let text = format!(in alloc; "{CHAIN_HEAD}test = [{steps}]\n")?;
+    Ok(text)
+}
+
+#[test]
+fn chain_put_and_want(rt: HostRuntime) -> Result<(), Fail> {
+    let plan = chain(rt.alloc(), "\"put a x\", \"want a x\"")?;
+    reports(&rt, rt.alloc(), plan.as_str(), false, CHAIN_PASSED)
+}
+
+/// Asserts that the plan has no report, but this line on standard error, and that nothing is written.
+fn refuses<R: Threads + Wait + Sync + Abort>(
+    rt: &R,
+    alloc: Global,
+    plan: &[u8],
+    wanted: &str,
+) -> Result<(), Fail> {
+    let mut written = Vec::new(alloc);
+    let answer = outcome(rt, alloc, plan, &mut written, FOUR_LANES);
+    let fault = answer.err().ok_or("a report")?;
+    same(rt, fault.to_string(alloc)?.as_str(), wanted, "the line");
+    same(rt, written.len(), 0, "what is written");
+    Ok(())
+}
+
+#[test]
+fn refused_plans(rt: HostRuntime) -> Result<(), Fail> {
+    refuses(&rt, rt.alloc(), b"", "plan: P7")?;
+    refuses(&rt, rt.alloc(), b"[[node", "plan: P2")?;
+    refuses(&rt, rt.alloc(), b"\xff", "plan: P1")?;
+    let one = b"[[node]]\nid = \"[engine:x]\"\ntest = [\"put a\"]\n";
+    refuses(&rt, rt.alloc(), one, "plan: P8 node 0")
+}

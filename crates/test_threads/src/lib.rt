@@ -1,0 +1,27 @@
+//! Tests of the store by lanes in threads of their own, the code of docs/GUIDE.md, and tests of the waiting forms (module `waits`).
+#![tactic(auto)]
+
+#[cfg(test)]
+mod calls;
+#[cfg(test)]
+mod closing;
+#[cfg(test)]
+mod failing;
+#[cfg(test)]
+mod gates;
+#[cfg(test)]
+mod guide;
+#[cfg(test)]
+mod held;
+#[cfg(test)]
+mod moving;
+#[cfg(test)]
+mod naming;
+#[cfg(test)]
+mod opening;
+#[cfg(test)]
+mod rising;
+#[cfg(test)]
+mod same;
+#[cfg(test)]
+mod waits;

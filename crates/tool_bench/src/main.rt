@@ -1,0 +1,89 @@
+//! Measures what the calls of the store cost: nanoseconds of wall and of processor time an operation. Own rule.
+//!
+//! Without arguments it prints its usage and a table of all cases, and with `CASE THREADS ROUNDS MILLIS` a line for each round. It
+//! makes library calls alone. The exit status is 0, or 2 where the words are refused, or 3 where a round failed.
+#![tactic(auto)]
+
+mod case;
+mod fault;
+mod opening;
+mod round;
+mod spent;
+mod words;
+mod work;
+
+use case::Case;
+use fault::BenchFault;
+use round::round_of;
+use spent::Spent;
+use std::process::ExitCode;
+use std::thread::Threads;
+use std::time::{Clock, CpuClock};
+use words::{Request, USAGE, request_of};
+
+fn main(rt: HostRuntime) -> ExitCode {
+    match done(&rt, request_of(&rt)) {
+        Ok(()) => ExitCode::from(0),
+        Err(fault) => {
+            let text = fault.text();
+            let _ = eprintln!(rt; "tool_bench: {text}");
+            ExitCode::from(fault.status())
+        }
+    }
+}
+
+/// Does what the words ask.
+fn done<R: Threads + Sync + Clock + CpuClock + AllocGlobal + Print>(
+    rt: &R,
+    request: Request,
+) -> Result<(), BenchFault> {
+    match request {
+        Request::Usage => usage(rt),
+        Request::Table => {
+            usage(rt)?;
+            table(rt)
+        }
+        Request::Rounds {
+            case,
+            threads,
+            rounds,
+            millis,
+        } => rounds_of(rt, case, threads, rounds, millis),
+        Request::Refused(fault) => Err(fault),
+    }
+}
+
+fn usage(rt: &impl Print) -> Result<(), BenchFault> {
+    print!(rt; "{USAGE}").or(Err(BenchFault::Output))
+}
+
+/// A round of two seconds for each case, on one thread, and on four where threads are in each other's way.
+fn table<R: Threads + Sync + Clock + CpuClock + AllocGlobal + Print>(
+    rt: &R,
+) -> Result<(), BenchFault> {
+    for case in Case::ALL {
+        rounds_of(rt, case, case.quick_threads(), 1, 2_000)?;
+    }
+    Ok(())
+}
+
+/// Prints a line for each round.
+fn rounds_of<R: Threads + Sync + Clock + CpuClock + AllocGlobal + Print>(
+    rt: &R,
+    case: Case,
+    threads: usize,
+    rounds: u32,
+    millis: u32,
+) -> Result<(), BenchFault> {
+    for _ in 0..rounds {
+        let spent = round_of(rt, case, threads, millis)?;
+        tell(rt, case, threads, spent)?;
+    }
+    Ok(())
+}
+
+/// Prints the line of a round.
+fn tell<R: Print>(rt: &R, case: Case, threads: usize, spent: Spent) -> Result<(), BenchFault> {
+    let (name, wall, processor) = (case.name(), spent.wall_each(), spent.processor_each());
+    println!(rt; "ext_store {name} {threads} {wall} {processor}").or(Err(BenchFault::Output))
+}
