@@ -8,15 +8,15 @@ use Rattle.ext_model.specs.declared.slot.Slot.TheVariants as slot
 use Rattle.ext_model.specs.Events as events
 use Rattle.ext_model.specs.History.{reply_after}
 use Rattle.ext_model.specs.Plain.{what_stood}
-use Rattle.ext_model.specs.Calls.{HoldsAtPoint}
+use Rattle.ext_model.specs.CallActs.{HoldsAtPoint}
 use Rattle.ext_history.proofs.Answered.{holds_too}
 use Rattle.ext_cells.specs.declared.refusal.CellRefusal.{CellRefusal}
 use Rattle.ext_cells.specs.declared.refusal.CellRefusal.TheVariants as refusal
 use Rattle.ext_cells.specs.Lanes.{Lane}
-use Rattle.ext_cells.specs.Calls.{result_of, change_reply, put_acts, remove_acts, Answers, SealAnswers, ComesLast}
+use Rattle.ext_cells.specs.CellCalls.{result_of, change_reply, put_acts, remove_acts, Answers, SealAnswers, ComesLast}
 use Rattle.ext_cells.specs.declared.stood.Stood.{Stood}
 use Rattle.ext_cells.specs.declared.stood.Stood.TheVariants.{Nothing, Value, Fault}
-use Rattle.ext_cells.specs.Steps.{Changes, number_of, number_result, value_result}
+use Rattle.ext_cells.specs.InnerSteps.{Changes, number_of, number_result, value_result}
 
 -- two results of a call, one of them a refusal
 differ : {A : Type 0} (x : A) (why : CellRefusal) → (let r : Result A CellRefusal = Ok x in let s : Result A CellRefusal = Err why in r ≡ s) → ⊥

@@ -3,11 +3,11 @@ use Rattle.std.proofs.Common.{◌≡◌, List, [], sym, subst}
 use Rattle.std.specs.Prelude.{ℕ, Result, Ok, Err}
 use Rattle.ext_model.specs.declared.event.Act.{Act}
 use Rattle.ext_model.specs.History.{History}
-use Rattle.ext_model.specs.Calls.{Calls}
+use Rattle.ext_model.specs.CallActs.{Calls}
 use Rattle.ext_cells.specs.declared.refusal.CellRefusal.{CellRefusal}
 use Rattle.ext_cells.specs.declared.refusal.CellRefusal.TheVariants as refusal
 use Rattle.ext_cells.specs.Lanes.{Lane}
-use Rattle.ext_cells.specs.Calls.{Answers}
+use Rattle.ext_cells.specs.CellCalls.{Answers}
 
 module _ {A : Type 0} (tries : ℕ) (before after : Lane) (acts_of : Result A CellRefusal → List (Act ℕ)) (reply_at : History → Result A CellRefusal) where
   accepted : (x : A) → (let r : Result A CellRefusal = Ok x in let s : Result A CellRefusal = Err refusal.Contended in r ≡ s) → ⊥

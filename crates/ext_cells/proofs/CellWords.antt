@@ -21,8 +21,8 @@ use Rattle.ext_model.proofs.Claims.{claim_can_end, can_be_sealed}
 use Rattle.ext_model.proofs.Words.{after-push, word-event, word-elsewhere, drawn-push}
 use Rattle.ext_cells.specs.declared.cell_state.CellState.TheVariants.{Sealed}
 use Rattle.ext_cells.specs.Words.{code}
-use Rattle.ext_cells.specs.Rule.{IsWordAt, AreWordsOf, place_in}
-use Rattle.ext_cells.specs.Deciding.{state_of, IsNumbered, IsCellWord}
+use Rattle.ext_cells.specs.InnerRule.{IsWordAt, AreWordsOf, place_in}
+use Rattle.ext_cells.specs.InnerDeciding.{state_of, IsNumbered, IsCellWord}
 
 -- ---- a number that stands is not 0
 

@@ -8,11 +8,9 @@ use Rattle.ext_model.specs.declared.slot.Slot.TheVariants as slot
 use Rattle.ext_model.specs.Events as events
 use Rattle.ext_model.specs.Events.{place_of}
 use Rattle.ext_model.specs.History.{History, Limits, by, stored_number, state_after, version_of, reply_after, IsAllowed}
-use Rattle.ext_model.specs.Allowed.{MayStore}
+use Rattle.ext_model.specs.CallActs.{MayStore, LaneView, HoldsAtPoint, GoesOn, MayStoreNow}
 use Rattle.ext_model.specs.Plain.{what_stood}
-use Rattle.ext_history.specs.Views.{seen_by, moved}
-use Rattle.ext_model.specs.Views.{LaneView}
-use Rattle.ext_model.specs.Calls.{HoldsAtPoint, GoesOn, MayStoreNow}
+use Rattle.ext_history.specs.Histories.{seen_by, moved}
 use Rattle.ext_history.proofs.Composed.{same_number}
 use Rattle.ext_model.proofs.Held.{goes_on_store}
 use Rattle.ext_model.proofs.Numbers.{bounded}
@@ -21,10 +19,10 @@ use Rattle.ext_cells.specs.declared.refusal.CellRefusal.TheVariants as refusal
 use Rattle.ext_cells.specs.declared.decision.Decision.TheVariants.{Change, Done}
 use Rattle.ext_cells.specs.declared.stood.Stood.{Stood}
 use Rattle.ext_cells.specs.Lanes.{Lane}
-use Rattle.ext_cells.specs.Calls.{result_of, change_reply}
-use Rattle.ext_cells.specs.Deciding.{IsCellWord, IsChange, reply_on, Decides}
-use Rattle.ext_cells.specs.Steps.{Finds, MayGoOn, IsChangeOf, answer_to, idle_reply, Changes}
-use Rattle.ext_cells.specs.Rule.{place_in}
+use Rattle.ext_cells.specs.CellCalls.{result_of, change_reply}
+use Rattle.ext_cells.specs.InnerDeciding.{IsCellWord, IsChange, reply_on, Decides}
+use Rattle.ext_cells.specs.InnerSteps.{Finds, MayGoOn, IsChangeOf, answer_to, idle_reply, Changes}
+use Rattle.ext_cells.specs.InnerRule.{place_in}
 use Rattle.ext_cells.proofs.CellWords.{cell_word, word_after}
 use Rattle.ext_cells.proofs.Tries.{TriesOn, answered, made, goes_on, seen_on}
 

@@ -9,18 +9,17 @@ use native.Mathlib.Decide.{ℕ_discrete}
 use base.Growing.{prefix_refl, prefix_trans}
 use Rattle.ext_model.specs.History.{History, Limits, version_of, lane_of, own, IsLegal}
 use Rattle.ext_model.specs.Words.{word_of}
-use Rattle.ext_history.specs.Views.{last_after, first_or, seen_by, Follow, moved, call_fronts, first_front, IsStepped}
-use Rattle.ext_model.specs.Views.{LaneView, IsAnswerPoint}
-use Rattle.ext_model.specs.Calls.{Calls, IsOvertaken}
+use Rattle.ext_history.specs.Histories.{last_after, first_or, seen_by, Follow, moved, call_fronts, first_front, IsStepped}
+use Rattle.ext_model.specs.CallActs.{LaneView, IsAnswerPoint, Calls, IsOvertaken}
 use Rattle.ext_history.proofs.Legal.{legal_begun}
 use Rattle.ext_history.proofs.Fronts.{moved_fronts, moved_seen, moved_none, moved_again, last_append, follow_last, follow_append, first_follows, first_to_last, first_append}
 use Rattle.ext_history.proofs.Lanes.{own_append, own_past}
 use Rattle.ext_history.proofs.Composed.{calls_moved}
 use Rattle.ext_model.proofs.Versions.{versions, version-append, versions-append, versions_within, same_word, same_word_between}
 use Rattle.ext_cells.specs.Lanes.{Lane}
-use Rattle.ext_cells.specs.Calls.{StoodTogether, before_last_pass}
-use Rattle.ext_cells.specs.Steps.{Finds}
-use Rattle.ext_cells.specs.Passes.{EachRead, ReadPass}
+use Rattle.ext_cells.specs.CellCalls.{StoodTogether, before_last_pass}
+use Rattle.ext_cells.specs.InnerSteps.{Finds}
+use Rattle.ext_cells.specs.InnerPasses.{EachRead, ReadPass}
 
 -- ---- the words that one pass reads
 

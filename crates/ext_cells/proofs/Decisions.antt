@@ -13,11 +13,11 @@ use Rattle.ext_cells.specs.declared.refusal.CellRefusal.{CellRefusal}
 use Rattle.ext_cells.specs.declared.refusal.CellRefusal.TheVariants.{Exhausted}
 use Rattle.ext_cells.specs.declared.decision.Decision.TheVariants.{Change, Done}
 use Rattle.ext_cells.specs.Words.{exhausted_if, unless, after_word}
-use Rattle.ext_cells.specs.Calls.{result_of}
+use Rattle.ext_cells.specs.CellCalls.{result_of}
 use Rattle.ext_cells.specs.declared.cell_state.CellState.TheVariants.{Sealed}
 use Rattle.ext_cells.specs.declared.stood.Stood.TheVariants.{Nothing, Value}
-use Rattle.ext_cells.specs.Steps.{value_of, idle_reply}
-use Rattle.ext_cells.specs.Deciding.{state_of, IsNumbered, stood_in, is_settled, IsChange, reply_on, Decides}
+use Rattle.ext_cells.specs.InnerSteps.{value_of, idle_reply}
+use Rattle.ext_cells.specs.InnerDeciding.{state_of, IsNumbered, stood_in, is_settled, IsChange, reply_on, Decides}
 
 some_stood : (n : ℕ) → 1 ≤ n → stood_in Sealed n ≡ Value n
 some_stood n l = ap (λ b. if b then Nothing else Value n) (ne_eqb n 0 (λ e. absurd (omega (arith, e, l))))

@@ -1,7 +1,6 @@
 -- Drawing a number: what the count of numbers means for the lane's call.
 use Rattle.std.proofs.Common.{◌≡◌, ℕ, ◌+◌, ◌<◌, ◌≤◌, [], ◌∷◌, ◌++◌, sym, refl, ap, ◌∙◌, subst, arith, Option, Some}
-use Rattle.std.specs.Prelude.{Result, Ok, Err, if◌then◌else◌}
-use Rattle.std.specs.Prelude.{Contains}
+use Rattle.std.specs.Prelude.{Result, Ok, Err, if◌then◌else◌, Contains}
 use Rattle.std.proofs.lemmas.Bool.{lt-ltb, le-ltb}
 use Rattle.std.proofs.lemmas.List.Elements.{Contains-append_left}
 use Rattle.ext_history.proofs.Composed.{seen_goes_on}
@@ -10,12 +9,12 @@ use Rattle.ext_model.specs.declared.event.Act.TheVariants.{Keep}
 use Rattle.ext_model.specs.Events.{Happens, Refuses, NumbersFull, keep_reply}
 use Rattle.ext_model.specs.History.{History, by, state_after, reply_after}
 use Rattle.ext_model.specs.Plain.{number_drawn}
-use Rattle.ext_history.specs.Views.{moved, seen_by}
+use Rattle.ext_history.specs.Histories.{moved, seen_by}
 use Rattle.ext_cells.specs.declared.refusal.CellRefusal.{CellRefusal}
 use Rattle.ext_cells.specs.declared.refusal.CellRefusal.TheVariants as refusal
 use Rattle.ext_cells.specs.Lanes.{Lane}
-use Rattle.ext_cells.specs.Calls.{result_of, number_reply, number_acts, Answers}
-use Rattle.ext_cells.specs.Steps.{Finds, MayGoOn}
+use Rattle.ext_cells.specs.CellCalls.{result_of, number_reply, number_acts, Answers}
+use Rattle.ext_cells.specs.InnerSteps.{Finds, MayGoOn}
 use Rattle.ext_cells.proofs.CellWords.{count_after}
 use Rattle.ext_cells.proofs.Tries.{TriesOn, answered, overtaken, made}
 

@@ -8,9 +8,8 @@ use Rattle.ext_model.specs.declared.slot.Slot.TheVariants as slot
 use Rattle.ext_model.specs.Events.{Happens, Refuses, Barred, slot_after, place_of, is_on, end_reply}
 use Rattle.ext_model.specs.History.{History, Limits, by, stored_number, fault_number, state_after, version_of, reply_after, IsAllowed, IsLegal}
 use Rattle.ext_model.specs.Words.{slot_word}
-use Rattle.ext_history.specs.Views.{seen_by, moved}
-use Rattle.ext_model.specs.Views.{LaneView}
-use Rattle.ext_model.specs.Calls.{GoesOn, IsHeld, MayStoreNow}
+use Rattle.ext_history.specs.Histories.{seen_by, moved}
+use Rattle.ext_model.specs.CallActs.{LaneView, GoesOn, IsHeld, MayStoreNow}
 use Rattle.ext_model.proofs.Allowed.{may_happen}
 use Rattle.ext_history.proofs.Composed.{same_number}
 use Rattle.ext_model.proofs.Claims.{used_within}
@@ -21,10 +20,10 @@ use Rattle.ext_cells.specs.declared.claim.Claimed.TheVariants.{Won}
 use Rattle.ext_cells.specs.declared.refusal.CellRefusal.{CellRefusal}
 use Rattle.ext_cells.specs.Words.{word_with, next_word, Suits}
 use Rattle.ext_cells.specs.Lanes.{Lane}
-use Rattle.ext_cells.specs.Calls.{Answers, EndsClaim, IfWon, number_acts, number_reply}
-use Rattle.ext_cells.specs.Rule.{IsWordAt}
-use Rattle.ext_cells.specs.Deciding.{IsCellWord}
-use Rattle.ext_cells.specs.Steps.{Finds, MayGoOn, IsEndOf}
+use Rattle.ext_cells.specs.CellCalls.{Answers, EndsClaim, IfWon, number_acts, number_reply}
+use Rattle.ext_cells.specs.InnerRule.{IsWordAt}
+use Rattle.ext_cells.specs.InnerDeciding.{IsCellWord}
+use Rattle.ext_cells.specs.InnerSteps.{Finds, MayGoOn, IsEndOf}
 use Rattle.ext_cells.proofs.CellWords.{cell_word, word_after}
 use Rattle.ext_cells.proofs.CallEvents.{call_made}
 use Rattle.ext_cells.proofs.Changing.{fits_bits}

@@ -6,7 +6,7 @@ use Rattle.ext_history.proofs.Legal.{legal_empty}
 use Rattle.ext_cells.specs.declared.rule.CellLimits.{CellLimits}
 use Rattle.ext_cells.specs.declared.rule.View.{View}
 use Rattle.ext_cells.specs.Lanes.{CellsId, Lane, fresh_lane, fresh_lanes}
-use Rattle.ext_cells.specs.Rule.{limits_of, born}
+use Rattle.ext_cells.specs.InnerRule.{limits_of, born}
 use Rattle.ext_cells.proofs.Lanes.{lane_of, IsLaneView}
 
 -- the first lane, which has given out the numbers below k

@@ -6,15 +6,14 @@ use Rattle.atomic_table.specs.Table.{Me, step}
 use Rattle.atomic_table.specs.Seated.{TableId}
 use Rattle.ext_model.specs.declared.event.Act.{Act}
 use Rattle.ext_model.specs.History.{History, by, IsLegal}
-use Rattle.ext_history.specs.Views.{seen, Follow}
+use Rattle.ext_history.specs.Histories.{seen, Follow}
 use Rattle.ext_history.proofs.Legal.{legal_push}
 use Rattle.ext_history.proofs.Fronts.{last_append, follow_append}
 use base.Growing.{prefix_trans}
 use Rattle.ext_cells.specs.declared.rule.View.{View}
 use Rattle.ext_cells.specs.Lanes.{Lane}
-use Rattle.ext_cells.specs.Rule.{limits_of, place_in, shown, FoundBy, Exchanged}
-use Rattle.ext_cells.specs.Steps.{stepped, Finds, MayGoOn}
-use Rattle.ext_cells.proofs.Steps.{MayExchange}
+use Rattle.ext_cells.specs.InnerRule.{limits_of, place_in, shown, FoundBy, MayExchange, Exchanged}
+use Rattle.ext_cells.specs.InnerSteps.{stepped, Finds, MayGoOn}
 
 abbrev pub lane_of : TableId → View → ℕ → Lane
 lane_of table v number = record { cells = record { table = table; limits = limits_of v.limits }; view = record { number = number; fronts = v.fronts } }

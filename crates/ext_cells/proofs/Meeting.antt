@@ -3,14 +3,13 @@ use Rattle.std.proofs.Common.{◌≡◌, ℕ, [], ◌∷◌, length, sym, ap, �
 use mathlib.Core.List.{IsPrefix}
 use Rattle.atomic_table.specs.Seated.{TableId}
 use Rattle.ext_model.specs.History.{History}
-use Rattle.ext_history.specs.Views.{seen, call_fronts}
-use Rattle.ext_model.specs.Views.{LaneView}
-use Rattle.ext_model.specs.Calls.{Calls}
+use Rattle.ext_history.specs.Histories.{seen, call_fronts}
+use Rattle.ext_model.specs.CallActs.{LaneView, Calls}
 use Rattle.ext_history.proofs.Fronts.{last_append, moved_once}
 use Rattle.ext_history.proofs.Single.{step_calls}
 use Rattle.ext_cells.specs.declared.rule.View.{View}
 use Rattle.ext_cells.specs.Lanes.{Lane}
-use Rattle.ext_cells.specs.Rule.{limits_of, shown, note, noted, FoundBy}
+use Rattle.ext_cells.specs.InnerRule.{limits_of, shown, note, noted, FoundBy}
 use Rattle.ext_cells.proofs.Lanes.{IsLaneView, lane_of, stays_lane}
 
 -- v is the lane's view, n the note, u the view with the note, and w the view after the step

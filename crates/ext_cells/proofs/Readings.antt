@@ -1,7 +1,9 @@
 -- What is kept of the words of a pass tells as much as the words: where the sums of their versions are equal, so are the words.
 use Rattle.std.proofs.Common.{◌≡◌, ◌≢◌, ℕ, ◌+◌, ◌*◌, ◌%◌, ◌^◌, ◌<◌, ◌≤◌, List, [], ◌∷◌, ◌++◌, take, map, get_or, length, slice_index, sym, refl, ap, ◌∙◌, subst, arith, append-nil, drop, length-append, length-take-le, mul-le-mul_right, ◌-◌, Option, None, Some}
-use Rattle.std.specs.Prelude.{All, sum_by}
-use Rattle.std.proofs.lemmas.List.{get_or-map, length-map, length-drop, take-append-drop, take-map, take_all}
+use Rattle.std.specs.Prelude.{All, IfNone, IfSome, sum_by}
+use Rattle.std.proofs.Math.Seq.{get_or-append_seam, take-append_seam}
+use Rattle.std.proofs.lemmas.List.{get_or-map, get_or_append_left, length-map, take-append-le, length-drop, take-append-drop, take-map, take_all}
+use Rattle.std.proofs.lemmas.List.Elements.{All-push}
 use Rattle.std.proofs.lemmas.List.Sums.{sum_by-cons, sum_by-append}
 use mathlib.Core.List.{IsPrefix}
 use base.Growing.{prefix_trans}
@@ -9,18 +11,19 @@ use Rattle.ext_model.specs.declared.slot.Slot.{Slot}
 use Rattle.ext_model.specs.declared.slot.Slot.TheVariants as slot
 use Rattle.ext_model.specs.History.{History, Limits, state_after, version_of, own, lane_of, IsLegal}
 use Rattle.ext_model.specs.Words.{state_code, number_code, word, word_of}
-use Rattle.ext_history.specs.Views.{last_after, first_or, seen_by, Follow, moved, call_fronts}
-use Rattle.ext_model.specs.Views.{LaneView, IsAnswerPoint}
-use Rattle.ext_model.specs.Calls.{Calls}
+use Rattle.ext_history.specs.Histories.{last_after, first_or, seen_by, Follow, moved, call_fronts}
+use Rattle.ext_model.specs.CallActs.{LaneView, IsAnswerPoint, Calls}
 use Rattle.ext_history.proofs.Fronts.{moved_fronts, moved_seen, moved_again, last_append, follow_last, follow_append, first_append, first_to_last}
-use Rattle.ext_history.proofs.Composed.{calls_moved}
+use Rattle.ext_history.proofs.Composed.{answer_point, calls_moved, point_legal}
 use Rattle.ext_model.proofs.Numbers.{bounded}
 use Rattle.ext_model.proofs.Versions.{versions, version-append, same_word}
 use Rattle.ext_cells.specs.declared.nearest.Nearest.{Nearest}
 use Rattle.ext_cells.specs.declared.nearest.Reading.{Reading}
+use Rattle.ext_cells.specs.declared.standing.Standing.{Standing}
+use Rattle.ext_cells.specs.Words.{version_in, HasState, IsEmptyWord}
 use Rattle.ext_cells.specs.Lanes.{Lane}
-use Rattle.ext_cells.specs.Calls.{IsNearest, StoodNearest, StoodTogether}
-use Rattle.ext_cells.specs.Passes.{EachRead, ReadPass, version_in, IsEmptyWord, IsFirstSaid, IsReading, EndsAt, FirstPass}
+use Rattle.ext_cells.specs.CellCalls.{IsNearest, StoodNearest, StoodTogether}
+use Rattle.ext_cells.specs.InnerPasses.{EachRead, ReadPass, Says, SaysFirst, IsFirstSaid, IsReading, EndsAt, FirstPass}
 use Rattle.ext_cells.proofs.Collecting.{AllBegin, AllGoOn, follow_begin, go_on_from, follow_go_on, first_go_on, read_versions, read_length, version_grows, versions_from, versions_to, equal_passes, unequal_passes, some_cells, first_before, latest_from, next_latest, reads_begin, reads_go_on, pass_none, pass_more, Passes}
 
 -- ---- versions
@@ -32,14 +35,24 @@ state_fits (Some (slot.Fault number)) = omega arith
 state_fits (Some (slot.Claim lane)) = omega arith
 state_fits (Some (slot.Sealed kept)) = omega arith
 
+has_state : (s n v : ℕ) → s < 5 → HasState (word s n v)
+has_state s n v small = omega (arith, small)
+
+-- the word of a cell has a state
+pub word_has_state : (h : History) (c : ℕ) → HasState (word_of h c)
+word_has_state h c = has_state _ _ _ (state_fits ((state_after h).slots c))
+
+-- a number that stands fits its bits
+pub number_fits : (limits : Limits) (h : History) (c : ℕ) → limits.numbers < 2 ^ 20 → IsLegal limits h → number_code ((state_after h).slots c) < 2 ^ 20
+number_fits limits h c few legal = let n = (bounded h legal).slots c in omega (arith, n, few)
+
 version_read : (s n v : ℕ) → s < 5 → n < 2 ^ 20 → version_in (word s n v) ≡ v
 version_read s n v small fits = omega (arith, small, fits)
 
 -- a word of a legal history tells its version
 pub version_told : (limits : Limits) (h : History) (c : ℕ) → limits.numbers < 2 ^ 20 → IsLegal limits h → version_in (word_of h c) ≡ version_of h c
 version_told limits h c few legal =
-    let n : number_code ((state_after h).slots c) ≤ limits.numbers = (bounded h legal).slots c in
-    version_read _ _ (version_of h c) (state_fits ((state_after h).slots c)) (omega (arith, n, few))
+    version_read _ _ (version_of h c) (state_fits ((state_after h).slots c)) (number_fits limits h c few legal)
 
 -- so the sum of those in a pass's words is that of its cells' versions
 pub sum_told : (limits : Limits) (q : History) (cs ws : List ℕ) (fs : List History) → limits.numbers < 2 ^ 20 → EachRead cs ws fs → AllGoOn limits q fs → sum_by version_in ws ≡ read_versions cs fs
@@ -234,6 +247,46 @@ module _ (limits : Limits) (before between mid next : LaneView) (cs ds ws us vs 
           steps = omega (arith, a, n, k, m, short);
         }
 
+-- ---- one word more
+
+-- the first word that says that anything stands stays it,
+pub still_said : (words : List ℕ) (word : ℕ) (nearest : Nearest) → SaysFirst words nearest → SaysFirst (words ++ word ∷ []) nearest
+still_said words word nearest said =
+    let inside = said.within in
+    let long = length-append words (word ∷ []) in
+    record {
+      within = omega (arith, inside, long);
+      before = subst (All IsEmptyWord) (sym (take-append-le nearest.place words (word ∷ []) (omega (arith, inside)))) said.before;
+      says = subst (λ w. Says w (Some nearest.standing)) (sym (get_or_append_left words (word ∷ []) 0 nearest.place inside)) said.says;
+    }
+
+-- and where none said so before, the next one may
+pub now_said : (words : List ℕ) (word : ℕ) (nearest : Option Nearest) → All IsEmptyWord words → IfNone nearest (IsEmptyWord word)
+    → IfSome nearest (λ n. (n.place ≡ length words) × Says word (Some n.standing)) → IsFirstSaid (words ++ word ∷ []) nearest
+now_said words word None none empty said = All-push IsEmptyWord words word none empty
+now_said words word (Some n) none empty said =
+    let at = said.0 in
+    let long = length-append words (word ∷ []) in
+    record {
+      within = omega (arith, at, long);
+      before = subst (All IsEmptyWord) (sym (ap (λ i. take i (words ++ word ∷ [])) at ∙ take-append_seam words (word ∷ []))) none;
+      says = subst (λ w. Says w (Some n.standing)) (sym (ap (λ i. get_or (words ++ word ∷ []) i 0) at ∙ get_or-append_seam words word [] 0)) said.1;
+    }
+
+pub one_more : (words : List ℕ) (word : ℕ) (reading : Reading) (count versions : ℕ) (nearest : Option Nearest) → IsReading words reading → count ≡ reading.count + 1 → versions ≡ reading.versions + version_in word
+    → IsFirstSaid (words ++ word ∷ []) nearest → IsReading (words ++ word ∷ []) (record { count = count; versions = versions; nearest = nearest })
+one_more words word reading count versions nearest said counted added first =
+    let long = length-append words (word ∷ []) in
+    let before = said.count in
+    let sum = sum_by-append version_in words (word ∷ []) in
+    let last = sum_by-cons version_in word [] in
+    let was = said.versions in
+    record {
+      count = omega (arith, long, before, counted);
+      versions = omega (arith, sum, last, was, added);
+      nearest = first;
+    }
+
 -- ---- what words say of their cells
 
 empty_slot : (s : Option Slot) (version : ℕ) → word (state_code s) (number_code s) version % 16 ≡ 0 → s ≡ None
@@ -242,10 +295,6 @@ empty_slot (Some (slot.Entry number)) version e = absurd (omega (arith, e))
 empty_slot (Some (slot.Fault number)) version e = absurd (omega (arith, e))
 empty_slot (Some (slot.Claim lane)) version e = absurd (omega (arith, e))
 empty_slot (Some (slot.Sealed kept)) version e = absurd (omega (arith, e))
-
-some_slot : (s : Option Slot) (version : ℕ) → word (state_code s) (number_code s) version % 16 ≢ 0 → s ≢ None
-some_slot None version differs e = differs (omega arith)
-some_slot (Some s) version differs e = cc e
 
 -- nothing stands in cells with empty words
 pub nothing_in : (p : History) (cs ws : List ℕ) → ws ≡ map (word_of p) cs → All IsEmptyWord ws → All (λ c. (state_after p).slots c ≡ None) cs
@@ -256,18 +305,18 @@ nothing_in p cs ws is none =
     empty_slot _ _ (ap (λ w. w % 16) (sym word_is) ∙ none i 0 (omega (arith, long, within))))
 
 -- the first word that says that anything stands is that of the nearest cell
-pub first_said : (p : History) (cells words : List ℕ) (nearest : Option Nearest) → words ≡ map (word_of p) cells → IsFirstSaid words nearest → IsNearest p cells nearest
-first_said p cells words None is said = nothing_in p cells words is said
-first_said p cells words (Some n) is said =
+pub first_said : (p : History) (cells words : List ℕ) (nearest : Option Nearest) → ((c : ℕ) → number_code ((state_after p).slots c) < 2 ^ 20) → words ≡ map (word_of p) cells → IsFirstSaid words nearest → IsNearest p cells nearest
+first_said p cells words None fits is said = nothing_in p cells words is said
+first_said p cells words (Some n) fits is said =
     let long : length words ≡ length cells = ap length is ∙ length-map cells (word_of p) in
     let inside = said.within in
     let within : n.place < length cells = omega (arith, long, inside) in
-    let word_is : n.word ≡ word_of p (slice_index cells n.place) = said.is ∙ (ap (λ z. get_or z n.place 0) is ∙ get_or-map (word_of p) cells n.place 0 0 within) in
+    let here : ℕ = slice_index cells n.place in
+    let word_is : slice_index words n.place ≡ word_of p (slice_index cells n.place) = ap (λ z. get_or z n.place 0) is ∙ get_or-map (word_of p) cells n.place 0 0 within in
     record {
       within = within;
       nothing_before = nothing_in p (take n.place cells) (take n.place words) (ap (take n.place) is ∙ take-map (word_of p) n.place cells) said.before;
-      stands = some_slot _ _ (λ e. said.stands (ap (λ w. w % 16) word_is ∙ e));
-      word_is = word_is;
+      stands = said.says ((state_after p).slots here) (version_of p here) (fits here) word_is;
     }
 
 -- ---- the first pass and the one over its empty cells
@@ -276,15 +325,16 @@ legal_between : (limits : Limits) (before between : LaneView) (cs ws : List ℕ)
 legal_between limits before between cs ws t = subst (IsLegal limits) (sym (ap seen_by t.is ∙ moved_seen before t.fronts)) t.legal
 
 -- what stood behind the empty cells, as a pass of its own
-end_pass : (limits : Limits) (between mid : LaneView) (cells : List ℕ) (count : ℕ) (stands : Option ℕ) → IsLegal limits (seen_by between) → All (λ c. c < limits.cells) cells → EndsAt limits between mid cells count stands
+end_pass : (limits : Limits) (between mid : LaneView) (cells : List ℕ) (count : ℕ) (stands : Option Standing) → IsLegal limits (seen_by between) → All (λ c. c < limits.cells) cells → EndsAt limits between mid cells count stands
     → (ds us : List ℕ) × ReadPass limits between mid ds us × (count + length ds ≤ length cells) × (length cells ≡ 0 → length ds ≡ 0) × (1 ≤ length cells → 1 ≤ count + length ds)
 end_pass limits between mid cells count None legal known ends =
     let all = ends.1 in ([], [], subst (λ l. ReadPass limits between l [] []) (sym ends.0) (pass_none limits between legal), omega (arith, all), λ none. refl, λ some. omega (arith, all, some))
-end_pass limits between mid cells count (Some w) legal known ends =
-    let less = ends.0 in (
+end_pass limits between mid cells count (Some s) legal known ends =
+    let less = ends.0 in
+    let w : ℕ = ends.1.0 in (
       slice_index cells count ∷ [],
       w ∷ [],
-      pass_more limits between between mid [] [] (slice_index cells count) w ends.2.0 (pass_none limits between legal) (known count 0 less) ends.2.1 ends.2.2,
+      pass_more limits between between mid [] [] (slice_index cells count) w ends.1.1 (pass_none limits between legal) (known count 0 less) ends.1.3 ends.1.4,
       omega (arith, less),
       λ none. absurd (omega (arith, less, none)),
       λ some. omega arith,
@@ -323,23 +373,26 @@ module _ (x y : Lane) (mid : LaneView) (cells : List ℕ) (empty again : Reading
       )
 
   -- or this was the nearest where anything did
-  pub still_some : (w : ℕ) → FirstPass x.cells.limits x.view mid cells empty (Some w) → again.versions ≡ empty.versions
-      → StoodNearest x y cells (Some (record { place = empty.count; word = w })) × (length (call_fronts x.view y.view) ≤ length cells + length cells)
-  still_some w t e =
+  pub still_some : (s : Standing) → FirstPass x.cells.limits x.view mid cells empty (Some s) → again.versions ≡ empty.versions
+      → StoodNearest x y cells (Some (record { place = empty.count; standing = s })) × (length (call_fronts x.view y.view) ≤ length cells + length cells)
+  still_some s t e =
       let limits = x.cells.limits in let cs : List ℕ = take empty.count cells in
       let less = t.ends.0 in
+      let w : ℕ = t.ends.1.0 in
       let c : ℕ = slice_index cells empty.count in
       let legal = legal_between x.cells.limits x.view t.between cs t.words t.read in
-      let two : ReadPass x.cells.limits t.between mid (slice_index cells empty.count ∷ []) (w ∷ []) = pass_more x.cells.limits t.between t.between mid [] [] c w t.ends.2.0 (pass_none x.cells.limits t.between legal) (known empty.count 0 less) t.ends.2.1 t.ends.2.2 in
+      let two : ReadPass x.cells.limits t.between mid (slice_index cells empty.count ∷ []) (t.ends.1.0 ∷ []) = pass_more x.cells.limits t.between t.between mid [] [] c w t.ends.1.1 (pass_none x.cells.limits t.between legal) (known empty.count 0 less) t.ends.1.3 t.ends.1.4 in
       let long : length (take empty.count cells) ≡ empty.count = length-take-le empty.count cells (omega (arith, less)) in
       let words_are = still_stood x.cells.limits x.view t.between mid y.view cs (c ∷ []) t.words (w ∷ []) more few t.read two three (sums_are t.words t.reading e) in
       let point = still_point x.cells.limits x.view t.between mid y.view cs (c ∷ []) t.words (w ∷ []) more few t.read two three in
       let steps = still_steps x.cells.limits x.view t.between mid y.view cs (c ∷ []) t.words (w ∷ []) more few t.read two three in
       let p : History = last_after (seen_by x.view) (t.read.fronts ++ two.fronts) in
-      let word_is : w ≡ word_of (last_after (seen_by x.view) (t.read.fronts ++ two.fronts)) (slice_index cells empty.count) =
+      let calls = still_calls x.cells.limits x.view t.between mid y.view cs (c ∷ []) t.words (w ∷ []) more few t.read two three in
+      let lawful : IsLegal limits p = point_legal calls p (answer_point calls p point) in
+      let word_is : t.ends.1.0 ≡ word_of (last_after (seen_by x.view) (t.read.fronts ++ two.fronts)) (slice_index cells empty.count) =
       read_one (last_after (seen_by x.view) t.read.fronts) c w two.fronts two.read ∙ ap (λ z. word_of z c) (sym (last_append (seen_by x.view) t.read.fronts two.fronts)) in (
         record {
-          calls = still_calls x.cells.limits x.view t.between mid y.view cs (c ∷ []) t.words (w ∷ []) more few t.read two three;
+          calls = calls;
           stepped = λ some. omega (arith, steps);
           point = (
             p,
@@ -347,8 +400,7 @@ module _ (x y : Lane) (mid : LaneView) (cells : List ℕ) (empty again : Reading
             record {
               within = less;
               nothing_before = nothing_in p cs t.words words_are t.nothing;
-              stands = some_slot _ _ (λ z. t.ends.1 (ap (λ v. v % 16) word_is ∙ z));
-              word_is = word_is;
+              stands = t.ends.1.2 ((state_after p).slots c) (version_of p c) (number_fits limits p c few lawful) word_is;
             },
           );
         },
@@ -356,7 +408,7 @@ module _ (x y : Lane) (mid : LaneView) (cells : List ℕ) (empty again : Reading
       )
 
   -- else a pass over all cells has begun, and goes on behind them
-  pub begun_here : (last : LaneView) (stands : Option ℕ) (zs : List ℕ) → FirstPass x.cells.limits x.view mid cells empty stands → again.versions ≢ empty.versions → ReadPass x.cells.limits y.view last (drop empty.count cells) zs
+  pub begun_here : (last : LaneView) (stands : Option Standing) (zs : List ℕ) → FirstPass x.cells.limits x.view mid cells empty stands → again.versions ≢ empty.versions → ReadPass x.cells.limits y.view last (drop empty.count cells) zs
       → Passes x.cells.limits x.view last cells (more ++ zs) 1
   begun_here last stands zs t differs four =
       let cs : List ℕ = take empty.count cells in
@@ -379,8 +431,15 @@ module _ (limits : Limits) (before now next : LaneView) (cells words again : Lis
       (reads_begin limits before now next cells words again count t pass) (reads_go_on limits before now next cells words again count t pass) same
 
 -- the nearest of cells that stood together
-pub nearest_of : (x y : Lane) (cells words : List ℕ) (reading : Reading) → StoodTogether x y cells words → IsReading words reading → StoodNearest x y cells reading.nearest
-nearest_of x y cells words reading stood said = record { calls = stood.calls; stepped = stood.stepped; point = (stood.point.0, stood.point.1, first_said stood.point.0 cells words reading.nearest stood.point.2 said.nearest) }
+pub nearest_of : (x y : Lane) (cells words : List ℕ) (reading : Reading) → x.cells.limits.numbers < 2 ^ 20 → StoodTogether x y cells words → IsReading words reading → StoodNearest x y cells reading.nearest
+nearest_of x y cells words reading few stood said =
+    let p : History = stood.point.0 in
+    let legal : IsLegal x.cells.limits p = point_legal stood.calls p (answer_point stood.calls p stood.point.1) in
+    record {
+      calls = stood.calls;
+      stepped = stood.stepped;
+      point = (p, stood.point.1, first_said p cells words reading.nearest (λ c. number_fits x.cells.limits p c few legal) stood.point.2 said.nearest);
+    }
 
 -- two passes are within what is told, which has as many as there are tries and one more
 pub within_two : (n tries steps : ℕ) → 1 ≤ tries → steps ≤ n + n → steps ≤ n * (tries + 1)

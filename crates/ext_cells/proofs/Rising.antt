@@ -1,5 +1,5 @@
 -- An exchange that met another word than was expected there means an event on that very word.
-use Rattle.std.proofs.Common.{◌≡◌, ◌≢◌, ◌∙◌, ℕ, ◌+◌, ◌≤◌, ◌<◌, List, [], ◌∷◌, ◌++◌, fold, sym, refl, ap, subst, arith, Option, None, Some}
+use Rattle.std.proofs.Common.{◌≡◌, ◌≢◌, ◌∙◌, ℕ, ◌+◌, ◌≤◌, ◌<◌, [], ◌∷◌, ◌++◌, fold, sym, ap, subst, arith, Option, Some}
 use Rattle.std.specs.Prelude.{nat_eq}
 use Rattle.ext_model.specs.declared.event.Act.{Act}
 use Rattle.ext_model.specs.declared.event.Act.TheVariants.{Keep, Put, Remove, Claim, Fill, Fail, Abandon, Seal}
@@ -7,8 +7,8 @@ use Rattle.ext_model.specs.Events.{apply, drawn_after, place_of}
 use Rattle.ext_model.specs.State.{State}
 use Rattle.ext_model.specs.History.{History, Limits, state_after, version_of}
 use Rattle.ext_model.proofs.Versions.{after-append, same_word, version-append}
-use Rattle.ext_cells.specs.Calls.{changes_at}
-use Rattle.ext_cells.specs.Rule.{IsWordAt}
+use Rattle.ext_cells.specs.CellCalls.{changes_at}
+use Rattle.ext_cells.specs.InnerRule.{IsWordAt}
 
 -- from one history to another at least so many events changed the word at a place
 pub record Rises (limits : Limits) (f g : History) (place count : ℕ) : Type 0 where

@@ -13,7 +13,7 @@ use Rattle.ext_history.proofs.Lists.{at_push, at_zeros}
 use Rattle.ext_history.proofs.Legal.{legal_empty}
 use Rattle.ext_cells.specs.declared.rule.CellLimits.{CellLimits}
 use Rattle.ext_cells.specs.declared.rule.View.{View}
-use Rattle.ext_cells.specs.Rule.{AreWordsOf, limits_of, first_lane, one_more, giving, born, note, noted, spent, Fits, Kept}
+use Rattle.ext_cells.specs.InnerRule.{AreWordsOf, limits_of, first_lane, one_more, giving, born, note, noted, spent, Fits, Kept}
 
 only_one : (u v : View) (j : ℕ) → get_elem? (u ∷ []) j ≡ some v → (j ≡ 0) × (u ≡ v)
 only_one u v zero e = (refl, some-injective u v e)

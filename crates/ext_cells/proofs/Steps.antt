@@ -11,13 +11,13 @@ use Rattle.atomic_table.specs.Table.{State, Me, step, keeps, stepped, Allows, Va
 use Rattle.atomic_table.proofs.Lists.{at_set, exchanged}
 use Rattle.ext_model.specs.declared.event.Act.{Act}
 use Rattle.ext_model.specs.History.{History, by, lane_of, own, IsAllowed, IsLegal}
-use Rattle.ext_history.specs.Views.{seen}
+use Rattle.ext_history.specs.Histories.{seen}
 use Rattle.ext_history.proofs.Legal.{legal_push}
 use Rattle.ext_history.proofs.Fronts.{last_append}
 use Rattle.ext_history.proofs.Lanes.{own_push_other}
 use Rattle.ext_cells.specs.declared.rule.CellLimits.{CellLimits}
 use Rattle.ext_cells.specs.declared.rule.View.{View}
-use Rattle.ext_cells.specs.Rule.{IsWordAt, AreWordsOf, place_in, limits_of, shown, Fits, Kept, FoundBy, Loaded, Exchanged}
+use Rattle.ext_cells.specs.InnerRule.{IsWordAt, AreWordsOf, place_in, limits_of, shown, Fits, Kept, FoundBy, Loaded, MayExchange, Exchanged}
 use Rattle.ext_cells.proofs.CellWords.{words_after}
 
 -- a view that stands after a step of one seat had the same number and count before it
@@ -90,14 +90,6 @@ loads limits slots id me place lane mine s k _ at _ = (
 
 one_lane : {a b : ℕ} {o : Option ℕ} → o ≡ Some a → o ≡ Some b → a ≡ b
 one_lane p q = cc
-
--- wherever the word is the old one, the lane may make the act, which leaves the new word
-pub record MayExchange (v : View) (lane : ℕ) (act : Act ℕ) (place old new : ℕ) : Type 0 where
-  pub lane_is : v.lane ≡ Some lane
-  pub here : place ≡ place_in (limits_of v.limits) act
-  pub within : place ≤ v.limits.cells
-  pub allowed : (h : History) → FoundBy v place old h → IsAllowed (limits_of v.limits) h (by lane act)
-  pub leaves : (h : History) → FoundBy v place old h → IsWordAt (limits_of v.limits) (h ++ by lane act ∷ []) place new
 
 -- an exchange
 pub exchanges : (limits : CellLimits) (slots id : ℕ) (me : Me (Act ℕ) View) (place old new lane : ℕ) (act : Act ℕ) → MayExchange me.0 lane act place old new

@@ -6,9 +6,8 @@ use Rattle.ext_model.specs.declared.event.Act.{Act}
 use Rattle.ext_model.specs.declared.event.Act.TheVariants.{Keep, Put}
 use Rattle.ext_model.specs.declared.event.Event.{Event}
 use Rattle.ext_model.specs.History.{History, Limits, by, own, stored, stored_number, state_after, IsLegal}
-use Rattle.ext_history.specs.Views.{seen_by}
-use Rattle.ext_model.specs.Views.{LaneView, events_by}
-use Rattle.ext_model.specs.Calls.{Calls, MayStoreNow}
+use Rattle.ext_history.specs.Histories.{seen_by}
+use Rattle.ext_model.specs.CallActs.{LaneView, events_by, Calls, MayStoreNow}
 use Rattle.ext_history.proofs.Legal.{legal_prefix}
 use Rattle.ext_history.proofs.Lists.{contains_none, contains_cons, contains_filter_map, contains_from_filter, contains_from_filter_map}
 use Rattle.ext_model.proofs.Numbers.{bounded}
@@ -17,7 +16,7 @@ use Rattle.ext_history.proofs.Composed.{same_number}
 use Rattle.ext_cells.specs.declared.refusal.CellRefusal.{CellRefusal}
 use Rattle.ext_cells.specs.Lanes.{Lane}
 use Rattle.ext_cells.proofs.CallEvents.{call_made}
-use Rattle.ext_cells.specs.Calls.{change_reply, number_reply, number_acts, put_acts, Answers}
+use Rattle.ext_cells.specs.CellCalls.{change_reply, number_reply, number_acts, put_acts, Answers}
 
 -- none of these acts stores the number
 no_event : (lane number : ℕ) (acts : List (Act ℕ)) → All (λ act. stored_number act ≡ Some number → ⊥) acts → (x : Event ℕ) → Contains (events_by lane acts) x → stored_number x.act ≡ Some number → ⊥

@@ -1,19 +1,18 @@
 -- A call that tries: a first load, and then exchanges that met other words.
-use Rattle.std.proofs.Common.{◌≡◌, ◌≢◌, inl, ℕ, ◌+◌, ◌≤◌, ◌<◌, [], ◌∷◌, ◌++◌, length, sym, refl, ap, ◌∙◌, subst, arith, append_assoc, append-nil, length-append}
+use Rattle.std.proofs.Common.{◌≡◌, ◌≢◌, inl, ℕ, ◌+◌, ◌≤◌, [], ◌∷◌, ◌++◌, length, sym, refl, ap, ◌∙◌, subst, arith, append_assoc, append-nil, length-append}
 use base.Growing.{prefix_refl, prefix_trans}
 use Rattle.ext_model.specs.declared.event.Act.{Act}
 use Rattle.ext_model.specs.History.{History, Limits, by, lane_of, own, IsAllowed}
-use Rattle.ext_history.specs.Views.{first_or, seen_by, moved, call_fronts, first_front, IsStepped}
-use Rattle.ext_model.specs.Views.{LaneView}
-use Rattle.ext_model.specs.Calls.{Calls, HoldsAtPoint, IsOvertaken, GoesOn}
+use Rattle.ext_history.specs.Histories.{first_or, seen_by, moved, call_fronts, first_front, IsStepped}
+use Rattle.ext_model.specs.CallActs.{LaneView, Calls, HoldsAtPoint, IsOvertaken, GoesOn}
 use Rattle.ext_history.proofs.Fronts.{moved_fronts, moved_once, moved_seen}
 use Rattle.ext_history.proofs.Lanes.{own_append, own_past}
 use Rattle.ext_history.proofs.Composed.{same_number, seen_goes_on, first_is_seen, steps_compose, steps_stay, first_decides}
 use Rattle.ext_model.proofs.Composed.{calls_compose, later_answers}
 use Rattle.ext_history.proofs.Single.{step_calls, event_calls, event_holds}
 use Rattle.ext_cells.specs.Lanes.{Lane}
-use Rattle.ext_cells.specs.Rule.{IsWordAt}
-use Rattle.ext_cells.specs.Steps.{stepped, Finds}
+use Rattle.ext_cells.specs.InnerRule.{IsWordAt}
+use Rattle.ext_cells.specs.InnerSteps.{stepped, Finds}
 use Rattle.ext_cells.proofs.CellWords.{one_word}
 use Rattle.ext_cells.proofs.Rising.{Rises, no_rise, one_rise}
 

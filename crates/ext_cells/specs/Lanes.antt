@@ -1,9 +1,9 @@
--- What contracts see of the cells and of a lane, and how both are at the opening.
--- Own rule. A lane's fronts are those of `Views` of ext_model: the history as it stood after each of the lane's steps, the oldest first.
+-- What contracts see of the cells and of a lane, and how both are at the opening. A lane's fronts are those of `CallActs` of ext_model: the
+-- history as it stood after each of the lane's steps, the oldest first.
 use Rattle.std.specs.Prelude.{ℕ, zero, suc, ◌+◌, ◌≤◌, List, [], ◌∷◌}
 use Rattle.atomic_table.specs.Seated.{TableId}
 use Rattle.ext_model.specs.History.{Limits}
-use Rattle.ext_model.specs.Views.{LaneView}
+use Rattle.ext_model.specs.CallActs.{LaneView}
 
 -- Which cells they are: the table that they stand in, how many cells, lanes and numbers there are, and whether faults are kept
 pub record CellsId : Type 0 where

@@ -1,6 +1,6 @@
--- What is true of the words of cells after acts, and of the numbers that lanes draw: sentences that a reader may judge.
--- Own rule; each is proved, as `cell_laws` says. The table of words is `after_word` of `Words`; what one thread replies and what stands then are those of ext_model.
-use Rattle.std.specs.Prelude.{ℕ, ◌≡◌, ◌+◌, ◌≤◌, ◌<◌, ◌^◌, nat_eq, List, [], ◌∷◌, ◌++◌, Option, Some, Result, Ok, Err, Contains, filter_map}
+-- What is true of the words of cells after acts, and of the numbers that lanes draw: sentences that a reader may judge. Each is proved, as `cell_laws` says. The
+-- table of words is `after_word` of `Words`; what one thread replies and what stands then are those of ext_model.
+use Rattle.std.specs.Prelude.{ℕ, ◌≡◌, ◌+◌, ◌≤◌, ◌<◌, ◌^◌, nat_eq, List, [], ◌∷◌, ◌++◌, Some, Result, Ok, Err, Contains, filter_map}
 use Rattle.std.specs.List.{IsDistinct}
 use Rattle.ext_model.specs.declared.event.Act.{Act}
 use Rattle.ext_model.specs.Events as events

@@ -1,8 +1,8 @@
 pub mod Words
 pub mod Lanes
-pub mod Calls
-pub mod Rule
-pub mod Steps
-pub mod Passes
-pub mod Deciding
+pub mod CellCalls
+pub mod InnerRule
+pub mod InnerSteps
+pub mod InnerPasses
+pub mod InnerDeciding
 pub mod Laws

@@ -1,7 +1,6 @@
--- The word of a cell by its three parts, and the word after an act.
--- Own rule. `Words` of ext_model says how the parts stand in the 64 bits, and what the word of a cell is after a history;
--- this is the same change by change, read off the word alone.
-use Rattle.std.specs.Prelude.{◌≡◌, ◌≢◌, ℕ, ◌+◌, ◌-◌, ◌^◌, ◌<◌, Bool, true, false, if◌then◌else◌, Option, Some, None, Result, Ok, Err}
+-- The word of a cell by its three parts, and the word after an act. `Words` of ext_model says how the parts stand in the
+-- 64 bits, and what the word of a cell is after a history; this is the same change by change, read off the word alone.
+use Rattle.std.specs.Prelude.{◌≡◌, ◌≢◌, ℕ, ◌+◌, ◌-◌, ◌/◌, ◌%◌, ◌^◌, ◌<◌, Bool, true, false, if◌then◌else◌, Option, Some, None, Result, Ok, Err}
 use Rattle.ext_model.specs.declared.event.Act.{Act}
 use Rattle.ext_model.specs.declared.event.Act.TheVariants.{Keep, Put, Remove, Claim, Fill, Fail, Abandon, Seal}
 use Rattle.ext_model.specs.Events.{is_worn, is_worn_for_claim}
@@ -22,6 +21,18 @@ code Failed = 4
 -- the word of a state, a number below 2 ^ 20 and a version below 2 ^ 40
 abbrev pub word_with : CellState → ℕ → ℕ → ℕ
 word_with state number version = words.word (code state) number version
+
+-- a word whose bits 0 to 3 are those of a state
+abbrev pub HasState : ℕ → Type 0
+HasState word = word % 16 < 5
+
+-- the word is that of a cell where nothing stands
+abbrev pub IsEmptyWord : ℕ → Type 0
+IsEmptyWord word = word % 16 ≡ 0
+
+-- the version in a word
+abbrev pub version_in : ℕ → ℕ
+version_in word = word / 2 ^ 24
 
 -- ---- the word after an act
 

@@ -1,6 +1,6 @@
 //! What stands at a cell, as its word tells it.
 
-/// What stands at a cell, in bits 0 to 3 of its word. Own rule.
+/// What stands at a cell, in bits 0 to 3 of its word.
 #[derive(Clone, Copy, Debug, PartialEq, Eq)]
 pub enum CellState {
     /// 0: nothing. The number is 0.

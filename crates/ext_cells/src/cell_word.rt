@@ -1,12 +1,14 @@
-//! A cell in one word of 64 bits: its state, the number that stands there, and how many events it has had.
-ghost use Rattle.std.specs.Prelude.{◌≡◌, ℕ, ◌+◌, ◌*◌, ◌-◌, ◌%◌, ◌^◌, ◌<◌};
-ghost use Rattle.ext_cells.specs.Words.{word_with, sealed_number as sealed_number_of, next_word as next_word_of, ends_claim as ends_claim_of, is_worn_by, refusal_in, after_word, Suits};
+//! A cell in one word of 64 bits: its state, the number that stands there, and how many events it has had. No other module takes a
+//! word apart.
+ghost use Rattle.std.specs.Prelude.{◌≡◌, ℕ, ◌+◌, ◌*◌, ◌-◌, ◌^◌, ◌<◌, IfNone};
+ghost use Rattle.ext_cells.specs.Words.{word_with, sealed_number as sealed_number_of, next_word as next_word_of, ends_claim as ends_claim_of, is_worn_by, refusal_in, after_word, version_in, HasState, IsEmptyWord, Suits};
+ghost use Rattle.ext_cells.specs.InnerPasses.{Says};
 
-use crate::{CellRefusal, CellState};
+use crate::{CellRefusal, CellState, Standing};
 use ext_model::{Act, CellNo};
 
-/// The word of a cell: the state in bits 0 to 3, the number, below 2^20, in bits 4 to 23, and the version,
-/// below 2^40, in bits 24 to 63. A fresh cell is 0. Takes no memory (own rule).
+/// The word of a cell: the state in bits 0 to 3, the number, below 2^20, in bits 4 to 23, and the version, below 2^40, in bits 24
+/// to 63. A fresh cell is 0. `Cells::collect` alone hands words out, and no call takes one.
 pub fn word(state: CellState, number: u32, version: u64) -> u64
     requires number { number < 2 ^ 20 }
     requires version { version < 2 ^ 40 }
@@ -22,10 +24,10 @@ pub fn word(state: CellState, number: u32, version: u64) -> u64
     version * 16_777_216 + u64::from(number) * 16 + bits
 }
 
-/// The state, the number and the version of a word: they are the only ones. Its bits 0 to 3 are those of a
-/// state. Takes no memory (own rule).
+/// The state, the number and the version of a word: they are the only ones. Its bits 0 to 3 are those of a state. What stands at a
+/// cell needs no word: `Cells::nearest` answers it; `Cells::collect` alone hands words out.
 pub fn parts(word: u64) -> (CellState, u32, u64)
-    requires { word % 16 < 5 }
+    requires { HasState word }
     ensures parts { word_with result.0 result.1 result.2 ≡ word }
     ensures number { result.1 < 2 ^ 20 }
     ensures version { result.2 < 2 ^ 40 }
@@ -41,6 +43,30 @@ pub fn parts(word: u64) -> (CellState, u32, u64)
         _ => CellState::Failed,
     };
     (state, number, version)
+}
+
+/// What stands at the cell of this word, or `None` where it is empty.
+pub(crate) fn what_stands(word: u64) -> Option<Standing>
+    requires { HasState word }
+    ensures none { IfNone result (IsEmptyWord word) }
+    ensures says { Says word result }
+{
+    let (state, number, _) = parts(word);
+    match state {
+        CellState::Empty => None,
+        CellState::Computing => Some(Standing::Claim),
+        CellState::Present => Some(Standing::Value(number)),
+        CellState::Sealed => Some(Standing::Seal),
+        CellState::Failed => Some(Standing::Fault(number)),
+    }
+}
+
+/// The version in a word.
+pub(crate) fn version(word: u64) -> u64
+    ensures version { result ≡ version_in word }
+    ensures within { result < 2 ^ 40 }
+{
+    word / 16_777_216
 }
 
 // The greatest versions at which a cell takes a put or a remove, and a claim.
@@ -115,14 +141,14 @@ pub(crate) fn next_word(act: Act<CellNo>, state: CellState, number: u32, version
 
 /// The word after an act, whose version is one more.
 ///
-/// Refused as `Busy` where a claim stands, save for a fill, a fail or an abandon; as `Closed` where the cell is sealed;
-/// as `Exhausted` where the version is above 2^40 - 3 for a put or a remove, and above 2^40 - 4 for a claim: so
-/// the end of a claim and one seal always have a version left. The act is no keep; a fill, a fail or an abandon is of a
-/// claimed cell; there is a number to remove, no seal to seal again, and no number where a claim is asked for;
-/// a number stored is below 2^20, and for a fill, a fail, an abandon or a seal the version is below 2^40 - 1. Takes
-/// no memory (own rule).
+/// Refused as `Busy` where a claim stands, save for a fill, a fail or an abandon; as `Closed` where the cell is sealed; as
+/// `Exhausted` where the version is above 2^40 - 3 for a put or a remove, and above 2^40 - 4 for a claim: so the end of a
+/// claim and one seal always have a version left. The act is no keep; a fill, a fail or an abandon is of a claimed cell;
+/// there is a number to remove, no seal to seal again, and no number where a claim is asked for; a number stored is below
+/// 2^20, and for a fill, a fail, an abandon or a seal the version is below 2^40 - 1. It changes no cell: words come from
+/// `Cells::collect` alone, and no call takes one.
 pub fn after(word: u64, act: Act<CellNo>) -> Result<u64, CellRefusal>
-    requires state { word % 16 < 5 }
+    requires state { HasState word }
     requires act { (state : _) (number version : ℕ) → number < 2 ^ 20 → word ≡ word_with state number version → Suits act state version }
     ensures { (state : _) (number version : ℕ) → number < 2 ^ 20 → word ≡ word_with state number version → result ≡ after_word act state number version }
 {

@@ -4,19 +4,21 @@ ghost use Rattle.std.specs.List.{IsDistinct};
 ghost use mathlib.Core.List.{IsPrefix};
 ghost use Rattle.ext_model.specs.History.{History, by, stored_number, fault_number, IsLegal};
 ghost use Rattle.ext_model.specs.Words.{word_of};
-ghost use Rattle.ext_history.specs.Views.{seen_by, call_fronts};
-ghost use Rattle.ext_model.specs.Calls.{Calls, IsHeld, MayStoreNow};
+ghost use Rattle.ext_history.specs.Histories.{seen_by, call_fronts};
+ghost use Rattle.ext_model.specs.CallActs.{Calls, IsHeld, MayStoreNow};
 ghost use Rattle.ext_model.specs.declared.event.Act.TheVariants as act_is;
 ghost use Rattle.ext_cells.specs.Lanes.{AreLimits, fresh_lanes};
-ghost use Rattle.ext_cells.specs.Rule.{place_in, shown, FoundBy};
-ghost use Rattle.ext_cells.specs.Calls.{Answers, SealAnswers, ComesLast, EndsClaim, Collects, before_last_pass, IfWon, change_reply, claim_reply, number_reply, number_acts, put_acts, remove_acts, claim_acts};
-ghost use Rattle.ext_cells.specs.Steps.{stepped, Finds, MayGoOn, IsChangeOf, IsEndOf, Changes};
-ghost use Rattle.ext_cells.specs.Passes.{ReadPass};
+ghost use Rattle.ext_cells.specs.InnerRule.{place_in};
+ghost use Rattle.ext_cells.specs.CellCalls.{Answers, SealAnswers, ComesLast, EndsClaim, Collects, before_last_pass, IfWon, change_reply, claim_reply, number_reply, number_acts, put_acts, remove_acts, claim_acts};
+ghost use Rattle.ext_cells.specs.InnerSteps.{stepped, Finds, MayGoOn, IsChangeOf, IsEndOf, Changes};
+ghost use Rattle.ext_cells.specs.InnerPasses.{ReadPass};
+ghost use Rattle.ext_cells.specs.Words.{HasState};
 
+use crate::cell_steps::CellSteps;
 use crate::cell_word::{next_word, parts};
 use crate::decision::{Decision, decide};
 use crate::opening::{are_limits, give_out, open_words};
-use crate::rule::{CellLimits, CellTable, Exchange, LaneSeat, Load, Note};
+use crate::rule::CellLimits;
 use crate::stood::{Stood, any_number, value_number};
 use crate::{CellLane, CellRefusal, Claim, Claimed, Words};
 use ext_model::{Act, CellNo};
@@ -26,13 +28,13 @@ use std::marker::Model;
 /// The cells of a store and the count of its numbers, each a word of its own, shared by reference between the
 /// threads that own its lanes.
 ///
-/// A lane is used with the cells that it was opened with. A refused call makes no event. A change loads its cell's
-/// word first, then makes at most `tries` exchanges, and where one fails it decides anew by the word that this one
-/// found, once more after the last: so `Contended` comes after every other refusal, and of at least as many events on that
-/// one cell as there are tries. No call waits for another lane. Own rule.
+/// A lane is used with the cells that it was opened with. A refused call makes no event. A change loads its cell's word
+/// first, then makes at most `tries` exchanges, and where one fails it decides anew by the word that this one found, once
+/// more after the last: so `Contended` comes after every other refusal, and of at least as many events on that one cell as
+/// there are tries. No call waits for another lane.
 #[derive(Drop)]
 pub struct Cells {
-    table: CellTable,
+    table: CellSteps,
     limits: CellLimits,
     tries: u32,
 }
@@ -40,15 +42,15 @@ pub struct Cells {
 impl Model for Cells {
     ghost use Rattle.std.specs.Prelude.{◌≡◌, ◌≤◌, ◌+◌};
     ghost use Rattle.ext_cells.specs.Lanes.{CellsView};
-    ghost use Rattle.ext_cells.specs.Rule.{limits_of};
+    ghost use Rattle.ext_cells.specs.InnerRule.{limits_of};
 
     ghost Value = { CellsView };
 
-    ghost view = { λ s. record { id = record { table = s.table.shared.table_id; limits = limits_of s.limits }; tries = s.tries } };
+    ghost view = { λ s. record { id = record { table = s.table.table.shared.table_id; limits = limits_of s.limits }; tries = s.tries } };
 
     ghost invariant = { λ s.
-        (s.table.shared.table_id.words ≡ s.limits.cells + 1)
-        × (s.table.shared.key ≡ s.limits)
+        (s.table.table.shared.table_id.words ≡ s.limits.cells + 1)
+        × (s.table.table.shared.key ≡ s.limits)
         × (s.limits.cells ≤ 16384)
         × (s.limits.numbers ≤ 65535)
         × (1 ≤ s.tries)
@@ -58,7 +60,7 @@ impl Model for Cells {
 impl Cells {
     /// Opens `cells` empty cells, with their lanes, which are numbered from 0 in the order of the list. Nobody but
     /// these lanes makes an event: where none of them has made one, the history is empty (`no_lane` of
-    /// `history_laws` in ext_model). Takes memory (own rule).
+    /// `history_laws` in ext_model). Takes memory.
     ///
     /// Faults may be kept in them: `open_for` opens cells in which none are.
     ///
@@ -82,7 +84,7 @@ impl Cells {
     }
 
     /// As `open`, for cells in which faults are kept or not. Where they are not, no lane makes a fail, and no cell ever has
-    /// a fault (`no_faults` of `history_laws` in ext_model). Takes memory (own rule).
+    /// a fault (`no_faults` of `history_laws` in ext_model). Takes memory.
     pub fn open_for(
         alloc: Global,
         cells: usize,
@@ -110,7 +112,7 @@ impl Cells {
         let (table, first) = open_words(alloc, &limits)?;
         let lanes = give_out(&table.shared, alloc, first, lanes)?;
         let cells = Cells {
-            table,
+            table: CellSteps::of(table),
             limits,
             tries,
         };
@@ -125,7 +127,7 @@ impl Cells {
         let _tries = self.tries;
     }
 
-    /// How many exchanges a call makes at most, from 1 to 64. Takes no memory (own rule).
+    /// How many exchanges a call makes at most, from 1 to 64.
     pub fn tries(&self) -> u32
         ensures tries { result ≡ self.now.tries }
         ensures within { (1 ≤ self.now.tries) × (self.now.tries ≤ 64) }
@@ -133,7 +135,7 @@ impl Cells {
         self.tries
     }
 
-    /// Whether faults may be kept in the cells, as `fail` requires. Takes no memory (own rule).
+    /// Whether faults may be kept in the cells, as `fail` requires.
     pub fn keeps_faults(&self) -> bool
         ensures { result ≡ self.now.id.limits.keep_faults }
     {
@@ -141,7 +143,7 @@ impl Cells {
     }
 
     /// The words of the cells as they stood together at one point of the call, in the order in which they are
-    /// named: at most 16 cells, all different. Takes no memory (own rule).
+    /// named: at most 16 cells, all different. It is the one call that hands words out.
     ///
     /// A pass reads each cell once, and the answer is the first pass that equals the pass before it: then no event on
     /// these cells came between the two, since each event raises the version of its cell, and the words stood
@@ -171,7 +173,7 @@ impl Cells {
     }
 
     /// Draws the next number: the first is 1, each is the last plus one. No lane has drawn it before, and none draws it
-    /// afterwards (`drawn_once` of `cell_laws`). Takes no memory (own rule; JUnit numbers values as they are stored).
+    /// afterwards (`drawn_once` of `cell_laws`). JUnit numbers values as they are stored.
     ///
     /// Refused as `NumbersFull` where all numbers were drawn, and else as `Contended`, where other lanes have drawn at least as
     /// many as there are tries.
@@ -205,7 +207,7 @@ impl Cells {
     }
 
     /// Stores the number in the cell, over one that stands there, and answers the number that stood, of a value or of a
-    /// kept fault. The lane drew the number, and has not stored it. Takes no memory.
+    /// kept fault. The lane drew the number, and has not stored it.
     ///
     /// Refused as `Busy` where a claim stands, as `Closed` where the cell is sealed, as `Exhausted` where the
     /// cell's version is above 2^40 - 3, and else as `Contended`; the number is then still to be stored.
@@ -229,8 +231,7 @@ impl Cells {
         any_number(self.change(lane, cell, Act::Put(cell, number)))
     }
 
-    /// Takes the number out of the cell, of a value or of a kept fault, and answers it; where nothing stands the answer is `None`, and nothing
-    /// happens. Takes no memory.
+    /// Takes the number out of the cell, of a value or of a kept fault, and answers it; where nothing stands the answer is `None`, and nothing happens.
     ///
     /// Refused as `Busy` where a claim stands, as `Closed` where the cell is sealed, as `Exhausted` where a number
     /// stands at a version above 2^40 - 3, and else as `Contended`.
@@ -248,7 +249,7 @@ impl Cells {
     }
 
     /// Seals the cell for good, and answers the number of the value that stood there, which the seal keeps; a fault that
-    /// was kept goes. A sealed cell answers what it kept, and nothing happens. Takes no memory (own rule).
+    /// was kept goes. A sealed cell answers what it kept, and nothing happens.
     ///
     /// Refused as `Busy` where a claim stands, and else as `Contended`; never as `Exhausted`.
     pub fn seal(&self, lane: &mut CellLane, cell: CellNo) -> Result<Option<u32>, CellRefusal>
@@ -264,12 +265,12 @@ impl Cells {
 
     /// Claims the cell for the lane where nothing stands there; until the lane ends the claim, each put, remove, seal
     /// and claim of the cell, by whichever lane, is refused as `Busy`. Where the number of a value or of a kept fault
-    /// stands the answer is that number, and nothing happens. Takes no memory.
+    /// stands the answer is that number, and nothing happens.
     ///
     /// Refused as `Busy` where a claim stands, the lane's own too, as `Closed` where the cell is sealed, as
     /// `Exhausted` where nothing stands at a version above 2^40 - 4, and else as `Contended`.
     ///
-    /// Own rule (JUnit: a running factory holds its key).
+    /// In JUnit a running factory holds its key.
     pub fn claim(&self, lane: &mut CellLane, cell: CellNo) -> Result<Claimed, CellRefusal>
         requires lane { lane.old.cells ≡ self.now.id }
         requires cell { cell < self.now.id.limits.cells }
@@ -286,11 +287,11 @@ impl Cells {
         }
     }
 
-    /// Ends the lane's claim by a number, which stands in the cell then. The lane drew the number, and has not
-    /// stored it. It is never refused, and makes two steps: a load, and one exchange, which can't fail, as no step of
-    /// another lane changes a claimed cell (`held_words` of `call_laws` in ext_model). Takes no memory.
+    /// Ends the lane's claim by a number, which stands in the cell then. The lane drew the number, and has not stored
+    /// it. It is never refused, and makes two steps: a load, and one exchange, which can't fail, as no step of
+    /// another lane changes a claimed cell (`held_words` of `call_laws` in ext_model).
     ///
-    /// Own rule (JUnit: the value of a factory is stored under its key).
+    /// In JUnit the value of a factory is stored under its key.
     pub fn fill(&self, lane: &mut CellLane, claim: Claim, number: u32)
         requires lane { lane.old.cells ≡ self.now.id }
         requires held { IsHeld lane.old.view claim }
@@ -305,7 +306,7 @@ impl Cells {
 
     /// Ends the lane's claim by the number of a fault, which is kept in the cell then, until it is removed or replaced.
     /// The cells are some in which faults are kept; the lane drew the number, and has not stored it. It is never refused,
-    /// and makes two steps, as `fill` and by the same law. Takes no memory (own rule).
+    /// and makes two steps, as `fill` and by the same law.
     pub fn fail(&self, lane: &mut CellLane, claim: Claim, number: u32)
         requires lane { lane.old.cells ≡ self.now.id }
         requires faults { IsTrue self.now.id.limits.keep_faults }
@@ -319,8 +320,7 @@ impl Cells {
         self.end_claim(lane, cell, Act::Fail(cell, number));
     }
 
-    /// Ends the lane's claim, and leaves the cell empty. It is never refused, and makes two steps, as `fill` and by the
-    /// same law. Takes no memory (own rule).
+    /// Ends the lane's claim, and leaves the cell empty. It is never refused, and makes two steps, as `fill` and by the same law.
     pub fn abandon(&self, lane: &mut CellLane, claim: Claim)
         requires lane { lane.old.cells ≡ self.now.id }
         requires held { IsHeld lane.old.view claim }
@@ -333,7 +333,7 @@ impl Cells {
     }
 
     /// Afterwards what the first lane has seen is a prefix of what the second has seen: so both speak of one
-    /// history. Neither makes an event; the first makes no step, and the second one. Takes no memory (own rule).
+    /// history. Neither makes an event; the first makes no step, and the second one.
     pub fn meet(&self, first: &mut CellLane, second: &mut CellLane)
         requires first { first.old.cells ≡ self.now.id }
         requires second { second.old.cells ≡ self.now.id }
@@ -345,9 +345,7 @@ impl Cells {
         ensures first_steps { length (call_fronts first.old.view first.new.view) ≡ 0 }
         ensures second_steps { length (call_fronts second.old.view second.new.view) ≡ 1 }
     {
-        let note = self.table.shared.split_seat::<Note>(&mut first.seat);
-        self.table.shared.join_seat::<Note>(&mut second.seat, note);
-        self.load(&mut second.seat, 0);
+        self.table.tell(&mut first.seat, &mut second.seat);
     }
 
     /// A put, a remove, a claim or a seal of the cell. It answers what stood there, or what the seal keeps that stands
@@ -428,21 +426,10 @@ impl Cells {
         requires lane { lane.old.cells ≡ self.now.id }
         requires place { place ≤ self.now.id.limits.cells }
         ensures found { (h : History) × Finds lane.old.cells.limits lane.old.view place result h × (lane.new ≡ stepped lane.old h) }
+        ensures state { place < self.now.id.limits.cells → HasState result }
         ensures numbers { self.now.id.limits.numbers < 2 ^ 20 }
     {
-        self.load(&mut lane.seat, place)
-    }
-
-    /// The word at a place as it stands. This and `exchange` alone touch the shared words once they are open.
-    fn load(&self, seat: &mut LaneSeat, place: usize) -> u64
-        requires table { seat.old.table_id ≡ self.now.id.table }
-        requires lane { (number : ℕ) × (seat.old.me.0.lane ≡ Some number) }
-        requires place { place ≤ self.now.id.limits.cells }
-        ensures table { seat.new.table_id ≡ seat.old.table_id }
-        ensures found { (h : History) × FoundBy seat.old.me.0 place result h × (seat.new.me.0 ≡ shown seat.old.me.0 h) }
-        ensures numbers { self.now.id.limits.numbers < 2 ^ 20 }
-    {
-        self.table.shared.load::<Load>(seat, place)
+        self.table.load(&mut lane.seat, place)
     }
 
     /// Makes an event, which changes the word at its place, where that still is the one that was seen, and else finds
@@ -462,10 +449,7 @@ impl Cells {
         ensures made { IfOk result (λ _. (h : History) × Finds lane.old.cells.limits lane.old.view place old h × MayGoOn lane.old.cells.limits lane.old.view h place new act × (lane.new ≡ stepped lane.old (h ++ by lane.old.view.number act ∷ []))) }
         ensures missed { IfErr result (λ found. (found ≢ old) × ((h : History) × Finds lane.old.cells.limits lane.old.view place found h × (lane.new ≡ stepped lane.old h))) }
     {
-        let found = self
-            .table
-            .shared
-            .compare_exchange_with::<Exchange>(&mut lane.seat, place, old, new, &act);
+        let found = self.table.exchange(&mut lane.seat, place, old, new, act);
         if found == old {
             return Ok(());
         }

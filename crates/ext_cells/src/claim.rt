@@ -4,8 +4,7 @@ use ext_model::CellNo;
 use std::marker::Model;
 
 /// The claim of a cell by one lane. It is neither copied nor dropped: `Cells::fill`, `Cells::fail` or `Cells::abandon`
-/// ends it, by a call on the lane that won it. In contracts it is the cell. Own rule (JUnit: a running factory holds its
-/// key).
+/// ends it, by a call on the lane that won it. In contracts it is the cell. In JUnit a running factory holds its key.
 pub struct Claim {
     pub(crate) cell: CellNo,
 }
@@ -18,7 +17,7 @@ impl Model for Claim {
     ghost view = { λ s. s.cell };
 }
 
-/// What a lane that asks for a cell is answered. Own rule.
+/// What a lane that asks for a cell is answered.
 pub enum Claimed {
     /// The cell is claimed for the lane.
     Won(Claim),

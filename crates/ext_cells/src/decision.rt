@@ -1,7 +1,7 @@
 //! What a call does next, by the word that it found.
 ghost use Rattle.std.specs.Prelude.{◌≡◌, ℕ, ◌%◌, ◌<◌, Option};
 ghost use Rattle.ext_model.specs.declared.slot.Slot.{Slot};
-ghost use Rattle.ext_cells.specs.Deciding.{IsCellWord, IsChange, is_settled as is_settled_of, Decides};
+ghost use Rattle.ext_cells.specs.InnerDeciding.{IsCellWord, IsChange, is_settled as is_settled_of, Decides};
 
 use crate::cell_word::{after, parts};
 use crate::stood::Stood;

@@ -1,7 +1,7 @@
 //! A lane: what a thread owns to act on the cells.
 ghost use Rattle.std.specs.Prelude.{◌≡◌, ◌<◌, []};
 ghost use Rattle.ext_model.specs.History.{IsLegal};
-ghost use Rattle.ext_history.specs.Views.{Follow, seen_by};
+ghost use Rattle.ext_history.specs.Histories.{Follow, seen_by};
 
 use crate::rule::LaneSeat;
 use ext_model::LaneNo;
@@ -9,8 +9,7 @@ use std::marker::Model;
 
 /// A lane of some cells, which one thread at a time owns. It may go to another thread, and be dropped.
 ///
-/// In contracts it is the cells whose lane it is, its number, and the history as it stood after each of its
-/// steps. Own rule.
+/// In contracts it is the cells whose lane it is, its number, and the history as it stood after each of its steps.
 #[derive(Drop)]
 pub struct CellLane {
     pub(crate) number: LaneNo,
@@ -20,9 +19,9 @@ pub struct CellLane {
 impl Model for CellLane {
     ghost use Rattle.std.specs.Prelude.{◌≡◌, ◌<◌, [], Some};
     ghost use Rattle.ext_model.specs.History.{IsLegal};
-    ghost use Rattle.ext_history.specs.Views.{Follow, seen};
+    ghost use Rattle.ext_history.specs.Histories.{Follow, seen};
     ghost use Rattle.ext_cells.specs.Lanes.{Lane};
-    ghost use Rattle.ext_cells.specs.Rule.{limits_of};
+    ghost use Rattle.ext_cells.specs.InnerRule.{limits_of};
 
     ghost Value = { Lane };
 
@@ -32,8 +31,7 @@ impl Model for CellLane {
 }
 
 impl CellLane {
-    /// The lane's number, from 0 to 15, below the count of lanes: its place in the list that `Cells::open` gave. Takes no
-    /// memory (own rule).
+    /// The lane's number, from 0 to 15, below the count of lanes: its place in the list that `Cells::open` gave.
     pub fn number(&self) -> LaneNo
         ensures number { result ≡ self.now.view.number }
         ensures below { result < self.now.cells.limits.lanes }
@@ -42,7 +40,7 @@ impl CellLane {
     }
 
     /// Tells a proof what is true of every lane in hand: what it has seen is a legal history, and each of its fronts
-    /// goes on from the one before it. It does nothing when it runs (own rule).
+    /// goes on from the one before it. It does nothing when it runs.
     pub fn recall(&self)
         ensures legal { IsLegal self.now.cells.limits (seen_by self.now.view) }
         ensures follow { Follow [] self.now.view.fronts }

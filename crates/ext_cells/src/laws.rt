@@ -1,8 +1,7 @@
 //! What is true of the words of cells and of the numbers that lanes draw, as the contract of a function that does nothing.
 ghost use Rattle.ext_cells.specs.Laws.{NumbersAreDrawnOnce, NumbersAreFromOne, TableFollowsEvents, TableFollowsReplies};
 
-/// Proves the laws of the table of words, which `after` computes, and of the numbers that lanes draw. It does nothing when
-/// it runs (own rule).
+/// Proves the laws of the table of words, which `after` computes, and of the numbers that lanes draw. It does nothing when it runs.
 pub fn cell_laws()
     ensures table { TableFollowsReplies }
     ensures next_words { TableFollowsEvents }

@@ -3,13 +3,17 @@
 //! A cell is a context and a key in one number. It stands in one word: what is there, and how many events
 //! it has had. `Cells` is shared by reference, and each thread owns a `CellLane`: all calls of all lanes
 //! together are one history, as the definitions of `ext_model` say it, and each answer is that of one
-//! thread at a point of the call. `specs/Calls` has the words of the contracts.
+//! thread at a point of the call. `specs/CellCalls` has the words of the contracts.
 //!
 //! Each cell is a word of its own, and so is the count of numbers drawn: a step reads or changes one of them, and
 //! no call waits for another lane.
+//!
+//! Unless its comment says otherwise, a public call takes no memory and waits for nobody. What
+//! names no source in JUnit is an own rule.
 #![tactic(auto)]
 
 mod cell_state;
+mod cell_steps;
 mod cell_word;
 mod cells;
 mod claim;
@@ -20,6 +24,7 @@ mod nearest;
 mod opening;
 mod refusal;
 mod rule;
+mod standing;
 mod stood;
 mod words;
 
@@ -32,4 +37,5 @@ pub use laws::cell_laws;
 pub use nearest::Nearest;
 pub use opening::are_limits;
 pub use refusal::CellRefusal;
+pub use standing::Standing;
 pub use words::Words;

@@ -1,20 +1,22 @@
 //! The look-up of the nearest of some cells where anything stands.
-ghost use Rattle.std.specs.Prelude.{ℕ, List, ◌≡◌, ◌≢◌, ◌≤◌, ◌<◌, ◌+◌, ◌*◌, ◌%◌, ◌^◌, [], ◌∷◌, ◌++◌, length, nat_eq, All, IfNone, IfSome, None, Some};
+ghost use Rattle.std.specs.Prelude.{ℕ, List, ◌≡◌, ◌≤◌, ◌<◌, ◌+◌, ◌*◌, ◌^◌, [], ◌∷◌, ◌++◌, length, nat_eq, All, IfNone, IfSome, None, Some};
 ghost use Rattle.std.specs.List.{IsDistinct};
-ghost use Rattle.ext_history.specs.Views.{call_fronts};
-ghost use Rattle.ext_cells.specs.Calls.{FindsNearest};
-ghost use Rattle.ext_cells.specs.Passes.{FirstPass, IsReading, ReadPass};
+ghost use Rattle.ext_history.specs.Histories.{call_fronts};
+ghost use Rattle.ext_cells.specs.CellCalls.{FindsNearest};
+ghost use Rattle.ext_cells.specs.InnerPasses.{FirstPass, IsReading, ReadPass, Says};
+ghost use Rattle.ext_cells.specs.Words.{HasState, IsEmptyWord};
 
-use crate::{CellLane, CellRefusal, Cells};
+use crate::cell_word::{version, what_stands};
+use crate::{CellLane, CellRefusal, Cells, Standing};
 use ext_model::CellNo;
 
-/// One of some cells that were named in order. Own rule.
+/// One of some cells that were named in order, at which something stands.
 #[derive(Clone, Copy, Debug, Drop)]
 pub struct Nearest {
     /// Its place in that order, from 0.
     pub place: usize,
-    /// Its word, which `parts` reads.
-    pub word: u64,
+    /// What stands there.
+    pub standing: Standing,
 }
 
 // What is kept of the words of some cells that were read in order.
@@ -45,37 +47,38 @@ impl Reading {
     fn with(self, word: u64) -> Reading
         requires count { self.count < 16 }
         requires versions { self.versions ≤ self.count * 2 ^ 40 }
+        requires state { HasState word }
         ensures count { result.count ≡ self.count + 1 }
         ensures versions { result.versions ≤ result.count * 2 ^ 40 }
         ensures reading { (words : List ℕ) → IsReading words self → IsReading (words ++ word ∷ []) result }
     {
         let nearest = match self.nearest {
             Some(nearest) => Some(nearest),
-            None => standing(self.count, word),
+            None => nearest_at(self.count, word),
         };
         Reading {
             count: self.count + 1,
-            versions: self.versions + word / 16_777_216,
+            versions: self.versions + version(word),
             nearest,
         }
     }
 }
 
 // The cell at this place, where its word says that anything stands.
-fn standing(place: usize, word: u64) -> Option<Nearest>
-    ensures none { IfNone result (word % 16 ≡ 0) }
-    ensures some { IfSome result (λ n. (n.place ≡ place) × (n.word ≡ word) × (word % 16 ≢ 0)) }
+fn nearest_at(place: usize, word: u64) -> Option<Nearest>
+    requires { HasState word }
+    ensures none { IfNone result (IsEmptyWord word) }
+    ensures some { IfSome result (λ n. (n.place ≡ place) × Says word (Some n.standing)) }
 {
-    if word % 16 == 0 {
-        None
-    } else {
-        Some(Nearest { place, word })
+    match what_stands(word) {
+        Some(standing) => Some(Nearest { place, standing }),
+        None => None,
     }
 }
 
 impl Cells {
     /// The nearest of the cells where anything stands, at one point of the call: the first in the order in which they are
-    /// named, at most 16 cells, all different. `None` where nothing stands in any of them. Takes no memory (own rule).
+    /// named, at most 16 cells, all different. `None` where nothing stands in any of them.
     ///
     /// It reads the cells up to the first where anything stands, and then those before it once more: where none of them has
     /// had an event meanwhile, that is the answer, and a first cell that is not empty is read once and no other. Else it
@@ -100,7 +103,10 @@ impl Cells {
         let again = self.read_on(lane, &cells[..below], Reading::new());
         if again.versions == empty.versions {
             return match stands {
-                Some(word) => Ok(Some(Nearest { place: below, word })),
+                Some(standing) => Ok(Some(Nearest {
+                    place: below,
+                    standing,
+                })),
                 None => Ok(None),
             };
         }
@@ -115,9 +121,9 @@ impl Cells {
         Err(CellRefusal::Contended)
     }
 
-    // Reads the cells in order up to the first where anything stands, and answers its word, with what is kept of those
-    // before it.
-    fn read_empty(&self, lane: &mut CellLane, cells: &[CellNo]) -> (Reading, Option<u64>)
+    // Reads the cells in order up to the first where anything stands, and answers what does, with what is kept of those before
+    // it.
+    fn read_empty(&self, lane: &mut CellLane, cells: &[CellNo]) -> (Reading, Option<Standing>)
         requires lane { lane.old.cells ≡ self.now.id }
         requires few { length cells.now ≤ 16 }
         requires known { All (λ cell. cell < self.now.id.limits.cells) cells.now }
@@ -129,8 +135,8 @@ impl Cells {
         let mut empty = Reading::new();
         for cell in cells {
             let word = self.read(lane, *cell);
-            if word % 16 != 0 {
-                return (empty, Some(word));
+            if let Some(standing) = what_stands(word) {
+                return (empty, Some(standing));
             }
             empty = empty.with(word);
         }

@@ -1,7 +1,7 @@
 //! Opening the cells, and giving out their lanes.
 ghost use Rattle.std.specs.Prelude.{◌≡◌, ◌≤◌, ◌<◌, ◌+◌, ◌↔◌, IsTrue, IfOk, [], replicate};
 ghost use Rattle.ext_cells.specs.Lanes.{AreLimits, fresh_lanes};
-ghost use Rattle.ext_cells.specs.Rule.{first_lane, limits_of};
+ghost use Rattle.ext_cells.specs.InnerRule.{first_lane, limits_of};
 
 use crate::CellLane;
 use crate::rule::{CellLimits, CellTable, LaneSeat, NewLane, SharedWords};
@@ -9,7 +9,7 @@ use ext_model::LaneNo;
 use std::alloc::{AllocError, Global};
 
 /// Whether cells of these limits may be opened: at most 16,384 cells, 1 to 16 lanes, 1 to 64 tries and 1 to 65,535
-/// numbers. `Cells::open` refuses all others. Takes no memory (own rule).
+/// numbers. `Cells::open` refuses all others.
 pub fn are_limits(cells: usize, lanes: usize, tries: u32, numbers: u32) -> bool
     ensures { IsTrue result ↔ AreLimits cells lanes tries numbers }
 {

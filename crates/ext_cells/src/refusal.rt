@@ -7,7 +7,7 @@ use std::fmt;
 use thiserror::Error;
 
 /// Why a call on the cells was refused. After any of them the cells are as other lanes left them: a refused
-/// call makes no event. Where several apply, each call says which is answered. Own rule.
+/// call makes no event. Where several apply, each call says which is answered.
 #[derive(Clone, Copy, Debug, PartialEq, Eq, Error)]
 pub enum CellRefusal {
     /// Other lanes were in the way: they made at least as many events as a call has tries.

@@ -39,7 +39,7 @@ pub(crate) struct View {
 pub(crate) struct OneHistory;
 
 impl TableRule<Act<CellNo>, View, CellLimits> for OneHistory {
-    ghost use Rattle.ext_cells.specs.Rule.{Kept, first_lane};
+    ghost use Rattle.ext_cells.specs.InnerRule.{Kept, first_lane};
 
     ghost holds = { Kept };
 
@@ -50,7 +50,7 @@ impl TableRule<Act<CellNo>, View, CellLimits> for OneHistory {
 pub(crate) struct Load;
 
 impl Play<Act<CellNo>, View> for Load {
-    ghost use Rattle.ext_cells.specs.Rule.{Loaded};
+    ghost use Rattle.ext_cells.specs.InnerRule.{Loaded};
 
     ghost then = { Loaded };
 }
@@ -59,7 +59,7 @@ impl Play<Act<CellNo>, View> for Load {
 pub(crate) struct Exchange;
 
 impl Play<Act<CellNo>, View> for Exchange {
-    ghost use Rattle.ext_cells.specs.Rule.{Exchanged};
+    ghost use Rattle.ext_cells.specs.InnerRule.{Exchanged};
 
     ghost then = { Exchanged };
 }
@@ -68,7 +68,7 @@ impl Play<Act<CellNo>, View> for Exchange {
 pub(crate) struct NewLane;
 
 impl Split<View> for NewLane {
-    ghost use Rattle.ext_cells.specs.Rule.{giving, born};
+    ghost use Rattle.ext_cells.specs.InnerRule.{giving, born};
 
     ghost left = { giving };
 
@@ -79,7 +79,7 @@ impl Split<View> for NewLane {
 pub(crate) struct Note;
 
 impl Split<View> for Note {
-    ghost use Rattle.ext_cells.specs.Rule.{note};
+    ghost use Rattle.ext_cells.specs.InnerRule.{note};
 
     ghost left = { λ v. v };
 
@@ -87,7 +87,7 @@ impl Split<View> for Note {
 }
 
 impl Join<View> for Note {
-    ghost use Rattle.ext_cells.specs.Rule.{noted, spent};
+    ghost use Rattle.ext_cells.specs.InnerRule.{noted, spent};
 
     ghost both = { noted };
 

@@ -1,7 +1,7 @@
 //! What stood at a cell that a change met.
 ghost use Rattle.std.specs.Prelude.{◌≡◌};
-ghost use Rattle.ext_cells.specs.Deciding.{stood_in};
-ghost use Rattle.ext_cells.specs.Steps.{number_of, value_of, number_result, value_result};
+ghost use Rattle.ext_cells.specs.InnerDeciding.{stood_in};
+ghost use Rattle.ext_cells.specs.InnerSteps.{number_of, value_of, number_result, value_result};
 
 use crate::{CellRefusal, CellState};
 

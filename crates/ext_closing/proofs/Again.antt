@@ -7,15 +7,14 @@ use Rattle.std.proofs.lemmas.List.{map-append}
 use Rattle.ext_model.specs.declared.event.Act.TheVariants.{Seal}
 use Rattle.ext_model.specs.Events.{is_on}
 use Rattle.ext_model.specs.History.{Limits, by, own, IsLegal}
-use Rattle.ext_history.specs.Views.{seen_by}
-use Rattle.ext_model.specs.Views.{events_by}
-use Rattle.ext_model.specs.Calls.{Calls}
+use Rattle.ext_history.specs.Histories.{seen_by}
+use Rattle.ext_model.specs.CallActs.{events_by, Calls}
 use Rattle.ext_history.proofs.Lists.{bools, contains_none, contains_here, contains_later, contains_cons, contains_from_filter}
 use Rattle.ext_model.proofs.Standing.{is_sealed, nothing_after_seal}
 use Rattle.ext_history.proofs.Composed.{seen_goes_on, events_past}
 use Rattle.ext_cells.specs.Lanes.{Lane}
 use Rattle.ext_store.specs.Stores.{StoreView, StoreLane, CloserView, IsLaneOf, StillKeeps, cell_in}
-use Rattle.ext_lifecycle.specs.declared.closes.Closes as report
+use Rattle.ext_model.specs.declared.closed.Closed.{Closed}
 use Rattle.ext_closing.specs.declared.fault.CloseFault.{CloseFault}
 use Rattle.ext_closing.specs.declared.fault.CloseFault.TheVariants.{Busy, Contended, Unjoined}
 use Rattle.ext_closing.specs.Lanes.{OnlyFirstSteps, first_lane, with_first}
@@ -141,7 +140,7 @@ module _ {V : Type 0} where
 -- ---- the closes
 
 module _ {V A : Type 0} (is_closeable : V → Bool) (gives : A → ℕ → V → Answer → A → Type 0) (store : StoreView) (closer : CloserView) where
-  closed_once : (before : List (StoreLane V)) (first : A) (closed : report.Closes) (after : List (StoreLane V)) (last : A) → Closes is_closeable gives store closer before first (Ok closed) after last
+  closed_once : (before : List (StoreLane V)) (first : A) (closed : Closed) (after : List (StoreLane V)) (last : A) → Closes is_closeable gives store closer before first (Ok closed) after last
       → IsClosedBy is_closeable gives store closer before first closed after last
   closed_once before first closed after last close = record {
     sealed = close.sealed;
@@ -152,7 +151,7 @@ module _ {V A : Type 0} (is_closeable : V → Bool) (gives : A → ℕ → V →
     kept = close.kept;
   }
 
-  module _ (first : A) (closed : report.Closes) (after : List (StoreLane V)) (last : A) where
+  module _ (first : A) (closed : Closed) (after : List (StoreLane V)) (last : A) where
     refused_before : (before : List (StoreLane V)) (why : CloseFault) (between : List (StoreLane V)) → All (IsLaneOf store.id) before → IsRefused is_closeable gives store closer first before why between
         → IsClosedBy is_closeable gives store closer between first closed after last → IsClosedBy is_closeable gives store closer before first closed after last
     refused_before before why between own_before refused close = record {
@@ -173,6 +172,6 @@ module _ {V A : Type 0} (is_closeable : V → Bool) (gives : A → ℕ → V →
         refused_before before why refused.0 own_before refused.1 (refused_so_often refused.0 refusals asked refused.1.own_lanes refused.2 close)
 
   -- closes that were refused, and then one that is not, are one
-  pub asked_again : (before : List (StoreLane V)) (first : A) (closed : report.Closes) (after : List (StoreLane V)) (last : A) → All (IsLaneOf store.id) before
+  pub asked_again : (before : List (StoreLane V)) (first : A) (closed : Closed) (after : List (StoreLane V)) (last : A) → All (IsLaneOf store.id) before
       → ClosesAtLast is_closeable gives store closer before first closed after last → IsClosedBy is_closeable gives store closer before first closed after last
   asked_again before first closed after last own_before at_last = refused_so_often first closed after last before at_last.refusals at_last.asked own_before at_last.refused at_last.close

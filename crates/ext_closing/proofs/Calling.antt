@@ -2,16 +2,16 @@
 use Rattle.std.proofs.Common.{◌≡◌, ℕ, Bool, true, false, List, [], ◌∷◌, ◌++◌, refl, sym, subst}
 use Rattle.std.proofs.lemmas.Fn.{FoldsTo-push}
 use Rattle.ext_store.specs.Stores.{StoreLane}
-use Rattle.ext_lifecycle.specs.declared.closes.Closes.{Closes}
+use Rattle.ext_model.specs.declared.closed.Closed.{Closed}
 use Rattle.ext_closing.specs.Lanes.{IsKnown}
 use Rattle.ext_closing.specs.Closing.{Answer, Closing, CallIf, ClosesOne, ClosesNumbers, counted}
 
 module _ {V A : Type 0} (is_closeable : V → Bool) (gives : A → ℕ → V → Answer → A → Type 0) (lanes : List (StoreLane V)) where
   -- no number yet
-  pub closes_none : (action : A) (closed : Closes) → closed ≡ counted [] → ClosesNumbers is_closeable gives lanes [] action action closed
+  pub closes_none : (action : A) (closed : Closed) → closed ≡ counted [] → ClosesNumbers is_closeable gives lanes [] action action closed
   closes_none action closed is = record { answers = []; calls = refl; counts = is }
 
-  module _ (numbers : List ℕ) (number : ℕ) (first action action' : A) (closed closed' : Closes) (value : V) (known : IsKnown lanes number value) (so_far : ClosesNumbers is_closeable gives lanes numbers first action closed) where
+  module _ (numbers : List ℕ) (number : ℕ) (first action action' : A) (closed closed' : Closed) (value : V) (known : IsKnown lanes number value) (so_far : ClosesNumbers is_closeable gives lanes numbers first action closed) where
     -- one whose value is closeable
     pub closes_more : (answer : Answer) → is_closeable value ≡ true → gives action number value answer action' → ((answers : List Answer) → closed ≡ counted answers → closed' ≡ counted (answers ++ answer ∷ []))
         → ClosesNumbers is_closeable gives lanes (numbers ++ number ∷ []) first action' closed'
@@ -26,7 +26,7 @@ module _ {V A : Type 0} (is_closeable : V → Bool) (gives : A → ℕ → V →
         }
 
   -- and one whose value is not
-  pub closes_no_more : (numbers : List ℕ) (number : ℕ) (first action : A) (closed : Closes) (value : V) → IsKnown lanes number value → is_closeable value ≡ false
+  pub closes_no_more : (numbers : List ℕ) (number : ℕ) (first action : A) (closed : Closed) (value : V) → IsKnown lanes number value → is_closeable value ≡ false
       → ClosesNumbers is_closeable gives lanes numbers first action closed → ClosesNumbers is_closeable gives lanes (numbers ++ number ∷ []) first action closed
   closes_no_more numbers number first action closed value known is so_far =
       let before : Closing A = record { action = action; answers = so_far.answers } in

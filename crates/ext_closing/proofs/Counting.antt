@@ -2,7 +2,7 @@
 use Rattle.std.proofs.Common.{◌≡◌, ◌≤◌, ℕ, ◌+◌, ◌*◌, List, length, drop, arith, length-drop}
 use Rattle.std.proofs.Math.Nat.{add-mul, mul-le-mul_right}
 use Rattle.ext_cells.specs.Lanes.{Lane}
-use Rattle.ext_store.specs.Calls.{steps_of}
+use Rattle.ext_store.specs.LaneCalls.{steps_of}
 
 pub fronts_within : (a c : Lane) (n : ℕ) → steps_of a c ≤ n → length c.view.fronts ≤ length a.view.fronts + n
 fronts_within a c n few = let long = length-drop (length a.view.fronts) c.view.fronts in omega (arith, long, few)

@@ -3,8 +3,8 @@ use Rattle.std.proofs.Common.{◌≡◌, List, [], ◌∷◌, ◌++◌, map, ref
 use Rattle.std.specs.Prelude.{Ok, Err, slice_get}
 use Rattle.std.proofs.lemmas.List.{map-append}
 use Rattle.ext_model.specs.declared.look.Fault.{Fault}
-use Rattle.ext_lifecycle.specs.declared.closes.Closes.{Closes}
-use Rattle.ext_lifecycle.specs.Results.{closes_of, first_of}
+use Rattle.ext_model.specs.declared.closed.Closed.{Closed}
+use Rattle.ext_model.specs.Closed.{closed_of, first_of}
 use Rattle.ext_closing.specs.Closing.{Answer, counted, fault_in}
 
 -- in order
@@ -29,7 +29,7 @@ first_told [] = refl
 first_told (Ok done ∷ answers) = first_told answers
 first_told (Err fault ∷ answers) = refl
 
-pub counted_more : (before after : Closes) (answers : List Answer) (answer : Answer) (fault : Option Fault) → fault ≡ fault_in answer
-    → ((closes : List (Option Fault)) → before ≡ closes_of closes → after ≡ closes_of (closes ++ fault ∷ [])) → before ≡ counted answers → after ≡ counted (answers ++ answer ∷ [])
+pub counted_more : (before after : Closed) (answers : List Answer) (answer : Answer) (fault : Option Fault) → fault ≡ fault_in answer
+    → ((closes : List (Option Fault)) → before ≡ closed_of closes → after ≡ closed_of (closes ++ fault ∷ [])) → before ≡ counted answers → after ≡ counted (answers ++ answer ∷ [])
 counted_more before after answers answer fault same add is =
-    add (map fault_in answers) is ∙ ap closes_of (ap (λ o. map fault_in answers ++ o ∷ []) same ∙ sym (map-append fault_in answers (answer ∷ [])))
+    add (map fault_in answers) is ∙ ap closed_of (ap (λ o. map fault_in answers ++ o ∷ []) same ∙ sym (map-append fault_in answers (answer ∷ [])))

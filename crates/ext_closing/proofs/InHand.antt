@@ -9,9 +9,9 @@ use Rattle.ext_closing.specs.declared.fault.CloseFault.TheVariants.{Busy, Conten
 use Rattle.ext_closing.specs.Lanes.{first_lane, with_first, OnlyFirstSteps}
 use Rattle.ext_closing.specs.Sealing.{numbers_left}
 use Rattle.ext_closing.specs.Closing.{NamesUnjoined}
-use Rattle.ext_closing.specs.Steps.{IsOfKey, SealingEnds}
+use Rattle.ext_closing.specs.InnerSteps.{IsOfKey, SealingEnds}
 use Rattle.std.specs.Prelude.{◌+◌}
-use Rattle.ext_store.specs.Calls.{steps_of}
+use Rattle.ext_store.specs.LaneCalls.{steps_of}
 use Rattle.ext_closing.proofs.Counting.{steps_within}
 
 all_keep : {V : Type 0} (lanes : List (StoreLane V)) → AllZip StillKeeps lanes lanes

@@ -6,7 +6,7 @@ use Rattle.ext_model.specs.declared.look.Fault.{Fault}
 use Rattle.ext_model.specs.Closing.{IsBelow, IsFalling}
 use Rattle.ext_model.proofs.Remaining.{remaining_falls}
 use Rattle.ext_store.specs.Stores.{StoreView, StoreLane, CloserView}
-use Rattle.ext_lifecycle.specs.declared.closes.Closes as report
+use Rattle.ext_model.specs.declared.closed.Closed.{Closed}
 use Rattle.ext_closing.specs.declared.fault.CloseFault.{CloseFault}
 use Rattle.ext_closing.specs.Lanes.{first_lane}
 use Rattle.ext_closing.specs.Sealing.{slots_seen, numbers_left}
@@ -64,11 +64,11 @@ module _ {V A : Type 0} (is_closeable : V → Bool) (gives : A → ℕ → V →
         (if_closeable is_closeable (is_closeable one.0) number later.0, (one.0, one.1, (later.0, later.1, refl)), later.2 ∙ here)
 
     -- so the log has the closeable ones among the numbers, where no fault was counted
-    pub all_logged : (numbers : List ℕ) (first last : A) (closed : report.Closes) → ClosesNumbers is_closeable gives lanes numbers first last closed → closed.first_fault ≡ None
+    pub all_logged : (numbers : List ℕ) (first last : A) (closed : Closed) → ClosesNumbers is_closeable gives lanes numbers first last closed → closed.first_fault ≡ None
         → (logged : List ℕ) × AreCloseable is_closeable lanes numbers logged × (log_of last ≡ log_of first ++ logged)
     all_logged numbers first last closed closes none =
         numbers_logged numbers (record { action = first; answers = [] }) (record { action = last; answers = closes.answers }) closes.calls
-        (no_first (faults_in closes.answers) (first_told closes.answers ∙ ap (λ (c : report.Closes). c.first_fault) (sym closes.counts) ∙ none))
+        (no_first (faults_in closes.answers) (first_told closes.answers ∙ ap (λ (c : Closed). c.first_fault) (sym closes.counts) ∙ none))
 
 -- ---- they fall
 
@@ -102,7 +102,7 @@ module _ {V : Type 0} (is_closeable : V → Bool) (lanes : List (StoreLane V)) w
 
 module _ {V A : Type 0} (is_closeable : V → Bool) (gives : A → ℕ → V → Answer → A → Type 0) (log_of : A → List ℕ)
     (logs : (before : A) (number : ℕ) (value : V) (done : Unit {0}) (after : A) → gives before number value (Ok done) after → log_of after ≡ log_of before ++ number ∷ []) where
-  pub logged_by : (store : StoreView) (closer : CloserView) (before : List (StoreLane V)) (first : A) (result : Result report.Closes (CloserView × CloseFault)) (after : List (StoreLane V)) (last : A)
+  pub logged_by : (store : StoreView) (closer : CloserView) (before : List (StoreLane V)) (first : A) (result : Result Closed (CloserView × CloseFault)) (after : List (StoreLane V)) (last : A)
       → Closes is_closeable gives store closer before first result after last
       → IfOk result (λ closed. closed.first_fault ≡ None
       → (logged : List ℕ) × AreCloseable is_closeable after (numbers_left store closer.context (first_lane store after)) logged × IsFalling logged × (log_of last ≡ log_of first ++ logged))

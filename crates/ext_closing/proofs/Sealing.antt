@@ -12,9 +12,8 @@ use Rattle.ext_model.specs.declared.slot.Slot.TheVariants as slot
 use Rattle.ext_model.specs.State.{standing_value}
 use Rattle.ext_model.specs.Events.{Happens, Answers, seal_reply, apply}
 use Rattle.ext_model.specs.History.{History, Limits, by, state_after, slots_in, IsLegal}
-use Rattle.ext_history.specs.Views.{seen_by}
-use Rattle.ext_model.specs.Views.{LaneView}
-use Rattle.ext_model.specs.Calls.{Calls, Seals}
+use Rattle.ext_history.specs.Histories.{seen_by}
+use Rattle.ext_model.specs.CallActs.{LaneView, Calls, Seals}
 use Rattle.ext_model.specs.Closing.{IsClosed, kept_by, put_in_kept, remaining}
 use Rattle.ext_model.proofs.Words.{after-push}
 use Rattle.ext_model.proofs.Standing.{is_sealed, none_after_seal}
@@ -24,11 +23,11 @@ use Rattle.ext_model.proofs.Composed.{calls_compose}
 use Rattle.ext_model.proofs.Remaining.{stays_closed, remaining_stays}
 use Rattle.ext_cells.specs.Lanes.{CellsId, Lane}
 use Rattle.ext_store.specs.Stores.{StoreView, cell_in}
-use Rattle.ext_store.specs.Sealing.{SealsCell, IsBusyThere, IsInTheWay}
+use Rattle.ext_store.specs.ContextCalls.{SealsCell, IsBusyThere, IsInTheWay}
 use Rattle.ext_closing.specs.Sealing.{slots_seen, AreSealed, seals_of, MakesSeals}
 use Rattle.ext_closing.specs.declared.fault.CloseFault.{CloseFault}
 use Rattle.ext_closing.specs.declared.fault.CloseFault.TheVariants.{Busy, Contended, Unjoined}
-use Rattle.ext_closing.specs.Steps.{SealsNext, SealedSoFar, SealingEnds}
+use Rattle.ext_closing.specs.InnerSteps.{SealsNext, SealedSoFar, SealingEnds}
 
 -- ---- one seal
 

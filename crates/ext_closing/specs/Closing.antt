@@ -3,10 +3,10 @@
 -- inverse order in which they were added. Here the greatest number is the latest value. That faults are counted and do not stop the others is an own rule.
 use Rattle.std.specs.Prelude.{ℕ, ◌≡◌, Bool, true, false, List, [], ◌∷◌, ◌++◌, map, Option, Some, None, Result, Ok, Err}
 use Rattle.std.specs.List.{FoldsTo}
+use Rattle.ext_model.specs.declared.closed.Closed.{Closed}
 use Rattle.ext_model.specs.declared.look.Fault.{Fault}
+use Rattle.ext_model.specs.Closed.{closed_of}
 use Rattle.ext_store.specs.Stores.{StoreLane}
-use Rattle.ext_lifecycle.specs.declared.closes.Closes.{Closes}
-use Rattle.ext_lifecycle.specs.Results.{closes_of}
 use Rattle.ext_closing.specs.declared.fault.CloseFault.{CloseFault}
 use Rattle.ext_closing.specs.declared.fault.CloseFault.TheVariants.{Busy, Contended, Unjoined}
 use Rattle.ext_closing.specs.Lanes.{IsKnown, IsGreatestUnjoined}
@@ -23,8 +23,8 @@ fault_in (Ok done) = None
 fault_in (Err fault) = Some fault
 
 -- what is reported of the answers: how many calls there were, the first fault, and how many further ones
-abbrev pub counted : List Answer → Closes
-counted answers = closes_of (map fault_in answers)
+abbrev pub counted : List Answer → Closed
+counted answers = closed_of (map fault_in answers)
 
 -- ---- calls
 
@@ -45,7 +45,7 @@ module _ {V A : Type 0} (is_closeable : V → Bool) (gives : A → ℕ → V →
   ClosesOne lanes before number after = (value : V) × IsKnown lanes number value × CallIf (is_closeable value) number value before after
 
   -- The action goes from its first to its last state by these calls, for the numbers in their order, and by no other; and this is reported of the answers
-  pub record ClosesNumbers (lanes : List (StoreLane V)) (numbers : List ℕ) (first last : A) (closed : Closes) : Type 0 where
+  pub record ClosesNumbers (lanes : List (StoreLane V)) (numbers : List ℕ) (first last : A) (closed : Closed) : Type 0 where
     pub answers : List Answer
     pub calls : FoldsTo (ClosesOne lanes) (record { action = first; answers = [] }) numbers (record { action = last; answers = answers })
     pub counts : closed ≡ counted answers

@@ -1,5 +1,5 @@
--- The lanes in hand at a close: the first of them seals, and a value is closed where one of them knows it.
--- Own rule. What a lane knows of the values of numbers is that of `Known` of ext_values: a value that it kept, or that it was shown.
+-- The lanes in hand at a close: the first of them seals, and a value is closed where one of them knows it. What a lane knows of the
+-- values of numbers is that of `Known` of ext_values: a value that it kept, or that it was shown.
 use Rattle.std.specs.Prelude.{ℕ, ◌≡◌, ◌<◌, List, [], ◌∷◌, None, Some, All, Contains}
 use Rattle.ext_values.specs.Known.{known_at}
 use Rattle.ext_cells.specs.Lanes.{Lane, fresh_lane}

@@ -1,5 +1,6 @@
+pub use Rattle.ext_model.specs.Closed
 pub mod Lanes
 pub mod Sealing
 pub mod Closing
 pub mod Closes
-pub mod Steps
+pub mod InnerSteps

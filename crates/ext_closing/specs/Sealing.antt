@@ -1,16 +1,16 @@
--- How a context is sealed: its keys one after the other, in their order, by one lane.
--- Own rule. `SealsCell` of ext_store says what the seal of one key means: this call sealed the cell, or the cell was sealed already, and what the seal keeps.
+-- How a context is sealed: its keys one after the other, in their order, by one lane. `SealsCell` of ext_store says what the seal of one key means: this call
+-- sealed the cell, or the cell was sealed already, and what the seal keeps.
 use Rattle.std.specs.Prelude.{ℕ, zero, suc, ◌≡◌, ◌<◌, ◌⊎◌, List, [], ◌∷◌, ◌++◌, length, map, Option, None, Some, Result, Ok, Err}
 use Rattle.ext_model.specs.declared.event.Act.{Act}
 use Rattle.ext_model.specs.declared.event.Act.TheVariants.{Seal}
 use Rattle.ext_model.specs.declared.slot.Slot.{Slot}
 use Rattle.ext_model.specs.History.{slots_in}
-use Rattle.ext_history.specs.Views.{seen_by}
-use Rattle.ext_model.specs.Calls.{Calls}
+use Rattle.ext_history.specs.Histories.{seen_by}
+use Rattle.ext_model.specs.CallActs.{Calls}
 use Rattle.ext_model.specs.Closing.{IsClosed, remaining}
 use Rattle.ext_cells.specs.Lanes.{Lane}
 use Rattle.ext_store.specs.Stores.{StoreView, cell_in}
-use Rattle.ext_store.specs.Sealing.{SealsCell, IsBusyThere, IsInTheWay}
+use Rattle.ext_store.specs.ContextCalls.{SealsCell, IsBusyThere, IsInTheWay}
 use Rattle.ext_closing.specs.declared.fault.CloseFault.{CloseFault}
 use Rattle.ext_closing.specs.declared.fault.CloseFault.TheVariants.{Busy, Contended, Unjoined}
 

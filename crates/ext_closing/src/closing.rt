@@ -4,16 +4,15 @@ ghost use Rattle.std.specs.List.{AllZip};
 ghost use Rattle.ext_model.specs.Closing.{IsFalling};
 ghost use Rattle.ext_values.specs.Known.{known_at};
 ghost use Rattle.ext_store.specs.Stores.{IsCloserOf, IsLaneOf, StillKeeps};
-ghost use Rattle.ext_store.specs.Calls.{steps_of};
+ghost use Rattle.ext_store.specs.LaneCalls.{steps_of};
 ghost use Rattle.ext_closing.specs.Lanes.{first_lane, IsGreatestUnjoined, IsJoined, IsKnown, IsUnknown};
 ghost use Rattle.ext_closing.specs.Sealing.{fault_of, numbers_left};
 ghost use Rattle.ext_closing.specs.Closing.{ClosesNumbers, fault_in};
-ghost use Rattle.ext_closing.specs.Closes as closing;
-ghost use Rattle.ext_closing.specs.Steps.{IsOfKey, SealingEnds, SealsNext};
+ghost use Rattle.ext_closing.specs.Closes.{Closes};
+ghost use Rattle.ext_closing.specs.InnerSteps.{IsOfKey, SealingEnds, SealsNext};
 
 use crate::{CloseAction, CloseFault};
-use ext_lifecycle::Closes;
-use ext_model::{FallingNumbers, Fault, KeyNo};
+use ext_model::{Closed, FallingNumbers, Fault, KeyNo};
 use ext_store::{Closer, Lane, Refusal, Store, StoreValue};
 
 /// Closes the closer's context. First the first of the lanes seals all 64 places that the context has for keys, in the order of
@@ -39,13 +38,13 @@ pub fn close<V: StoreValue + Drop, A: CloseAction<V>>(
     closer: Closer,
     lanes: &mut [Lane<V>],
     action: &mut A,
-) -> Result<Closes, (Closer, CloseFault)>
+) -> Result<Closed, (Closer, CloseFault)>
     requires lanes { 1 ≤ length lanes.old }
     requires own_lanes { All (IsLaneOf store.now.id) lanes.old }
     requires closer { IsCloserOf store.now closer }
 
     // What the close did, and when it is refused: each as a field.
-    ensures happened { closing.Closes V.is_closeable A.close_gives store.now closer lanes.old action.old result lanes.new action.new }
+    ensures happened { Closes V.is_closeable A.close_gives store.now closer lanes.old action.old result lanes.new action.new }
 
     // How many places for keys are meant by all of them.
     ensures all_places { length store.now.id.keys ≡ 64 }
@@ -169,14 +168,14 @@ fn close_all<V: StoreValue + Drop, A: CloseAction<V>>(
     lanes: &mut [Lane<V>],
     numbers: &[u32],
     action: &mut A,
-) -> Closes
+) -> Closed
     requires lanes { All (IsLaneOf store.now.id) lanes.old }
     requires joined { All (IsJoined lanes.old) numbers.now }
     requires few { length numbers.now ≤ 64 }
     ensures closes { ClosesNumbers V.is_closeable A.close_gives lanes.old numbers.now action.old action.new result }
     ensures unchanged { lanes.new ≡ lanes.old }
 {
-    let mut closed = Closes::new();
+    let mut closed = Closed::new();
     for number in numbers {
         close_one(store, lanes, *number, action, &mut closed);
     }
@@ -189,7 +188,7 @@ fn close_one<V: StoreValue + Drop, A: CloseAction<V>>(
     lanes: &mut [Lane<V>],
     number: u32,
     action: &mut A,
-    closed: &mut Closes,
+    closed: &mut Closed,
 )
     requires lanes { All (IsLaneOf store.now.id) lanes.old }
     requires joined { IsJoined lanes.old number }

@@ -5,7 +5,7 @@ use ext_model::KeyNo;
 use thiserror::Error;
 
 /// Why a close is refused. The action was not called then, cells that were sealed stay sealed with their numbers,
-/// and the close may be tried again. Own rule.
+/// and the close may be tried again.
 #[derive(Clone, Copy, Debug, PartialEq, Eq, Error)]
 pub enum CloseFault {
     /// A lane computes a value for the context under this key. The keys before it are sealed.

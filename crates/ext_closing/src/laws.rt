@@ -6,7 +6,7 @@ use ext_store::StoreValue;
 
 /// Proves the law of closes that are asked again: closes of a context that were refused, for whatever reasons, and then
 /// one that is `Ok`, are one close in their caller's eyes. The first lane's events are seals of keys in their order,
-/// each key once, and the action was called by the last of them alone. It does nothing when it runs (own rule).
+/// each key once, and the action was called by the last of them alone. It does nothing when it runs.
 pub fn close_laws<V: StoreValue + Drop, A: CloseAction<V>>()
     ensures { AskedAgainIsOne V.is_closeable A.close_gives }
 {}

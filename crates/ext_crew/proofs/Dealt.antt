@@ -7,8 +7,8 @@ use Rattle.std.proofs.lemmas.List.Elements.{All-head, All-tail}
 use Rattle.atomic_table.specs.Seated.{TableId}
 use Rattle.ext_crew.specs.Dealing.{times, IsDealing}
 use Rattle.ext_crew.specs.declared.jobs.done.Done.{Done}
-use Rattle.ext_crew.specs.Counter.{Hand, together}
-use Rattle.ext_crew.specs.Hands.{jobs_done, draws_of, given_of, HasWorked, IsFirst}
+use Rattle.ext_crew.specs.InnerCounter.{Hand, together}
+use Rattle.ext_crew.specs.InnerHands.{jobs_done, draws_of, given_of, HasWorked, IsFirst}
 use Rattle.ext_crew.proofs.Totals.{times-append, ends_none, is_below, once_if, same_once, other_none}
 
 module _ {T O : Type 0} (table : TableId) (items : List T) where

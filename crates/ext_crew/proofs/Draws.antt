@@ -15,7 +15,7 @@ use Rattle.ext_crew.specs.declared.jobs.rule.Drawn.{Drawn}
 use Rattle.ext_crew.specs.declared.jobs.slot.Slot.{Slot}
 use Rattle.ext_crew.specs.declared.jobs.slot.Slot.TheVariants as slot
 use Rattle.ext_crew.specs.Times.{times}
-use Rattle.ext_crew.specs.Counter.{drawn, item_in, slot_of, done_at, giving, done_by, jobs_of, total, ends, Fits, Stands, Kept, Loaded, Took, DrawsIf, hirer, hired, together, spent, HoldsOutcome, IsDrawing, HasDrawn}
+use Rattle.ext_crew.specs.InnerCounter.{drawn, item_in, slot_of, done_at, giving, done_by, jobs_of, total, ends, Fits, Stands, Kept, Loaded, Took, DrawsIf, hirer, hired, together, spent, HoldsOutcome, IsDrawing, HasDrawn}
 use Rattle.ext_crew.proofs.Totals.{total_set, total_push, total_one, total_two, total_most, total_sole, times-append, ends-append, ends_none, below_next, is_below, at_most_once, end_once, end_none, end_most, none_below, same_once, done_counted}
 
 set_same : (ws : List ℕ) (k : ℕ) → set ws k (get_or ws k 0) ≡ ws

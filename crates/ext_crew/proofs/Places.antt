@@ -7,8 +7,8 @@ use Rattle.std.proofs.lemmas.List.Elements.{All-head, All-tail}
 use Rattle.std.proofs.lemmas.Bool.{cases_lt}
 use Rattle.std.proofs.lemmas.Bool.Decides.{nat_tests}
 use mathlib.Core.Logic.{⊎_elim}
-use Rattle.ext_crew.specs.Counter.{Hand}
-use Rattle.ext_crew.specs.Hands.{given_of, jobs_done}
+use Rattle.ext_crew.specs.InnerCounter.{Hand}
+use Rattle.ext_crew.specs.InnerHands.{given_of, jobs_done}
 use Rattle.ext_crew.specs.Dealing.{Share, times, IsDealing, WorkedFrom, RunByDealing}
 use Rattle.ext_crew.specs.declared.jobs.done.Done.{Done}
 use Rattle.ext_crew.proofs.Lists.{all_apart, lists_together, full}

@@ -7,7 +7,7 @@ use Rattle.std.proofs.lemmas.Nat.{div-add-mod', mod_below}
 use Rattle.std.specs.Prelude.{All}
 use Rattle.std.proofs.lemmas.List.{drop-drop}
 use Rattle.ext_crew.specs.Dealing.{Share, front, back, InTurn, WorkedFrom}
-use Rattle.ext_crew.specs.Hands.{IsCut, EachShare, EachShareChanges, AllShares, AllSharesChange}
+use Rattle.ext_crew.specs.InnerHands.{IsCut, EachShare, EachShareChanges, AllShares, AllSharesChange}
 use Rattle.ext_crew.specs.declared.jobs.done.Done.{Done}
 use Rattle.std.proofs.lemmas.List.Elements.{All-head, All-tail, All-cons}
 

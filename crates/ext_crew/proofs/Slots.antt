@@ -3,7 +3,7 @@ use Rattle.std.proofs.Common.{◌≡◌, ℕ, ◌<◌, zero, suc, Bool, false, g
 use Rattle.std.specs.Prelude.{Some, slice_get}
 use mathlib.Core.Option.{some, some-injective, some-ne-none}
 use lib.ListN.{get_elem?}
-use Rattle.ext_crew.specs.Counter.{outcome_in, outcomes_in}
+use Rattle.ext_crew.specs.InnerCounter.{outcome_in, outcomes_in}
 use Rattle.ext_crew.specs.declared.jobs.slot.Slot.{Slot}
 use Rattle.ext_crew.specs.declared.jobs.slot.Slot.TheVariants as slot
 

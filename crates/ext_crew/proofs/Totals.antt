@@ -6,7 +6,7 @@ use Rattle.std.proofs.lemmas.List.Elements.{All-cons, All-weaker}
 use mathlib.Core.Option.{some, some-injective, some-ne-none}
 use lib.ListN.{get_elem?}
 use Rattle.ext_crew.specs.Times.{times}
-use Rattle.ext_crew.specs.Counter.{total, ends, jobs_of}
+use Rattle.ext_crew.specs.InnerCounter.{total, ends, jobs_of}
 use Rattle.ext_crew.specs.declared.jobs.done.Done.{Done}
 
 module _ {V : Type 0} (f : V → ℕ) where

@@ -3,8 +3,8 @@ ghost use Rattle.std.specs.Prelude.{◌≡◌, ℕ, ◌+◌, ◌/◌, ◌%◌, �
 ghost use denote.Param.Send.{IsSync, IsSend, Frees};
 ghost use Rattle.ext_crew.specs.Dealing.{Share, RunByDealing, Runs, Accepts, AcceptsParts, InTurn, WorkedFrom};
 ghost use Rattle.ext_crew.specs.declared.fault.CrewFault.TheVariants.{Memory};
-ghost use Rattle.ext_crew.specs.Counter.{IsCounter};
-ghost use Rattle.ext_crew.specs.Hands.{given_of, IsReady, IsOpened, IsOpenedFor, HasWorked, IsCut};
+ghost use Rattle.ext_crew.specs.InnerCounter.{IsCounter};
+ghost use Rattle.ext_crew.specs.InnerHands.{given_of, IsReady, IsOpened, IsOpenedFor, HasWorked, IsCut};
 
 use crate::hand::{join_hands, make_hands, work};
 use crate::jobs::{Counter, CounterTable, Hand, open_counter, take_outcomes};

@@ -1,7 +1,7 @@
 //! What the workers have in hand, and how they work with it.
 ghost use Rattle.std.specs.Prelude.{◌≡◌, ◌-◌, ◌≤◌, [], length, vec_len, All, IfOk, flat_map};
-ghost use Rattle.ext_crew.specs.Counter.{drawn, IsCounter};
-ghost use Rattle.ext_crew.specs.Hands.{draws_of, given_of, IsReady, HasWorked, IsFirst};
+ghost use Rattle.ext_crew.specs.InnerCounter.{drawn, IsCounter};
+ghost use Rattle.ext_crew.specs.InnerHands.{draws_of, given_of, IsReady, HasWorked, IsFirst};
 ghost use Rattle.ext_crew.specs.Dealing.{Share, Runs, Accepts, InTurn};
 
 use crate::Gate;

@@ -5,8 +5,8 @@
 //! are taken out in the order of the items (`take_outcomes`). Each worker has a `Hand` of its own, split off the first one, and what
 //! all hands have drawn is joined in again. How jobs are run, and by which threads, does not stand here.
 //!
-//! A draw is one atomic step on one word. `specs/Counter.antt` has the rule that each step keeps, and what each call tells of a
-//! hand; `proofs/Draws.antt` has the laws with which a caller splits hands off and joins them in. Own rule.
+//! A draw is one atomic step on one word. `specs/InnerCounter.antt` has the rule that each step keeps, and what each call tells of a
+//! hand; `proofs/Draws.antt` has the laws with which a caller splits hands off and joins them in.
 
 mod counter;
 mod done;

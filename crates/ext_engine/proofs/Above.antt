@@ -3,8 +3,7 @@ use Rattle.std.proofs.Common.{◌≡◌, ◌≢◌, ◌≤◌, ◌<◌, inl, inr
 use Rattle.std.specs.Prelude.{Contains}
 use Rattle.std.proofs.lemmas.Bool.{cases_lt}
 use Rattle.ext_history.proofs.Lists.{contains_none, contains_here, contains_later, contains_cons}
-use Rattle.ext_tree.specs.Trees.{Id, IsTree}
-use Rattle.ext_tree.specs.Paths.{IsParentOf, IsWalk, IsPathOf}
+use Rattle.ext_tree.specs.Trees.{Id, IsTree, IsParentOf, IsWalk, IsPathOf}
 use Rattle.ext_tree.proofs.TreeLaws.{paths_are_unique}
 use Rattle.ext_engine.specs.Laws.{IsAtOrBelow}
 

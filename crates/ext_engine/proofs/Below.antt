@@ -6,7 +6,7 @@ use Rattle.std.proofs.lemmas.List.Elements.{All-weaker}
 use Rattle.ext_tree.specs.Trees.{id_at}
 use Rattle.ext_store.specs.Stores.{StoreView}
 use Rattle.ext_engine.specs.declared.node.closers.Item.{Item}
-use Rattle.ext_engine.specs.Closers.{IsItem, IsNode}
+use Rattle.ext_engine.specs.InnerClosers.{IsItem, IsNode}
 
 pub items_below : (store : StoreView) (depth node : ℕ) (items : List Item) → depth + length (id_at store.tree node) ≡ 17 → 1 ≤ depth → All (IsItem store node) items → All (IsNode store (depth - 1)) items
 items_below store depth node items deep some all =

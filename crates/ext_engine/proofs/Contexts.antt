@@ -4,7 +4,7 @@ use Rattle.std.specs.Prelude.{All, Contains, slice_index_or}
 use Rattle.std.proofs.lemmas.List.{map_push}
 use Rattle.std.proofs.lemmas.List.Elements.{All-head, All-tail, Contains-append_left, Contains-push, Contains-push_cases}
 use Rattle.ext_store.specs.Stores.{CloserView}
-use Rattle.ext_engine.specs.Closers.{contexts}
+use Rattle.ext_engine.specs.InnerClosers.{contexts}
 
 -- ---- one taken out
 

@@ -1,24 +1,19 @@
 -- Where a run of a tree ends that does not come to its end, from where the runs of its parts end.
 use Rattle.std.proofs.Common.{◌≡◌, ◌≢◌, ◌⊎◌, inl, inr, ℕ, zero, suc, ◌-◌, ◌≤◌, Bool, false, cond, List, [], ◌++◌, ◌∷◌, length, map, min, refl, sym, ap, ◌∙◌, subst, arith}
-use Rattle.std.specs.Prelude.{All, Contains, filter, Option, Result, Ok, Err, Vec, IfOk, IfErr, IsErr, IsErrAnd, slice_index_or}
+use Rattle.std.specs.Prelude.{All, Contains, filter, Result, Ok, Err, Vec, IfOk, IfErr, IsErr, IsErrAnd, slice_index_or}
 use Rattle.std.specs.declared.alloc.Global.{Global}
 use Rattle.std.proofs.lemmas.List.{nil_from_length}
 use Rattle.std.proofs.lemmas.List.Elements.{All-contains, Contains-append_right}
 use Rattle.ext_history.proofs.Lists.{contains_here, contains_none}
 use Rattle.ext_history.proofs.Once.{contains-map}
-use Rattle.ext_tree.specs.Paths.{children_of}
-use Rattle.ext_lifecycle.specs.declared.call.Call.{Call}
-use Rattle.ext_lifecycle.specs.declared.outcome.Outcome.{Outcome}
-use Rattle.ext_store.specs.Stores.{StoreLane}
-use Rattle.ext_closing.specs.Closing.{Answer}
-use Rattle.ext_locks.specs.Sets.{HeldView}
+use Rattle.ext_tree.specs.Trees.{children_of}
 use Rattle.ext_crew.specs.Dealing.{RunByDealing}
 use Rattle.ext_crew.proofs.Runs.{run-map}
 use Rattle.ext_engine.specs.declared.node.fault.EngineFault.{EngineFault}
 use Rattle.ext_engine.specs.declared.node.fault.EngineFault.TheVariants as faults
 use Rattle.ext_engine.specs.declared.node.closers.Item.{Item}
 use Rattle.ext_engine.specs.declared.node.results.RanNode.{RanNode}
-use Rattle.ext_engine.specs.Helpers.{ran_view, HasErr}
+use Rattle.ext_engine.specs.InnerHelpers.{ran_view, HasErr}
 use Rattle.ext_closing.specs.Lanes.{IsUnknown}
 use Rattle.ext_engine.specs.NodeRun.{IsRefusedClose, IsUnjoinedNode}
 use Rattle.ext_engine.specs.TreeRun.{Ran, TreeSetting, Lanes, TreeRun, IsFault, concurrent_children, same_thread_children}
@@ -72,31 +67,30 @@ module _ {V : Type 0} (Child : ℕ → Lanes V → List Ran → Lanes V → Type
         among = contains-map answer_of outcomes (Err (faults.Unjoined context number)) there;
       }
 
-module _ {V A : Type 0} (t : TreeSetting V) (makes : ℕ → Call → Option HeldView → StoreLane V → Outcome → StoreLane V → Type 0)
-    (actions : ℕ → A → Type 0) (gives : A → ℕ → V → Answer → A → Type 0) where
+module _ {V A : Type 0} (t : TreeSetting V A) where
   abbrev pub Names : ℕ → ℕ → Lanes V → ℕ → ℕ → Type 0
-  Names depth node after context number = NamesUnknown t makes actions gives depth node context number after
+  Names depth node after context number = NamesUnknown t depth node context number after
 
   abbrev pub Below : ℕ → ℕ → Lanes V → ℕ → ℕ → Type 0
-  Below depth node after context number = NamesBelow t makes actions gives depth node context number after
+  Below depth node after context number = NamesBelow t depth node context number after
 
   abbrev pub Turn : ℕ → List ℕ → Lanes V → ℕ → ℕ → Type 0
-  Turn depth nodes after context number = IsUnknownInTurn (TreeRun t makes actions gives depth) (NamesUnknown t makes actions gives depth) nodes context number after
+  Turn depth nodes after context number = IsUnknownInTurn (TreeRun t depth) (NamesUnknown t depth) nodes context number after
 
   -- ---- the node's own context
 
-  pub own_named : (depth node : ℕ) (after : Lanes V) (why : EngineFault) → 1 ≤ depth → IsUnjoinedNode t actions gives node after.first why → OnUnjoined (Names depth node after) why
+  pub own_named : (depth node : ℕ) (after : Lanes V) (why : EngineFault) → 1 ≤ depth → IsUnjoinedNode t node after.first why → OnUnjoined (Names depth node after) why
   own_named zero node after why some own = absurd (omega (arith, some))
   own_named (suc depth) node after why some own = subst (λ w. OnUnjoined (Names (suc depth) node after) w) (sym own.1) (inl (refl, own.2, own.3))
 
-  pub test_named : (depth node : ℕ) (after : Lanes V) (why : EngineFault) → 1 ≤ depth → IsFault t actions gives why → (why ≢ faults.Memory → IsUnjoinedNode t actions gives node after.first why)
+  pub test_named : (depth node : ℕ) (after : Lanes V) (why : EngineFault) → 1 ≤ depth → IsFault t why → (why ≢ faults.Memory → IsUnjoinedNode t node after.first why)
       → OnUnjoined (Names depth node after) why
   test_named depth node after faults.Memory some fault own = tt
   test_named depth node after faults.NoThread some fault own = absurd fault
   test_named depth node after (faults.Unjoined context number) some fault own = own_named depth node after (faults.Unjoined context number) some (own (λ same. cc))
 
-  pub test_err : {X : Type 0} (depth node : ℕ) (after : Lanes V) (result : Result X EngineFault) → 1 ≤ depth → IfErr result (IsFault t actions gives)
-      → IfErr result (λ why. why ≢ faults.Memory → IsUnjoinedNode t actions gives node after.first why) → IfErr result (OnUnjoined (Names depth node after))
+  pub test_err : {X : Type 0} (depth node : ℕ) (after : Lanes V) (result : Result X EngineFault) → 1 ≤ depth → IfErr result (IsFault t)
+      → IfErr result (λ why. why ≢ faults.Memory → IsUnjoinedNode t node after.first why) → IfErr result (OnUnjoined (Names depth node after))
   test_err depth node after (Ok x) some fault own = tt
   test_err depth node after (Err why) some fault own = test_named depth node after why some fault own
 
@@ -114,37 +108,37 @@ module _ {V A : Type 0} (t : TreeSetting V) (makes : ℕ → Call → Option Hel
   turn_named depth nodes child after faults.NoThread there named = absurd named
   turn_named depth nodes child after (faults.Unjoined context number) there named = (child, there, named)
 
-  pub others_named : (depth node : ℕ) (nodes : List ℕ) (after : Lanes V) (why : EngineFault) → nodes ≡ same_thread_children t makes actions gives node → OnUnjoined (Turn depth nodes after) why
+  pub others_named : (depth node : ℕ) (nodes : List ℕ) (after : Lanes V) (why : EngineFault) → nodes ≡ same_thread_children t node → OnUnjoined (Turn depth nodes after) why
       → OnUnjoined (Below depth node after) why
   others_named depth node nodes after faults.Memory same named = tt
   others_named depth node nodes after faults.NoThread same named = absurd named
   others_named depth node nodes after (faults.Unjoined context number) same named = inr (subst (λ l. Turn depth l after context number) same named)
 
   beside_at : (depth node : ℕ) (nodes : List ℕ) (before after : Lanes V) (outcomes : List (Result (Vec RanNode Global) EngineFault)) (count : ℕ) (why : EngineFault)
-      → length nodes ≡ count → nodes ≡ concurrent_children t makes actions gives node
-      → RunByDealing (λ i s r u. IfOk r (λ v. TreeRun t makes actions gives depth (slice_index_or nodes i 0) s (map ran_view v.items) u) × IfErr r (OnUnjoined (Names depth (slice_index_or nodes i 0) u)))
+      → length nodes ≡ count → nodes ≡ concurrent_children t node
+      → RunByDealing (λ i s r u. IfOk r (λ v. TreeRun t depth (slice_index_or nodes i 0) s (map ran_view v.items) u) × IfErr r (OnUnjoined (Names depth (slice_index_or nodes i 0) u)))
       count (min (length before.first) count) before outcomes after
-      → All (λ r. IfErr r (IsFault t actions gives)) outcomes → Contains outcomes (Err why) → OnUnjoined (Below depth node after) why
+      → All (λ r. IfErr r (IsFault t)) outcomes → Contains outcomes (Err why) → OnUnjoined (Below depth node after) why
   beside_at depth node nodes before after outcomes count faults.Memory size same run all there = tt
-  beside_at depth node nodes before after outcomes count faults.NoThread size same run all there = absurd (All-contains (λ r. IfErr r (IsFault t actions gives)) outcomes (Err faults.NoThread) all there)
+  beside_at depth node nodes before after outcomes count faults.NoThread size same run all there = absurd (All-contains (λ r. IfErr r (IsFault t)) outcomes (Err faults.NoThread) all there)
   beside_at depth node nodes before after outcomes count (faults.Unjoined context number) size same run all there =
-      inl (beside_named (TreeRun t makes actions gives depth) (NamesUnknown t makes actions gives depth) nodes (concurrent_children t makes actions gives node) before after outcomes context number count size same run there)
+      inl (beside_named (TreeRun t depth) (NamesUnknown t depth) nodes (concurrent_children t node) before after outcomes context number count size same run there)
 
   pub besides_named : (depth node : ℕ) (nodes : List ℕ) (before after : Lanes V) (outcomes : List (Result (Vec RanNode Global) EngineFault)) (count : ℕ) (why : EngineFault)
-      → length nodes ≡ count → nodes ≡ concurrent_children t makes actions gives node
-      → RunByDealing (λ i s r u. IfOk r (λ v. TreeRun t makes actions gives depth (slice_index_or nodes i 0) s (map ran_view v.items) u) × IfErr r (OnUnjoined (Names depth (slice_index_or nodes i 0) u)))
+      → length nodes ≡ count → nodes ≡ concurrent_children t node
+      → RunByDealing (λ i s r u. IfOk r (λ v. TreeRun t depth (slice_index_or nodes i 0) s (map ran_view v.items) u) × IfErr r (OnUnjoined (Names depth (slice_index_or nodes i 0) u)))
       count (min (length before.first) count) before outcomes after
-      → All (λ r. IfErr r (IsFault t actions gives)) outcomes → HasErr outcomes why → OnUnjoined (Below depth node after) why
+      → All (λ r. IfErr r (IsFault t)) outcomes → HasErr outcomes why → OnUnjoined (Below depth node after) why
   besides_named depth node nodes before after outcomes count why size same run all has = elim has [
     | inl there ↦ beside_at depth node nodes before after outcomes count why size same run all there
     | inr memory ↦ no_memory (Below depth node after) why memory
   ]
 
   -- what all outcomes are refused for, the fault that is told of them is
-  pub told_fault : (outcomes : List (Result (Vec RanNode Global) EngineFault)) (why : EngineFault) → All (λ r. IfErr r (IsFault t actions gives)) outcomes → HasErr outcomes why → IsFault t actions gives why
+  pub told_fault : (outcomes : List (Result (Vec RanNode Global) EngineFault)) (why : EngineFault) → All (λ r. IfErr r (IsFault t)) outcomes → HasErr outcomes why → IsFault t why
   told_fault outcomes why all has = elim has [
-    | inl there ↦ All-contains (λ r. IfErr r (IsFault t actions gives)) outcomes (Err why) all there
-    | inr memory ↦ subst (λ w. IsFault t actions gives w) (sym memory) tt
+    | inl there ↦ All-contains (λ r. IfErr r (IsFault t)) outcomes (Err why) all there
+    | inr memory ↦ subst (λ w. IsFault t w) (sym memory) tt
   ]
 
   -- ---- where no node runs beside others
@@ -153,8 +147,8 @@ module _ {V A : Type 0} (t : TreeSetting V) (makes : ℕ → Call → Option Hel
   none_beside p [] off = refl
   none_beside p (x ∷ xs) off = ap (λ b. cond b (x ∷ filter p xs) (filter p xs)) (off x) ∙ none_beside p xs off
 
-  pub unknown_to_all : (depth node context number : ℕ) (after : Lanes V) → ((x : ℕ) → t.suite.is_concurrent x ≡ false) → NamesUnknown t makes actions gives depth node context number after
-      → IsRefusedClose t actions gives context number after.first × IsUnknown after.first number
+  pub unknown_to_all : (depth node context number : ℕ) (after : Lanes V) → ((x : ℕ) → t.suite.is_concurrent x ≡ false) → NamesUnknown t depth node context number after
+      → IsRefusedClose t context number after.first × IsUnknown after.first number
   unknown_to_all zero node context number after off named = absurd named
   unknown_to_all (suc depth) node context number after off named = elim named [
     | inl own ↦ (own.1, own.2)

@@ -1,4 +1,4 @@
--- A run of a tree whose calls do what `makes` says is one whose calls do what `finer` says, where that follows of each call that leads to the lanes at the run's end.
+-- A run of a tree whose calls do what the setting says is one whose calls do what `finer` says, where that follows of each call that leads to the lanes at the run's end.
 use Rattle.std.proofs.Common.{inl, inr, ℕ, zero, suc, Bool, true, false, List, [], ◌∷◌, min, length, refl, subst}
 use Rattle.std.specs.Prelude.{All, Option, Some, None, slice_index_or}
 use Rattle.std.specs.List.{FoldsTo}
@@ -10,24 +10,22 @@ use Rattle.ext_lifecycle.specs.Endings.{all_successful, is_successful}
 use Rattle.ext_lifecycle.specs.Lifecycle.{MakesAll, MakesBefores, MakesCalls, MakesIf, ending_of, endings_of}
 use Rattle.ext_cells.specs.Lanes.{Lane}
 use Rattle.ext_store.specs.Stores.{StoreLane}
-use Rattle.ext_closing.specs.Closing.{Answer}
 use Rattle.ext_closing.specs.Sealing.{MakesSeals}
 use Rattle.ext_locks.specs.Sets.{HeldView}
 use Rattle.ext_crew.proofs.Runs.{run-weaker}
 use Rattle.ext_engine.specs.Meeting.{OnlyMeets}
-use Rattle.ext_engine.specs.TreeRun.{Ran, TreeSetting, Lanes, TreeRun, TestRun, ContainerRun, BodyRun, BodyMade, ClosesNode, OnFirst, MakesOn, concurrent_children, with_lanes}
+use Rattle.ext_engine.specs.TreeRun.{Ran, TreeSetting, with_calls, Lanes, TreeRun, TestRun, ContainerRun, BodyRun, BodyMade, ClosesNode, OnFirst, MakesOn, concurrent_children, with_lanes}
 use Rattle.ext_engine.proofs.Grown.{Entry}
 use Rattle.ext_engine.proofs.Order.{run-inside}
 use Rattle.ext_engine.proofs.Relates.{AllRelate, all_relate, close_relates, dealt_relates, first_relates, met_relate, tree_relates, turn_relates}
 
-module _ {V A : Type 0} (t : TreeSetting V) (makes finer : ℕ → Call → Option HeldView → StoreLane V → Outcome → StoreLane V → Type 0)
-    (actions : ℕ → A → Type 0) (gives : A → ℕ → V → Answer → A → Type 0)
+module _ {V A : Type 0} (t : TreeSetting V A) (finer : ℕ → Call → Option HeldView → StoreLane V → Outcome → StoreLane V → Type 0)
     (R : StoreLane V → StoreLane V → Type 0) (same : (a : StoreLane V) → R a a) (next : (a b c : StoreLane V) → R a b → R b c → R a c)
-    (moves : (node : ℕ) (call : Call) (held : Option HeldView) (a : StoreLane V) (outcome : Outcome) (b : StoreLane V) → makes node call held a outcome b → R a b)
+    (moves : (node : ℕ) (call : Call) (held : Option HeldView) (a : StoreLane V) (outcome : Outcome) (b : StoreLane V) → t.call_gives node call held a outcome b → R a b)
     (meets : (a b : StoreLane V) → OnlyMeets t.store a b → R a b)
     (seals : (context keys : ℕ) (a : StoreLane V) (cells : Lane) → MakesSeals t.store context keys a.cells cells → R a (record { cells = cells; known = a.known; faults = a.faults; keys = a.keys }))
     (Leads : StoreLane V → Type 0) (back : (a b : StoreLane V) → R a b → Leads b → Leads a)
-    (turns : (node : ℕ) (call : Call) (held : Option HeldView) (a : StoreLane V) (outcome : Outcome) (b : StoreLane V) → makes node call held a outcome b → Leads b → finer node call held a outcome b) where
+    (turns : (node : ℕ) (call : Call) (held : Option HeldView) (a : StoreLane V) (outcome : Outcome) (b : StoreLane V) → t.call_gives node call held a outcome b → Leads b → finer node call held a outcome b) where
   abbrev LeadsOf : Lanes V → Type 0
   LeadsOf s = All Leads s.first
 
@@ -41,10 +39,10 @@ module _ {V A : Type 0} (t : TreeSetting V) (makes finer : ℕ → Call → Opti
 
   module _ (node : ℕ) (held : Option HeldView) where
     abbrev Made : StoreLane V → Call → Outcome → StoreLane V → Type 0
-    Made = MakesOn t makes actions gives node held
+    Made = MakesOn t node held
 
     abbrev Finer : StoreLane V → Call → Outcome → StoreLane V → Type 0
-    Finer = MakesOn t finer actions gives node held
+    Finer = MakesOn (with_calls finer t) node held
 
     all_finer : (calls : List Call) (a : StoreLane V) (outcomes : List Outcome) (b : StoreLane V) → MakesAll Made calls a outcomes b → Leads b → MakesAll Finer calls a outcomes b × Leads a
     all_finer [] a outcomes b made leads = (made, subst Leads made.1 leads)
@@ -83,10 +81,10 @@ module _ {V A : Type 0} (t : TreeSetting V) (makes finer : ℕ → Call → Opti
       let here : Leads on.left = All-head Leads on.left on.rest (subst (All Leads) on.first_is all) in
       record { lane = on.lane; left = on.left; rest = on.rest; first_was = on.first_was; change = turn on.lane on.left on.change here; first_is = on.first_is }
 
-  closed_back : (node : ℕ) (before : List (StoreLane V)) (faults : _) (after : List (StoreLane V)) → ClosesNode t makes actions gives node before faults after → All Leads after → All Leads before
-  closed_back node before faults after closes all = all_back before after (close_relates t makes actions gives R same next moves meets seals _ _ before after closes.closes.lanes closes.closes.own_events) all
+  closed_back : (node : ℕ) (before : List (StoreLane V)) (faults : _) (after : List (StoreLane V)) → ClosesNode t node before faults after → All Leads after → All Leads before
+  closed_back node before faults after closes all = all_back before after (close_relates t R same next moves meets seals _ _ before after closes.closes.lanes closes.closes.own_events) all
 
-  close_finer : (node : ℕ) (before : List (StoreLane V)) (faults : _) (after : List (StoreLane V)) → ClosesNode t makes actions gives node before faults after → ClosesNode t finer actions gives node before faults after
+  close_finer : (node : ℕ) (before : List (StoreLane V)) (faults : _) (after : List (StoreLane V)) → ClosesNode t node before faults after → ClosesNode (with_calls finer t) node before faults after
   close_finer node before faults after c = record {
     closer = c.closer;
     closer_is = c.closer_is;
@@ -99,7 +97,7 @@ module _ {V A : Type 0} (t : TreeSetting V) (makes finer : ℕ → Call → Opti
     faults_are = c.faults_are;
   }
 
-  test_finer : (node : ℕ) (path : List ℕ) (before : Lanes V) (ran : List Ran) (after : Lanes V) → TestRun t makes actions gives node path before ran after → LeadsOf after → TestRun t finer actions gives node path before ran after
+  test_finer : (node : ℕ) (path : List ℕ) (before : Lanes V) (ran : List Ran) (after : Lanes V) → TestRun t node path before ran after → LeadsOf after → TestRun (with_calls finer t) node path before ran after
   test_finer node path before ran after run leads = record {
     set = run.set;
     set_is = run.set_is;
@@ -122,19 +120,19 @@ module _ {V A : Type 0} (t : TreeSetting V) (makes finer : ℕ → Call → Opti
     turned_finer : (done : List Entry) (s u : Lanes V) → FoldsTo (λ s d u. Run d.0 s d.1 u) s done u → LeadsOf u → FoldsTo (λ s d u. Run' d.0 s d.1 u) s done u
     turned_finer [] s u run leads = run
     turned_finer (e ∷ done) s u run leads =
-        let later = turn_relates t makes actions gives R same next moves meets seals Run at done run.0 u run.2 in
+        let later = turn_relates t R same next moves meets seals Run at done run.0 u run.2 in
         (run.0, turn e.0 s e.1 run.0 run.1 (all_back run.0.first u.first later leads), turned_finer done run.0 u run.2 leads)
 
-    children_finer : (node : ℕ) (before : Lanes V) (below : List Ran) (after : Lanes V) → BodyRun t makes actions gives Run node before below after → LeadsOf after
-        → BodyRun t finer actions gives Run' node before below after × All Leads before.first
+    children_finer : (node : ℕ) (before : Lanes V) (below : List Ran) (after : Lanes V) → BodyRun t Run node before below after → LeadsOf after
+        → BodyRun (with_calls finer t) Run' node before below after × All Leads before.first
     children_finer node before below after b leads =
-        let cs = concurrent_children t makes actions gives node in
+        let cs = concurrent_children t node in
         let u = with_lanes b.joined b.between in
         let runs : ℕ → Lanes V → List Ran → Lanes V → Type 0 = λ i s ran u. Run (slice_index_or cs i 0) s ran u in
-        let joined = all_back b.joined after.first (turn_relates t makes actions gives R same next moves meets seals Run at b.in_turn.done u after b.in_turn.runs) leads in
-        let between = all_back b.between.first b.joined (met_relate t makes actions gives R same next moves meets seals b.between.first b.joined b.joins.only_meet) joined in
-        let forked = all_back b.forked b.between.first (dealt_relates t makes actions gives R same next moves meets seals Run at node before below after b) between in
-        let began = all_back before.first b.forked (met_relate t makes actions gives R same next moves meets seals before.first b.forked b.forks.only_meet) forked in
+        let joined = all_back b.joined after.first (turn_relates t R same next moves meets seals Run at b.in_turn.done u after b.in_turn.runs) leads in
+        let between = all_back b.between.first b.joined (met_relate t R same next moves meets seals b.between.first b.joined b.joins.only_meet) joined in
+        let forked = all_back b.forked b.between.first (dealt_relates t R same next moves meets seals Run at node before below after b) between in
+        let began = all_back before.first b.forked (met_relate t R same next moves meets seals before.first b.forked b.forks.only_meet) forked in
         let inside = run-inside runs (λ s. Unit {0}) LeadsOf (λ job s o u r k. tt) (λ job s o u r l. all_back s.first u.first (at (slice_index_or cs job 0) s o u r) l) (λ n s k. (tt, tt))
         (λ n s l. (All-take Leads n s.first l, All-drop Leads n s.first l)) (length cs) (min (length b.forked) (length cs)) (with_lanes b.forked before) b.between b.beside tt between b.dealt in (
           record {
@@ -152,20 +150,20 @@ module _ {V A : Type 0} (t : TreeSetting V) (makes finer : ℕ → Call → Opti
           began,
         )
 
-    made_finer : (on : Bool) (node : ℕ) (before : Lanes V) (below : List Ran) (after : Lanes V) → BodyMade t makes actions gives Run on node before below after → LeadsOf after
-        → BodyMade t finer actions gives Run' on node before below after × LeadsOf before
+    made_finer : (on : Bool) (node : ℕ) (before : Lanes V) (below : List Ran) (after : Lanes V) → BodyMade t Run on node before below after → LeadsOf after
+        → BodyMade (with_calls finer t) Run' on node before below after × LeadsOf before
     made_finer true node before below after made leads =
         let r = children_finer node before below after (made.made refl) leads in
         (record { made = λ on. r.0; skipped = λ off. absurd (cc off) }, r.1)
     made_finer false node before below after made leads =
         (record { made = λ on. absurd (cc on); skipped = made.skipped }, subst (λ (x : Lanes V). LeadsOf x) (made.skipped refl).1 leads)
 
-    container_finer : (node : ℕ) (path : List ℕ) (before : Lanes V) (ran : List Ran) (after : Lanes V) → ContainerRun t makes actions gives Run node path before ran after → LeadsOf after
-        → ContainerRun t finer actions gives Run' node path before ran after
+    container_finer : (node : ℕ) (path : List ℕ) (before : Lanes V) (ran : List Ran) (after : Lanes V) → ContainerRun t Run node path before ran after → LeadsOf after
+        → ContainerRun (with_calls finer t) Run' node path before ran after
     container_finer node path before ran after run leads =
         let opened : Lanes V = record { first = run.opened; second = before.second } in
-        let called = closed_back node run.called run.faults after.first run.closes leads in
-        let body = all_back run.body.first run.called (first_relates R same next _ run.body.first run.called (λ a b made. all_relate t makes actions gives R same next moves meets seals node None _ a run.afters b made) run.afters_made) called in
+        let called = closed_back node run.ends.called run.ends.faults after.first run.ends.closes leads in
+        let body = all_back run.body.first run.ends.called (first_relates R same next _ run.body.first run.ends.called (λ a b made. all_relate t R same next moves meets seals node None _ a run.ends.afters b made) run.ends.afters_made) called in
         let made = made_finer (all_successful (endings_of run.befores)) node opened run.below run.body run.body_made body in
         record {
           befores = run.befores;
@@ -174,22 +172,26 @@ module _ {V A : Type 0} (t : TreeSetting V) (makes finer : ℕ → Call → Opti
           body = run.body;
           below = run.below;
           body_made = made.0;
-          afters = run.afters;
-          called = run.called;
-          afters_made = first_finer _ _ run.body.first run.called (λ a b made here. (all_finer node None _ a run.afters b made here).0) run.afters_made called;
-          faults = run.faults;
-          closes = close_finer node run.called run.faults after.first run.closes;
+          own = run.own;
+          ends = record {
+            afters = run.ends.afters;
+            called = run.ends.called;
+            afters_made = first_finer _ _ run.body.first run.ends.called (λ a b made here. (all_finer node None _ a run.ends.afters b made here).0) run.ends.afters_made called;
+            faults = run.ends.faults;
+            closes = close_finer node run.ends.called run.ends.faults after.first run.ends.closes;
+            own_is = run.ends.own_is;
+          };
           no_locks = run.no_locks;
           ran_are = run.ran_are;
         }
 
-  pub tree_finer : (depth node : ℕ) (before : Lanes V) (ran : List Ran) (after : Lanes V) → TreeRun t makes actions gives depth node before ran after → LeadsOf after → TreeRun t finer actions gives depth node before ran after
+  pub tree_finer : (depth node : ℕ) (before : Lanes V) (ran : List Ran) (after : Lanes V) → TreeRun t depth node before ran after → LeadsOf after → TreeRun (with_calls finer t) depth node before ran after
   tree_finer zero node before ran after run leads = absurd run
   tree_finer (suc depth) node before ran after run leads = (
     run.0,
     run.1,
     (λ test. test_finer node run.0 before ran after (run.2 test) leads),
     (λ container.
-        container_finer (λ child s below u. TreeRun t makes actions gives depth child s below u) (λ child s below u. TreeRun t finer actions gives depth child s below u)
-        (λ c s below u r. tree_relates t makes actions gives R same next moves meets seals depth c s below u r) (λ c s below u r here. tree_finer depth c s below u r here) node run.0 before ran after (run.3 container) leads),
+        container_finer (λ child s below u. TreeRun t depth child s below u) (λ child s below u. TreeRun (with_calls finer t) depth child s below u)
+        (λ c s below u r. tree_relates t R same next moves meets seals depth c s below u r) (λ c s below u r here. tree_finer depth c s below u r here) node run.0 before ran after (run.3 container) leads),
   )

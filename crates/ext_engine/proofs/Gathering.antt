@@ -6,7 +6,7 @@ use Rattle.std.specs.declared.alloc.Global.{Global}
 use Rattle.std.proofs.lemmas.Grind.{flat_map-append}
 use Rattle.std.proofs.lemmas.List.{map-append}
 use Rattle.ext_engine.specs.declared.node.results.RanNode.{RanNode}
-use Rattle.ext_engine.specs.Helpers.{ran_view, ran_in}
+use Rattle.ext_engine.specs.InnerHelpers.{ran_view, ran_in}
 
 -- what ran below one more child
 pub gathered-more : {E : Type 0} (all next : List RanNode) (done : List (Result (Vec RanNode Global) E)) (ran : Result (Vec RanNode Global) E) (more : Vec RanNode Global)

@@ -4,7 +4,7 @@ use Rattle.std.specs.Prelude.{Option}
 use Rattle.std.specs.List.{AllZip, FoldsTo}
 use base.Growing.{prefix_refl, prefix_trans}
 use Rattle.ext_history.proofs.Composed.{seen_goes_on}
-use Rattle.ext_history.specs.Views.{seen_by}
+use Rattle.ext_history.specs.Histories.{seen_by}
 use Rattle.ext_lifecycle.specs.declared.call.Call.{Call}
 use Rattle.ext_lifecycle.specs.declared.outcome.Outcome.{Outcome}
 use Rattle.ext_lifecycle.specs.Lifecycle.{MakesAll, MakesBefores, MakesCalls}
@@ -12,7 +12,6 @@ use Rattle.ext_tree.proofs.KeyPlacing.{keeps_all, keeps_both}
 use Rattle.ext_cells.specs.Lanes.{Lane}
 use Rattle.ext_values.specs.Known.{Known, KeepsKnown}
 use Rattle.ext_store.specs.Stores.{StoreView, StoreLane}
-use Rattle.ext_closing.specs.Closing.{Answer}
 use Rattle.ext_closing.specs.Lanes.{OnlyFirstSteps, first_lane}
 use Rattle.ext_closing.specs.Sealing.{MakesSeals}
 use Rattle.ext_locks.specs.Sets.{HeldView}
@@ -60,30 +59,29 @@ module _ {V : Type 0} where
 
 -- ---- the run of a tree
 
-module _ {V A : Type 0} (t : TreeSetting V) (makes : ℕ → Call → Option HeldView → StoreLane V → Outcome → StoreLane V → Type 0)
-    (actions : ℕ → A → Type 0) (gives : A → ℕ → V → Answer → A → Type 0) (moves : CallsGoOn makes) where
+module _ {V A : Type 0} (t : TreeSetting V A) (moves : CallsGoOn t.call_gives) where
   pub all_met : (xs ys : List (StoreLane V)) → AllZip (OnlyMeets t.store) xs ys → AllGoOn xs ys
-  all_met xs ys met = met_relate t makes actions gives LaneGoesOn goes_same goes_then moves (goes_met t.store) (goes_sealed t.store) xs ys met
+  all_met xs ys met = met_relate t LaneGoesOn goes_same goes_then moves (goes_met t.store) (goes_sealed t.store) xs ys met
 
   pub close_goes : (context keys : ℕ) (xs ys : List (StoreLane V)) → OnlyFirstSteps xs ys → MakesSeals t.store context keys (first_lane t.store xs) (first_lane t.store ys) → AllGoOn xs ys
-  close_goes context keys xs ys steps seals = close_relates t makes actions gives LaneGoesOn goes_same goes_then moves (goes_met t.store) (goes_sealed t.store) context keys xs ys steps seals
+  close_goes context keys xs ys steps seals = close_relates t LaneGoesOn goes_same goes_then moves (goes_met t.store) (goes_sealed t.store) context keys xs ys steps seals
 
   module _ (node : ℕ) (held : Option HeldView) where
-    pub all_go : (calls : List Call) (a : StoreLane V) (outcomes : List Outcome) (b : StoreLane V) → MakesAll (MakesOn t makes actions gives node held) calls a outcomes b → LaneGoesOn a b
-    all_go calls a outcomes b made = all_relate t makes actions gives LaneGoesOn goes_same goes_then moves (goes_met t.store) (goes_sealed t.store) node held calls a outcomes b made
+    pub all_go : (calls : List Call) (a : StoreLane V) (outcomes : List Outcome) (b : StoreLane V) → MakesAll (MakesOn t node held) calls a outcomes b → LaneGoesOn a b
+    all_go calls a outcomes b made = all_relate t LaneGoesOn goes_same goes_then moves (goes_met t.store) (goes_sealed t.store) node held calls a outcomes b made
 
-    pub befores_go : (calls : List Call) (a : StoreLane V) (outcomes : List Outcome) (b : StoreLane V) → MakesBefores (MakesOn t makes actions gives node held) calls a outcomes b → LaneGoesOn a b
-    befores_go calls a outcomes b made = befores_relate t makes actions gives LaneGoesOn goes_same goes_then moves (goes_met t.store) (goes_sealed t.store) node held calls a outcomes b made
+    pub befores_go : (calls : List Call) (a : StoreLane V) (outcomes : List Outcome) (b : StoreLane V) → MakesBefores (MakesOn t node held) calls a outcomes b → LaneGoesOn a b
+    befores_go calls a outcomes b made = befores_relate t LaneGoesOn goes_same goes_then moves (goes_met t.store) (goes_sealed t.store) node held calls a outcomes b made
 
-    pub calls_go : (befores : List Call) (body : Call) (afters : List Call) (a : StoreLane V) (outcomes : List Outcome) (b : StoreLane V) → MakesCalls (MakesOn t makes actions gives node held) befores body afters a outcomes b → LaneGoesOn a b
-    calls_go befores body afters a outcomes b made = calls_relate t makes actions gives LaneGoesOn goes_same goes_then moves (goes_met t.store) (goes_sealed t.store) node held befores body afters a outcomes b made
+    pub calls_go : (befores : List Call) (body : Call) (afters : List Call) (a : StoreLane V) (outcomes : List Outcome) (b : StoreLane V) → MakesCalls (MakesOn t node held) befores body afters a outcomes b → LaneGoesOn a b
+    calls_go befores body afters a outcomes b made = calls_relate t LaneGoesOn goes_same goes_then moves (goes_met t.store) (goes_sealed t.store) node held befores body afters a outcomes b made
 
   module _ (Run : ℕ → Lanes V → List Ran → Lanes V → Type 0) (at : (c : ℕ) (s : Lanes V) (below : List Ran) (u : Lanes V) → Run c s below u → AllGoOn s.first u.first) where
     pub turn_goes : (done : List Entry) (s u : Lanes V) → FoldsTo (λ s d u. Run d.0 s d.1 u) s done u → AllGoOn s.first u.first
-    turn_goes done s u run = turn_relates t makes actions gives LaneGoesOn goes_same goes_then moves (goes_met t.store) (goes_sealed t.store) Run at done s u run
+    turn_goes done s u run = turn_relates t LaneGoesOn goes_same goes_then moves (goes_met t.store) (goes_sealed t.store) Run at done s u run
 
-    pub children_dealt_go : (node : ℕ) (before : Lanes V) (below : List Ran) (after : Lanes V) (b : BodyRun t makes actions gives Run node before below after) → AllGoOn b.forked b.between.first
-    children_dealt_go node before below after b = dealt_relates t makes actions gives LaneGoesOn goes_same goes_then moves (goes_met t.store) (goes_sealed t.store) Run at node before below after b
+    pub children_dealt_go : (node : ℕ) (before : Lanes V) (below : List Ran) (after : Lanes V) (b : BodyRun t Run node before below after) → AllGoOn b.forked b.between.first
+    children_dealt_go node before below after b = dealt_relates t LaneGoesOn goes_same goes_then moves (goes_met t.store) (goes_sealed t.store) Run at node before below after b
 
-  pub tree_goes : NodesGoOn t makes actions gives
-  tree_goes depth node before ran after run = tree_relates t makes actions gives LaneGoesOn goes_same goes_then moves (goes_met t.store) (goes_sealed t.store) depth node before ran after run
+  pub tree_goes : NodesGoOn t
+  tree_goes depth node before ran after run = tree_relates t LaneGoesOn goes_same goes_then moves (goes_met t.store) (goes_sealed t.store) depth node before ran after run

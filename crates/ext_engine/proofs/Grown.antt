@@ -8,8 +8,7 @@ use Rattle.std.proofs.lemmas.List.Elements.{All-contains, All-head, All-tail}
 use Rattle.ext_history.proofs.Lists.{bools, contains_none, contains_here, contains_later, contains_cons}
 use Rattle.ext_lifecycle.specs.declared.status.Status.TheVariants as statuses
 use Rattle.ext_lifecycle.specs.Modes.{in_run_order}
-use Rattle.ext_tree.specs.Trees.{Id, IsTree}
-use Rattle.ext_tree.specs.Paths.{IsParentOf, IsPathOf, children_of}
+use Rattle.ext_tree.specs.Trees.{Id, IsTree, IsParentOf, IsPathOf, children_of}
 use Rattle.ext_tree.proofs.TreeLaws.{parents_list_children}
 use Rattle.ext_engine.specs.Suites.{SuiteView}
 use Rattle.ext_engine.specs.TreeRun.{Ran}

@@ -6,13 +6,12 @@ use Rattle.std.proofs.lemmas.List.{length_push, length-append, length-map, map_p
 use Rattle.std.proofs.lemmas.List.Elements.{All-head, All-nil, All-tail, All-contains, All-push, All-same, Contains-get_or}
 use Rattle.std.proofs.lemmas.List.Filters.{length-filter_both}
 use Rattle.ext_ids.specs.Ids.{is_parent}
-use Rattle.ext_tree.specs.Trees.{Id, id_at, IsTree}
-use Rattle.ext_tree.specs.Paths.{IsParentOf, children_of, children_below}
+use Rattle.ext_tree.specs.Trees.{Id, id_at, IsTree, IsParentOf, children_of, children_below}
 use Rattle.ext_tree.proofs.TreeFacts.{longer, one_context}
 use Rattle.ext_tree.proofs.TreeLaws.{parents_list_children}
 use Rattle.ext_store.specs.Stores.{CloserView, StoreView}
 use Rattle.ext_engine.specs.declared.node.closers.Item.{Item}
-use Rattle.ext_engine.specs.Closers.{IsWithin, IsItem, OfStore, HasBelow, HasClosers, contexts}
+use Rattle.ext_engine.specs.InnerClosers.{IsWithin, IsItem, OfStore, HasBelow, HasClosers, contexts}
 use Rattle.ext_engine.proofs.Within.{apart, below-child}
 
 -- ---- children

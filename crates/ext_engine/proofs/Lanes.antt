@@ -1,15 +1,12 @@
 -- What the run of a tree leaves of its lanes.
 use Rattle.std.proofs.Common.{◌≡◌, inl, inr, ℕ, zero, suc, Bool, true, false, List, [], ◌∷◌, length, refl, ap, sym, subst, ◌∙◌, arith}
-use Rattle.std.specs.Prelude.{All, Option, slice_index_or}
+use Rattle.std.specs.Prelude.{All, slice_index_or}
 use Rattle.std.specs.List.{FoldsTo, AllZip}
 use Rattle.std.proofs.lemmas.List.Elements.{All-cons, All-drop, All-head, All-tail, All-take}
 use Rattle.ext_history.proofs.Lists.{bools}
-use Rattle.ext_lifecycle.specs.declared.call.Call.{Call}
-use Rattle.ext_lifecycle.specs.declared.outcome.Outcome.{Outcome}
 use Rattle.ext_lifecycle.specs.Endings.{all_successful}
 use Rattle.ext_lifecycle.specs.Lifecycle.{endings_of}
 use Rattle.ext_store.specs.Stores.{StoreView, StoreLane, IsLaneOf}
-use Rattle.ext_closing.specs.Closing.{Answer}
 use Rattle.ext_locks.specs.declared.event.LockMode.{LockMode}
 use Rattle.ext_locks.specs.Opening.{LocksView}
 use Rattle.ext_locks.specs.Sets.{HeldView}
@@ -87,9 +84,8 @@ idle_again locks set held before locked after takes gives all =
 
 -- ---- the run of a node
 
-module _ {V A : Type 0} (t : TreeSetting V) (makes : ℕ → Call → Option HeldView → StoreLane V → Outcome → StoreLane V → Type 0)
-    (actions : ℕ → A → Type 0) (gives : A → ℕ → V → Answer → A → Type 0) where
-  test_kept : (node : ℕ) (path : List ℕ) (before : Lanes V) (ran : List Ran) (after : Lanes V) → TestRun t makes actions gives node path before ran after → Kept t.locks before after
+module _ {V A : Type 0} (t : TreeSetting V A) where
+  test_kept : (node : ℕ) (path : List ℕ) (before : Lanes V) (ran : List Ran) (after : Lanes V) → TestRun t node path before ran after → Kept t.locks before after
   test_kept node path before ran after run = record {
     firsts = count_kept run.called after.first run.closes.closes.lanes ∙ first_count _ before.first run.called run.calls;
     seconds = first_count _ run.locked after.second run.given_back ∙ first_count _ before.second run.locked run.takes;
@@ -97,9 +93,9 @@ module _ {V A : Type 0} (t : TreeSetting V) (makes : ℕ → Call → Option Hel
   }
 
   module _ (Run : ℕ → Lanes V → List Ran → Lanes V → Type 0) (at : (c : ℕ) (s : Lanes V) (below : List Ran) (u : Lanes V) → Run c s below u → Kept t.locks s u) where
-    body_kept : (node : ℕ) (before : Lanes V) (below : List Ran) (after : Lanes V) → BodyRun t makes actions gives Run node before below after → Kept t.locks before after
+    body_kept : (node : ℕ) (before : Lanes V) (below : List Ran) (after : Lanes V) → BodyRun t Run node before below after → Kept t.locks before after
     body_kept node before below after b =
-        let cs = concurrent_children t makes actions gives node in
+        let cs = concurrent_children t node in
         let R : Lanes V → Lanes V → Type 0 = λ s u. Kept t.locks s u in
         let s = with_lanes b.forked before in
         let u = with_lanes b.joined b.between in
@@ -109,36 +105,36 @@ module _ {V A : Type 0} (t : TreeSetting V) (makes : ℕ → Call → Option Hel
         (length cs) _ s b.between b.beside b.dealt)
         (kept_then t.locks b.between u after (kept_met t.locks t.store b.between b.joined b.joins.only_meet) (turn_kept t.locks Run at b.in_turn.done u after b.in_turn.runs)))
 
-    made_kept : (go : Bool) (node : ℕ) (before : Lanes V) (below : List Ran) (after : Lanes V) → BodyMade t makes actions gives Run go node before below after → Kept t.locks before after
+    made_kept : (go : Bool) (node : ℕ) (before : Lanes V) (below : List Ran) (after : Lanes V) → BodyMade t Run go node before below after → Kept t.locks before after
     made_kept true node before below after made = body_kept node before below after (made.made refl)
     made_kept false node before below after made = subst (λ x. Kept t.locks before x) (sym (made.skipped refl).1) (kept_same t.locks before)
 
-    container_kept : (node : ℕ) (path : List ℕ) (before : Lanes V) (ran : List Ran) (after : Lanes V) → ContainerRun t makes actions gives Run node path before ran after → Kept t.locks before after
+    container_kept : (node : ℕ) (path : List ℕ) (before : Lanes V) (ran : List Ran) (after : Lanes V) → ContainerRun t Run node path before ran after → Kept t.locks before after
     container_kept node path before ran after run =
         let opened : Lanes V = record { first = run.opened; second = before.second } in
         let body = made_kept (all_successful (endings_of run.befores)) node opened run.below run.body run.body_made in
         record {
-          firsts = count_kept run.called after.first run.closes.closes.lanes ∙ first_count _ run.body.first run.called run.afters_made ∙ body.firsts ∙ first_count _ before.first run.opened run.befores_made;
+          firsts = count_kept run.ends.called after.first run.ends.closes.closes.lanes ∙ first_count _ run.body.first run.ends.called run.ends.afters_made ∙ body.firsts ∙ first_count _ before.first run.opened run.befores_made;
           seconds = ap length run.no_locks ∙ body.seconds;
           still_idle = λ all. subst (λ l. All (IsIdle t.locks) l) (sym run.no_locks) (body.still_idle all);
         }
 
-  tree_kept : (depth node : ℕ) (before : Lanes V) (ran : List Ran) (after : Lanes V) → TreeRun t makes actions gives depth node before ran after → Kept t.locks before after
+  tree_kept : (depth node : ℕ) (before : Lanes V) (ran : List Ran) (after : Lanes V) → TreeRun t depth node before ran after → Kept t.locks before after
   tree_kept zero node before ran after run = absurd run
   tree_kept (suc depth) node before ran after run = elim (bools (t.suite.is_test node)) [
     | inl test ↦ test_kept node run.0 before ran after (run.2 test)
-    | inr container ↦ container_kept (λ child s below u. TreeRun t makes actions gives depth child s below u) (λ c s below u r. tree_kept depth c s below u r) node run.0 before ran after (run.3 container)
+    | inr container ↦ container_kept (λ child s below u. TreeRun t depth child s below u) (λ c s below u r. tree_kept depth c s below u r) node run.0 before ran after (run.3 container)
   ]
 
   -- each run ends with a close, which leaves lanes of the store
-  own_lanes : (depth node : ℕ) (before : Lanes V) (ran : List Ran) (after : Lanes V) → TreeRun t makes actions gives depth node before ran after → All (IsLaneOf t.store.id) after.first
+  own_lanes : (depth node : ℕ) (before : Lanes V) (ran : List Ran) (after : Lanes V) → TreeRun t depth node before ran after → All (IsLaneOf t.store.id) after.first
   own_lanes zero node before ran after run = absurd run
   own_lanes (suc depth) node before ran after run = elim (bools (t.suite.is_test node)) [
     | inl test ↦ (run.2 test).closes.closes.own_lanes
-    | inr container ↦ (run.3 container).closes.closes.own_lanes
+    | inr container ↦ (run.3 container).ends.closes.closes.own_lanes
   ]
 
-  pub keeps_lanes : (depth node : ℕ) (before : Lanes V) (ran : List Ran) (after : Lanes V) → TreeRun t makes actions gives depth node before ran after → IsUsable t.store t.locks before
+  pub keeps_lanes : (depth node : ℕ) (before : Lanes V) (ran : List Ran) (after : Lanes V) → TreeRun t depth node before ran after → IsUsable t.store t.locks before
       → IsUsable t.store t.locks after × (length after.first ≡ length before.first)
   keeps_lanes depth node before ran after run usable =
       let kept = tree_kept depth node before ran after run in

@@ -28,3 +28,7 @@ pub mod Seen
 pub mod Told
 pub mod Trees
 pub mod Within
+-- Lemmas of crates below, for an engine's proofs.
+pub use Rattle.ext_history.proofs.Composed
+pub use Rattle.ext_crew.proofs.RunLaws as DealingLaws
+pub use Rattle.ext_crew.proofs.Runs as Dealings

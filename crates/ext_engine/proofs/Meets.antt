@@ -5,14 +5,14 @@ use Rattle.std.specs.List.{AllZip}
 use mathlib.Core.List.{IsPrefix}
 use base.Growing.{prefix_trans}
 use Rattle.std.proofs.lemmas.List.Elements.{All-nil, All-cons}
-use Rattle.ext_history.specs.Views.{seen_by}
+use Rattle.ext_history.specs.Histories.{seen_by}
 use Rattle.ext_history.proofs.Composed.{calls_none, seen_goes_on}
 use Rattle.ext_model.specs.History.{History, IsLegal, lane_of}
-use Rattle.ext_model.specs.Calls.{Calls}
+use Rattle.ext_model.specs.CallActs.{Calls}
 use Rattle.ext_model.proofs.Composed.{calls_compose}
 use Rattle.ext_tree.proofs.KeyPlacing.{keeps_all, keeps_both}
 use Rattle.ext_store.specs.Stores.{StoreView, StoreLane, IsLaneOf}
-use Rattle.ext_store.specs.Frames.{Frame}
+use Rattle.ext_store.specs.LaneCalls.{Frame}
 use Rattle.ext_store.proofs.Numbered.{frame_keys}
 use Rattle.ext_engine.specs.Meeting.{Forks, HasSeen, HasSeenWithin, Joins, OnlyMeets}
 

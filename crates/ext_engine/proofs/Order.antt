@@ -1,16 +1,12 @@
 -- The children that run beside one another are run between what is done before them and what is done after them.
 use Rattle.std.proofs.Common.{ℕ, ◌+◌, ◌-◌, ◌/◌, ◌%◌, min, List, [], ◌∷◌, length, sym, subst}
-use Rattle.std.specs.Prelude.{All, Option, slice_index_or}
+use Rattle.std.specs.Prelude.{All, slice_index_or}
 use base.Growing.{prefix_trans}
 use Rattle.std.proofs.lemmas.List.Elements.{All-nil, All-cons, All-head, All-tail, All-take, All-drop}
-use Rattle.ext_history.specs.Views.{seen_by}
+use Rattle.ext_history.specs.Histories.{seen_by}
 use Rattle.ext_crew.specs.declared.jobs.done.Done.{Done}
 use Rattle.ext_model.specs.History.{History}
-use Rattle.ext_lifecycle.specs.declared.call.Call.{Call}
-use Rattle.ext_lifecycle.specs.declared.outcome.Outcome.{Outcome}
 use Rattle.ext_store.specs.Stores.{StoreLane}
-use Rattle.ext_closing.specs.Closing.{Answer}
-use Rattle.ext_locks.specs.Sets.{HeldView}
 use Rattle.ext_crew.proofs.Runs.{run-weaker}
 use Rattle.ext_crew.specs.Dealing.{Share, front, back, InTurn, RunByDealing, WorkedFrom}
 use Rattle.ext_engine.specs.Meeting.{HasSeen, HasSeenWithin, first_seen}
@@ -75,13 +71,13 @@ module _ {V : Type 0} (h : History) where
 
 -- Where runs of children let lanes go on, each run of a child that runs beside others begins behind what the first lane had seen before the body, and ends before what that
 -- lane has seen when the other children begin
-pub children_within : {V A : Type 0} (t : TreeSetting V) (makes : ℕ → Call → Option HeldView → StoreLane V → Outcome → StoreLane V → Type 0) (actions : ℕ → A → Type 0) (gives : A → ℕ → V → Answer → A → Type 0)
+pub children_within : {V A : Type 0} (t : TreeSetting V A)
     → (Child : ℕ → Lanes V → List Ran → Lanes V → Type 0) → ((child : ℕ) (s : Lanes V) (below : List Ran) (u : Lanes V) → Child child s below u → AllGoOn s.first u.first)
-    → (node : ℕ) (before : Lanes V) (below : List Ran) (after : Lanes V) (body : BodyRun t makes actions gives Child node before below after)
-    → RunByDealing (λ i s ran u. Child (slice_index_or (concurrent_children t makes actions gives node) i 0) s ran u × IsWithin (first_seen before.first) (first_seen body.joined) s u)
-    (length (concurrent_children t makes actions gives node)) (min (length body.forked) (length (concurrent_children t makes actions gives node))) (with_lanes body.forked before) body.beside body.between
-children_within {V} t makes actions gives Child at node before below after body =
-    let cs = concurrent_children t makes actions gives node in
+    → (node : ℕ) (before : Lanes V) (below : List Ran) (after : Lanes V) (body : BodyRun t Child node before below after)
+    → RunByDealing (λ i s ran u. Child (slice_index_or (concurrent_children t node) i 0) s ran u × IsWithin (first_seen before.first) (first_seen body.joined) s u)
+    (length (concurrent_children t node)) (min (length body.forked) (length (concurrent_children t node))) (with_lanes body.forked before) body.beside body.between
+children_within {V} t Child at node before below after body =
+    let cs = concurrent_children t node in
     let since = first_seen before.first in
     let until = first_seen body.joined in
     let runs : ℕ → Lanes V → List Ran → Lanes V → Type 0 = λ i s ran u. Child (slice_index_or cs i 0) s ran u in

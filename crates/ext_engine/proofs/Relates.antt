@@ -9,7 +9,6 @@ use Rattle.ext_lifecycle.specs.Endings.{all_successful, is_successful}
 use Rattle.ext_lifecycle.specs.Lifecycle.{MakesAll, MakesBefores, MakesCalls, MakesIf, ending_of, endings_of}
 use Rattle.ext_cells.specs.Lanes.{Lane}
 use Rattle.ext_store.specs.Stores.{StoreLane}
-use Rattle.ext_closing.specs.Closing.{Answer}
 use Rattle.ext_closing.specs.Lanes.{OnlyFirstSteps, first_lane}
 use Rattle.ext_closing.specs.Sealing.{MakesSeals}
 use Rattle.ext_locks.specs.Sets.{HeldView}
@@ -52,10 +51,9 @@ module _ {V : Type 0} (R : StoreLane V → StoreLane V → Type 0) (same : (a : 
 
 -- ---- the run of a tree
 
-module _ {V A : Type 0} (t : TreeSetting V) (makes : ℕ → Call → Option HeldView → StoreLane V → Outcome → StoreLane V → Type 0)
-    (actions : ℕ → A → Type 0) (gives : A → ℕ → V → Answer → A → Type 0)
+module _ {V A : Type 0} (t : TreeSetting V A)
     (R : StoreLane V → StoreLane V → Type 0) (same : (a : StoreLane V) → R a a) (next : (a b c : StoreLane V) → R a b → R b c → R a c)
-    (moves : (node : ℕ) (call : Call) (held : Option HeldView) (a : StoreLane V) (outcome : Outcome) (b : StoreLane V) → makes node call held a outcome b → R a b)
+    (moves : (node : ℕ) (call : Call) (held : Option HeldView) (a : StoreLane V) (outcome : Outcome) (b : StoreLane V) → t.call_gives node call held a outcome b → R a b)
     (meets : (a b : StoreLane V) → OnlyMeets t.store a b → R a b)
     (seals : (context keys : ℕ) (a : StoreLane V) (cells : Lane) → MakesSeals t.store context keys a.cells cells → R a (record { cells = cells; known = a.known; faults = a.faults; keys = a.keys })) where
   abbrev All2 : List (StoreLane V) → List (StoreLane V) → Type 0
@@ -82,7 +80,7 @@ module _ {V A : Type 0} (t : TreeSetting V) (makes : ℕ → Call → Option Hel
 
   module _ (node : ℕ) (held : Option HeldView) where
     abbrev Made : StoreLane V → Call → Outcome → StoreLane V → Type 0
-    Made = MakesOn t makes actions gives node held
+    Made = MakesOn t node held
 
     pub all_relate : (calls : List Call) (a : StoreLane V) (outcomes : List Outcome) (b : StoreLane V) → MakesAll Made calls a outcomes b → R a b
     all_relate [] a outcomes b made = subst (λ x. R a x) (sym made.1) (same a)
@@ -106,7 +104,7 @@ module _ {V A : Type 0} (t : TreeSetting V) (makes : ℕ → Call → Option Hel
         next a made.opened b (befores_relate befores a made.first made.opened made.befores_made)
         (next made.opened made.closing b (body_relates (all_successful (endings_of made.first)) body made.opened made.second made.closing made.body_made) (all_relate afters made.closing made.third b made.afters_made))
 
-  test_relates : (node : ℕ) (path : List ℕ) (before : Lanes V) (ran : List Ran) (after : Lanes V) → TestRun t makes actions gives node path before ran after → All2 before.first after.first
+  test_relates : (node : ℕ) (path : List ℕ) (before : Lanes V) (ran : List Ran) (after : Lanes V) → TestRun t node path before ran after → All2 before.first after.first
   test_relates node path before ran after run =
       next2 before.first run.called after.first (first_relates R same next _ before.first run.called (λ a b made. calls_relate node (Some run.held) _ _ _ a run.outcomes b made) run.calls)
       (close_relates _ _ run.called after.first run.closes.closes.lanes run.closes.closes.own_events)
@@ -117,35 +115,35 @@ module _ {V A : Type 0} (t : TreeSetting V) (makes : ℕ → Call → Option Hel
     turn_relates (e ∷ done) s u run = next2 s.first run.0.first u.first (at e.0 s e.1 run.0 run.1) (turn_relates done run.0 u run.2)
 
     -- the concurrent children
-    pub dealt_relates : (node : ℕ) (before : Lanes V) (below : List Ran) (after : Lanes V) (b : BodyRun t makes actions gives Run node before below after) → All2 b.forked b.between.first
+    pub dealt_relates : (node : ℕ) (before : Lanes V) (below : List Ran) (after : Lanes V) (b : BodyRun t Run node before below after) → All2 b.forked b.between.first
     dealt_relates node before below after b =
-        let cs = concurrent_children t makes actions gives node in
+        let cs = concurrent_children t node in
         let Both : Lanes V → Lanes V → Type 0 = λ s u. All2 s.first u.first in
         run-relates (λ i s ran u. Run (slice_index_or cs i 0) s ran u) Both (λ x. same2 x.first) (λ job x o v w r more. next2 x.first v.first w.first (at (slice_index_or cs job 0) x o v r) more)
         (λ n x y one two. all_join R same next n x.first y.first one two) _ _ (with_lanes b.forked before) b.between b.beside b.dealt
 
-    children_relate : (node : ℕ) (before : Lanes V) (below : List Ran) (after : Lanes V) → BodyRun t makes actions gives Run node before below after → All2 before.first after.first
+    children_relate : (node : ℕ) (before : Lanes V) (below : List Ran) (after : Lanes V) → BodyRun t Run node before below after → All2 before.first after.first
     children_relate node before below after b =
         let u = with_lanes b.joined b.between in
         next2 before.first b.forked after.first (met_relate before.first b.forked b.forks.only_meet)
         (next2 b.forked b.between.first after.first (dealt_relates node before below after b)
         (next2 b.between.first b.joined after.first (met_relate b.between.first b.joined b.joins.only_meet) (turn_relates b.in_turn.done u after b.in_turn.runs)))
 
-    made_relates : (go : Bool) (node : ℕ) (before : Lanes V) (below : List Ran) (after : Lanes V) → BodyMade t makes actions gives Run go node before below after → All2 before.first after.first
+    made_relates : (go : Bool) (node : ℕ) (before : Lanes V) (below : List Ran) (after : Lanes V) → BodyMade t Run go node before below after → All2 before.first after.first
     made_relates true node before below after made = children_relate node before below after (made.made refl)
     made_relates false node before below after made = subst (λ (x : Lanes V). All2 before.first x.first) (sym (made.skipped refl).1) (same2 before.first)
 
-    container_relates : (node : ℕ) (path : List ℕ) (before : Lanes V) (ran : List Ran) (after : Lanes V) → ContainerRun t makes actions gives Run node path before ran after → All2 before.first after.first
+    container_relates : (node : ℕ) (path : List ℕ) (before : Lanes V) (ran : List Ran) (after : Lanes V) → ContainerRun t Run node path before ran after → All2 before.first after.first
     container_relates node path before ran after run =
         let opened : Lanes V = record { first = run.opened; second = before.second } in
         next2 before.first run.opened after.first (first_relates R same next _ before.first run.opened (λ a b made. befores_relate node None _ a run.befores b made) run.befores_made)
         (next2 run.opened run.body.first after.first (made_relates (all_successful (endings_of run.befores)) node opened run.below run.body run.body_made)
-        (next2 run.body.first run.called after.first (first_relates R same next _ run.body.first run.called (λ a b made. all_relate node None _ a run.afters b made) run.afters_made)
-        (close_relates _ _ run.called after.first run.closes.closes.lanes run.closes.closes.own_events)))
+        (next2 run.body.first run.ends.called after.first (first_relates R same next _ run.body.first run.ends.called (λ a b made. all_relate node None _ a run.ends.afters b made) run.ends.afters_made)
+        (close_relates _ _ run.ends.called after.first run.ends.closes.closes.lanes run.ends.closes.closes.own_events)))
 
-  pub tree_relates : (depth node : ℕ) (before : Lanes V) (ran : List Ran) (after : Lanes V) → TreeRun t makes actions gives depth node before ran after → All2 before.first after.first
+  pub tree_relates : (depth node : ℕ) (before : Lanes V) (ran : List Ran) (after : Lanes V) → TreeRun t depth node before ran after → All2 before.first after.first
   tree_relates zero node before ran after run = absurd run
   tree_relates (suc depth) node before ran after run = elim (bools (t.suite.is_test node)) [
     | inl test ↦ test_relates node run.0 before ran after (run.2 test)
-    | inr container ↦ container_relates (λ child s below u. TreeRun t makes actions gives depth child s below u) (λ c s below u r. tree_relates depth c s below u r) node run.0 before ran after (run.3 container)
+    | inr container ↦ container_relates (λ child s below u. TreeRun t depth child s below u) (λ c s below u r. tree_relates depth c s below u r) node run.0 before ran after (run.3 container)
   ]

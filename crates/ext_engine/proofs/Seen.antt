@@ -1,17 +1,13 @@
 -- All events of a run of a node come behind what the first lane of its share had seen before it, and are among what that lane has seen after it.
 use Rattle.std.proofs.Common.{inl, inr, ℕ, zero, suc, Bool, true, false, List, [], ◌∷◌, refl, subst, sym, arith}
-use Rattle.std.specs.Prelude.{All, Option, Some, None}
+use Rattle.std.specs.Prelude.{All, Some, None}
 use Rattle.std.specs.List.{AllZip, FoldsTo}
 use Rattle.ext_history.proofs.Lists.{bools}
 use Rattle.ext_model.specs.History.{History}
-use Rattle.ext_lifecycle.specs.declared.call.Call.{Call}
-use Rattle.ext_lifecycle.specs.declared.outcome.Outcome.{Outcome}
 use Rattle.ext_lifecycle.specs.Endings.{all_successful}
 use Rattle.ext_lifecycle.specs.Lifecycle.{endings_of}
 use Rattle.ext_store.specs.Stores.{StoreView, StoreLane}
-use Rattle.ext_closing.specs.Closing.{Answer}
 use Rattle.ext_closing.specs.Lanes.{OnlyFirstSteps}
-use Rattle.ext_locks.specs.Sets.{HeldView}
 use Rattle.ext_engine.specs.Meeting.{HasSeen, HasSeenWithin, OnlyMeets, first_seen}
 use Rattle.ext_engine.specs.Order.{AllGoOn, CallsGoOn, ComesBefore, LaneGoesOn, IsSeenByFirst}
 use Rattle.ext_engine.specs.TreeRun.{Ran, TreeSetting, Lanes, TreeRun, TestRun, ContainerRun, BodyRun, BodyMade, OnFirst, with_lanes}
@@ -66,19 +62,18 @@ module _ {V : Type 0} (h : History) where
 
 -- ---- the run of a tree
 
-module _ {V A : Type 0} (t : TreeSetting V) (makes : ℕ → Call → Option HeldView → StoreLane V → Outcome → StoreLane V → Type 0)
-    (actions : ℕ → A → Type 0) (gives : A → ℕ → V → Answer → A → Type 0) (moves : CallsGoOn makes) (h : History) where
-  test_acts : (node : ℕ) (path : List ℕ) (before : Lanes V) (ran : List Ran) (after : Lanes V) → TestRun t makes actions gives node path before ran after → Acts h before.first after.first
+module _ {V A : Type 0} (t : TreeSetting V A) (moves : CallsGoOn t.call_gives) (h : History) where
+  test_acts : (node : ℕ) (path : List ℕ) (before : Lanes V) (ran : List Ran) (after : Lanes V) → TestRun t node path before ran after → Acts h before.first after.first
   test_acts node path before ran after run =
-      acts_then h before.first run.called after.first (acts_first h _ before.first run.called (λ a b made. calls_go t makes actions gives moves node (Some run.held) _ _ _ a run.outcomes b made) run.calls)
-      (acts_close h run.called after.first run.closes.closes.lanes (close_goes t makes actions gives moves _ _ run.called after.first run.closes.closes.lanes run.closes.closes.own_events))
+      acts_then h before.first run.called after.first (acts_first h _ before.first run.called (λ a b made. calls_go t moves node (Some run.held) _ _ _ a run.outcomes b made) run.calls)
+      (acts_close h run.called after.first run.closes.closes.lanes (close_goes t moves _ _ run.called after.first run.closes.closes.lanes run.closes.closes.own_events))
 
   module _ (Run : ℕ → Lanes V → List Ran → Lanes V → Type 0) (go : (c : ℕ) (s : Lanes V) (below : List Ran) (u : Lanes V) → Run c s below u → AllGoOn s.first u.first)
       (at : (c : ℕ) (s : Lanes V) (below : List Ran) (u : Lanes V) → Run c s below u → All (HasSeenWithin h) u.first → Acts h s.first u.first) where
     pub turn_acts : (done : List Entry) (s u : Lanes V) → FoldsTo (λ s d u. Run d.0 s d.1 u) s done u → All (HasSeenWithin h) u.first → Acts h s.first u.first
     turn_acts [] s u same within = subst (λ (x : Lanes V). Acts h s.first x.first) same (acts_same h s.first)
     turn_acts (e ∷ done) s u run within =
-        let later = turn_goes t makes actions gives moves Run go done run.0 u run.2 in
+        let later = turn_goes t moves Run go done run.0 u run.2 in
         acts_then h s.first run.0.first u.first (at e.0 s e.1 run.0 run.1 (came_from h run.0.first u.first later within)) (turn_acts done run.0 u run.2 within)
 
     -- each of these runs comes after all that was done since the lanes were `before`, and before all that is done until they are `last`
@@ -86,7 +81,7 @@ module _ {V A : Type 0} (t : TreeSetting V) (makes : ℕ → Call → Option Hel
         → FoldsTo (λ s d u. Run d.0 s d.1 u × ComesBefore h before s.first s.first u.first × ComesBefore h s.first u.first u.first last) s done u
     turn_order before last [] s u same within pre post = same
     turn_order before last (e ∷ done) s u run within pre post =
-        let later = turn_goes t makes actions gives moves Run go done run.0 u run.2 in
+        let later = turn_goes t moves Run go done run.0 u run.2 in
         let one = at e.0 s e.1 run.0 run.1 (came_from h run.0.first u.first later within) in
         let rest = turn_acts done run.0 u run.2 within in (
           run.0,
@@ -95,55 +90,55 @@ module _ {V A : Type 0} (t : TreeSetting V) (makes : ℕ → Call → Option Hel
         )
 
     -- from before the fork until after the join
-    pub dealt_acts : (node : ℕ) (before : Lanes V) (below : List Ran) (after : Lanes V) (b : BodyRun t makes actions gives Run node before below after) → All (HasSeenWithin h) b.joined → Acts h before.first b.joined
+    pub dealt_acts : (node : ℕ) (before : Lanes V) (below : List Ran) (after : Lanes V) (b : BodyRun t Run node before below after) → All (HasSeenWithin h) b.joined → Acts h before.first b.joined
     dealt_acts node before below after b within =
-        let dealt = children_dealt_go t makes actions gives moves Run go node before below after b in
-        let last = all_met t makes actions gives moves b.between.first b.joined b.joins.only_meet in
+        let dealt = children_dealt_go t moves Run go node before below after b in
+        let last = all_met t moves b.between.first b.joined b.joins.only_meet in
         let within_between = came_from h b.between.first b.joined last within in
-        acts_between h t.store before.first b.forked b.between.first b.joined b.forks.only_meet (all_met t makes actions gives moves before.first b.forked b.forks.only_meet) dealt b.joins.only_meet last b.forks.shown b.joins.shown (came_from h b.forked b.between.first dealt within_between) within
+        acts_between h t.store before.first b.forked b.between.first b.joined b.forks.only_meet (all_met t moves before.first b.forked b.forks.only_meet) dealt b.joins.only_meet last b.forks.shown b.joins.shown (came_from h b.forked b.between.first dealt within_between) within
 
-    pub turned_within : (node : ℕ) (before : Lanes V) (below : List Ran) (after : Lanes V) (b : BodyRun t makes actions gives Run node before below after) → All (HasSeenWithin h) after.first → All (HasSeenWithin h) b.joined
+    pub turned_within : (node : ℕ) (before : Lanes V) (below : List Ran) (after : Lanes V) (b : BodyRun t Run node before below after) → All (HasSeenWithin h) after.first → All (HasSeenWithin h) b.joined
     turned_within node before below after b within =
         let s = with_lanes b.joined b.between in
-        came_from h b.joined after.first (turn_goes t makes actions gives moves Run go b.in_turn.done s after b.in_turn.runs) within
+        came_from h b.joined after.first (turn_goes t moves Run go b.in_turn.done s after b.in_turn.runs) within
 
-    pub body_acts : (node : ℕ) (before : Lanes V) (below : List Ran) (after : Lanes V) → BodyRun t makes actions gives Run node before below after → All (HasSeenWithin h) after.first → Acts h before.first after.first
+    pub body_acts : (node : ℕ) (before : Lanes V) (below : List Ran) (after : Lanes V) → BodyRun t Run node before below after → All (HasSeenWithin h) after.first → Acts h before.first after.first
     body_acts node before below after b within =
         acts_then h before.first b.joined after.first (dealt_acts node before below after b (turned_within node before below after b within))
         (turn_acts b.in_turn.done (with_lanes b.joined b.between) after b.in_turn.runs within)
 
-    made_acts : (on : Bool) (node : ℕ) (before : Lanes V) (below : List Ran) (after : Lanes V) → BodyMade t makes actions gives Run on node before below after → All (HasSeenWithin h) after.first → Acts h before.first after.first
+    made_acts : (on : Bool) (node : ℕ) (before : Lanes V) (below : List Ran) (after : Lanes V) → BodyMade t Run on node before below after → All (HasSeenWithin h) after.first → Acts h before.first after.first
     made_acts true node before below after made within = body_acts node before below after (made.made refl) within
     made_acts false node before below after made within = subst (λ (x : Lanes V). Acts h before.first x.first) (sym (made.skipped refl).1) (acts_same h before.first)
 
-    pub opened_acts : (node : ℕ) (path : List ℕ) (before : Lanes V) (ran : List Ran) (after : Lanes V) (run : ContainerRun t makes actions gives Run node path before ran after) → Acts h before.first run.opened
-    opened_acts node path before ran after run = acts_first h _ before.first run.opened (λ a b made. befores_go t makes actions gives moves node None _ a run.befores b made) run.befores_made
+    pub opened_acts : (node : ℕ) (path : List ℕ) (before : Lanes V) (ran : List Ran) (after : Lanes V) (run : ContainerRun t Run node path before ran after) → Acts h before.first run.opened
+    opened_acts node path before ran after run = acts_first h _ before.first run.opened (λ a b made. befores_go t moves node None _ a run.befores b made) run.befores_made
 
-    pub called_acts : (node : ℕ) (path : List ℕ) (before : Lanes V) (ran : List Ran) (after : Lanes V) (run : ContainerRun t makes actions gives Run node path before ran after) → Acts h run.body.first run.called
-    called_acts node path before ran after run = acts_first h _ run.body.first run.called (λ a b made. all_go t makes actions gives moves node None _ a run.afters b made) run.afters_made
+    pub called_acts : (node : ℕ) (path : List ℕ) (before : Lanes V) (ran : List Ran) (after : Lanes V) (run : ContainerRun t Run node path before ran after) → Acts h run.body.first run.ends.called
+    called_acts node path before ran after run = acts_first h _ run.body.first run.ends.called (λ a b made. all_go t moves node None _ a run.ends.afters b made) run.ends.afters_made
 
-    pub closed_acts : (node : ℕ) (path : List ℕ) (before : Lanes V) (ran : List Ran) (after : Lanes V) (run : ContainerRun t makes actions gives Run node path before ran after) → Acts h run.called after.first
-    closed_acts node path before ran after run = acts_close h run.called after.first run.closes.closes.lanes (close_goes t makes actions gives moves _ _ run.called after.first run.closes.closes.lanes run.closes.closes.own_events)
+    pub closed_acts : (node : ℕ) (path : List ℕ) (before : Lanes V) (ran : List Ran) (after : Lanes V) (run : ContainerRun t Run node path before ran after) → Acts h run.ends.called after.first
+    closed_acts node path before ran after run = acts_close h run.ends.called after.first run.ends.closes.closes.lanes (close_goes t moves _ _ run.ends.called after.first run.ends.closes.closes.lanes run.ends.closes.closes.own_events)
 
-    pub body_within : (node : ℕ) (path : List ℕ) (before : Lanes V) (ran : List Ran) (after : Lanes V) (run : ContainerRun t makes actions gives Run node path before ran after) → All (HasSeenWithin h) after.first
+    pub body_within : (node : ℕ) (path : List ℕ) (before : Lanes V) (ran : List Ran) (after : Lanes V) (run : ContainerRun t Run node path before ran after) → All (HasSeenWithin h) after.first
         → All (HasSeenWithin h) run.body.first
     body_within node path before ran after run within =
-        came_from h run.body.first run.called (called_acts node path before ran after run).goes (came_from h run.called after.first (closed_acts node path before ran after run).goes within)
+        came_from h run.body.first run.ends.called (called_acts node path before ran after run).goes (came_from h run.ends.called after.first (closed_acts node path before ran after run).goes within)
 
-    container_acts : (node : ℕ) (path : List ℕ) (before : Lanes V) (ran : List Ran) (after : Lanes V) → ContainerRun t makes actions gives Run node path before ran after → All (HasSeenWithin h) after.first
+    container_acts : (node : ℕ) (path : List ℕ) (before : Lanes V) (ran : List Ran) (after : Lanes V) → ContainerRun t Run node path before ran after → All (HasSeenWithin h) after.first
         → Acts h before.first after.first
     container_acts node path before ran after run within =
         let opened : Lanes V = record { first = run.opened; second = before.second } in
         let body = made_acts (all_successful (endings_of run.befores)) node opened run.below run.body run.body_made (body_within node path before ran after run within) in
         acts_then h before.first run.opened after.first (opened_acts node path before ran after run)
         (acts_then h run.opened run.body.first after.first body
-        (acts_then h run.body.first run.called after.first (called_acts node path before ran after run) (closed_acts node path before ran after run)))
+        (acts_then h run.body.first run.ends.called after.first (called_acts node path before ran after run) (closed_acts node path before ran after run)))
 
-  pub tree_acts : (depth node : ℕ) (before : Lanes V) (ran : List Ran) (after : Lanes V) → TreeRun t makes actions gives depth node before ran after → All (HasSeenWithin h) after.first → Acts h before.first after.first
+  pub tree_acts : (depth node : ℕ) (before : Lanes V) (ran : List Ran) (after : Lanes V) → TreeRun t depth node before ran after → All (HasSeenWithin h) after.first → Acts h before.first after.first
   tree_acts zero node before ran after run within = absurd run
   tree_acts (suc depth) node before ran after run within = elim (bools (t.suite.is_test node)) [
     | inl test ↦ test_acts node run.0 before ran after (run.2 test)
     | inr container ↦
-        container_acts (λ child s below u. TreeRun t makes actions gives depth child s below u) (λ c s below u r. tree_goes t makes actions gives moves depth c s below u r) (λ c s below u r seen. tree_acts depth c s below u r seen)
+        container_acts (λ child s below u. TreeRun t depth child s below u) (λ c s below u r. tree_goes t moves depth c s below u r) (λ c s below u r seen. tree_acts depth c s below u r seen)
         node run.0 before ran after (run.3 container) within
   ]

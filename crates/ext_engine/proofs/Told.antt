@@ -7,20 +7,14 @@ use Rattle.std.proofs.lemmas.List.Concat.{flat_map-append}
 use Rattle.std.proofs.lemmas.List.Elements.{All-append, All-cons}
 use Rattle.ext_history.proofs.Lists.{bools}
 use Rattle.ext_model.specs.declared.look.Fault.{Fault}
-use Rattle.ext_lifecycle.specs.declared.call.Call.{Call}
-use Rattle.ext_lifecycle.specs.declared.outcome.Outcome.{Outcome}
 use Rattle.ext_lifecycle.specs.declared.status.Status.TheVariants as statuses
 use Rattle.ext_lifecycle.specs.Endings.{all_successful, first_abort, first_fault, total_by, unsuccessful}
 use Rattle.ext_lifecycle.specs.Lifecycle.{computed_in, endings_of, found_in}
 use Rattle.ext_lifecycle.specs.Modes.{in_run_order}
 use Rattle.ext_lifecycle.specs.Results.{close_ending, result_of}
-use Rattle.ext_tree.specs.Trees.{IsTree}
-use Rattle.ext_tree.specs.Paths.{IsPathOf, children_of}
-use Rattle.ext_store.specs.Stores.{StoreLane}
-use Rattle.ext_closing.specs.Closing.{Answer}
-use Rattle.ext_locks.specs.Sets.{HeldView}
+use Rattle.ext_tree.specs.Trees.{IsTree, IsPathOf, children_of}
 use Rattle.ext_crew.proofs.RunLaws.{run-outcome}
-use Rattle.ext_engine.specs.TreeRun.{Ran, TreeSetting, Lanes, TreeRun, TestRun, ContainerRun, BodyRun, IsFit, concurrent_children, with_lanes}
+use Rattle.ext_engine.specs.TreeRun.{Ran, TreeSetting, Lanes, TreeRun, TestRun, ContainerRun, BodyRun, IsRunnable, concurrent_children, with_lanes}
 use Rattle.ext_engine.proofs.Above.{within_tree}
 use Rattle.ext_engine.proofs.Grown.{Entry, runs_in, order, Grows}
 
@@ -72,8 +66,7 @@ module _ {V : Type 0} (Run : ℕ → Lanes V → List Ran → Lanes V → Type 0
 
 -- ---- the run of a node
 
-module _ {V A : Type 0} (t : TreeSetting V) (makes : ℕ → Call → Option HeldView → StoreLane V → Outcome → StoreLane V → Type 0)
-    (actions : ℕ → A → Type 0) (gives : A → ℕ → V → Answer → A → Type 0) (tree : IsTree t.store.tree) (fit : IsFit t.store t.locks t.suite) where
+module _ {V A : Type 0} (t : TreeSetting V A) (tree : IsTree t.store.tree) (fit : IsRunnable t.store t.locks t.suite) where
   -- all children of a container whose body was run
   record Bodied (P : ℕ → List Ran → Type 0) (node : ℕ) (below : List Ran) : Type 0 where
     done : List Entry
@@ -82,9 +75,9 @@ module _ {V A : Type 0} (t : TreeSetting V) (makes : ℕ → Call → Option Hel
     each : All (λ e. P e.0 e.1) done
 
   module _ (Run : ℕ → Lanes V → List Ran → Lanes V → Type 0) (P : ℕ → List Ran → Type 0) (at : (c : ℕ) (s : Lanes V) (below : List Ran) (u : Lanes V) → Run c s below u → P c below) where
-    bodied : (node : ℕ) (before : Lanes V) (below : List Ran) (after : Lanes V) → BodyRun t makes actions gives Run node before below after → Bodied P node below
+    bodied : (node : ℕ) (before : Lanes V) (below : List Ran) (after : Lanes V) → BodyRun t Run node before below after → Bodied P node below
     bodied node before below after b =
-        let cs = concurrent_children t makes actions gives node in
+        let cs = concurrent_children t node in
         let runs : ℕ → Lanes V → List Ran → Lanes V → Type 0 = λ i s ran u. Run (slice_index_or cs i 0) s ran u in
         let same : length b.beside ≡ length cs = b.dealt.outcome_count in
         let first = paired cs b.beside in
@@ -100,7 +93,7 @@ module _ {V A : Type 0} (t : TreeSetting V) (makes : ℕ → Call → Option Hel
         }
 
   test_grown : (depth node : ℕ) (path : List ℕ) (before : Lanes V) (ran : List Ran) (after : Lanes V) → IsPathOf t.store.tree node path → t.suite.is_test node ≡ true
-      → TestRun t makes actions gives node path before ran after → Grows t.store.tree t.suite (suc depth) node ran
+      → TestRun t node path before ran after → Grows t.store.tree t.suite (suc depth) node ran
   test_grown depth node path before ran after is test run =
       let ends = endings_of run.outcomes ++ map close_ending run.faults in
       let none : children_of t.store.tree node ≡ [] = fit.below node (within_tree t.store.tree node path tree is) test in
@@ -120,13 +113,13 @@ module _ {V A : Type 0} (t : TreeSetting V) (makes : ℕ → Call → Option Hel
 
   container_grown : (depth node : ℕ) (path : List ℕ) (before : Lanes V) (ran : List Ran) (after : Lanes V) → IsPathOf t.store.tree node path
       → (Run : ℕ → Lanes V → List Ran → Lanes V → Type 0) → ((c : ℕ) (s : Lanes V) (below : List Ran) (u : Lanes V) → Run c s below u → Grows t.store.tree t.suite depth c below)
-      → t.suite.is_test node ≡ false → ContainerRun t makes actions gives Run node path before ran after → Grows t.store.tree t.suite (suc depth) node ran
+      → t.suite.is_test node ≡ false → ContainerRun t Run node path before ran after → Grows t.store.tree t.suite (suc depth) node ran
   container_grown depth node path before ran after is Run at container run =
-      let calls = run.befores ++ run.afters in
-      let ends = endings_of calls ++ map close_ending run.faults in
+      let calls = run.befores ++ run.ends.afters in
+      let ends = endings_of calls ++ map close_ending run.ends.faults in
       let P : ℕ → List Ran → Type 0 = λ c below. Grows t.store.tree t.suite depth c below in
       let opened : Lanes V = record { first = run.opened; second = before.second } in
-      let first : Ran = record { result = result_of node false (endings_of calls) (computed_in calls) (found_in calls) run.faults; went_on = all_successful (endings_of run.befores) } in
+      let first : Ran = record { result = result_of node false (endings_of calls) (computed_in calls) (found_in calls) run.ends.faults; went_on = all_successful (endings_of run.befores) } in
       let status = not_skipped (first_fault ends) (first_abort ends) (unsuccessful ends) in
       elim (bools (all_successful (endings_of run.befores))) [
         | inl on ↦
@@ -136,7 +129,7 @@ module _ {V A : Type 0} (t : TreeSetting V) (makes : ℕ → Call → Option Hel
               done = b.done;
               path = path;
               path_is = is;
-              ran_are = run.ran_are ∙ ap (λ l. first ∷ l) b.runs_are;
+              ran_are = run.ran_are ∙ ap (λ r. r ∷ run.below) run.ends.own_is ∙ ap (λ l. first ∷ l) b.runs_are;
               node_is = refl;
               test_is = sym container;
               ran_status = status;
@@ -149,7 +142,7 @@ module _ {V A : Type 0} (t : TreeSetting V) (makes : ℕ → Call → Option Hel
           done = [];
           path = path;
           path_is = is;
-          ran_are = run.ran_are ∙ ap (λ l. first ∷ l) (run.body_made.skipped off).0;
+          ran_are = run.ran_are ∙ ap (λ r. r ∷ run.below) run.ends.own_is ∙ ap (λ l. first ∷ l) (run.body_made.skipped off).0;
           node_is = refl;
           test_is = sym container;
           ran_status = status;
@@ -159,9 +152,9 @@ module _ {V A : Type 0} (t : TreeSetting V) (makes : ℕ → Call → Option Hel
         }
       ]
 
-  pub grown : (depth node : ℕ) (before : Lanes V) (ran : List Ran) (after : Lanes V) → TreeRun t makes actions gives depth node before ran after → Grows t.store.tree t.suite depth node ran
+  pub grown : (depth node : ℕ) (before : Lanes V) (ran : List Ran) (after : Lanes V) → TreeRun t depth node before ran after → Grows t.store.tree t.suite depth node ran
   grown zero node before ran after run = absurd run
   grown (suc depth) node before ran after run = elim (bools (t.suite.is_test node)) [
     | inl test ↦ test_grown depth node run.0 before ran after run.1 test (run.2 test)
-    | inr container ↦ container_grown depth node run.0 before ran after run.1 (λ child s below u. TreeRun t makes actions gives depth child s below u) (λ c s below u r. grown depth c s below u r) container (run.3 container)
+    | inr container ↦ container_grown depth node run.0 before ran after run.1 (λ child s below u. TreeRun t depth child s below u) (λ c s below u r. grown depth c s below u r) container (run.3 container)
   ]

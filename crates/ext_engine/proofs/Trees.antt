@@ -1,6 +1,6 @@
 -- What holds of the run of a node, from what holds of its parts.
 use Rattle.std.proofs.Common.{◌≡◌, ℕ, ◌+◌, ◌-◌, ◌<◌, ◌≤◌, false, true, min, zero, suc, List, [], ◌∷◌, ◌++◌, length, map, drop, ap, ◌∙◌, sym, refl, subst, arith, append-nil, length-drop, length-take}
-use Rattle.std.specs.Prelude.{All, Option, option_map, filter, not, Some, Ok, Err, Result, Vec, IfOk, IsOk, slice_get, slice_index_or}
+use Rattle.std.specs.Prelude.{All, option_map, filter, not, Some, Ok, Err, Result, Vec, IfOk, IsOk, slice_get, slice_index_or}
 use Rattle.std.specs.declared.alloc.Global.{Global}
 use Rattle.std.specs.List.{flat_map, AllZip}
 use Rattle.std.proofs.lemmas.Fn.{FoldsTo-push}
@@ -8,20 +8,16 @@ use Rattle.std.proofs.lemmas.Grind.{flat_map-append}
 use Rattle.std.proofs.lemmas.List.{map-append}
 use Rattle.std.proofs.lemmas.List.Elements.{All-take, All-drop, All-nil, All-cons}
 use Rattle.std.proofs.lemmas.Option.{slice_get_within, get_or_from_slice_get, slice_get-map}
-use Rattle.ext_tree.specs.Paths.{IsPathOf, children_of}
+use Rattle.ext_tree.specs.Trees.{IsPathOf, children_of}
 use Rattle.ext_store.specs.Stores.{StoreView, StoreLane, IsLaneOf}
-use Rattle.ext_closing.specs.Closing.{Answer}
 use Rattle.ext_locks.specs.Opening.{LocksView}
 use Rattle.ext_locks.specs.Views.{Lane}
-use Rattle.ext_locks.specs.Sets.{HeldView}
 use Rattle.ext_crew.specs.Dealing.{Share, front, back, RunByDealing}
 use Rattle.ext_crew.proofs.Runs.{run-map}
 use Rattle.ext_crew.proofs.RunLaws.{run-outcome}
-use Rattle.ext_lifecycle.specs.declared.call.Call.{Call}
-use Rattle.ext_lifecycle.specs.declared.outcome.Outcome.{Outcome}
 use Rattle.ext_engine.specs.declared.node.closers.Item.{Item}
 use Rattle.ext_engine.specs.declared.node.results.RanNode.{RanNode}
-use Rattle.ext_engine.specs.Helpers.{ran_view, ran_in}
+use Rattle.ext_engine.specs.InnerHelpers.{ran_view, ran_in}
 use Rattle.ext_engine.specs.TreeRun.{Ran, TreeSetting, Lanes, IsUsable, IsIdle, TreeRun, TestRun, ContainerRun, BodyRun, RanInTurn, with_lanes}
 use Rattle.ext_engine.specs.Meeting.{Forks, Joins, OnlyMeets}
 
@@ -120,23 +116,22 @@ ran-push Run items item before between after ran more all so_far run is = record
 
 -- ---- parts of the definition
 
-module _ {V A : Type 0} (t : TreeSetting V) (makes : ℕ → Call → Option HeldView → StoreLane V → Outcome → StoreLane V → Type 0) (actions : ℕ → A → Type 0)
-    (gives : A → ℕ → V → Answer → A → Type 0) where
+module _ {V A : Type 0} (t : TreeSetting V A) where
   abbrev pub Tree : ℕ → ℕ → Lanes V → List Ran → Lanes V → Type 0
-  Tree = TreeRun t makes actions gives
+  Tree = TreeRun t
 
   pub tree-of-test : (depth node : ℕ) (s : Lanes V) (ran : List Ran) (u : Lanes V) → 1 ≤ depth → t.suite.is_test node ≡ true
-      → (path : List ℕ) × IsPathOf t.store.tree node path × TestRun t makes actions gives node path s ran u → Tree depth node s ran u
+      → (path : List ℕ) × IsPathOf t.store.tree node path × TestRun t node path s ran u → Tree depth node s ran u
   tree-of-test zero node s ran u some_depth test run = absurd (omega (arith, some_depth))
   tree-of-test (suc depth) node s ran u some_depth test run =
       (run.0, run.1, (λ _. run.2), (λ bad. absurd (let e : true ≡ false = sym test ∙ bad in cc)))
 
   pub tree-of-container : (depth node : ℕ) (s : Lanes V) (ran : List Ran) (u : Lanes V) → 1 ≤ depth → t.suite.is_test node ≡ false
-      → (path : List ℕ) × IsPathOf t.store.tree node path × ContainerRun t makes actions gives (Tree (depth - 1)) node path s ran u → Tree depth node s ran u
+      → (path : List ℕ) × IsPathOf t.store.tree node path × ContainerRun t (Tree (depth - 1)) node path s ran u → Tree depth node s ran u
   tree-of-container zero node s ran u some_depth container run = absurd (omega (arith, some_depth))
   tree-of-container (suc depth) node s ran u some_depth container run =
       let e : suc depth - 1 ≡ depth = omega arith in
-      let P : ℕ → Type 0 = λ n. ContainerRun t makes actions gives (Tree n) node run.0 s ran u in
+      let P : ℕ → Type 0 = λ n. ContainerRun t (Tree n) node run.0 s ran u in
       (run.0, run.1, (λ good. absurd (let f : true ≡ false = sym good ∙ container in cc)), (λ _. subst P e run.2))
 
   module _ (Child : ℕ → Lanes V → List Ran → Lanes V → Type 0) where
@@ -146,7 +141,7 @@ module _ {V A : Type 0} (t : TreeSetting V) (makes : ℕ → Call → Option Hel
         → nodes ≡ filter t.suite.is_concurrent (children_of t.store.tree node) → others ≡ filter (λ c. not (t.suite.is_concurrent c)) (children_of t.store.tree node)
         → RunByDealing (λ i v r w. IfOk r (λ l. Child (slice_index_or nodes i 0) v (map ran_view l.items) w)) count (min (length forked) count) (with_lanes forked before) outcomes between
         → All IsOk outcomes → first ≡ flat_map ran_in outcomes → RanInTurn Child others (with_lanes joined between) alone u → ran ≡ first ++ alone
-        → BodyRun t makes actions gives Child node before ran u
+        → BodyRun t Child node before ran u
     body-of {E} node nodes others before forked between joined u outcomes alone ran first count forks joins size conc same run all are turn is =
         let R : ℕ → Lanes V → Result (Vec RanNode Global) E → Lanes V → Type 0 = λ i v r w. IfOk r (λ l. Child (slice_index_or nodes i 0) v (map ran_view l.items) w) in
         let S : ℕ → Lanes V → List Ran → Lanes V → Type 0 = λ i v rs w. Child (slice_index_or nodes i 0) v rs w in

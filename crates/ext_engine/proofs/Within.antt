@@ -3,10 +3,9 @@ use Rattle.std.proofs.Common.{◌≡◌, ◌≢◌, ℕ, ◌-◌, ◌<◌, ◌�
 use Rattle.std.specs.Prelude.{All, slice_index_or}
 use Rattle.std.proofs.lemmas.List.{take-append-le}
 use Rattle.std.proofs.Math.Seq.{take-length}
-use Rattle.ext_tree.specs.Trees.{Id, id_at, IsTree}
-use Rattle.ext_tree.specs.Paths.{IsWalk, IsPathOf, IsParentOf}
+use Rattle.ext_tree.specs.Trees.{Id, id_at, IsTree, IsWalk, IsPathOf, IsParentOf}
 use Rattle.ext_tree.proofs.TreeFacts.{longer, one_context}
-use Rattle.ext_engine.specs.Closers.{IsWithin}
+use Rattle.ext_engine.specs.InnerClosers.{IsWithin}
 
 -- each context of a walk has the first segments of the id where it begins
 walk-ids : (ids : List Id) (context : ℕ) (rest : List ℕ) (i : ℕ) → IsWalk ids context rest → i < length (context ∷ rest) → id_at ids (slice_index_or (context ∷ rest) i 0) ≡ take (length (id_at ids context) - i) (id_at ids context)

@@ -1,21 +1,13 @@
--- Where the run of a tree ends that does not come to its end, as a context in it can't be closed: which lanes do not know the value that remained there.
--- Own rule. A lane of another share may know that value, if a call of another node has put it there; and a lane that ran another concurrent child afterwards may have been
--- shown it by then. So of the lanes of a concurrent child it is said as that child left them.
-use Rattle.std.specs.Prelude.{◌≡◌, ◌⊎◌, ℕ, zero, suc, Bool, false, Option, List, length, min, Contains, Result, Ok, Err, slice_index_or}
-use Rattle.ext_lifecycle.specs.declared.call.Call.{Call}
-use Rattle.ext_lifecycle.specs.declared.call.Kind.{Kind}
-use Rattle.ext_lifecycle.specs.declared.outcome.Outcome.{Outcome}
-use Rattle.ext_store.specs.Stores.{StoreView, StoreLane}
-use Rattle.ext_closing.specs.Closing.{Answer}
+-- Where the run of a tree ends that does not come to its end, as a context in it can't be closed: which lanes do not know the value that remained there. A lane of another
+-- share may know that value, if a call of another node has put it there; and a lane that ran another concurrent child afterwards may have been shown it by then. So of the
+-- lanes of a concurrent child it is said as that child left them.
+use Rattle.std.specs.Prelude.{◌≡◌, ◌⊎◌, ℕ, zero, suc, false, List, length, min, Contains, Result, Ok, Err, slice_index_or}
 use Rattle.ext_closing.specs.Lanes.{IsUnknown}
-use Rattle.ext_locks.specs.Opening.{LocksView}
-use Rattle.ext_locks.specs.Sets.{HeldView}
 use Rattle.ext_crew.specs.Dealing.{RunByDealing}
 use Rattle.ext_engine.specs.declared.node.fault.EngineFault.{EngineFault}
 use Rattle.ext_engine.specs.declared.node.fault.EngineFault.TheVariants as faults
 use Rattle.ext_engine.specs.NodeRun.{IsRefusedClose}
-use Rattle.ext_engine.specs.Suites.{SuiteView}
-use Rattle.ext_engine.specs.TreeRun.{Ran, TreeSetting, setting_of, Lanes, TreeRun, concurrent_children, same_thread_children}
+use Rattle.ext_engine.specs.TreeRun.{Ran, TreeSetting, Lanes, TreeRun, concurrent_children, same_thread_children}
 
 -- memory ran out, or a context could not be closed and this holds of it and of the number that remained in it
 abbrev pub OnUnjoined : (ℕ → ℕ → Type 0) → EngineFault → Type 0
@@ -45,29 +37,25 @@ module _ {V : Type 0} (Child : ℕ → Lanes V → List Ran → Lanes V → Type
 
 -- ---- nodes
 
-module _ {V A : Type 0} (t : TreeSetting V) (makes : ℕ → Call → Option HeldView → StoreLane V → Outcome → StoreLane V → Type 0)
-    (actions : ℕ → A → Type 0) (gives : A → ℕ → V → Answer → A → Type 0) where
+module _ {V A : Type 0} (t : TreeSetting V A) where
   -- The run of a node, and of those below it to so many levels, ended as this context could not be closed, in which this number remained, and left its share so. It is the
   -- node's own context, and then no lane of the share knows the value of the number; or one below it
   abbrev pub NamesUnknown : ℕ → ℕ → ℕ → ℕ → Lanes V → Type 0
   NamesUnknown zero node context number after = ⊥
   NamesUnknown (suc depth) node context number after =
-      ((context ≡ node) × IsRefusedClose t actions gives context number after.first × IsUnknown after.first number)
-      ⊎ (IsUnknownBeside (λ child s ran u. TreeRun t makes actions gives depth child s ran u) (λ child c n u. NamesUnknown depth child c n u) (concurrent_children t makes actions gives node) context number after
-      ⊎ IsUnknownInTurn (λ child s ran u. TreeRun t makes actions gives depth child s ran u) (λ child c n u. NamesUnknown depth child c n u) (same_thread_children t makes actions gives node) context number after)
+      ((context ≡ node) × IsRefusedClose t context number after.first × IsUnknown after.first number)
+      ⊎ (IsUnknownBeside (λ child s ran u. TreeRun t depth child s ran u) (λ child c n u. NamesUnknown depth child c n u) (concurrent_children t node) context number after
+      ⊎ IsUnknownInTurn (λ child s ran u. TreeRun t depth child s ran u) (λ child c n u. NamesUnknown depth child c n u) (same_thread_children t node) context number after)
 
   -- a context below the node could not be closed
   abbrev pub NamesBelow : ℕ → ℕ → ℕ → ℕ → Lanes V → Type 0
   NamesBelow depth node context number after =
-      IsUnknownBeside (TreeRun t makes actions gives depth) (NamesUnknown depth) (concurrent_children t makes actions gives node) context number after
-      ⊎ IsUnknownInTurn (TreeRun t makes actions gives depth) (NamesUnknown depth) (same_thread_children t makes actions gives node) context number after
+      IsUnknownBeside (TreeRun t depth) (NamesUnknown depth) (concurrent_children t node) context number after
+      ⊎ IsUnknownInTurn (TreeRun t depth) (NamesUnknown depth) (same_thread_children t node) context number after
 
--- ---- the law, for suites of a type
+-- ---- the law
 
-module _ {V S A : Type 0} (is_closeable : V → Bool) (nodes : S → SuiteView) (registered : S → Kind → ℕ → ℕ)
-    (call_gives : S → StoreView → ℕ → Call → Option HeldView → StoreLane V → Outcome → StoreLane V → Type 0) (action_gives : S → ℕ → A → Type 0) (close_gives : A → ℕ → V → Answer → A → Type 0) where
-  -- where no node runs beside others, no lane of the run knows the value of the number, as they are after it
-  abbrev pub UnknownToAll : Type 0
-  UnknownToAll = (suite : S) (store : StoreView) (locks : LocksView) (depth top context number : ℕ) (after : Lanes V) → ((node : ℕ) → (nodes suite).is_concurrent node ≡ false)
-      → NamesUnknown (setting_of store locks (nodes suite) (registered suite) is_closeable) (call_gives suite store) (action_gives suite) close_gives depth top context number after
-      → IsRefusedClose (setting_of store locks (nodes suite) (registered suite) is_closeable) (action_gives suite) close_gives context number after.first × IsUnknown after.first number
+-- where no node runs beside others, no lane of the run knows the value of the number, as they are after it
+abbrev pub UnknownToAll : {V A : Type 0} → TreeSetting V A → Type 0
+UnknownToAll {V} {A} t = (depth top context number : ℕ) (after : Lanes V) → ((node : ℕ) → t.suite.is_concurrent node ≡ false) → NamesUnknown t depth top context number after
+    → IsRefusedClose t context number after.first × IsUnknown after.first number

@@ -1,22 +1,16 @@
 -- Laws of runs of trees, which `engine_laws` proves: which nodes ran, which were skipped, and what a run leaves of its lanes.
 -- JUnit 5 User Guide, "Relative Execution Order of User Code and Extensions" and "Parallel Execution"; that a node is skipped where one above it did not run its
 -- children is an own rule.
-use Rattle.std.specs.Prelude.{◌≡◌, ◌≢◌, ◌↔◌, ℕ, ◌<◌, Bool, true, false, Option, Some, List, length, map, All, AllPairs, Contains, slice_get}
+use Rattle.std.specs.Prelude.{◌≡◌, ◌≢◌, ◌↔◌, ℕ, ◌<◌, Bool, true, false, Some, List, length, map, All, AllPairs, Contains, slice_get}
 use Rattle.std.specs.List.{range_with_len}
 use Rattle.ext_model.specs.declared.look.Fault.{Fault}
-use Rattle.ext_lifecycle.specs.declared.call.Call.{Call}
-use Rattle.ext_lifecycle.specs.declared.call.Kind.{Kind}
-use Rattle.ext_lifecycle.specs.declared.outcome.Outcome.{Outcome}
 use Rattle.ext_lifecycle.specs.declared.status.Status.TheVariants as statuses
 use Rattle.ext_lifecycle.specs.Results.{ResultOf, skipped_result}
-use Rattle.ext_tree.specs.Trees.{Id, IsTree}
-use Rattle.ext_tree.specs.Paths.{IsPathOf}
-use Rattle.ext_store.specs.Stores.{StoreView, StoreLane}
-use Rattle.ext_closing.specs.Closing.{Answer}
+use Rattle.ext_tree.specs.Trees.{Id, IsTree, IsPathOf}
+use Rattle.ext_store.specs.Stores.{StoreView}
 use Rattle.ext_locks.specs.Opening.{LocksView}
-use Rattle.ext_locks.specs.Sets.{HeldView}
 use Rattle.ext_engine.specs.Suites.{SuiteView}
-use Rattle.ext_engine.specs.TreeRun.{Ran, Lanes, TreeRun, IsFit, IsUsable, setting_of, all_results}
+use Rattle.ext_engine.specs.TreeRun.{Ran, Lanes, TreeSetting, TreeRun, IsRunnable, IsUsable, all_results}
 
 -- ---- nodes
 
@@ -65,37 +59,39 @@ pub record IsOneEach (suite : SuiteView) (count : ℕ) (ran : List Ran) (results
   pub of_skipped : (node : ℕ) → node < count → ¬ HasRun ran node → slice_get results node ≡ Some (skipped_result node (suite.is_test node))
   pub status : (node : ℕ) (result : ResultOf Fault) → slice_get results node ≡ Some result → (result.status ≡ statuses.Skipped) ↔ (¬ HasRun ran node)
 
--- ---- the laws, for suites of a type
+-- ---- the laws
 
-module _ {V S A : Type 0} (is_closeable : V → Bool) (nodes : S → SuiteView) (registered : S → Kind → ℕ → ℕ)
-    (call_gives : S → StoreView → ℕ → Call → Option HeldView → StoreLane V → Outcome → StoreLane V → Type 0) (action_gives : S → ℕ → A → Type 0) (close_gives : A → ℕ → V → Answer → A → Type 0) where
+module _ {V A : Type 0} (t : TreeSetting V A) where
   -- a run of the tree at a node
-  pub record IsRun (suite : S) (store : StoreView) (locks : LocksView) (top : ℕ) (before : Lanes V) (ran : List Ran) (after : Lanes V) : Type 0 where
-    pub tree : IsTree store.tree
-    pub fit : IsFit store locks (nodes suite)
+  pub record IsRun (top : ℕ) (before : Lanes V) (ran : List Ran) (after : Lanes V) : Type 0 where
+    pub tree : IsTree t.store.tree
+    pub runnable : IsRunnable t.store t.locks t.suite
     pub depth : ℕ
-    pub run : TreeRun (setting_of store locks (nodes suite) (registered suite) is_closeable) (call_gives suite store) (action_gives suite) close_gives depth top before ran after
+    pub run : TreeRun t depth top before ran after
 
   abbrev pub RunsOnce : Type 0
-  RunsOnce = (suite : S) (store : StoreView) (locks : LocksView) (top : ℕ) (before : Lanes V) (ran : List Ran) (after : Lanes V)
-      → IsRun suite store locks top before ran after → IsRunOnce store.tree top ran
+  RunsOnce = (top : ℕ) (before : Lanes V) (ran : List Ran) (after : Lanes V) → IsRun top before ran after → IsRunOnce t.store.tree top ran
 
   abbrev pub SkipsExactly : Type 0
-  SkipsExactly = (suite : S) (store : StoreView) (locks : LocksView) (top : ℕ) (before : Lanes V) (ran : List Ran) (after : Lanes V)
-      → IsRun suite store locks top before ran after → (node : ℕ) → IsAtOrBelow store.tree top node → IsSkippedExactly store.tree top ran node
+  SkipsExactly = (top : ℕ) (before : Lanes V) (ran : List Ran) (after : Lanes V) → IsRun top before ran after
+      → (node : ℕ) → IsAtOrBelow t.store.tree top node → IsSkippedExactly t.store.tree top ran node
 
   -- the results that a run of the whole tree gives
   abbrev pub OneResultEach : Type 0
-  OneResultEach = (suite : S) (store : StoreView) (locks : LocksView) (before : Lanes V) (ran : List Ran) (after : Lanes V)
-      → IsRun suite store locks 0 before ran after → IsOneEach (nodes suite) (length store.tree) ran (all_results (nodes suite) (length store.tree) ran)
+  OneResultEach = (before : Lanes V) (ran : List Ran) (after : Lanes V) → IsRun 0 before ran after
+      → IsOneEach t.suite (length t.store.tree) ran (all_results t.suite (length t.store.tree) ran)
 
   -- among which a node is skipped exactly where one above it ran and did not run the nodes below it
   abbrev pub SkippedBelow : Type 0
-  SkippedBelow = (suite : S) (store : StoreView) (locks : LocksView) (before : Lanes V) (ran : List Ran) (after : Lanes V)
-      → IsRun suite store locks 0 before ran after → (node : ℕ) (result : ResultOf Fault) → slice_get (all_results (nodes suite) (length store.tree) ran) node ≡ Some result
-      → (result.status ≡ statuses.Skipped) ↔ ((above : ℕ) × IsBetween store.tree 0 above node × RanAs ran above false)
+  SkippedBelow = (before : Lanes V) (ran : List Ran) (after : Lanes V) → IsRun 0 before ran after
+      → (node : ℕ) (result : ResultOf Fault) → slice_get (all_results t.suite (length t.store.tree) ran) node ≡ Some result
+      → (result.status ≡ statuses.Skipped) ↔ ((above : ℕ) × IsBetween t.store.tree 0 above node × RanAs ran above false)
 
   -- a run leaves as many lanes of the store as there were, and as many lock lanes that hold nothing
   abbrev pub KeepsLanes : Type 0
-  KeepsLanes = (suite : S) (store : StoreView) (locks : LocksView) (top : ℕ) (before : Lanes V) (ran : List Ran) (after : Lanes V)
-      → IsRun suite store locks top before ran after → IsUsable store locks before → IsUsable store locks after × (length after.first ≡ length before.first)
+  KeepsLanes = (top : ℕ) (before : Lanes V) (ran : List Ran) (after : Lanes V) → IsRun top before ran after
+      → IsUsable t.store t.locks before → IsUsable t.store t.locks after × (length after.first ≡ length before.first)
+
+-- what is true of runs by each suite of a type, over any store and any locks
+abbrev pub OfRuns : {V S A : Type 0} → (S → StoreView → LocksView → TreeSetting V A) → (TreeSetting V A → Type 0) → Type 0
+OfRuns {V} {S} {A} setting Law = (suite : S) (store : StoreView) (locks : LocksView) → Law (setting suite store locks)

@@ -1,12 +1,12 @@
--- Meetings of the lanes of a share, which make no event: each lane is shown what the first one has seen, or the first what each of them has seen.
--- Own rule. So what is done on the first lane before the children of a container comes before what they do, and what it does after them comes after it.
+-- Meetings of the lanes of a share, which make no event: each lane is shown what the first one has seen, or the first what each of them has seen. So
+-- what is done on the first lane before the children of a container comes before what they do, and what it does after them comes after it.
 use Rattle.std.specs.Prelude.{◌≡◌, List, [], ◌∷◌, All}
 use Rattle.std.specs.List.{AllZip}
 use mathlib.Core.List.{IsPrefix}
-use Rattle.ext_history.specs.Views.{seen_by}
+use Rattle.ext_history.specs.Histories.{seen_by}
 use Rattle.ext_model.specs.History.{History}
-use Rattle.ext_model.specs.Calls.{Calls}
-use Rattle.ext_tree.specs.KeyPlaces.{KeepsKeys}
+use Rattle.ext_model.specs.CallActs.{Calls}
+use Rattle.ext_tree.specs.Keys.{KeepsKeys}
 use Rattle.ext_store.specs.Stores.{StoreView, StoreLane, IsLaneOf}
 
 -- the lane stayed one of the store, made no event, and knows the values and the faults that it knew, and the keys that it knew or more

@@ -1,21 +1,21 @@
 -- How one node is run: the locks of a test, its calls and its close; what is told of it; and why a run does not come to its end.
 -- JUnit 5 User Guide, "Relative Execution Order of User Code and Extensions", "Synchronization" and "Keeping State in Extensions"; lanes, shares and what is told
 -- of a node are own rules.
-use Rattle.std.specs.Prelude.{◌≡◌, ℕ, ◌<◌, ◌≤◌, Bool, true, Option, Some, List, [], ◌∷◌, length, map, All, slice_set, Err}
+use Rattle.std.specs.Prelude.{◌≡◌, ℕ, ◌<◌, ◌≤◌, Bool, true, false, Option, None, Some, List, [], ◌∷◌, ◌++◌, length, map, All, slice_set}
 use Rattle.std.specs.List.{range_with_len}
 use Rattle.ext_model.specs.declared.look.Fault.{Fault}
 use Rattle.ext_lifecycle.specs.declared.call.Call.{Call}
 use Rattle.ext_lifecycle.specs.declared.call.Kind.{Kind}
 use Rattle.ext_lifecycle.specs.declared.outcome.Outcome.{Outcome}
 use Rattle.ext_lifecycle.specs.Callbacks.{befores_of, afters_of, test_call}
-use Rattle.ext_lifecycle.specs.Lifecycle.{MakesCalls, computed_in, endings_of, found_in}
+use Rattle.ext_lifecycle.specs.Endings.{all_successful}
+use Rattle.ext_lifecycle.specs.Lifecycle.{MakesAll, MakesBefores, MakesCalls, computed_in, endings_of, found_in}
 use Rattle.ext_lifecycle.specs.Results.{ResultOf, result_of, skipped_result}
-use Rattle.ext_tree.specs.Paths.{children_of}
+use Rattle.ext_tree.specs.Trees.{children_of}
 use Rattle.ext_store.specs.Stores.{StoreView, StoreLane, CloserView, IsLaneOf, IsCloserOf}
-use Rattle.ext_lifecycle.specs.declared.closes.Closes as report
-use Rattle.ext_closing.specs.declared.fault.CloseFault.TheVariants as close_fault
+use Rattle.ext_model.specs.declared.closed.Closed.{Closed}
 use Rattle.ext_closing.specs.Closing.{Answer, fault_in}
-use Rattle.ext_closing.specs.Closes.{Closes, IsClosedBy}
+use Rattle.ext_closing.specs.Closes.{IsClosedBy, IsLeftUnjoined}
 use Rattle.ext_closing.specs.Lanes.{IsUnknown}
 use Rattle.ext_locks.specs.declared.event.LockMode.{LockMode}
 use Rattle.ext_locks.specs.Opening.{LocksView}
@@ -45,16 +45,47 @@ all_skipped suite count = map (λ node. skipped_result node (suite.is_test node)
 
 -- ---- what a run goes over
 
--- The store and the locks, the suite's nodes, how many callbacks of a kind a node has, and which values are closeable
-pub record TreeSetting (V : Type 0) : Type 0 where
+-- What a run of a tree goes over: the store and the locks, and what the suite says of its nodes
+pub record TreeSetting (V A : Type 0) : Type 1 where
   pub store : StoreView
   pub locks : LocksView
   pub suite : SuiteView
+  -- how many callbacks of a kind a node has
   pub registered : Kind → ℕ → ℕ
+  -- what a call of a node does: the node, the call, what it is lent, the lane before it, its outcome, and the lane after it
+  pub call_gives : ℕ → Call → Option HeldView → StoreLane V → Outcome → StoreLane V → Type 0
+  -- the close actions that a node may be given, which values are closeable, and what a call of an action does
+  pub action_gives : ℕ → A → Type 0
   pub is_closeable : V → Bool
+  pub close_gives : A → ℕ → V → Answer → A → Type 0
 
-abbrev pub setting_of : {V : Type 0} → StoreView → LocksView → SuiteView → (Kind → ℕ → ℕ) → (V → Bool) → TreeSetting V
-setting_of store locks suite registered is_closeable = record { store = store; locks = locks; suite = suite; registered = registered; is_closeable = is_closeable }
+-- the setting of a suite of a type, by what is said of all suites of the type
+module _ {V S A : Type 0} (is_closeable : V → Bool) (suite_view : S → SuiteView) (registered : S → Kind → ℕ → ℕ)
+    (call_gives : S → StoreView → ℕ → Call → Option HeldView → StoreLane V → Outcome → StoreLane V → Type 0) (action_gives : S → ℕ → A → Type 0) (close_gives : A → ℕ → V → Answer → A → Type 0) where
+  abbrev pub setting_of : S → StoreView → LocksView → TreeSetting V A
+  setting_of suite store locks = record {
+    store = store;
+    locks = locks;
+    suite = suite_view suite;
+    registered = registered suite;
+    call_gives = call_gives suite store;
+    action_gives = action_gives suite;
+    is_closeable = is_closeable;
+    close_gives = close_gives;
+  }
+
+-- the setting with other calls
+abbrev pub with_calls : {V A : Type 0} → (ℕ → Call → Option HeldView → StoreLane V → Outcome → StoreLane V → Type 0) → TreeSetting V A → TreeSetting V A
+with_calls calls t = record {
+  store = t.store;
+  locks = t.locks;
+  suite = t.suite;
+  registered = t.registered;
+  call_gives = calls;
+  action_gives = t.action_gives;
+  is_closeable = t.is_closeable;
+  close_gives = t.close_gives;
+}
 
 -- lanes of the store, and as many lanes of the locks
 abbrev pub Lanes : Type 0 → Type 0
@@ -73,10 +104,7 @@ pub record OnFirst {X : Type 0} (R : X → X → Type 0) (before after : List X)
 
 -- ---- the run of a node
 
--- `makes` says what a call of a node does (the node, the call, what it is lent, the lane before it, its outcome, the lane after it), `actions` which close actions a
--- node may be given, and `gives` what a call of a close action does
-module _ {V A : Type 0} (t : TreeSetting V) (makes : ℕ → Call → Option HeldView → StoreLane V → Outcome → StoreLane V → Type 0)
-    (actions : ℕ → A → Type 0) (gives : A → ℕ → V → Answer → A → Type 0) where
+module _ {V A : Type 0} (t : TreeSetting V A) where
   -- The node's context is closed with an action of the node, by one close or by several of which all but the last were refused; and this is how the closes of its
   -- values ended, in their order
   pub record ClosesNode (node : ℕ) (before : List (StoreLane V)) (faults : List (Option Fault)) (after : List (StoreLane V)) : Type 0 where
@@ -84,15 +112,15 @@ module _ {V A : Type 0} (t : TreeSetting V) (makes : ℕ → Call → Option Hel
     pub closer_is : IsCloserOf t.store closer
     pub context_is : closer.context ≡ node
     pub action : A
-    pub action_is : actions node action
+    pub action_is : t.action_gives node action
     pub action_left : A
-    pub closed : report.Closes
-    pub closes : IsClosedBy t.is_closeable gives t.store closer before action closed after action_left
+    pub closed : Closed
+    pub closes : IsClosedBy t.is_closeable t.close_gives t.store closer before action closed after action_left
     pub faults_are : faults ≡ map fault_in closes.closes.answers
 
   -- what a call of the node does to a lane, where it is lent this
   abbrev pub MakesOn : ℕ → Option HeldView → StoreLane V → Call → Outcome → StoreLane V → Type 0
-  MakesOn node held before call outcome after = makes node call held before outcome after
+  MakesOn node held before call outcome after = t.call_gives node call held before outcome after
 
   -- A test: the first lock lane takes its locks, all of its calls are lent them, its context is closed with all lanes, and the same lock lane gives them back
   pub record TestRun (node : ℕ) (path : List ℕ) (before : Lanes V) (ran : List Ran) (after : Lanes V) : Type 0 where
@@ -109,6 +137,22 @@ module _ {V A : Type 0} (t : TreeSetting V) (makes : ℕ → Call → Option Hel
     pub given_back : OnFirst (GivesBack held) locked after.second
     pub ran_is : ran ≡ record { result = result_of node true (endings_of outcomes) (computed_in outcomes) (found_in outcomes) faults; went_on = true } ∷ []
 
+  -- A container before its children: its before-callbacks are called on the first lane, up to the first that isn't successful
+  abbrev pub CallsBefores : ℕ → List ℕ → List (StoreLane V) → List Outcome → List (StoreLane V) → Type 0
+  CallsBefores node path before befores opened = OnFirst (λ a b. MakesBefores (MakesOn node None) (befores_of t.registered false node path) a befores b) before opened
+
+  -- and after them: all of its after-callbacks are called on the first lane, its context is closed with all lanes, and this is told of it
+  pub record EndsContainer (node : ℕ) (path : List ℕ) (befores : List Outcome) (before : List (StoreLane V)) (own : Ran) (after : List (StoreLane V)) : Type 0 where
+    pub afters : List Outcome
+    pub called : List (StoreLane V)
+    pub afters_made : OnFirst (λ a b. MakesAll (MakesOn node None) (afters_of t.registered false node path) a afters b) before called
+    pub faults : List (Option Fault)
+    pub closes : ClosesNode node called faults after
+    pub own_is : own ≡ record {
+      result = result_of node false (endings_of (befores ++ afters)) (computed_in (befores ++ afters)) (found_in (befores ++ afters)) faults;
+      went_on = all_successful (endings_of befores);
+    }
+
 -- ---- conditions
 
 -- 1 to 16 lanes, all of the store, and as many lock lanes, all of the locks, that hold nothing
@@ -119,24 +163,24 @@ pub record IsUsable {V : Type 0} (store : StoreView) (locks : LocksView) (s : La
   pub lanes : All (IsLaneOf store.id) s.first
   pub idle : All (IsIdle locks) s.second
 
--- the locks have every name that a node asks for, and no node is below a test
-pub record IsFit (store : StoreView) (locks : LocksView) (suite : SuiteView) : Type 0 where
+-- The nodes of a suite can be run over this store with these locks: the locks have every name that a node asks for, and no node is below a test
+pub record IsRunnable (store : StoreView) (locks : LocksView) (suite : SuiteView) : Type 0 where
   pub names : (node : ℕ) → node < length store.tree → All (λ asked. IsNamedLock locks.names asked.name) (suite.locks node)
   pub below : (node : ℕ) → node < length store.tree → suite.is_test node ≡ true → children_of store.tree node ≡ []
 
 -- ---- faults
 
-module _ {V A : Type 0} (t : TreeSetting V) (actions : ℕ → A → Type 0) (gives : A → ℕ → V → Answer → A → Type 0) where
+module _ {V A : Type 0} (t : TreeSetting V A) where
   -- a close of this context was refused, and left these lanes: this number remained in it, and none of them knows its value
   pub record IsRefusedClose (context number : ℕ) (after : List (StoreLane V)) : Type 0 where
     pub closer : CloserView
     pub closer_is : IsCloserOf t.store closer
     pub context_is : closer.context ≡ context
     pub action : A
-    pub action_is : actions context action
+    pub action_is : t.action_gives context action
     pub before : List (StoreLane V)
     pub own_lanes : All (IsLaneOf t.store.id) before
-    pub refused : Closes t.is_closeable gives t.store closer before action (Err (closer, close_fault.Unjoined number)) after action
+    pub refused : IsLeftUnjoined t.store closer before number after
 
   -- and so with some lanes
   abbrev pub IsUnjoined : ℕ → ℕ → Type 0

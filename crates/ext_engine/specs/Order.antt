@@ -1,27 +1,24 @@
 -- In which order the lanes of a run do what they do. Lanes of a run see one history, and what a lane does is an event of it: so what comes first is told by places in
 -- that history.
 -- Own rule, for JUnit 5 User Guide, "Relative Execution Order of User Code and Extensions" and "Parallel Execution".
-use Rattle.std.specs.Prelude.{◌≡◌, ◌⊎◌, ℕ, ◌<◌, ◌≤◌, Bool, true, List, [], ◌∷◌, length, Option, Some, min, All, slice_get, slice_index_or}
+use Rattle.std.specs.Prelude.{◌≡◌, ◌⊎◌, ℕ, ◌<◌, ◌≤◌, true, List, [], ◌∷◌, length, Option, Some, min, All, slice_get, slice_index_or}
 use Rattle.std.specs.List.{AllZip, FoldsTo}
 use mathlib.Core.List.{IsPrefix}
-use Rattle.ext_history.specs.Views.{seen_by}
+use Rattle.ext_history.specs.Histories.{seen_by}
 use Rattle.ext_model.specs.declared.event.Event.{Event}
 use Rattle.ext_model.specs.History.{History}
 use Rattle.ext_lifecycle.specs.declared.call.Call.{Call}
-use Rattle.ext_lifecycle.specs.declared.call.Kind.{Kind}
 use Rattle.ext_lifecycle.specs.declared.outcome.Outcome.{Outcome}
 use Rattle.ext_lifecycle.specs.Endings.{all_successful}
 use Rattle.ext_lifecycle.specs.Lifecycle.{endings_of}
-use Rattle.ext_tree.specs.KeyPlaces.{KeepsKeys}
+use Rattle.ext_tree.specs.Keys.{KeepsKeys}
 use Rattle.ext_values.specs.Known.{KeepsKnown}
 use Rattle.ext_store.specs.Stores.{StoreView, StoreLane}
-use Rattle.ext_closing.specs.Closing.{Answer}
 use Rattle.ext_locks.specs.Opening.{LocksView}
 use Rattle.ext_locks.specs.Sets.{HeldView}
 use Rattle.ext_crew.specs.Dealing.{RunByDealing}
-use Rattle.ext_engine.specs.Suites.{SuiteView}
 use Rattle.ext_engine.specs.Meeting.{HasSeen, HasSeenWithin, first_seen}
-use Rattle.ext_engine.specs.TreeRun.{Lanes, Ran, TreeSetting, BodyRun, ContainerRun, TreeRun, concurrent_children, setting_of, with_lanes}
+use Rattle.ext_engine.specs.TreeRun.{Lanes, Ran, TreeSetting, BodyRun, ContainerRun, TreeRun, concurrent_children, with_lanes}
 
 -- ---- lanes that go on
 
@@ -72,26 +69,26 @@ IsSeenByFirst h before after = (place : ℕ) → IsMadeIn h place before after �
 abbrev pub CallsGoOn : {V : Type 0} → (ℕ → Call → Option HeldView → StoreLane V → Outcome → StoreLane V → Type 0) → Type 0
 CallsGoOn {V} makes = (node : ℕ) (call : Call) (held : Option HeldView) (before : StoreLane V) (outcome : Outcome) (after : StoreLane V) → makes node call held before outcome after → LaneGoesOn before after
 
-module _ {V A : Type 0} (t : TreeSetting V) (makes : ℕ → Call → Option HeldView → StoreLane V → Outcome → StoreLane V → Type 0) (actions : ℕ → A → Type 0) (gives : A → ℕ → V → Answer → A → Type 0) where
+module _ {V A : Type 0} (t : TreeSetting V A) where
   abbrev pub ChildRun : ℕ → ℕ → Lanes V → List Ran → Lanes V → Type 0
-  ChildRun depth child before ran after = TreeRun t makes actions gives depth child before ran after
+  ChildRun depth child before ran after = TreeRun t depth child before ran after
 
   -- The order of what lanes have seen, of a container whose body is run: `opened` are its lanes after the before-callbacks, `after` those after the body, and `called`
   -- those after the after-callbacks. Each concurrent child begins with lanes that have seen what the first lane had seen after the before-callbacks, and ends with lanes
   -- that have seen no more than the first lane has when the other children begin
-  pub record IsSeenInOrder (depth node : ℕ) (before opened : Lanes V) (below : List Ran) (after : Lanes V) (called : List (StoreLane V)) (body : BodyRun t makes actions gives (ChildRun depth) node opened below after) : Type 0 where
+  pub record IsSeenInOrder (depth node : ℕ) (before opened : Lanes V) (below : List Ran) (after : Lanes V) (called : List (StoreLane V)) (body : BodyRun t (ChildRun depth) node opened below after) : Type 0 where
     pub befores : IsPrefix (first_seen before.first) (first_seen opened.first)
-    pub children : RunByDealing (λ i s ran u. ChildRun depth (slice_index_or (concurrent_children t makes actions gives node) i 0) s ran u × IsWithin (first_seen opened.first) (first_seen body.joined) s u)
-        (length (concurrent_children t makes actions gives node)) (min (length body.forked) (length (concurrent_children t makes actions gives node))) (with_lanes body.forked opened) body.beside body.between
+    pub children : RunByDealing (λ i s ran u. ChildRun depth (slice_index_or (concurrent_children t node) i 0) s ran u × IsWithin (first_seen opened.first) (first_seen body.joined) s u)
+        (length (concurrent_children t node)) (min (length body.forked) (length (concurrent_children t node))) (with_lanes body.forked opened) body.beside body.between
     pub others : IsPrefix (first_seen body.joined) (first_seen after.first)
     pub afters : IsPrefix (first_seen after.first) (first_seen called)
 
   -- The order of its events: `closed` are its lanes at its end
-  pub record IsMadeInOrder (h : History) (depth node : ℕ) (before opened : Lanes V) (below : List Ran) (after : Lanes V) (called closed : List (StoreLane V)) (body : BodyRun t makes actions gives (ChildRun depth) node opened below after) : Type 0 where
+  pub record IsMadeInOrder (h : History) (depth node : ℕ) (before opened : Lanes V) (below : List Ran) (after : Lanes V) (called closed : List (StoreLane V)) (body : BodyRun t (ChildRun depth) node opened below after) : Type 0 where
     -- what each concurrent child does comes after the before-callbacks, and before the other children, the after-callbacks and the close
-    pub children : RunByDealing (λ i s ran u. ChildRun depth (slice_index_or (concurrent_children t makes actions gives node) i 0) s ran u
+    pub children : RunByDealing (λ i s ran u. ChildRun depth (slice_index_or (concurrent_children t node) i 0) s ran u
         × ComesBefore h before.first opened.first s.first u.first × ComesBefore h s.first u.first body.joined closed)
-        (length (concurrent_children t makes actions gives node)) (min (length body.forked) (length (concurrent_children t makes actions gives node))) (with_lanes body.forked opened) body.beside body.between
+        (length (concurrent_children t node)) (min (length body.forked) (length (concurrent_children t node))) (with_lanes body.forked opened) body.beside body.between
     -- what each of the others does comes after all that was done before it, and before all that is done after it
     pub others : FoldsTo (λ s d u. ChildRun depth d.0 s d.1 u × ComesBefore h before.first s.first s.first u.first × ComesBefore h s.first u.first u.first closed) (with_lanes body.joined body.between) body.in_turn.done after
     -- the after-callbacks come after all of that, and the close after them
@@ -112,18 +109,15 @@ module _ {V A : Type 0} (t : TreeSetting V) (makes : ℕ → Call → Option Hel
 
   -- what is true of each container whose body is run
   abbrev pub ContainersAreSeenInOrder : Type 0
-  ContainersAreSeenInOrder = (depth node : ℕ) (path : List ℕ) (before : Lanes V) (ran : List Ran) (after : Lanes V) → (run : ContainerRun t makes actions gives (ChildRun depth) node path before ran after)
+  ContainersAreSeenInOrder = (depth node : ℕ) (path : List ℕ) (before : Lanes V) (ran : List Ran) (after : Lanes V) → (run : ContainerRun t (ChildRun depth) node path before ran after)
       → (on : all_successful (endings_of run.befores) ≡ true)
-      → IsSeenInOrder depth node before (record { first = run.opened; second = before.second }) run.below run.body run.called (run.body_made.made on)
+      → IsSeenInOrder depth node before (record { first = run.opened; second = before.second }) run.below run.body run.ends.called (run.body_made.made on)
 
   abbrev pub ContainersAreMadeInOrder : Type 0
-  ContainersAreMadeInOrder = (depth node : ℕ) (path : List ℕ) (before : Lanes V) (ran : List Ran) (after : Lanes V) → (run : ContainerRun t makes actions gives (ChildRun depth) node path before ran after)
+  ContainersAreMadeInOrder = (depth node : ℕ) (path : List ℕ) (before : Lanes V) (ran : List Ran) (after : Lanes V) → (run : ContainerRun t (ChildRun depth) node path before ran after)
       → (on : all_successful (endings_of run.befores) ≡ true) → (h : History) → All (HasSeenWithin h) after.first
-      → IsMadeInOrder h depth node before (record { first = run.opened; second = before.second }) run.below run.body run.called after.first (run.body_made.made on)
+      → IsMadeInOrder h depth node before (record { first = run.opened; second = before.second }) run.below run.body run.ends.called after.first (run.body_made.made on)
 
 -- what is true of runs by each suite of a type whose calls let lanes go on
-module _ {V S A : Type 0} (is_closeable : V → Bool) (nodes : S → SuiteView) (registered : S → Kind → ℕ → ℕ)
-    (call_gives : S → StoreView → ℕ → Call → Option HeldView → StoreLane V → Outcome → StoreLane V → Type 0) (action_gives : S → ℕ → A → Type 0) where
-  abbrev pub OfSuites : (TreeSetting V → (ℕ → Call → Option HeldView → StoreLane V → Outcome → StoreLane V → Type 0) → (ℕ → A → Type 0) → Type 0) → Type 0
-  OfSuites Fact = (suite : S) (store : StoreView) (locks : LocksView) → CallsGoOn (call_gives suite store)
-      → Fact (setting_of store locks (nodes suite) (registered suite) is_closeable) (call_gives suite store) (action_gives suite)
+abbrev pub OfSuites : {V S A : Type 0} → (S → StoreView → LocksView → TreeSetting V A) → (TreeSetting V A → Type 0) → Type 0
+OfSuites {V} {S} {A} setting Law = (suite : S) (store : StoreView) (locks : LocksView) → CallsGoOn (setting suite store locks).call_gives → Law (setting suite store locks)

@@ -9,8 +9,7 @@ use Rattle.ext_locks.specs.declared.request.Resource.TheVariants.{Global, Named}
 use Rattle.ext_locks.specs.declared.request.LockRequest.{LockRequest}
 use Rattle.ext_locks.specs.Names.{IsMerged}
 use Rattle.ext_locks.specs.Sets.{HeldView}
-use Rattle.ext_tree.specs.Paths.{IsPathOf}
-use Rattle.ext_tree.specs.Trees.{Id}
+use Rattle.ext_tree.specs.Trees.{IsPathOf, Id}
 
 -- a lock that is asked for: the bytes of its name, or none for the global one, and its mode
 pub record Asked : Type 0 where

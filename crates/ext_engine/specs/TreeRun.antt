@@ -1,23 +1,19 @@
 -- What a run of a tree of nodes leaves of its lanes, and the results that it gives. What is done for one node alone stands in `NodeRun` of `ext_engine`, whose names
 -- are passed on.
 -- JUnit 5 User Guide, "Relative Execution Order of User Code and Extensions" and "Parallel Execution"; shares, lanes and dealings are own rules.
-use Rattle.std.specs.Prelude.{◌≡◌, ℕ, zero, suc, Bool, true, false, not, Option, None, List, [], ◌∷◌, ◌++◌, length, map, min, filter, slice_index_or}
+use Rattle.std.specs.Prelude.{◌≡◌, ℕ, zero, suc, Bool, true, false, not, List, [], ◌∷◌, ◌++◌, length, map, min, filter, slice_index_or}
 use Rattle.std.specs.List.{FoldsTo, flat_map}
 use Rattle.ext_model.specs.declared.look.Fault.{Fault}
-use Rattle.ext_lifecycle.specs.declared.call.Call.{Call}
 use Rattle.ext_lifecycle.specs.declared.outcome.Outcome.{Outcome}
-use Rattle.ext_lifecycle.specs.Callbacks.{befores_of, afters_of}
 use Rattle.ext_lifecycle.specs.Endings.{all_successful}
-use Rattle.ext_lifecycle.specs.Lifecycle.{MakesAll, MakesBefores, computed_in, endings_of, found_in}
-use Rattle.ext_lifecycle.specs.Results.{ResultOf, result_of}
-use Rattle.ext_tree.specs.Paths.{IsPathOf, children_of}
+use Rattle.ext_lifecycle.specs.Lifecycle.{endings_of}
+use Rattle.ext_lifecycle.specs.Results.{ResultOf}
+use Rattle.ext_tree.specs.Trees.{IsPathOf, children_of}
 use Rattle.ext_store.specs.Stores.{StoreLane}
-use Rattle.ext_closing.specs.Closing.{Answer}
-use Rattle.ext_locks.specs.Sets.{HeldView}
 use Rattle.ext_crew.specs.Dealing.{Share, RunByDealing}
 use Rattle.ext_engine.specs.Suites.{SuiteView}
 use Rattle.ext_engine.specs.Meeting.{Forks, Joins}
-pub use Rattle.ext_engine.specs.NodeRun.{Ran, TreeSetting, setting_of, Lanes, placed, all_skipped, OnFirst, ClosesNode, MakesOn, TestRun, TakesSet, GivesBack, IsIdle, IsUsable, IsNamedLock, IsFit, IsRefusedClose, IsUnjoined, IsFault}
+pub use Rattle.ext_engine.specs.NodeRun.{Ran, TreeSetting, setting_of, with_calls, Lanes, placed, all_skipped, OnFirst, ClosesNode, MakesOn, TestRun, CallsBefores, EndsContainer, TakesSet, GivesBack, IsIdle, IsUsable, IsNamedLock, IsRunnable, IsRefusedClose, IsUnjoined, IsFault}
 
 -- ---- results
 
@@ -40,10 +36,7 @@ pub record RanInTurn {A B : Type 0} (Run : ℕ → Share A B → List Ran → Sh
 
 -- ---- the run of a node with those below it
 
--- `makes` says what a call of a node does (the node, the call, what it is lent, the lane before it, its outcome, the lane after it), `actions` which close actions a
--- node may be given, and `gives` what a call of a close action does
-module _ {V A : Type 0} (t : TreeSetting V) (makes : ℕ → Call → Option HeldView → StoreLane V → Outcome → StoreLane V → Type 0)
-    (actions : ℕ → A → Type 0) (gives : A → ℕ → V → Answer → A → Type 0) where
+module _ {V A : Type 0} (t : TreeSetting V A) where
   -- the children of a container that run beside one another
   abbrev pub concurrent_children : ℕ → List ℕ
   concurrent_children node = filter t.suite.is_concurrent (children_of t.store.tree node)
@@ -74,29 +67,23 @@ module _ {V A : Type 0} (t : TreeSetting V) (makes : ℕ → Call → Option Hel
       pub made : go ≡ true → BodyRun node before below after
       pub skipped : go ≡ false → (below ≡ []) × (after ≡ before)
 
-    -- A container: its before-callbacks, its body where all of them were successful, its after-callbacks, and the close of its context. It takes no lock
+    -- A container: its before-callbacks, its body where all of them were successful, and what is done after it. It takes no lock
     pub record ContainerRun (node : ℕ) (path : List ℕ) (before : Lanes V) (ran : List Ran) (after : Lanes V) : Type 0 where
       pub befores : List Outcome
       pub opened : List (StoreLane V)
-      pub befores_made : OnFirst (λ a b. MakesBefores (MakesOn t makes actions gives node None) (befores_of t.registered false node path) a befores b) before.first opened
+      pub befores_made : CallsBefores t node path before.first befores opened
       pub body : Lanes V
       pub below : List Ran
       pub body_made : BodyMade (all_successful (endings_of befores)) node (record { first = opened; second = before.second }) below body
-      pub afters : List Outcome
-      pub called : List (StoreLane V)
-      pub afters_made : OnFirst (λ a b. MakesAll (MakesOn t makes actions gives node None) (afters_of t.registered false node path) a afters b) body.first called
-      pub faults : List (Option Fault)
-      pub closes : ClosesNode t makes actions gives node called faults after.first
+      pub own : Ran
+      pub ends : EndsContainer t node path befores body.first own after.first
       pub no_locks : after.second ≡ body.second
-      pub ran_are : ran ≡ record {
-        result = result_of node false (endings_of (befores ++ afters)) (computed_in (befores ++ afters)) (found_in (befores ++ afters)) faults;
-        went_on = all_successful (endings_of befores);
-      } ∷ below
+      pub ran_are : ran ≡ own ∷ below
 
   -- A node and all below it, to so many levels
   abbrev pub TreeRun : ℕ → ℕ → Lanes V → List Ran → Lanes V → Type 0
   TreeRun zero node before ran after = ⊥
   TreeRun (suc depth) node before ran after =
       (path : List ℕ) × IsPathOf t.store.tree node path
-      × (t.suite.is_test node ≡ true → TestRun t makes actions gives node path before ran after)
+      × (t.suite.is_test node ≡ true → TestRun t node path before ran after)
       × (t.suite.is_test node ≡ false → ContainerRun (λ child s below u. TreeRun depth child s below u) node path before ran after)

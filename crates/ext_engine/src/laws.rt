@@ -1,6 +1,7 @@
 //! What is true of all runs of trees, as the contract of a function that does nothing.
 ghost use Rattle.ext_engine.specs.Failing.{UnknownToAll};
-ghost use Rattle.ext_engine.specs.Laws.{RunsOnce, SkipsExactly, OneResultEach, SkippedBelow, KeepsLanes};
+ghost use Rattle.ext_engine.specs.Laws.{OfRuns, RunsOnce, SkipsExactly, OneResultEach, SkippedBelow, KeepsLanes};
+ghost use Rattle.ext_engine.specs.NodeRun.{setting_of};
 ghost use Rattle.ext_engine.specs.Order.{ContainersAreMadeInOrder, ContainersAreSeenInOrder, NodesAreSeen, NodesGoOn, OfSuites};
 
 use crate::Suite;
@@ -13,12 +14,12 @@ use ext_store::StoreValue;
 ///
 /// JUnit 5 User Guide, section "Relative Execution Order of User Code and Extensions"; when a node is skipped is an own rule.
 pub fn engine_laws<V: StoreValue + Drop, S: Suite<V>>()
-    ensures once { RunsOnce V.is_closeable S.nodes S.registered S.call_gives S.action_gives S.Action.close_gives }
-    ensures skipped { SkipsExactly V.is_closeable S.nodes S.registered S.call_gives S.action_gives S.Action.close_gives }
-    ensures results { OneResultEach V.is_closeable S.nodes S.registered S.call_gives S.action_gives S.Action.close_gives }
-    ensures results_skipped { SkippedBelow V.is_closeable S.nodes S.registered S.call_gives S.action_gives S.Action.close_gives }
-    ensures lanes { KeepsLanes V.is_closeable S.nodes S.registered S.call_gives S.action_gives S.Action.close_gives }
-    ensures unknown { UnknownToAll V.is_closeable S.nodes S.registered S.call_gives S.action_gives S.Action.close_gives }
+    ensures once { OfRuns (setting_of V.is_closeable S.suite_view S.registered S.call_gives S.action_gives S.Action.close_gives) RunsOnce }
+    ensures skipped { OfRuns (setting_of V.is_closeable S.suite_view S.registered S.call_gives S.action_gives S.Action.close_gives) SkipsExactly }
+    ensures results { OfRuns (setting_of V.is_closeable S.suite_view S.registered S.call_gives S.action_gives S.Action.close_gives) OneResultEach }
+    ensures results_skipped { OfRuns (setting_of V.is_closeable S.suite_view S.registered S.call_gives S.action_gives S.Action.close_gives) SkippedBelow }
+    ensures lanes { OfRuns (setting_of V.is_closeable S.suite_view S.registered S.call_gives S.action_gives S.Action.close_gives) KeepsLanes }
+    ensures unknown { OfRuns (setting_of V.is_closeable S.suite_view S.registered S.call_gives S.action_gives S.Action.close_gives) UnknownToAll }
 {}
 
 /// Proves in which order the lanes of a run do what they do, for any suite of this type whose calls let their lanes go on. What a
@@ -31,8 +32,8 @@ pub fn engine_laws<V: StoreValue + Drop, S: Suite<V>>()
 ///
 /// Own rule, for JUnit 5 User Guide, sections "Relative Execution Order of User Code and Extensions" and "Parallel Execution".
 pub fn order_laws<V: StoreValue + Drop, S: Suite<V>>()
-    ensures go_on { OfSuites V.is_closeable S.nodes S.registered S.call_gives S.action_gives (λ t makes actions. NodesGoOn t makes actions S.Action.close_gives) }
-    ensures seen { OfSuites V.is_closeable S.nodes S.registered S.call_gives S.action_gives (λ t makes actions. NodesAreSeen t makes actions S.Action.close_gives) }
-    ensures containers_seen { OfSuites V.is_closeable S.nodes S.registered S.call_gives S.action_gives (λ t makes actions. ContainersAreSeenInOrder t makes actions S.Action.close_gives) }
-    ensures containers { OfSuites V.is_closeable S.nodes S.registered S.call_gives S.action_gives (λ t makes actions. ContainersAreMadeInOrder t makes actions S.Action.close_gives) }
+    ensures go_on { OfSuites (setting_of V.is_closeable S.suite_view S.registered S.call_gives S.action_gives S.Action.close_gives) NodesGoOn }
+    ensures seen { OfSuites (setting_of V.is_closeable S.suite_view S.registered S.call_gives S.action_gives S.Action.close_gives) NodesAreSeen }
+    ensures containers_seen { OfSuites (setting_of V.is_closeable S.suite_view S.registered S.call_gives S.action_gives S.Action.close_gives) ContainersAreSeenInOrder }
+    ensures containers { OfSuites (setting_of V.is_closeable S.suite_view S.registered S.call_gives S.action_gives S.Action.close_gives) ContainersAreMadeInOrder }
 {}

@@ -48,8 +48,8 @@ pub(crate) fn test_set<V: StoreValue + Drop, S: Suite<V>>(
     locks: &Locks,
     path: &[ContextNo],
 ) -> Result<LockSet, AllocError>
-    requires names { All (λ n. All (λ asked. IsNamedLock locks.now.names asked.name) ((S.nodes suite.now).locks n)) path.now }
-    ensures set { IfOk result (IsSetOf locks.now.names (locks_on (S.nodes suite.now) path.now)) }
+    requires names { All (λ n. All (λ asked. IsNamedLock locks.now.names asked.name) ((S.suite_view suite.now).locks n)) path.now }
+    ensures set { IfOk result (IsSetOf locks.now.names (locks_on (S.suite_view suite.now) path.now)) }
     ensures within { IfOk result (AllBelow (length locks.now.names + 1)) }
 {
     let requests = requests_on(alloc, suite, path)?;
@@ -66,7 +66,7 @@ fn requests_on<'a, V: StoreValue + Drop, S: Suite<V>>(
     suite: &'a S,
     path: &[ContextNo],
 ) -> Result<Vec<LockRequest<'a>>, AllocError>
-    ensures { IfOk result (λ v. map asks v.items ≡ locks_on (S.nodes suite.now) path.now) }
+    ensures { IfOk result (λ v. map asks v.items ≡ locks_on (S.suite_view suite.now) path.now) }
 {
     let mut requests = Vec::new(alloc);
     requests.push(LockRequest {
@@ -81,7 +81,7 @@ fn requests_on<'a, V: StoreValue + Drop, S: Suite<V>>(
 
 /// The mode of the global lock: for writing where a node of the path is isolated.
 fn global_mode<V: StoreValue + Drop, S: Suite<V>>(suite: &S, path: &[ContextNo]) -> LockMode
-    ensures { result ≡ global_mode (S.nodes suite.now) path.now }
+    ensures { result ≡ global_mode (S.suite_view suite.now) path.now }
 {
     if any_isolated(suite, path) {
         LockMode::ReadWrite
@@ -92,7 +92,7 @@ fn global_mode<V: StoreValue + Drop, S: Suite<V>>(suite: &S, path: &[ContextNo])
 
 /// Whether a node of the path is isolated.
 fn any_isolated<V: StoreValue + Drop, S: Suite<V>>(suite: &S, path: &[ContextNo]) -> bool
-    ensures { result ≡ list_any (S.nodes suite.now).is_isolated path.now }
+    ensures { result ≡ list_any (S.suite_view suite.now).is_isolated path.now }
 {
     path.iter().any(|node| suite.isolated(*node))
 }
@@ -103,7 +103,7 @@ fn push_locks<'a, V: StoreValue + Drop, S: Suite<V>>(
     node: ContextNo,
     requests: &mut Vec<LockRequest<'a>>,
 ) -> Result<(), AllocError>
-    ensures { OnOk result (map asks requests.new.items ≡ map asks requests.old.items ++ (S.nodes suite.now).locks node) }
+    ensures { OnOk result (map asks requests.new.items ≡ map asks requests.old.items ++ (S.suite_view suite.now).locks node) }
 {
     for i in 0..suite.lock_count(node) {
         match suite.lock(node, i) {

@@ -1,7 +1,7 @@
 //! Lanes of a share that meet.
 ghost use Rattle.std.specs.Prelude.{◌≡◌, All, length};
 ghost use Rattle.std.specs.List.{AllZip};
-ghost use Rattle.ext_history.specs.Views.{seen_by};
+ghost use Rattle.ext_history.specs.Histories.{seen_by};
 ghost use Rattle.ext_store.specs.Stores.{IsLaneOf};
 ghost use Rattle.ext_engine.specs.Meeting.{Forks, HasSeen, HasSeenWithin, Joins, OnlyMeets};
 

@@ -2,7 +2,7 @@
 //!
 //! A `NodeRunner` runs a test and closes the context of any node. `open_container` does what comes before a container's children and
 //! `close_container` what comes after them; its children with their closers, and the places of results are functions of their own.
-//! Module `tree_run` puts them together to the run of a tree. `specs/NodeRun` says what the run of a test is, and `specs/Containers`
+//! Module `tree_run` puts them together to the run of a tree. `specs/NodeRun` says what the run of a test is, and `specs/InnerContainers`
 //! what is done for a container. Own rule, for JUnit 5 User Guide, sections "Relative Execution Order of User Code and Extensions",
 //! "Synchronization" and "Keeping State in Extensions".
 

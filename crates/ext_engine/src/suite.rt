@@ -10,7 +10,6 @@ use std::sync::Wait;
 /// The nodes of a tree of tests, and their calls. Nodes are the contexts of the store's tree, numbered from 0.
 ///
 /// It is shared by all workers of a run, and what it says of a node doesn't change. Its calls may come from several threads at once.
-/// Own rule.
 pub trait Suite<V: StoreValue + Drop>: Callbacks {
     ghost use Rattle.std.specs.Prelude.{◌≡◌, ◌<◌, ◌≤◌, ℕ, Bool, Option, length, slice_get, Some, option_map};
     ghost use Rattle.ext_locks.specs.Sets.{HeldView};
@@ -23,8 +22,8 @@ pub trait Suite<V: StoreValue + Drop>: Callbacks {
     /// What closes the values of a context.
     type Action: CloseAction<V> + Drop + Send + Sync;
 
-    /// The nodes: their modes, tests and locks.
-    ghost nodes: { Self → SuiteView };
+    /// What it says of its nodes: their modes, tests and locks.
+    ghost suite_view: { Self → SuiteView };
 
     /// Which stores it may be run over.
     ghost fits: { Self → StoreView → Type 0 };
@@ -38,23 +37,23 @@ pub trait Suite<V: StoreValue + Drop>: Callbacks {
     /// Whether the node runs beside the others of its container. Of the root it is never asked. JUnit 5 User Guide, section
     /// "Parallel Execution".
     fn mode(&self, node: ContextNo) -> Mode
-        ensures { is_concurrent result ≡ (nodes self.now).is_concurrent node };
+        ensures { is_concurrent result ≡ (suite_view self.now).is_concurrent node };
 
     /// Whether no other test runs beside one at or below the node. Javadoc `Isolated`.
     fn isolated(&self, node: ContextNo) -> bool
-        ensures { result ≡ (nodes self.now).is_isolated node };
+        ensures { result ≡ (suite_view self.now).is_isolated node };
 
     /// Whether it is a test; else it is a container.
     fn is_test(&self, node: ContextNo) -> bool
-        ensures { result ≡ (nodes self.now).is_test node };
+        ensures { result ≡ (suite_view self.now).is_test node };
 
     /// How many locks it names. Javadoc `ResourceLock`.
     fn lock_count(&self, node: ContextNo) -> usize
-        ensures { result ≡ length ((nodes self.now).locks node) };
+        ensures { result ≡ length ((suite_view self.now).locks node) };
 
     /// One of them, from 0, and `None` past the last. Javadoc `ResourceLock`.
     fn lock<'a>(&'a self, node: ContextNo, i: usize) -> Option<LockRequest<'a>>
-        ensures { option_map asks result ≡ slice_get ((nodes self.now).locks node) i };
+        ensures { option_map asks result ≡ slice_get ((suite_view self.now).locks node) i };
 
     /// What closes the values of the node's context. A run that closes a context asks for it once, and gives the context's values to no
     /// other action; that it asks for no second one is tested, since a clause can't speak of an action that was let go again. JUnit 5 User
@@ -69,7 +68,7 @@ pub trait Suite<V: StoreValue + Drop>: Callbacks {
 
     /// Makes one call of the node, on a lane of the store: a callback of the node or of one above it, or the test. A test is lent the
     /// locks that it holds, and a container none. The store is one that the suite may be run over. What memory the call takes, and for
-    /// whom it waits, is its own matter: want of memory is an outcome. Own rule.
+    /// whom it waits, is its own matter: want of memory is an outcome.
     fn call<R: Wait>(
         &self,
         rt: &R,
@@ -82,7 +81,7 @@ pub trait Suite<V: StoreValue + Drop>: Callbacks {
         requires fits { fits self.now store.now }
         requires lane { IsLaneOf store.now.id lane.old }
         requires node { node < length store.now.tree }
-        requires held { IsLent (nodes self.now) store.now.tree node (option_map (λ h. h.now) held) }
+        requires held { IsLent (suite_view self.now) store.now.tree node (option_map (λ h. h.now) held) }
         ensures call { call_gives self.now store.now node call.now (option_map (λ h. h.now) held.entry) lane.old result lane.new }
         ensures lane { IsLaneOf store.now.id lane.new };
 }

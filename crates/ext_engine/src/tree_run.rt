@@ -1,15 +1,13 @@
 //! The run of a tree.
-ghost use Rattle.std.specs.Prelude.{◌≡◌, ℕ, ◌+◌, ◌-◌, ◌≤◌, List, length, min, map, IfOk, IfErr, All, slice_index_or, vec_len};
+ghost use Rattle.std.specs.Prelude.{◌≡◌, ◌+◌, ◌-◌, ◌≤◌, List, length, map, IfOk, IfErr, All, vec_len};
 ghost use denote.Param.Send.{IsSync, IsSend};
 ghost use Rattle.ext_lifecycle.specs.Results.{told};
 ghost use Rattle.ext_store.specs.Stores.{closers_below};
-ghost use Rattle.ext_crew.specs.Dealing.{RunByDealing};
-ghost use Rattle.ext_engine.specs.Closers.{IsNode};
-ghost use Rattle.ext_engine.specs.Containers.{AreChildren};
-ghost use Rattle.ext_engine.specs.TreeRun.{Ran, setting_of, IsUsable, IsFit, IsFault, TreeRun, BodyMade, RanInTurn, all_results};
-ghost use Rattle.ext_engine.specs.Failing.{OnUnjoined, NamesUnknown, NamesBelow, IsUnknownInTurn};
-ghost use Rattle.ext_engine.specs.Helpers.{ran_view};
-ghost use Rattle.ext_engine.specs.declared.node.fault.EngineFault.TheVariants as engine_fault;
+ghost use Rattle.ext_engine.specs.InnerClosers.{IsNode};
+ghost use Rattle.ext_engine.specs.InnerContainers.{AreChildren};
+ghost use Rattle.ext_engine.specs.TreeRun.{Ran, setting_of, IsUsable, IsRunnable, IsFault, TreeRun, all_results};
+ghost use Rattle.ext_engine.specs.Failing.{OnUnjoined, NamesUnknown};
+ghost use Rattle.ext_engine.specs.InnerRuns.{nodes_in, NodeEnds, BodyEnds, TurnEnds, BesideEnds};
 
 use crate::meeting::{fork, join};
 use crate::node::{
@@ -74,15 +72,18 @@ pub fn run_tree<
 ) -> Result<Vec<NodeResult>, EngineFault>
     requires lanes { IsUsable store.now locks.now (record { first = lanes.old; second = lock_lanes.old }) }
     requires closers { closers.items ≡ closers_below store.now.id.cells (length store.now.tree) }
-    requires fit { IsFit store.now locks.now (S.nodes suite.now) }
+    requires runnable { IsRunnable store.now locks.now (S.suite_view suite.now) }
     requires suite_fits { S.fits suite.now store.now }
     ensures lanes { IsUsable store.now locks.now (record { first = lanes.new; second = lock_lanes.new }) }
     ensures count { length lanes.new ≡ length lanes.old }
     ensures run { IfOk result (λ results. (ran : List Ran)
-        × TreeRun (setting_of store.now locks.now (S.nodes suite.now) (S.registered suite.now) V.is_closeable) (S.call_gives suite.now store.now) (S.action_gives suite.now) S.Action.close_gives 16 0 (record { first = lanes.old; second = lock_lanes.old }) ran (record { first = lanes.new; second = lock_lanes.new })
-        × (map told results.items ≡ all_results (S.nodes suite.now) (length store.now.tree) ran)) }
-    ensures fault { IfErr result (IsFault (setting_of store.now locks.now (S.nodes suite.now) (S.registered suite.now) V.is_closeable) (S.action_gives suite.now) S.Action.close_gives) }
-    ensures unjoined { IfErr result (OnUnjoined (λ context number. NamesUnknown (setting_of store.now locks.now (S.nodes suite.now) (S.registered suite.now) V.is_closeable) (S.call_gives suite.now store.now) (S.action_gives suite.now) S.Action.close_gives 16 0 context number (record { first = lanes.new; second = lock_lanes.new }))) }
+        × TreeRun (setting_of V.is_closeable S.suite_view S.registered S.call_gives S.action_gives S.Action.close_gives suite.now store.now locks.now)
+        16 0 (record { first = lanes.old; second = lock_lanes.old }) ran (record { first = lanes.new; second = lock_lanes.new })
+        × (map told results.items ≡ all_results (S.suite_view suite.now) (length store.now.tree) ran)) }
+    ensures fault { IfErr result (IsFault (setting_of V.is_closeable S.suite_view S.registered S.call_gives S.action_gives S.Action.close_gives suite.now store.now locks.now)) }
+    ensures unjoined { IfErr result (OnUnjoined (λ context number.
+        NamesUnknown (setting_of V.is_closeable S.suite_view S.registered S.call_gives S.action_gives S.Action.close_gives suite.now store.now locks.now)
+        16 0 context number (record { first = lanes.new; second = lock_lanes.new }))) }
 {
     let nodes = NodeRunner {
         rt,
@@ -117,15 +118,12 @@ impl<
         lock_lanes: &mut [LockLane],
     ) -> Result<Vec<RanNode>, EngineFault>
         requires item { IsNode self.now.nodes.store.now depth item }
-        requires ready { IsFit self.now.nodes.store.now self.now.nodes.locks.now (S.nodes self.now.nodes.suite.now)
+        requires ready { IsRunnable self.now.nodes.store.now self.now.nodes.locks.now (S.suite_view self.now.nodes.suite.now)
             × S.fits self.now.nodes.suite.now self.now.nodes.store.now
             × IsUsable self.now.nodes.store.now self.now.nodes.locks.now (record { first = lanes.old; second = lock_lanes.old }) }
-        ensures left { IsUsable self.now.nodes.store.now self.now.nodes.locks.now (record { first = lanes.new; second = lock_lanes.new })
-            × (length lanes.new ≡ length lanes.old)
-            × IfOk result (λ ran. TreeRun (setting_of self.now.nodes.store.now self.now.nodes.locks.now (S.nodes self.now.nodes.suite.now) (S.registered self.now.nodes.suite.now) V.is_closeable) (S.call_gives self.now.nodes.suite.now self.now.nodes.store.now) (S.action_gives self.now.nodes.suite.now) S.Action.close_gives depth item.node
-            (record { first = lanes.old; second = lock_lanes.old }) (map ran_view ran.items) (record { first = lanes.new; second = lock_lanes.new }))
-            × IfErr result (IsFault (setting_of self.now.nodes.store.now self.now.nodes.locks.now (S.nodes self.now.nodes.suite.now) (S.registered self.now.nodes.suite.now) V.is_closeable) (S.action_gives self.now.nodes.suite.now) S.Action.close_gives)
-            × IfErr result (OnUnjoined (λ context number. NamesUnknown (setting_of self.now.nodes.store.now self.now.nodes.locks.now (S.nodes self.now.nodes.suite.now) (S.registered self.now.nodes.suite.now) V.is_closeable) (S.call_gives self.now.nodes.suite.now self.now.nodes.store.now) (S.action_gives self.now.nodes.suite.now) S.Action.close_gives depth item.node context number (record { first = lanes.new; second = lock_lanes.new }))) }
+        ensures left { NodeEnds (setting_of V.is_closeable S.suite_view S.registered S.call_gives S.action_gives S.Action.close_gives
+            self.now.nodes.suite.now self.now.nodes.store.now self.now.nodes.locks.now) depth item.node
+            (record { first = lanes.old; second = lock_lanes.old }) result (record { first = lanes.new; second = lock_lanes.new }) }
     {
         if self.nodes.suite.is_test(item.node) {
             let _path = self.nodes.store.tree().path(item.node);
@@ -162,16 +160,13 @@ impl<
         lanes: &mut [Lane<V>],
         lock_lanes: &mut [LockLane],
     ) -> Result<Vec<RanNode>, EngineFault>
-        requires children { AreChildren self.now.nodes.store.now (S.nodes self.now.nodes.suite.now) depth node children }
-        requires ready { IsFit self.now.nodes.store.now self.now.nodes.locks.now (S.nodes self.now.nodes.suite.now)
+        requires children { AreChildren self.now.nodes.store.now (S.suite_view self.now.nodes.suite.now) depth node children }
+        requires ready { IsRunnable self.now.nodes.store.now self.now.nodes.locks.now (S.suite_view self.now.nodes.suite.now)
             × S.fits self.now.nodes.suite.now self.now.nodes.store.now
             × IsUsable self.now.nodes.store.now self.now.nodes.locks.now (record { first = lanes.old; second = lock_lanes.old }) }
-        ensures left { IsUsable self.now.nodes.store.now self.now.nodes.locks.now (record { first = lanes.new; second = lock_lanes.new })
-            × (length lanes.new ≡ length lanes.old)
-            × IfOk result (λ ran. BodyMade (setting_of self.now.nodes.store.now self.now.nodes.locks.now (S.nodes self.now.nodes.suite.now) (S.registered self.now.nodes.suite.now) V.is_closeable) (S.call_gives self.now.nodes.suite.now self.now.nodes.store.now) (S.action_gives self.now.nodes.suite.now) S.Action.close_gives (TreeRun (setting_of self.now.nodes.store.now self.now.nodes.locks.now (S.nodes self.now.nodes.suite.now) (S.registered self.now.nodes.suite.now) V.is_closeable) (S.call_gives self.now.nodes.suite.now self.now.nodes.store.now) (S.action_gives self.now.nodes.suite.now) S.Action.close_gives depth) go node
-            (record { first = lanes.old; second = lock_lanes.old }) (map ran_view ran.items) (record { first = lanes.new; second = lock_lanes.new }))
-            × IfErr result (IsFault (setting_of self.now.nodes.store.now self.now.nodes.locks.now (S.nodes self.now.nodes.suite.now) (S.registered self.now.nodes.suite.now) V.is_closeable) (S.action_gives self.now.nodes.suite.now) S.Action.close_gives)
-            × IfErr result (OnUnjoined (λ context number. NamesBelow (setting_of self.now.nodes.store.now self.now.nodes.locks.now (S.nodes self.now.nodes.suite.now) (S.registered self.now.nodes.suite.now) V.is_closeable) (S.call_gives self.now.nodes.suite.now self.now.nodes.store.now) (S.action_gives self.now.nodes.suite.now) S.Action.close_gives depth node context number (record { first = lanes.new; second = lock_lanes.new }))) }
+        ensures left { BodyEnds (setting_of V.is_closeable S.suite_view S.registered S.call_gives S.action_gives S.Action.close_gives
+            self.now.nodes.suite.now self.now.nodes.store.now self.now.nodes.locks.now) depth go node
+            (record { first = lanes.old; second = lock_lanes.old }) result (record { first = lanes.new; second = lock_lanes.new }) }
     {
         if !go {
             return Ok(Vec::new(alloc));
@@ -197,15 +192,12 @@ impl<
         lock_lanes: &mut [LockLane],
     ) -> Result<Vec<RanNode>, EngineFault>
         requires items { All (IsNode self.now.nodes.store.now depth) items.items }
-        requires ready { IsFit self.now.nodes.store.now self.now.nodes.locks.now (S.nodes self.now.nodes.suite.now)
+        requires ready { IsRunnable self.now.nodes.store.now self.now.nodes.locks.now (S.suite_view self.now.nodes.suite.now)
             × S.fits self.now.nodes.suite.now self.now.nodes.store.now
             × IsUsable self.now.nodes.store.now self.now.nodes.locks.now (record { first = lanes.old; second = lock_lanes.old }) }
-        ensures left { IsUsable self.now.nodes.store.now self.now.nodes.locks.now (record { first = lanes.new; second = lock_lanes.new })
-            × (length lanes.new ≡ length lanes.old)
-            × IfOk result (λ ran. RanInTurn (TreeRun (setting_of self.now.nodes.store.now self.now.nodes.locks.now (S.nodes self.now.nodes.suite.now) (S.registered self.now.nodes.suite.now) V.is_closeable) (S.call_gives self.now.nodes.suite.now self.now.nodes.store.now) (S.action_gives self.now.nodes.suite.now) S.Action.close_gives depth) (map (λ i. i.node) items.items)
-            (record { first = lanes.old; second = lock_lanes.old }) (map ran_view ran.items) (record { first = lanes.new; second = lock_lanes.new }))
-            × IfErr result (IsFault (setting_of self.now.nodes.store.now self.now.nodes.locks.now (S.nodes self.now.nodes.suite.now) (S.registered self.now.nodes.suite.now) V.is_closeable) (S.action_gives self.now.nodes.suite.now) S.Action.close_gives)
-            × IfErr result (OnUnjoined (λ context number. IsUnknownInTurn (TreeRun (setting_of self.now.nodes.store.now self.now.nodes.locks.now (S.nodes self.now.nodes.suite.now) (S.registered self.now.nodes.suite.now) V.is_closeable) (S.call_gives self.now.nodes.suite.now self.now.nodes.store.now) (S.action_gives self.now.nodes.suite.now) S.Action.close_gives depth) (NamesUnknown (setting_of self.now.nodes.store.now self.now.nodes.locks.now (S.nodes self.now.nodes.suite.now) (S.registered self.now.nodes.suite.now) V.is_closeable) (S.call_gives self.now.nodes.suite.now self.now.nodes.store.now) (S.action_gives self.now.nodes.suite.now) S.Action.close_gives depth) (map (λ i. i.node) items.items) context number (record { first = lanes.new; second = lock_lanes.new }))) }
+        ensures left { TurnEnds (setting_of V.is_closeable S.suite_view S.registered S.call_gives S.action_gives S.Action.close_gives
+            self.now.nodes.suite.now self.now.nodes.store.now self.now.nodes.locks.now) depth (nodes_in items)
+            (record { first = lanes.old; second = lock_lanes.old }) result (record { first = lanes.new; second = lock_lanes.new }) }
     {
         let mut ran = Vec::new(alloc);
         for item in items {
@@ -227,33 +219,24 @@ impl<
     ) -> Result<Vec<Result<Vec<RanNode>, EngineFault>>, EngineFault>
         requires items { All (IsNode self.now.nodes.store.now depth) items.items }
         requires few { vec_len items ≤ 256 }
-        requires ready { IsFit self.now.nodes.store.now self.now.nodes.locks.now (S.nodes self.now.nodes.suite.now)
+        requires ready { IsRunnable self.now.nodes.store.now self.now.nodes.locks.now (S.suite_view self.now.nodes.suite.now)
             × S.fits self.now.nodes.suite.now self.now.nodes.store.now
             × IsUsable self.now.nodes.store.now self.now.nodes.locks.now (record { first = lanes.old; second = lock_lanes.old }) }
-        ensures left { IsUsable self.now.nodes.store.now self.now.nodes.locks.now (record { first = lanes.new; second = lock_lanes.new })
-            × (length lanes.new ≡ length lanes.old)
-            × IfOk result (λ outcomes. RunByDealing
-            (λ i s ran u. IfOk ran (λ v. TreeRun (setting_of self.now.nodes.store.now self.now.nodes.locks.now (S.nodes self.now.nodes.suite.now) (S.registered self.now.nodes.suite.now) V.is_closeable) (S.call_gives self.now.nodes.suite.now self.now.nodes.store.now) (S.action_gives self.now.nodes.suite.now) S.Action.close_gives depth (slice_index_or (map (λ i. i.node) items.items) i 0) s (map ran_view v.items) u)
-            × IfErr ran (OnUnjoined (λ context number. NamesUnknown (setting_of self.now.nodes.store.now self.now.nodes.locks.now (S.nodes self.now.nodes.suite.now) (S.registered self.now.nodes.suite.now) V.is_closeable) (S.call_gives self.now.nodes.suite.now self.now.nodes.store.now) (S.action_gives self.now.nodes.suite.now) S.Action.close_gives depth (slice_index_or (map (λ i. i.node) items.items) i 0) context number u)))
-            (length items.items) (min (length lanes.old) (length items.items))
-            (record { first = lanes.old; second = lock_lanes.old }) outcomes.items (record { first = lanes.new; second = lock_lanes.new }))
-            × IfOk result (λ outcomes. All (λ ran. IfErr ran (IsFault (setting_of self.now.nodes.store.now self.now.nodes.locks.now (S.nodes self.now.nodes.suite.now) (S.registered self.now.nodes.suite.now) V.is_closeable) (S.action_gives self.now.nodes.suite.now) S.Action.close_gives)) outcomes.items)
-            × IfErr result (IsFault (setting_of self.now.nodes.store.now self.now.nodes.locks.now (S.nodes self.now.nodes.suite.now) (S.registered self.now.nodes.suite.now) V.is_closeable) (S.action_gives self.now.nodes.suite.now) S.Action.close_gives)
-            × IfErr result (λ why. why ≡ engine_fault.Memory) }
+        ensures left { BesideEnds (setting_of V.is_closeable S.suite_view S.registered S.call_gives S.action_gives S.Action.close_gives
+            self.now.nodes.suite.now self.now.nodes.store.now self.now.nodes.locks.now) depth items
+            (record { first = lanes.old; second = lock_lanes.old }) result (record { first = lanes.new; second = lock_lanes.new }) }
     {
         let run = |_index: usize, item: Item, lanes: &mut [Lane<
             V,
         >], lock_lanes: &mut [LockLane]| -> Result<Vec<RanNode>, EngineFault>
-            requires { IsSync R.row × IsSync S.row × IsSync G.row × IsSync V.row × IsSend V.row × IsSync S.Action.row × IsSend S.Action.row × IsNode self.now.nodes.store.now depth item
-                × IsFit self.now.nodes.store.now self.now.nodes.locks.now (S.nodes self.now.nodes.suite.now)
+            requires { IsSync R.row × IsSync S.row × IsSync G.row × IsSync V.row × IsSend V.row × IsSync S.Action.row × IsSend S.Action.row
+                × IsNode self.now.nodes.store.now depth item
+                × IsRunnable self.now.nodes.store.now self.now.nodes.locks.now (S.suite_view self.now.nodes.suite.now)
                 × S.fits self.now.nodes.suite.now self.now.nodes.store.now
                 × IsUsable self.now.nodes.store.now self.now.nodes.locks.now (record { first = lanes.old; second = lock_lanes.old }) }
-            ensures { IsUsable self.entry.now.nodes.store.now self.entry.now.nodes.locks.now (record { first = lanes.new; second = lock_lanes.new })
-                × (length lanes.new ≡ length lanes.old)
-                × IfOk result (λ ran. TreeRun (setting_of self.entry.now.nodes.store.now self.entry.now.nodes.locks.now (S.nodes self.entry.now.nodes.suite.now) (S.registered self.entry.now.nodes.suite.now) V.is_closeable) (S.call_gives self.entry.now.nodes.suite.now self.entry.now.nodes.store.now) (S.action_gives self.entry.now.nodes.suite.now) S.Action.close_gives depth item.node
-                (record { first = lanes.old; second = lock_lanes.old }) (map ran_view ran.items) (record { first = lanes.new; second = lock_lanes.new }))
-                × IfErr result (IsFault (setting_of self.entry.now.nodes.store.now self.entry.now.nodes.locks.now (S.nodes self.entry.now.nodes.suite.now) (S.registered self.entry.now.nodes.suite.now) V.is_closeable) (S.action_gives self.entry.now.nodes.suite.now) S.Action.close_gives)
-                × IfErr result (OnUnjoined (λ context number. NamesUnknown (setting_of self.entry.now.nodes.store.now self.entry.now.nodes.locks.now (S.nodes self.entry.now.nodes.suite.now) (S.registered self.entry.now.nodes.suite.now) V.is_closeable) (S.call_gives self.entry.now.nodes.suite.now self.entry.now.nodes.store.now) (S.action_gives self.entry.now.nodes.suite.now) S.Action.close_gives depth item.node context number (record { first = lanes.new; second = lock_lanes.new }))) }
+            ensures { NodeEnds (setting_of V.is_closeable S.suite_view S.registered S.call_gives S.action_gives S.Action.close_gives
+                self.entry.now.nodes.suite.now self.entry.now.nodes.store.now self.entry.now.nodes.locks.now) depth item.node
+                (record { first = lanes.old; second = lock_lanes.old }) result (record { first = lanes.new; second = lock_lanes.new }) }
         { self.run_node(alloc, depth, item, lanes, lock_lanes) };
         match run_children(
             self.nodes.rt,

@@ -1,7 +1,6 @@
 -- Answers of calls that follow one another.
 use Rattle.std.proofs.Common.{ℕ, inl, inr, List, []}
-use Rattle.ext_history.specs.Views.{LaneView}
-use Rattle.ext_history.specs.Calls.{Calls, HoldsAtPoint}
+use Rattle.ext_history.specs.Histories.{LaneView, Calls, HoldsAtPoint}
 use Rattle.ext_history.proofs.Composed.{calls_compose, steps_stay, later_point, earlier_point}
 
 -- what follows from a fact holds at its point

@@ -2,9 +2,7 @@
 use Rattle.std.proofs.Common.{◌≡◌, ℕ, ◌+◌, ◌⊎◌, inl, inr, List, [], ◌∷◌, ◌++◌, sym, ap, ◌∙◌, subst, append_assoc, append-nil, length, length-append}
 use mathlib.Core.List.{IsPrefix, append_cancel_left, append_cancel_right}
 use base.Growing.{prefix_refl, prefix_trans}
-use Rattle.ext_history.specs.Histories.{own, IsLegal}
-use Rattle.ext_history.specs.Views.{LaneView, last_after, first_or, seen_by, Follow, moved, call_fronts, first_front, IsStepped, IsPoint, IsAnswerPoint, IsPointAfter}
-use Rattle.ext_history.specs.Calls.{Calls}
+use Rattle.ext_history.specs.Histories.{own, IsLegal, LaneView, last_after, first_or, seen_by, Follow, moved, call_fronts, first_front, IsStepped, IsPoint, IsAnswerPoint, IsPointAfter, Calls}
 use Rattle.ext_history.proofs.Fronts.{follow_last, follow_append, first_follows, first_to_last, first_append, first_or_later, steps_first, steps_second, moved_fronts, moved_seen, moved_none, moved_again}
 use Rattle.ext_history.proofs.Lanes.{own_append, own_added, own_between}
 use Rattle.ext_history.proofs.Legal.{legal_begun}

@@ -1,9 +1,7 @@
 -- Other lanes in the way: calls that were overtaken or crowded.
 use Rattle.std.proofs.Common.{◌≡◌, ℕ, ◌+◌, ◌≤◌, List, [], ◌∷◌, ◌++◌, length, sym, ap, ◌∙◌, subst, arith, append_assoc, append-nil}
 use mathlib.Core.List.{append_cancel_left}
-use Rattle.ext_history.specs.Histories.{own, others}
-use Rattle.ext_history.specs.Views.{LaneView, last_after, first_or, seen_by, Follow, call_fronts, first_front, IsStepped}
-use Rattle.ext_history.specs.Calls.{Calls, IsOvertaken, IsCrowdedAt, IsCrowded}
+use Rattle.ext_history.specs.Histories.{own, others, LaneView, last_after, first_or, seen_by, Follow, call_fronts, first_front, IsStepped, Calls, IsOvertaken, IsCrowdedAt, IsCrowded}
 use Rattle.ext_history.proofs.Fronts.{follow_last, first_to_last}
 use Rattle.ext_history.proofs.Lanes.{own_past, own_between, others_append, others_all}
 use Rattle.ext_history.proofs.Composed.{same_number, seen_is, first_goes_on, fronts_compose, follow_on, first_decides, first_is_earlier}

@@ -2,7 +2,7 @@
 use Rattle.std.proofs.Common.{◌≡◌, ◌≤◌, List, [], ◌∷◌, ◌++◌, length, refl, ap, sym, subst, arith, append_assoc, append-nil}
 use mathlib.Core.List.{IsPrefix}
 use base.Growing.{prefix_refl, prefix_trans}
-use Rattle.ext_history.specs.Views.{LaneView, last_after, first_or, seen_by, Follow, moved, call_fronts}
+use Rattle.ext_history.specs.Histories.{LaneView, last_after, first_or, seen_by, Follow, moved, call_fronts}
 use Rattle.ext_history.proofs.Lists.{drop_front}
 
 module _ {E : Type 0} where

@@ -2,9 +2,7 @@
 use Rattle.std.proofs.Common.{◌≡◌, ℕ, List, [], ◌∷◌, ◌++◌, refl, sym, subst, ap, ◌∙◌, arith, append-nil}
 use mathlib.Core.List.{IsPrefix}
 use base.Growing.{prefix_refl, prefix_trans}
-use Rattle.ext_history.specs.Histories.{own}
-use Rattle.ext_history.specs.Views.{LaneView, first_or, seen_by, moved, IsStepped, IsAnswerPoint}
-use Rattle.ext_history.specs.Calls.{Calls, HoldsAtPoint, GoesOn}
+use Rattle.ext_history.specs.Histories.{own, LaneView, first_or, seen_by, moved, IsStepped, IsAnswerPoint, Calls, HoldsAtPoint, GoesOn}
 use Rattle.ext_history.proofs.Fronts.{moved_fronts, moved_once, moved_seen}
 use Rattle.ext_history.proofs.Lanes.{own_push, own_past}
 use Rattle.ext_history.proofs.Legal.{legal_push}

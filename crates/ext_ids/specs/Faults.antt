@@ -1,4 +1,4 @@
--- The first fault of a text that is no id: the text is right up to a place, and wrong there. Own rule.
+-- The first fault of a text that is no id: the text is right up to a place, and wrong there.
 --
 --     where                          what stands there                   fault
 --     the whole text                 nothing                             Empty

@@ -1,5 +1,5 @@
--- Ids as the lists of their pairs: which are equal, and which is the parent of which.
--- Equality and parents go by the decoded parts (own rule; JUnit's `UniqueId` compares its segments likewise).
+-- Ids as the lists of their pairs: which are equal, and which is the parent of which. Equality and parents go
+-- by the decoded parts (JUnit's `UniqueId` compares its segments likewise).
 use Rattle.std.specs.Prelude.{Bool, true, false, ◌&&◌, List, [], ◌∷◌}
 use Rattle.std.specs.Str.{bytes_eq}
 use Rattle.ext_ids.specs.Grammar.{Pair}

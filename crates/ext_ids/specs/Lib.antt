@@ -3,4 +3,4 @@ pub mod Faults
 pub mod Ids
 pub mod Laws
 pub mod Reading
-pub mod Traits
+pub mod InnerTraits

@@ -5,7 +5,7 @@ ghost use Rattle.ext_ids.specs.declared.fault.IdFault.TheVariants.{Memory};
 use std::alloc::{AllocError, AllocFailed};
 use thiserror::Error;
 
-/// The first fault of a text, from the left, or want of memory. Own rule.
+/// The first fault of a text, from the left, or want of memory.
 ///
 /// A place is a byte offset in the text, from 0; where the text ended too early it is the text's length.
 /// Each variant prints as its code, as `id: I6 at 9`.

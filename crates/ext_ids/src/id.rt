@@ -6,7 +6,7 @@ ghost use Rattle.ext_ids.specs.Grammar.{Pair, IsId, IsIdText, id_text};
 ghost use Rattle.ext_ids.specs.Reading.{read_id, GivesOrMemory};
 ghost use Rattle.ext_ids.specs.Faults.{HasFault};
 ghost use Rattle.ext_ids.specs.Ids.{is_parent, pair_eq};
-ghost use Rattle.ext_ids.specs.Traits.{pair_eq_equiv};
+ghost use Rattle.ext_ids.specs.InnerTraits.{pair_eq_equiv};
 ghost use Rattle.ext_ids.specs.declared.fault.IdFault.{IdFault};
 ghost use Rattle.ext_ids.specs.declared.fault.IdFault.TheVariants.{Memory};
 
@@ -41,7 +41,7 @@ impl UniqueId {
     /// The id that a text spells, its escapes decoded; takes memory.
     ///
     /// The text is checked whole, from the left, before memory is taken. A text that is no id is refused for
-    /// its first fault, I1 to I8; I9 comes only where the text is an id. Own rule.
+    /// its first fault, I1 to I8; I9 comes only where the text is an id.
     pub fn parse(alloc: Global, text: &str) -> Result<UniqueId, IdFault>
         // What is accepted was spelled so, and what is spelled so is accepted while there is memory.
         ensures found { IfOk result (λ id. IsIdText text.now id) }

@@ -2,6 +2,9 @@
 //!
 //! `UniqueId` is seen as the list of its segments, each a type and a value as they are after decoding.
 //! A text is refused for its first fault from the left, with its place (`IdFault`).
+//!
+//! Unless its comment says otherwise, a public call takes no memory and waits for nobody. Ids are
+//! written as JUnit's `UniqueId` writes them; the rest is an own rule.
 #![tactic(auto)]
 
 mod escape;

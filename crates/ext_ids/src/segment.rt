@@ -6,7 +6,7 @@ ghost use Rattle.std.specs.Cmp.{partial_equiv_from_equiv};
 ghost use Rattle.ext_ids.specs.Grammar.{IsPartText, segment_text, further_text, id_text};
 ghost use Rattle.ext_ids.specs.Reading.{pair_of};
 ghost use Rattle.ext_ids.specs.Ids.{pair_eq};
-ghost use Rattle.ext_ids.specs.Traits.{pair_eq_equiv};
+ghost use Rattle.ext_ids.specs.InnerTraits.{pair_eq_equiv};
 
 use crate::escape::{decoded, write_part};
 use crate::scan::Ends;

@@ -2,11 +2,13 @@
 use Rattle.std.proofs.Common.{◌≡◌, ℕ, ◌+◌, ◌-◌, ◌≤◌, Bool, true, false, not, cond, List, [], ◌∷◌, ◌++◌, map, Option, Some, None, is_some, refl, ap, sym, subst, ◌∙◌, arith}
 use Rattle.std.specs.Prelude.{◌&&◌}
 use Rattle.std.proofs.lemmas.List.Sums.{sum_by-append}
+use Rattle.ext_model.specs.Closed.{or_else, first_of, close_faults}
+use Rattle.ext_model.proofs.CountedCloses.{IsCountOf, close_faults-cons, close_weight, closes-counted, or_else-assoc, or_else-none}
 use Rattle.ext_lifecycle.specs.declared.status.Status.{Status}
 use Rattle.ext_lifecycle.specs.declared.status.Status.TheVariants as statuses
-use Rattle.ext_lifecycle.specs.Endings.{Ending, successful, aborted, failed, Total, is_successful, all_successful, fault_in, abort_in, or_else, first_fault, first_abort, unsuccessful, total_by, total_of}
-use Rattle.ext_lifecycle.specs.Helpers.{with_ending, with_closes}
-use Rattle.ext_lifecycle.specs.Results.{close_ending, first_of, close_faults}
+use Rattle.ext_lifecycle.specs.Endings.{Ending, successful, aborted, failed, Total, is_successful, all_successful, fault_in, abort_in, first_fault, first_abort, unsuccessful, total_by, total_of}
+use Rattle.ext_lifecycle.specs.InnerHelpers.{with_ending, with_closes}
+use Rattle.ext_lifecycle.specs.Results.{close_ending}
 
 -- the status of a node of which every call so far was successful
 abbrev pub passed : Status → Bool
@@ -16,22 +18,6 @@ passed statuses.Failed = false
 passed statuses.Skipped = false
 
 module _ {F : Type 0} where
-  pub or_else-none : (a : Option F) → or_else a None ≡ a
-  or_else-none None = refl
-  or_else-none (Some fault) = refl
-
-  pub or_else-first : (a b : Option F) → is_some a ≡ true → or_else a b ≡ a
-  or_else-first None b is = absurd cc
-  or_else-first (Some fault) b is = refl
-
-  pub or_else-second : (a b : Option F) → is_some a ≡ false → or_else a b ≡ b
-  or_else-second None b is = refl
-  or_else-second (Some fault) b is = absurd cc
-
-  or_else-assoc : (a b c : Option F) → or_else (or_else a b) c ≡ or_else a (or_else b c)
-  or_else-assoc None b c = refl
-  or_else-assoc (Some fault) b c = refl
-
   -- ---- one list after another
 
   pub first_fault-append : (es fs : List (Ending F)) → first_fault (es ++ fs) ≡ or_else (first_fault es) (first_fault fs)
@@ -107,46 +93,6 @@ module _ {F : Type 0} where
 
   -- ---- closes after calls
 
-  abbrev pub close_weight : Option F → ℕ
-  close_weight None = 0
-  close_weight (Some fault) = 1
-
-  close_weighed : (c : Option F) → close_faults (c ∷ []) ≡ close_weight c
-  close_weighed None = refl
-  close_weighed (Some fault) = refl
-
-  close_faults-append : (cs ds : List (Option F)) → close_faults (cs ++ ds) ≡ close_faults cs + close_faults ds
-  close_faults-append cs ds = sum_by-append (λ w. cond (is_some w) 1 0) cs ds
-
-  close_faults-cons : (c : Option F) (cs : List (Option F)) → close_faults (c ∷ cs) ≡ close_weight c + close_faults cs
-  close_faults-cons c cs = close_faults-append (c ∷ []) cs ∙ ap (λ n. n + close_faults cs) (close_weighed c)
-
-  closes-counted-cons : (c g : Option F) (n : ℕ) → AreCounted g None n → AreCounted (or_else c g) None (close_weight c + n)
-  closes-counted-cons None g n h = let same : n ≡ 0 + n = omega arith in subst (AreCounted g None) same h
-  closes-counted-cons (Some x) g n h = omega arith
-
-  pub closes-counted : (cs : List (Option F)) → AreCounted (first_of cs) None (close_faults cs)
-  closes-counted [] = refl
-  closes-counted (c ∷ cs) = subst (AreCounted (first_of (c ∷ cs)) None) (sym (close_faults-cons c cs)) (closes-counted-cons c (first_of cs) (close_faults cs) (closes-counted cs))
-
-  first_of-append : (cs ds : List (Option F)) → first_of (cs ++ ds) ≡ or_else (first_of cs) (first_of ds)
-  first_of-append [] ds = refl
-  first_of-append (c ∷ cs) ds = ap (or_else c) (first_of-append cs ds) ∙ sym (or_else-assoc c (first_of cs) (first_of ds))
-
-  pub some-counted : (g : Option F) (n : ℕ) → AreCounted g None n → is_some g ≡ true → 1 ≤ n
-  some-counted None n h is = absurd cc
-  some-counted (Some fault) n h is = h
-
-  pub none-counted : (g : Option F) (n : ℕ) → AreCounted g None n → is_some g ≡ false → n ≡ 0
-  none-counted None n h is = h
-  none-counted (Some fault) n h is = absurd cc
-
-  pub first_of-more : (cs : List (Option F)) (c : Option F) → first_of (cs ++ c ∷ []) ≡ or_else (first_of cs) c
-  first_of-more cs c = first_of-append cs (c ∷ []) ∙ ap (or_else (first_of cs)) (or_else-none c)
-
-  pub close_faults-more : (cs : List (Option F)) (c : Option F) → close_faults (cs ++ c ∷ []) ≡ close_faults cs + close_weight c
-  close_faults-more cs c = close_faults-append cs (c ∷ []) ∙ ap (λ n. close_faults cs + n) (close_weighed c)
-
   fault-of-close : (c : Option F) → fault_in (close_ending c) ≡ c
   fault-of-close None = refl
   fault-of-close (Some fault) = refl
@@ -172,7 +118,7 @@ module _ {F : Type 0} where
   unsuccessful-closes (c ∷ cs) =
       unsuccessful-cons (close_ending c) (map close_ending cs) ∙ ap (λ n. n + unsuccessful (map close_ending cs)) (weight-of-close c) ∙ ap (λ n. close_weight c + n) (unsuccessful-closes cs) ∙ sym (close_faults-cons c cs)
 
-  total_by-closed : (f a g : Option F) (n m : ℕ) → AreCounted f a n → AreCounted g None m → total_by (or_else f g) a (n + m) ≡ with_closes (total_by f a n) g (m - 1)
+  total_by-closed : (f a g : Option F) (n m : ℕ) → AreCounted f a n → IsCountOf g m → total_by (or_else f g) a (n + m) ≡ with_closes (total_by f a n) g (m - 1)
   total_by-closed None None None n m h k = refl
   total_by-closed None (Some y) None n m h k = same_total statuses.Aborted (Some y) ((n + m) - 1) (n - 1) (omega (arith, k))
   total_by-closed (Some z) a None n m h k = same_total statuses.Failed (Some z) ((n + m) - 1) (n - 1) (omega (arith, k))

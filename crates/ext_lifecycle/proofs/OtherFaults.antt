@@ -2,8 +2,9 @@
 use Rattle.std.proofs.Common.{◌≡◌, ℕ, ◌+◌, Bool, List, [], ◌∷◌, ◌++◌, length, Option, Some, None, refl, ap, sym, ◌∙◌}
 use Rattle.std.specs.Prelude.{map, option_map}
 use Rattle.std.proofs.lemmas.List.{length-map, map-append}
-use Rattle.ext_lifecycle.specs.Endings.{Ending, successful, aborted, failed, is_successful, fault_in, abort_in, or_else, first_fault, first_abort, unsuccessful, total_by, total_of, with_fault, with_fault_in_total}
-use Rattle.ext_lifecycle.specs.Results.{close_ending, close_faults, result_of, with_fault_told}
+use Rattle.ext_model.specs.Closed.{close_faults, or_else}
+use Rattle.ext_lifecycle.specs.Endings.{Ending, successful, aborted, failed, is_successful, fault_in, abort_in, first_fault, first_abort, unsuccessful, total_by, total_of, with_fault, with_fault_in_total}
+use Rattle.ext_lifecycle.specs.Results.{close_ending, result_of, with_fault_told}
 use Rattle.ext_lifecycle.proofs.EndingLaws.{weight, unsuccessful-cons, unsuccessful-closes}
 
 module _ {F G : Type 0} (to : F → G) where

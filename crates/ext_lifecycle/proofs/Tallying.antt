@@ -3,14 +3,16 @@ use Rattle.std.proofs.Common.{◌≡◌, ℕ, ◌+◌, ◌-◌, Bool, true, fals
 use Rattle.std.proofs.lemmas.List.{map-append}
 use Rattle.std.proofs.lemmas.List.Sums.{sum_by-append}
 use Rattle.ext_model.specs.declared.look.Fault.{Fault}
-use Rattle.ext_lifecycle.specs.declared.closes.Closes.{Closes}
+use Rattle.ext_model.specs.Closed.{close_faults, closed_of, first_of}
+use Rattle.ext_model.specs.declared.closed.Closed.{Closed}
+use Rattle.ext_model.proofs.CountedCloses.{closes-counted, none-counted, some-counted}
 use Rattle.ext_lifecycle.specs.declared.outcome.Outcome.{Outcome}
 use Rattle.ext_lifecycle.specs.declared.tally.Tally.{Tally}
-use Rattle.ext_lifecycle.specs.Endings.{Total, total_of, or_else}
+use Rattle.ext_lifecycle.specs.Endings.{Total, total_of}
 use Rattle.ext_lifecycle.specs.Lifecycle.{ending_of, endings_of, computed_in, found_in, tally_of}
-use Rattle.ext_lifecycle.specs.Helpers.{total_in, with_ending, with_closes}
-use Rattle.ext_lifecycle.specs.Results.{ResultOf, close_faults, closes_of, first_of, result_of}
-use Rattle.ext_lifecycle.proofs.EndingLaws.{AreCounted, close_weight, close_faults-more, closes-counted, first_of-more, none-counted, some-counted, total_of-closed, total_of-more}
+use Rattle.ext_lifecycle.specs.InnerHelpers.{total_in, with_ending, with_closes}
+use Rattle.ext_lifecycle.specs.Results.{ResultOf, result_of}
+use Rattle.ext_lifecycle.proofs.EndingLaws.{total_of-closed, total_of-more}
 
 same_tally : (a b : Tally) → total_in a ≡ total_in b → a.computed ≡ b.computed → a.found ≡ b.found → a ≡ b
 same_tally a b total computed found =
@@ -27,19 +29,6 @@ tally_of-more old new os o is total computed found =
     (total ∙ ap (λ t. with_ending (total_in t) (ending_of o.verdict)) is ∙ sym (total_of-more (endings_of os) (ending_of o.verdict)) ∙ ap total_of (sym ends))
     (computed ∙ ap (λ t. t.computed + o.computed) is ∙ (let sum = sum_by-append (λ p. p.computed) os (o ∷ []) in omega (arith, sum)))
     (found ∙ ap (λ t. t.found + o.found) is ∙ (let sum = sum_by-append (λ p. p.found) os (o ∷ []) in omega (arith, sum)))
-
--- ---- closes
-
--- a further close, by what stood before
-pub closes_of-more : (old new : Closes) (cs : List (Option Fault)) (c : Option Fault) → old ≡ closes_of cs → new.closed ≡ old.closed + 1 → new.first_fault ≡ or_else old.first_fault c
-    → ((n : ℕ) → AreCounted old.first_fault None n → old.more_faults ≡ n - 1 → new.more_faults ≡ (n + close_weight c) - 1) → new ≡ closes_of (cs ++ c ∷ [])
-closes_of-more old new cs c is closed first more =
-    let counted : AreCounted old.first_fault None (close_faults cs) = subst (λ o. AreCounted o.first_fault None (close_faults cs)) (sym is) (closes-counted cs) in
-    let count : length (cs ++ c ∷ []) ≡ length cs + 1 = rw length-append refl in
-    ap (λ n. record { closed = n; first_fault = new.first_fault; more_faults = new.more_faults }) (closed ∙ ap (λ o. o.closed + 1) is ∙ sym count)
-    ∙ ap (λ f. record { closed = length (cs ++ c ∷ []); first_fault = f; more_faults = new.more_faults }) (first ∙ ap (λ o. or_else o.first_fault c) is ∙ sym (first_of-more cs c))
-    ∙ ap (λ n. record { closed = length (cs ++ c ∷ []); first_fault = first_of (cs ++ c ∷ []); more_faults = n })
-    (more (close_faults cs) counted (ap (λ o. o.more_faults) is) ∙ ap (λ n. n - 1) (sym (close_faults-more cs c)))
 
 -- ---- the end of a node
 
@@ -59,19 +48,19 @@ result_of-ended node is_test os cs r at test total computed found closed faults 
     ∙ ap (λ x. record { node = node; is_test = is_test; status = (result_of node is_test (endings_of os) 0 0 cs).status; fault = (result_of node is_test (endings_of os) 0 0 cs).fault; more = (result_of node is_test (endings_of os) 0 0 cs).more; computed = computed_in os; found = found_in os; closed = length cs; close_faults = x }) faults
 
 -- what calls and closes come to, by what was counted of both
-pub closed-total : (t : Tally) (closes : Closes) (os : List Outcome) (cs : List (Option Fault)) (u : Total Fault) → t ≡ tally_of os → closes ≡ closes_of cs → u ≡ with_closes (total_in t) closes.first_fault closes.more_faults
+pub closed-total : (t : Tally) (closes : Closed) (os : List Outcome) (cs : List (Option Fault)) (u : Total Fault) → t ≡ tally_of os → closes ≡ closed_of cs → u ≡ with_closes (total_in t) closes.first_fault closes.more_faults
     → u ≡ with_closes (total_of (endings_of os)) (first_of cs) (close_faults cs - 1)
 closed-total t closes os cs u is counted total =
     total ∙ ap (λ x. with_closes (total_in x) closes.first_fault closes.more_faults) is ∙ ap (λ x. with_closes (total_of (endings_of os)) x.first_fault x.more_faults) counted
 
 -- how many closes failed
-pub faults-some : (closes : Closes) (cs : List (Option Fault)) (fault : Fault) (n : ℕ) → closes ≡ closes_of cs → closes.first_fault ≡ Some fault → n ≡ 1 + closes.more_faults → n ≡ close_faults cs
+pub faults-some : (closes : Closed) (cs : List (Option Fault)) (fault : Fault) (n : ℕ) → closes ≡ closed_of cs → closes.first_fault ≡ Some fault → n ≡ 1 + closes.more_faults → n ≡ close_faults cs
 faults-some closes cs fault n counted first is =
     let there : is_some (first_of cs) ≡ true = ap is_some (sym (ap (λ x. x.first_fault) counted) ∙ first) in
     let more : closes.more_faults ≡ close_faults cs - 1 = ap (λ x. x.more_faults) counted in
     omega (arith, is, more, some-counted (first_of cs) (close_faults cs) (closes-counted cs) there)
 
-pub faults-none : (closes : Closes) (cs : List (Option Fault)) → closes ≡ closes_of cs → closes.first_fault ≡ None → 0 ≡ close_faults cs
+pub faults-none : (closes : Closed) (cs : List (Option Fault)) → closes ≡ closed_of cs → closes.first_fault ≡ None → 0 ≡ close_faults cs
 faults-none closes cs counted first =
     let missing : is_some (first_of cs) ≡ false = ap is_some (sym (ap (λ x. x.first_fault) counted) ∙ first) in
     sym (none-counted (first_of cs) (close_faults cs) (closes-counted cs) missing)

@@ -5,6 +5,7 @@
 -- counted, is an own rule. A fault is an `F`: a [ext_model Fault] of a call that was made, a text where a definition says what a run gives.
 use Rattle.std.specs.Prelude.{ℕ, ◌-◌, Bool, true, false, not, ◌&&◌, List, [], ◌∷◌, Option, Some, None, option_map}
 use Rattle.std.specs.List.{count_by}
+use Rattle.ext_model.specs.Closed.{or_else}
 use Rattle.ext_lifecycle.specs.declared.status.Status.{Status}
 use Rattle.ext_lifecycle.specs.declared.status.Status.TheVariants as statuses
 
@@ -39,11 +40,6 @@ module _ {F : Type 0} where
   abort_in successful = None
   abort_in (aborted fault) = Some fault
   abort_in (failed fault) = None
-
-  -- the first of two, where there is one
-  abbrev pub or_else : Option F → Option F → Option F
-  or_else None second = second
-  or_else (Some fault) second = Some fault
 
   abbrev pub first_fault : List (Ending F) → Option F
   first_fault [] = None

@@ -1,5 +1,5 @@
 -- A fault as it is written, how a call ended with the text of its fault, and a node's result with that text. A text stands as it is, and want of memory is
--- `no memory`. Own rule.
+-- `no memory`.
 use Rattle.std.specs.Prelude.{ℕ, codes, List, map, string_bytes}
 use Rattle.ext_model.specs.declared.look.Fault.{Fault}
 use Rattle.ext_model.specs.declared.look.Fault.TheVariants as faults

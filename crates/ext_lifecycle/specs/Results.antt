@@ -2,14 +2,13 @@
 -- successful. The fault of a close is told where no call failed; each other fault and abort is counted.
 --
 -- JUnit 5 User Guide, "Keeping State in Extensions", for closes at the end of a context; what is told of a node is an own rule.
-use Rattle.std.specs.Prelude.{ℕ, ◌-◌, Bool, List, [], ◌∷◌, ◌++◌, length, map, Option, Some, None, is_some, option_map}
-use Rattle.std.specs.List.{count_by}
+use Rattle.std.specs.Prelude.{ℕ, Bool, List, ◌++◌, length, map, Option, Some, None, option_map}
 use Rattle.ext_model.specs.declared.look.Fault.{Fault}
-use Rattle.ext_lifecycle.specs.declared.closes.Closes.{Closes}
+use Rattle.ext_model.specs.Closed.{close_faults}
 use Rattle.ext_lifecycle.specs.declared.node_result.NodeResult.{NodeResult}
 use Rattle.ext_lifecycle.specs.declared.status.Status.{Status}
 use Rattle.ext_lifecycle.specs.declared.status.Status.TheVariants as statuses
-use Rattle.ext_lifecycle.specs.Endings.{Ending, successful, failed, or_else, total_of}
+use Rattle.ext_lifecycle.specs.Endings.{Ending, successful, failed, total_of}
 
 -- a node's result, whose fault is an `F`
 pub record ResultOf (F : Type 0) : Type 0 where
@@ -57,15 +56,6 @@ module _ {F : Type 0} where
   close_ending None = successful
   close_ending (Some fault) = failed fault
 
-  -- the first close that failed
-  abbrev pub first_of : List (Option F) → Option F
-  first_of [] = None
-  first_of (close ∷ more) = or_else close (first_of more)
-
-  -- how many closes failed
-  abbrev pub close_faults : List (Option F) → ℕ
-  close_faults closes = count_by is_some closes
-
   -- of a node that ran: by how its calls ended, how many values they computed and found, and by its closes
   abbrev pub result_of : ℕ → Bool → List (Ending F) → ℕ → ℕ → List (Option F) → ResultOf F
   result_of node is_test calls computed found closes = record {
@@ -93,7 +83,3 @@ module _ {F : Type 0} where
     closed = 0;
     close_faults = 0;
   }
-
--- closes, counted
-abbrev pub closes_of : List (Option Fault) → Closes
-closes_of closes = record { closed = length closes; first_fault = first_of closes; more_faults = close_faults closes - 1 }

@@ -17,7 +17,7 @@ pub enum Kind {
     AfterAll,
 }
 
-/// One call of a node. Own rule.
+/// One call of a node.
 #[derive(Clone, Copy, Debug, PartialEq, Eq)]
 pub struct Call {
     /// What is called.

@@ -6,7 +6,7 @@ use crate::{Call, Kind};
 use ext_model::ContextNo;
 use std::alloc::{AllocError, Global};
 
-/// What tells how many callbacks the nodes of a run registered. Own rule.
+/// What tells how many callbacks the nodes of a run registered.
 pub trait Callbacks {
     ghost use Rattle.std.specs.Prelude.{◌≡◌, ◌≤◌, ℕ};
     ghost use Rattle.ext_lifecycle.specs.declared.call.Kind.{Kind};

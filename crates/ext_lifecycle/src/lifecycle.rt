@@ -6,7 +6,7 @@ ghost use Rattle.ext_lifecycle.specs.declared.outcome.Outcome.{Outcome};
 
 use crate::{Call, Outcome, Tally};
 
-/// What makes the calls of a node. Own rule.
+/// What makes the calls of a node.
 pub trait Caller {
     ghost use Rattle.std.specs.Prelude.{◌≡◌, ℕ};
     ghost use Rattle.ext_lifecycle.specs.declared.call.Call.{Call};
@@ -32,9 +32,8 @@ pub trait Caller {
 /// Makes the calls of a node whose body is a call, as a test: `run_befores`, `run_body` and `run_afters`, one after
 /// another, with one caller and one tally.
 ///
-/// The calls are fewer than 2^32, so that all counts are exact. Takes no memory, and waits where the caller
-/// does. Source: JUnit 5 User Guide, section "Relative Execution Order of User Code and Extensions"; which
-/// calls are skipped is an own rule.
+/// The calls are fewer than 2^32, so that all counts are exact. Waits where the caller does. Source: JUnit 5 User
+/// Guide, section "Relative Execution Order of User Code and Extensions"; which calls are skipped is an own rule.
 pub fn run_calls<C: Caller>(befores: &[Call], body: Call, afters: &[Call], caller: &mut C) -> Tally
     requires ready { C.ready caller.old }
     requires few { length befores.now + 1 + length afters.now < 2 ^ 32 }
@@ -51,9 +50,9 @@ pub fn run_calls<C: Caller>(befores: &[Call], body: Call, afters: &[Call], calle
 
 /// Makes these before-callbacks, in order, up to the first that isn't successful, with it.
 ///
-/// There are fewer than 2^32 of them, so that all counts are exact. Takes no memory, and waits where the
-/// caller does. Source: JUnit 5 User Guide, section "Relative Execution Order of User Code and Extensions";
-/// that the later ones are skipped is an own rule.
+/// There are fewer than 2^32 of them, so that all counts are exact. Waits where the caller does. Source:
+/// JUnit 5 User Guide, section "Relative Execution Order of User Code and Extensions"; that the later ones
+/// are skipped is an own rule.
 pub fn run_befores<C: Caller>(befores: &[Call], caller: &mut C) -> Tally
     requires ready { C.ready caller.old }
     requires few { length befores.now < 2 ^ 32 }
@@ -78,7 +77,7 @@ pub fn run_befores<C: Caller>(befores: &[Call], caller: &mut C) -> Tally
 
 /// Makes the call that is the body of a test where all calls so far were successful, and else none.
 ///
-/// Takes no memory, and waits where the caller does. Own rule.
+/// Waits where the caller does.
 pub fn run_body<C: Caller>(call: Call, caller: &mut C, tally: &mut Tally)
     requires ready { C.ready caller.old }
     requires room { IsRoomy 1 tally.old }
@@ -97,8 +96,8 @@ pub fn run_body<C: Caller>(call: Call, caller: &mut C, tally: &mut Tally)
 
 /// Makes all of these after-callbacks, in order, however the calls before them and each of them ended.
 ///
-/// Takes no memory, and waits where the caller does. Source: JUnit 5 User Guide, section "Relative Execution
-/// Order of User Code and Extensions"; that none is skipped is an own rule.
+/// Waits where the caller does. Source: JUnit 5 User Guide, section "Relative Execution Order of User Code
+/// and Extensions"; that none is skipped is an own rule.
 pub fn run_afters<C: Caller>(afters: &[Call], caller: &mut C, tally: &mut Tally)
     requires ready { C.ready caller.old }
     requires room { IsRoomy (length afters.now) tally.old }

@@ -12,7 +12,7 @@ pub trait RunListener {
     fn ended(&self, node: ContextNo, nodes: usize);
 }
 
-/// A listener that does nothing. Own rule.
+/// A listener that does nothing.
 #[derive(Clone, Copy, Debug, Drop)]
 pub struct NoListener;
 

@@ -16,7 +16,7 @@ pub enum Mode {
 }
 
 impl Mode {
-    /// Whether nodes of this mode run beside others. Takes no memory. Source: JUnit 5 User Guide, section "Parallel Execution".
+    /// Whether nodes of this mode run beside others. Source: JUnit 5 User Guide, section "Parallel Execution".
     pub fn is_concurrent(self) -> bool
         ensures { result ≡ is_concurrent self }
     {

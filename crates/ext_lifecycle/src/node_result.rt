@@ -6,7 +6,7 @@ use crate::Status;
 use ext_model::{ContextNo, Fault};
 
 /// What became of one node of a run. Whoever makes it sees that the fields fit together: nothing here checks
-/// that a successful node has no fault. Own rule.
+/// that a successful node has no fault.
 #[derive(Debug, Drop, PartialEq, Eq)]
 pub struct NodeResult {
     /// The node's context, a number from 0.
@@ -30,7 +30,7 @@ pub struct NodeResult {
 }
 
 impl NodeResult {
-    /// The result of a node that did not run: skipped, with no fault and no counts. Takes no memory. Own rule.
+    /// The result of a node that did not run: skipped, with no fault and no counts.
     pub fn skipped(node: ContextNo, is_test: bool) -> NodeResult
         ensures { told result ≡ skipped_result node is_test }
     {

@@ -18,7 +18,7 @@ impl Verdict {
     ghost use Rattle.ext_lifecycle.specs.Endings.{is_successful};
     ghost use Rattle.ext_lifecycle.specs.Lifecycle.{ending_of};
 
-    /// Tests whether the call was successful. Takes no memory. Own rule.
+    /// Tests whether the call was successful.
     pub fn is_successful(&self) -> bool
         ensures { result ≡ is_successful (ending_of self.now) }
     {
@@ -30,7 +30,7 @@ impl Verdict {
     }
 }
 
-/// What one call came to. Own rule.
+/// What one call came to.
 #[derive(Debug, Drop, PartialEq, Eq)]
 pub struct Outcome {
     /// How it ended.
@@ -42,7 +42,7 @@ pub struct Outcome {
 }
 
 impl Outcome {
-    /// Of a call that computed nothing, and found nothing in its place. Takes no memory. Own rule.
+    /// Of a call that computed nothing, and found nothing in its place.
     pub fn of(verdict: Verdict) -> Outcome
         ensures verdict { result.verdict ≡ verdict }
         ensures computed { result.computed ≡ 0 }

@@ -4,13 +4,14 @@ ghost use Rattle.ext_model.specs.declared.look.Fault.{Fault};
 ghost use Rattle.ext_lifecycle.specs.declared.outcome.Outcome.{Outcome};
 ghost use Rattle.ext_lifecycle.specs.Endings.{aborted, all_successful, failed};
 ghost use Rattle.ext_lifecycle.specs.Lifecycle.{IsRoomy, computed_in, endings_of, found_in, tally_of};
-ghost use Rattle.ext_lifecycle.specs.Helpers.{total_in, with_ending};
-ghost use Rattle.ext_lifecycle.specs.Results.{closes_of, result_of, told};
+ghost use Rattle.ext_lifecycle.specs.InnerHelpers.{total_in, with_ending};
+ghost use Rattle.ext_lifecycle.specs.Results.{result_of, told};
+ghost use Rattle.ext_model.specs.Closed.{closed_of};
 
-use crate::{Closes, NodeResult, Outcome, Status, Verdict};
-use ext_model::{ContextNo, Fault};
+use crate::{NodeResult, Outcome, Status, Verdict};
+use ext_model::{Closed, ContextNo, Fault};
 
-/// What the outcomes of a node's calls come to. Own rule.
+/// What the outcomes of a node's calls come to.
 #[derive(Debug, Drop, PartialEq, Eq)]
 pub struct Tally {
     /// Failed where a call failed, else aborted where one aborted, else successful.
@@ -26,7 +27,7 @@ pub struct Tally {
 }
 
 impl Tally {
-    /// Before the first call. Takes no memory. Own rule.
+    /// Before the first call.
     pub fn new() -> Tally
         ensures tally { result ≡ tally_of [] }
         ensures room { (n : ℕ) → n < 2 ^ 32 → IsRoomy n result }
@@ -40,7 +41,7 @@ impl Tally {
         }
     }
 
-    /// Tests whether all calls so far were successful. Takes no memory. Own rule.
+    /// Tests whether all calls so far were successful.
     pub fn is_successful(&self) -> bool
         ensures { (outcomes : List Outcome) → self.now ≡ tally_of outcomes → result ≡ all_successful (endings_of outcomes) }
     {
@@ -52,7 +53,7 @@ impl Tally {
         }
     }
 
-    /// Adds the outcome of a further call. Takes no memory. Own rule.
+    /// Adds the outcome of a further call.
     pub fn add(&mut self, outcome: Outcome)
         requires room { IsRoomy 1 self.old }
         ensures tally { (outcomes : List Outcome) → self.old ≡ tally_of outcomes → self.new ≡ tally_of (outcomes ++ outcome ∷ []) }
@@ -72,13 +73,13 @@ impl Tally {
         }
     }
 
-    /// The result of the node: what the closes of its context came to, after its calls. Takes no memory. Own rule.
-    pub fn result(self, node: ContextNo, is_test: bool, closes: Closes) -> NodeResult
+    /// The result of the node: what the closes of its context came to, after its calls.
+    pub fn result(self, node: ContextNo, is_test: bool, closes: Closed) -> NodeResult
         requires room { IsRoomy 1 self }
-        ensures { (outcomes : List Outcome) (closed : List (Option Fault)) → self ≡ tally_of outcomes → closes ≡ closes_of closed
+        ensures { (outcomes : List Outcome) (closed : List (Option Fault)) → self ≡ tally_of outcomes → closes ≡ closed_of closed
             → told result ≡ result_of node is_test (endings_of outcomes) (computed_in outcomes) (found_in outcomes) closed }
     {
-        let Closes {
+        let Closed {
             closed,
             first_fault,
             more_faults,

@@ -1,7 +1,7 @@
 -- From the seats that the code has to the lanes that contracts see.
 use Rattle.std.proofs.Common.{◌≡◌, ℕ, ◌<◌, ◌≤◌, List, [], ◌++◌, length, Option, Some, sym, ap, ◌∙◌, subst}
 use Rattle.atomic_table.specs.declared.shared.Seat.{Seat}
-use Rattle.ext_history.specs.Views.{seen, seen_by, call_fronts, Follow}
+use Rattle.ext_history.specs.Histories.{seen, seen_by, call_fronts, Follow}
 use Rattle.ext_history.proofs.Fronts.{follow_append}
 use Rattle.ext_locks.specs.declared.event.LockMode.{LockMode}
 use Rattle.ext_locks.specs.declared.event.LockEvent.{LockEvent}
@@ -9,10 +9,10 @@ use Rattle.ext_locks.specs.declared.seat.SeatView.{SeatView}
 use Rattle.ext_locks.specs.declared.refusal.LockRefusal.{LockRefusal}
 use Rattle.ext_locks.specs.History.{holds, IsLegal}
 use Rattle.ext_locks.specs.Views.{LaneView, Lane, own_of, LaneCalls}
-use Rattle.ext_locks.specs.Rule.{lane_view}
+use Rattle.ext_locks.specs.InnerRule.{lane_view}
 use Rattle.ext_locks.specs.Sets.{locks_of, wants, takes_of, gives_of, AllBelow, HoldsExactly, HeldView, IsHeldBy}
 use Rattle.ext_locks.specs.Refusals.{undone}
-use Rattle.ext_locks.specs.Steps.{lane_at, Makes, HoldsBetween, IsWithin}
+use Rattle.ext_locks.specs.InnerSteps.{lane_at, Makes, HoldsBetween, IsWithin}
 use Rattle.ext_locks.proofs.Histories.{by_own}
 use Rattle.ext_locks.proofs.Fronts.{makes_legal}
 use Rattle.ext_locks.proofs.Whole.{within_of, held_all}

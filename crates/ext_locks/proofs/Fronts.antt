@@ -2,7 +2,7 @@
 use Rattle.std.proofs.Common.{◌≡◌, ℕ, Bool, List, [], ◌∷◌, ◌++◌, refl, sym, ap, ◌∙◌, subst, append-nil}
 use Rattle.atomic_table.specs.Seated.{TableId}
 use Rattle.atomic_table.specs.declared.shared.Seat.{Seat}
-use Rattle.ext_history.specs.Views.{seen, seen_by, IsStepped}
+use Rattle.ext_history.specs.Histories.{seen, seen_by, IsStepped}
 use Rattle.ext_history.proofs.Fronts.{last_append}
 use Rattle.ext_history.proofs.Single as single
 use Rattle.ext_history.proofs.Composed as composed
@@ -11,8 +11,8 @@ use Rattle.ext_locks.specs.declared.event.LockEvent.{LockEvent}
 use Rattle.ext_locks.specs.declared.seat.SeatView.{SeatView}
 use Rattle.ext_locks.specs.History.{LockHistory, event, lane_of, IsLegal}
 use Rattle.ext_locks.specs.Views.{Lane, Calls, LaneCalls}
-use Rattle.ext_locks.specs.Rule.{lane_view, seeing, Loaded, Stepped, told_of}
-use Rattle.ext_locks.specs.Steps.{lane_at, IsLane, Makes}
+use Rattle.ext_locks.specs.InnerRule.{lane_view, seeing, Loaded, Stepped, told_of}
+use Rattle.ext_locks.specs.InnerSteps.{lane_at, IsLane, Makes}
 
 -- what is seen last is what the last step showed
 pub seen_now : (v w : SeatView) (h : LockHistory) → w ≡ seeing v h → seen w.fronts ≡ h

@@ -3,12 +3,12 @@ use Rattle.std.proofs.Common.{◌≡◌, ◌≢◌, ◌&&◌, ℕ, ◌+◌, ◌<
 use Rattle.std.proofs.lemmas.Bool.{cond_both, both_ways, and_from, and_left, and_right, false_from_ne_true, cases_eq, cases_lt, eq-eqb}
 use Rattle.std.proofs.lemmas.List.{get_or_past}
 use Rattle.std.proofs.lemmas.Bool.Decides.{nat_tests}
-use Rattle.ext_history.specs.Views.{seen}
+use Rattle.ext_history.specs.Histories.{seen}
 use Rattle.ext_locks.specs.declared.event.LockMode.{LockMode}
 use Rattle.ext_locks.specs.declared.seat.SeatView.{SeatView}
 use Rattle.ext_locks.specs.History.{LockHistory, event, same_mode, is_about, holds}
-use Rattle.ext_locks.specs.Rule.{Loaded, Stepped}
-use Rattle.ext_locks.specs.Steps.{is_mode, has_mode, is_between, HoldsBetween, SameHeld, HeldBut}
+use Rattle.ext_locks.specs.InnerRule.{Loaded, Stepped}
+use Rattle.ext_locks.specs.InnerSteps.{is_mode, has_mode, is_between, HoldsBetween, SameHeld, HeldBut}
 use Rattle.ext_locks.proofs.Histories.{about, holds-push, same_held, same_mode_self}
 use Rattle.ext_locks.proofs.Fronts.{seen_now}
 

@@ -8,7 +8,7 @@ use Rattle.std.proofs.lemmas.List.{take_more}
 use Rattle.ext_locks.specs.declared.event.LockMode.{LockMode}
 use Rattle.ext_locks.specs.History.{same_mode}
 use Rattle.ext_locks.specs.Sets.{locks_from, locks_of, locks_below, wants}
-use Rattle.ext_locks.specs.Steps.{has_mode}
+use Rattle.ext_locks.specs.InnerSteps.{has_mode}
 
 -- the locks from a number on have no lower one
 pub wants_low : (n : ℕ) (modes : List (Option LockMode)) (lock : ℕ) (mode : LockMode) → lock < n → wants (locks_from n modes) lock mode ≡ false

@@ -3,15 +3,15 @@ use Rattle.std.proofs.Common.{◌≡◌, ◌≢◌, ℕ, true, false, sym, ap, �
 use Rattle.std.proofs.lemmas.Bool.{false_from_ne_true}
 use mathlib.Core.List.{IsPrefix}
 use Rattle.atomic_table.specs.declared.shared.Seat.{Seat}
-use Rattle.ext_history.specs.Views.{seen}
+use Rattle.ext_history.specs.Histories.{seen}
 use Rattle.ext_history.proofs.Lanes.{own_between}
 use Rattle.ext_locks.specs.declared.event.LockMode.{LockMode}
 use Rattle.ext_locks.specs.declared.event.LockMode.TheVariants.{ReadWrite}
 use Rattle.ext_locks.specs.declared.seat.SeatView.{SeatView}
 use Rattle.ext_locks.specs.History.{LockHistory, lane_of, holds, own}
-use Rattle.ext_locks.specs.Rule.{Loaded, told_of, noted}
+use Rattle.ext_locks.specs.InnerRule.{Loaded, told_of, noted}
 use Rattle.ext_locks.specs.Sets.{Excludes}
-use Rattle.ext_locks.specs.Steps.{lane_at}
+use Rattle.ext_locks.specs.InnerSteps.{lane_at}
 use Rattle.ext_locks.proofs.Histories.{lawful, same_held}
 use Rattle.ext_locks.proofs.Fronts.{seen_now}
 use Rattle.ext_locks.proofs.Holding.{loaded_held}

@@ -11,7 +11,7 @@ use Rattle.ext_locks.specs.declared.request.LockRequest.{LockRequest}
 use Rattle.ext_locks.specs.History.{same_mode}
 use Rattle.ext_locks.specs.Sets.{locks_from, locks_of, wants, AllBelow}
 use Rattle.ext_locks.specs.Names.{IsNumberOf, IsKnown, is_as_strong, AsksFor, IsGranted, IsMerged, IsFirstUnknown}
-use Rattle.ext_locks.specs.Steps.{is_mode, has_mode}
+use Rattle.ext_locks.specs.InnerSteps.{is_mode, has_mode}
 use Rattle.ext_locks.proofs.Histories.{same_mode_self, same_mode-true}
 use Rattle.ext_locks.proofs.Lists.{wants_modes, numbers_rise}
 

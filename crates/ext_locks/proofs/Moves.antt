@@ -12,7 +12,7 @@ use base.Growing.{prefix_refl, prefix_trans}
 use lib.ListN.{get_elem?}
 use Rattle.atomic_table.specs.Table.{Act, Me, keeps, step, Allows, Valid, carried_after}
 use Rattle.atomic_table.proofs.Lists.{at_set}
-use Rattle.ext_history.specs.Views.{seen}
+use Rattle.ext_history.specs.Histories.{seen}
 use Rattle.ext_history.proofs.Lanes.{own_push_other}
 use Rattle.ext_history.proofs.Fronts.{last_append}
 use Rattle.ext_history.proofs.Legal.{legal_push}
@@ -20,8 +20,8 @@ use Rattle.ext_locks.specs.declared.event.LockMode.{LockMode}
 use Rattle.ext_locks.specs.declared.event.LockEvent.{LockEvent}
 use Rattle.ext_locks.specs.declared.seat.SeatView.{SeatView}
 use Rattle.ext_locks.specs.History.{LockHistory, event, lane_of, own, holds, IsAllowed, IsLegal}
-use Rattle.ext_locks.specs.Words.{bit_of, IsWord, IsFreeWord}
-use Rattle.ext_locks.specs.Rule.{Fits, Counts, Gives, Kept, seeing, Meets, Loaded, Stepped, TakesIf, Takes, GivesBack, Loads}
+use Rattle.ext_locks.specs.InnerWords.{bit_of, IsWord, IsFreeWord}
+use Rattle.ext_locks.specs.InnerRule.{Fits, Counts, Gives, Kept, seeing, Meets, Loaded, Stepped, TakesIf, Takes, GivesBack, Loads}
 use Rattle.ext_locks.proofs.Histories.{same_held, unmade}
 use Rattle.ext_locks.proofs.Words.{word_stays, taken_word, given_word, free_word}
 

@@ -4,7 +4,7 @@ use Rattle.std.specs.Prelude.{replicate}
 use Rattle.std.proofs.lemmas.List.{length-replicate}
 use Rattle.std.specs.Int.{bit_at}
 use Rattle.std.proofs.lemmas.Nat.Bits.{bit_at-zero}
-use Rattle.ext_history.specs.Views.{seen, Follow}
+use Rattle.ext_history.specs.Histories.{seen, Follow}
 use Rattle.ext_history.proofs.Lists.{at_push, at_zeros}
 use Rattle.ext_history.proofs.Legal.{legal_empty}
 use Rattle.ext_locks.specs.declared.event.LockMode.{LockMode}
@@ -15,8 +15,8 @@ use Rattle.atomic_table.specs.Table.{Splits, Joins}
 use Rattle.atomic_table.proofs.Lists.{at_set, set_again}
 use Rattle.ext_locks.specs.declared.seat.SeatView.{SeatView}
 use Rattle.ext_locks.specs.History.{LockHistory, IsAllowed, IsLegal}
-use Rattle.ext_locks.specs.Words.{bit_of, IsWord}
-use Rattle.ext_locks.specs.Rule.{Fits, Counts, Gives, Kept, founder, dealer, dealt, noted, told_of, nobody, next_after}
+use Rattle.ext_locks.specs.InnerWords.{bit_of, IsWord}
+use Rattle.ext_locks.specs.InnerRule.{Fits, Counts, Gives, Kept, founder, dealer, dealt, noted, told_of, nobody, next_after}
 
 -- where a view comes from: it has the numbers of the one that stood there, or none
 record Same (views : List SeatView) (j : ℕ) (u : SeatView) : Type 0 where

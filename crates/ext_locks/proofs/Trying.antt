@@ -6,9 +6,7 @@ use Rattle.std.proofs.lemmas.Nat.{and_le_r}
 use Rattle.std.proofs.lemmas.Nat.Bits.{bit_at_and, bit_at_ones, bit_at_ones_above, bit_at-zero, bit_at-lt, same_from_bits_below}
 use Rattle.std.proofs.lemmas.Bool.{both_ways, cases_lt, cases_eq, eqb-false}
 use Rattle.atomic_table.specs.declared.shared.Seat.{Seat}
-use Rattle.ext_history.specs.Histories.{others}
-use Rattle.ext_history.specs.Views.{seen, first_or, first_front, IsStepped}
-use Rattle.ext_history.specs.Calls.{IsCrowded}
+use Rattle.ext_history.specs.Histories.{others, seen, first_or, first_front, IsStepped, IsCrowded}
 use Rattle.ext_history.proofs.Lanes.{others_append, others_more}
 use Rattle.ext_history.proofs.Fronts.{moved_fronts}
 use Rattle.ext_history.proofs.Composed.{seen_goes_on, first_decides, steps_stay}
@@ -18,10 +16,10 @@ use Rattle.ext_locks.specs.declared.seat.SeatView.{SeatView}
 use Rattle.ext_locks.specs.declared.refusal.LockRefusal.TheVariants.{Taken, Contended}
 use Rattle.ext_locks.specs.History.{LockHistory, event, lane_of, is_about, holds, own, IsLegal}
 use Rattle.ext_locks.specs.Views.{LaneView, Calls}
-use Rattle.ext_locks.specs.Words.{as_bit, IsWord, IsFreeWord}
-use Rattle.ext_locks.specs.Rule.{lane_view, seeing, Loaded, Stepped, TakesIf}
+use Rattle.ext_locks.specs.InnerWords.{as_bit, IsWord, IsFreeWord}
+use Rattle.ext_locks.specs.InnerRule.{lane_view, seeing, Loaded, Stepped, TakesIf}
 use Rattle.ext_locks.specs.Refusals.{excludes_mode, IsTakenBy}
-use Rattle.ext_locks.specs.Steps.{Makes, AddsAtMost, SameHeld, HeldBut, Missed}
+use Rattle.ext_locks.specs.InnerSteps.{Makes, AddsAtMost, SameHeld, HeldBut, Missed}
 use Rattle.ext_locks.proofs.Words.{free_word}
 use Rattle.ext_locks.proofs.Holding.{loaded_held, stepped_held}
 use Rattle.ext_locks.proofs.Fronts.{seen_now, loaded_stepped, makes_self, makes_then, makes_quiet, loaded_makes, stepped_makes}

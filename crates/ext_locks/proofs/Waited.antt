@@ -2,11 +2,11 @@
 use Rattle.std.proofs.Common.{◌≡◌, ℕ, ◌∙◌, true, false, if◌then◌else◌, [], ◌∷◌, refl, ap}
 use Rattle.atomic_table.specs.Seated.{TableId}
 use Rattle.atomic_table.specs.declared.shared.Seat.{Seat}
-use Rattle.ext_history.specs.Views.{seen}
+use Rattle.ext_history.specs.Histories.{seen}
 use Rattle.ext_locks.specs.declared.event.LockMode.{LockMode}
 use Rattle.ext_locks.specs.declared.seat.SeatView.{SeatView}
 use Rattle.ext_locks.specs.History.{event, is_about, holds, IsLegal}
-use Rattle.ext_locks.specs.Steps.{IsLane, Makes, SameHeld, HeldBut}
+use Rattle.ext_locks.specs.InnerSteps.{IsLane, Makes, SameHeld, HeldBut}
 use Rattle.ext_locks.proofs.Fronts.{makes_self, makes_then, makes_quiet, lane_makes}
 
 -- since the seat was at `start`, the lane made no event

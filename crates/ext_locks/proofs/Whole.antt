@@ -6,7 +6,7 @@ use Rattle.std.proofs.lemmas.List.{map-append}
 use Rattle.std.proofs.lemmas.Bool.{and_left}
 use mathlib.Core.List.{IsPrefix}
 use Rattle.atomic_table.specs.declared.shared.Seat.{Seat}
-use Rattle.ext_history.specs.Views.{seen, first_front, IsStepped, IsPointAfter}
+use Rattle.ext_history.specs.Histories.{seen, first_front, IsStepped, IsPointAfter}
 use Rattle.ext_history.proofs.Composed.{calls_compose, steps_stay, first_decides, first_is_seen, point_of_first, seen_is_point}
 use Rattle.ext_history.proofs.Crowded.{crowded_at_first, crowded_at_second}
 use Rattle.ext_locks.specs.declared.event.LockMode.{LockMode}
@@ -16,10 +16,10 @@ use Rattle.ext_locks.specs.declared.refusal.LockRefusal.{LockRefusal}
 use Rattle.ext_locks.specs.declared.refusal.LockRefusal.TheVariants.{Taken, Contended}
 use Rattle.ext_locks.specs.History.{LockHistory, event, lane_of, holds, IsLegal}
 use Rattle.ext_locks.specs.Views.{LaneView, Calls}
-use Rattle.ext_locks.specs.Rule.{lane_view}
+use Rattle.ext_locks.specs.InnerRule.{lane_view}
 use Rattle.ext_locks.specs.Sets.{locks_of, locks_below, wants, takes_of, gives_of, HoldsNothing, HoldsExactly, AllBelow}
 use Rattle.ext_locks.specs.Refusals.{lock_of, undone, steps_to_take, steps_to_refuse, StoodAt, IsRefused}
-use Rattle.ext_locks.specs.Steps.{lane_at, Makes, AddsAtMost, HoldsBetween, HeldBut, IsWithin, Missed}
+use Rattle.ext_locks.specs.InnerSteps.{lane_at, Makes, AddsAtMost, HoldsBetween, HeldBut, IsWithin, Missed}
 use Rattle.ext_locks.proofs.Holding.{passed, took, passed_back, gave, none_between, all_between, has_own}
 use Rattle.ext_locks.proofs.Lists.{wants_modes, locks_more, locks_same, below_take}
 use Rattle.ext_locks.proofs.Fronts.{makes_self, makes_then, makes_quiet}

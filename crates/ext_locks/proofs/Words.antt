@@ -10,7 +10,7 @@ use Rattle.ext_locks.specs.declared.event.LockMode.{LockMode}
 use Rattle.ext_locks.specs.declared.event.LockMode.TheVariants.{Read, ReadWrite}
 use Rattle.ext_locks.specs.declared.event.LockEvent.{LockEvent}
 use Rattle.ext_locks.specs.History.{event, is_about, same_mode, holds, own, IsFree}
-use Rattle.ext_locks.specs.Words.{bit_of, as_bit, IsWord, IsFreeWord}
+use Rattle.ext_locks.specs.InnerWords.{bit_of, as_bit, IsWord, IsFreeWord}
 use Rattle.ext_locks.proofs.Histories.{About, about, holds-push, other_lock, same_mode_self, none_held}
 
 bit_small : (m : LockMode) (l : ℕ) → l < 16 → bit_of m l < 32

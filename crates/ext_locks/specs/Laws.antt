@@ -2,7 +2,7 @@
 -- JUnit 5 User Guide, section "Synchronization": readers may run together, and a writer excludes all others.
 use Rattle.std.specs.Prelude.{ℕ, ◌≡◌, ◌<◌, ◌≤◌, false, List, [], ◌++◌}
 use mathlib.Core.List.{IsPrefix}
-use Rattle.ext_history.specs.Views.{seen_by}
+use Rattle.ext_history.specs.Histories.{seen_by}
 use Rattle.ext_locks.specs.declared.event.LockMode.{LockMode}
 use Rattle.ext_locks.specs.declared.event.LockMode.TheVariants.{ReadWrite}
 use Rattle.ext_locks.specs.declared.event.LockEvent.{LockEvent}

@@ -4,7 +4,7 @@ pub mod Sets
 pub mod Refusals
 pub mod Names
 pub mod Opening
-pub mod Words
-pub mod Rule
-pub mod Steps
+pub mod InnerWords
+pub mod InnerRule
+pub mod InnerSteps
 pub mod Laws

@@ -1,5 +1,5 @@
--- What locks are once they are opened, and when they are not.
--- Own rule. There are 1 to 16 lanes, 1 to 64 tries, and at most 63 names beside the global lock.
+-- What locks are once they are opened, and when they are not. There are 1 to 16 lanes, 1 to 64
+-- tries, and at most 63 names beside the global lock.
 use Rattle.std.specs.Prelude.{ℕ, zero, suc, ◌≡◌, ◌<◌, ◌≤◌, List, [], ◌∷◌, ◌++◌, length, IsPermutation}
 use Rattle.std.specs.List.Sorted.{IsSorted}
 use Rattle.std.specs.Ordering.{nat_cmp}

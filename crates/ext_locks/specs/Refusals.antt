@@ -2,8 +2,7 @@
 -- JUnit waits instead; that a set is refused whole, and why, is an own rule.
 use Rattle.std.specs.Prelude.{ℕ, ◌≡◌, ◌≢◌, ◌+◌, ◌*◌, Bool, true, false, List, ◌++◌, length}
 use mathlib.Core.List.{IsPrefix}
-use Rattle.ext_history.specs.Views.{first_front, IsStepped, IsPointAfter}
-use Rattle.ext_history.specs.Calls.{IsCrowdedAt}
+use Rattle.ext_history.specs.Histories.{first_front, IsStepped, IsPointAfter, IsCrowdedAt}
 use Rattle.ext_locks.specs.declared.event.LockMode.{LockMode}
 use Rattle.ext_locks.specs.declared.event.LockMode.TheVariants.{Read, ReadWrite}
 use Rattle.ext_locks.specs.declared.event.LockEvent.{LockEvent}

@@ -1,6 +1,6 @@
 //! Lock events, which lanes make when they take and give back locks.
 
-/// A lock: 0 is the global one, and the named ones follow from 1 on, in the order of their names' bytes (own rule).
+/// A lock: 0 is the global one, and the named ones follow from 1 on, in the order of their names' bytes.
 pub type LockNo = usize;
 
 /// How a lock is held. Several lanes may read by one lock together, and a lane that reads and writes
@@ -15,7 +15,7 @@ pub enum LockMode {
     ReadWrite,
 }
 
-/// A lane took a lock, or gave it back. Lanes are numbered from 0 (own rule).
+/// A lane took a lock, or gave it back. Lanes are numbered from 0.
 #[derive(Clone, Copy, Debug, PartialEq, Eq)]
 pub struct LockEvent {
     /// Who did it.

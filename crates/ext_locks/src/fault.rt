@@ -1,8 +1,8 @@
 //! Why locks were not opened, or requests not merged.
 use thiserror::Error;
 
-/// Why locks were not opened, or requests not merged (own rule). Where several apply, the first in this order is
-/// answered. After any of them there is no object.
+/// Why locks were not opened, or requests not merged. Where several apply, the first in this order is answered.
+/// After any of them there is no object.
 #[derive(Clone, Copy, Debug, PartialEq, Eq, Error)]
 pub enum LockFault {
     /// There are to be 1 to 16 lanes and 1 to 64 tries.

@@ -33,7 +33,7 @@ impl Held {
     ghost use Rattle.std.specs.Prelude.{◌≡◌, ◌+◌, length};
     ghost use Rattle.ext_locks.specs.Sets.{AllBelow};
 
-    /// The set that is held: each of its locks is the global one, or has one of the names. Takes no memory. Own rule.
+    /// The set that is held: each of its locks is the global one, or has one of the names.
     pub fn set(&self) -> &LockSet
         ensures set { result.now ≡ self.now.set }
         ensures named { AllBelow (length self.now.names + 1) self.now.set }

@@ -4,8 +4,7 @@ use std::marker::Model;
 
 /// A lane of some locks. It is owned by one thread at a time, and may be moved to another.
 ///
-/// Contracts see the locks that it belongs to, how many lanes these have, and its number, from 0, with the histories that
-/// it saw (own rule).
+/// Contracts see the locks that it belongs to, how many lanes these have, and its number, from 0, with the histories that it saw.
 #[derive(Drop)]
 pub struct LockLane {
     pub(crate) seat: LaneSeat,
@@ -14,7 +13,7 @@ pub struct LockLane {
 
 impl Model for LockLane {
     ghost use Rattle.std.specs.Prelude.{◌≡◌, ◌<◌, ◌≤◌, [], Some};
-    ghost use Rattle.ext_history.specs.Views.{seen, Follow};
+    ghost use Rattle.ext_history.specs.Histories.{seen, Follow};
     ghost use Rattle.ext_locks.specs.History.{IsLegal};
     ghost use Rattle.ext_locks.specs.Views.{Lane};
 
@@ -32,11 +31,10 @@ impl Model for LockLane {
 
 impl LockLane {
     ghost use Rattle.std.specs.Prelude.{◌≡◌, ◌<◌, ◌≤◌, []};
-    ghost use Rattle.ext_history.specs.Views.{seen_by, Follow};
+    ghost use Rattle.ext_history.specs.Histories.{seen_by, Follow};
     ghost use Rattle.ext_locks.specs.History.{IsLegal};
 
-    /// The lane's number, from 0: it is below the count of lanes, and no other lane of these locks has it. Takes no memory.
-    /// Own rule.
+    /// The lane's number, from 0: it is below the count of lanes, and no other lane of these locks has it.
     pub fn number(&self) -> usize
         ensures number { result ≡ self.now.view.number }
         ensures below { result < self.now.lanes }
@@ -45,7 +43,7 @@ impl LockLane {
     }
 
     /// Shows what is true of every lane: all that it has seen is legal, and each history goes on from the one before it.
-    /// Does nothing when it runs. Own rule.
+    /// Does nothing when it runs.
     pub fn recall(&self)
         ensures lane { self.now.view.number < self.now.lanes }
         ensures lanes { self.now.lanes ≤ 16 }

@@ -2,7 +2,7 @@
 ghost use Rattle.std.specs.Prelude.{◌≡◌, ◌≤◌, ◌<◌, IfOk, length, replicate, Some};
 ghost use Rattle.ext_locks.specs.Names.{texts_of, AreDifferent};
 ghost use Rattle.ext_locks.specs.Opening.{AreLimits, IsOpened, fresh_lanes};
-ghost use Rattle.ext_locks.specs.Rule.{founder};
+ghost use Rattle.ext_locks.specs.InnerRule.{founder};
 
 use crate::merging::merge_requests;
 use crate::names::{first_twice, sorted_copies};
@@ -25,7 +25,7 @@ const MAX_TRIES: u32 = 64;
 
 /// The global lock and named ones, one word for each. They are shared by reference: only lanes change them.
 ///
-/// Contracts see the table of words, the names, the number of lanes, and the tries (own rule).
+/// Contracts see the table of words, the names, the number of lanes, and the tries.
 #[derive(Drop)]
 pub struct Locks {
     table: LockSteps,
@@ -58,7 +58,7 @@ impl Model for Locks {
 impl Locks {
     ghost use Rattle.std.specs.Prelude.{◌≡◌, ◌≢◌, ◌+◌, ◌≤◌, ◌↔◌, [], length, None, IfOk, IfErr, IfSome, OnOk, OnErr};
     ghost use mathlib.Core.List.{IsPrefix};
-    ghost use Rattle.ext_history.specs.Views.{seen_by, call_fronts};
+    ghost use Rattle.ext_history.specs.Histories.{seen_by, call_fronts};
     ghost use Rattle.ext_locks.specs.Views.{LaneCalls};
     ghost use Rattle.ext_locks.specs.Sets.{AllBelow, takes_of, gives_of, HoldsNothing, HoldsExactly, Excludes, IsHeldBy};
     ghost use Rattle.ext_locks.specs.Refusals.{undone, steps_to_take, steps_to_refuse, IsRefused};
@@ -99,7 +99,7 @@ impl Locks {
     }
 
     /// The set of locks that requests ask for: each lock once, in the strongest mode in which it is asked for, the global
-    /// one first, then the named ones by the bytes of their names. A name is found by halves. Takes no memory.
+    /// one first, then the named ones by the bytes of their names. A name is found by halves.
     ///
     /// Refused as `UnknownResource(at)`, at the first request of a name that these locks don't have. JUnit 5 User Guide,
     /// section "Synchronization"; the order is an own rule.
@@ -111,7 +111,7 @@ impl Locks {
         merge_requests(self.names.as_slice(), requests)
     }
 
-    /// The name of a lock, or `None` for the global one, 0. Takes no memory. Own rule.
+    /// The name of a lock, or `None` for the global one, 0.
     pub fn name(&self, lock: LockNo) -> Option<&str>
         requires { lock ≤ length self.now.names }
         ensures global { (result ≡ None) ↔ (lock ≡ 0) }
@@ -124,15 +124,15 @@ impl Locks {
     }
 
     /// Shows what is true of all locks: that no name stands twice, so that requests have one merged set, and that there is
-    /// at least one try. Does nothing when it runs. Own rule.
+    /// at least one try. Does nothing when it runs.
     pub fn recall(&self)
         ensures { AreLocks self.now }
     {
         let _tries = self.tries;
     }
 
-    /// Takes all locks of a set, in the order of their numbers, or none. Takes no memory, and waits for nobody: for each lock
-    /// it loads the word once and makes at most `tries` exchanges.
+    /// Takes all locks of a set, in the order of their numbers, or none. Waits for nobody: for each lock it loads the word
+    /// once and makes at most `tries` exchanges.
     ///
     /// Refused as `Taken(lock)` where another lane held that lock, in a mode that excludes the one wanted, at a moment of
     /// the call, and as `Contended(lock)` where other lanes made at least as many lock events during the call as there are
@@ -174,8 +174,8 @@ impl Locks {
 
     /// Takes all locks of a set, one after another in the order of their numbers, and keeps what it has while it waits for
     /// the next. Where another lane holds a lock, in a mode that excludes the one wanted, it waits, parked, until a lane has
-    /// given locks back, and tries that lock again; where other lanes were in the way it tries again at once. So it is
-    /// never refused. Takes no memory. It may wait: it promises its clauses if it returns.
+    /// given locks back, and tries that lock again; where other lanes were in the way it tries again at once. So it is never
+    /// refused. It may wait: it promises its clauses if it returns.
     ///
     /// Two lanes that wait here never wait for each other: each began with empty hands and takes its locks in the one order
     /// of their numbers, so it waits only for a lock above all that it holds. A lane that sleeps holds the locks of its set
@@ -204,7 +204,7 @@ impl Locks {
     }
 
     /// Gives back what a lane holds, in the order of the locks' numbers, by one step each, and then wakes the lanes that
-    /// wait for locks. Cannot fail, takes no memory, and waits for nobody.
+    /// wait for locks. Cannot fail.
     ///
     /// JUnit 5 User Guide, section "Synchronization".
     pub fn give(&self, lane: &mut LockLane, held: Held)
@@ -225,7 +225,7 @@ impl Locks {
     }
 
     /// Shows that of two different lanes, where one writes by a lock, the other holds nothing on it. Each loads
-    /// one word once and makes no event. Cannot fail, takes no memory, and waits for nobody.
+    /// one word once and makes no event. Cannot fail.
     ///
     /// JUnit 5 User Guide, section "Synchronization".
     pub fn exclusive(&self, one: &mut LockLane, other: &mut LockLane)

@@ -2,8 +2,7 @@
 use crate::LockNo;
 use thiserror::Error;
 
-/// Why a set of locks was refused (own rule). After either the lane holds nothing: what it had taken of the set
-/// it has given back.
+/// Why a set of locks was refused. After either the lane holds nothing: what it had taken of the set it has given back.
 #[derive(Clone, Copy, Debug, PartialEq, Eq, Error)]
 pub enum LockRefusal {
     /// Another lane held this lock, so that the mode in which the set has it was not to be had, at a moment of the call.

@@ -23,7 +23,7 @@ pub(crate) type LaneSeat = Seat<(), SeatView>;
 pub(crate) struct LockRule;
 
 impl TableRule<(), SeatView, LockCounts> for LockRule {
-    ghost use Rattle.ext_locks.specs.Rule.{Kept, founder};
+    ghost use Rattle.ext_locks.specs.InnerRule.{Kept, founder};
 
     ghost holds = { λ counts s. Kept counts.locks counts.lanes s.words s.views };
 
@@ -35,7 +35,7 @@ pub(crate) struct TakesRead;
 
 impl Play<(), SeatView> for TakesRead {
     ghost use Rattle.ext_locks.specs.declared.event.LockMode.TheVariants.{Read};
-    ghost use Rattle.ext_locks.specs.Rule.{Takes};
+    ghost use Rattle.ext_locks.specs.InnerRule.{Takes};
 
     ghost then = { Takes Read };
 }
@@ -45,7 +45,7 @@ pub(crate) struct TakesWrite;
 
 impl Play<(), SeatView> for TakesWrite {
     ghost use Rattle.ext_locks.specs.declared.event.LockMode.TheVariants.{ReadWrite};
-    ghost use Rattle.ext_locks.specs.Rule.{Takes};
+    ghost use Rattle.ext_locks.specs.InnerRule.{Takes};
 
     ghost then = { Takes ReadWrite };
 }
@@ -55,7 +55,7 @@ pub(crate) struct GivesRead;
 
 impl Play<(), SeatView> for GivesRead {
     ghost use Rattle.ext_locks.specs.declared.event.LockMode.TheVariants.{Read};
-    ghost use Rattle.ext_locks.specs.Rule.{GivesBack};
+    ghost use Rattle.ext_locks.specs.InnerRule.{GivesBack};
 
     ghost then = { GivesBack Read };
 }
@@ -65,7 +65,7 @@ pub(crate) struct GivesWrite;
 
 impl Play<(), SeatView> for GivesWrite {
     ghost use Rattle.ext_locks.specs.declared.event.LockMode.TheVariants.{ReadWrite};
-    ghost use Rattle.ext_locks.specs.Rule.{GivesBack};
+    ghost use Rattle.ext_locks.specs.InnerRule.{GivesBack};
 
     ghost then = { GivesBack ReadWrite };
 }
@@ -74,7 +74,7 @@ impl Play<(), SeatView> for GivesWrite {
 pub(crate) struct Sees;
 
 impl Play<(), SeatView> for Sees {
-    ghost use Rattle.ext_locks.specs.Rule.{Loads};
+    ghost use Rattle.ext_locks.specs.InnerRule.{Loads};
 
     ghost then = { Loads };
 }
@@ -83,7 +83,7 @@ impl Play<(), SeatView> for Sees {
 pub(crate) struct Notes;
 
 impl Split<SeatView> for Notes {
-    ghost use Rattle.ext_locks.specs.Rule.{noted};
+    ghost use Rattle.ext_locks.specs.InnerRule.{noted};
 
     ghost left = { λ v. v };
 
@@ -91,7 +91,7 @@ impl Split<SeatView> for Notes {
 }
 
 impl Join<SeatView> for Notes {
-    ghost use Rattle.ext_locks.specs.Rule.{told_of, nobody};
+    ghost use Rattle.ext_locks.specs.InnerRule.{told_of, nobody};
 
     ghost both = { told_of };
 
@@ -102,7 +102,7 @@ impl Join<SeatView> for Notes {
 pub(crate) struct Deals;
 
 impl Split<SeatView> for Deals {
-    ghost use Rattle.ext_locks.specs.Rule.{dealer, dealt};
+    ghost use Rattle.ext_locks.specs.InnerRule.{dealer, dealt};
 
     ghost left = { dealer };
 

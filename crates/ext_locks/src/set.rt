@@ -7,7 +7,7 @@ pub(crate) const MAX_LOCKS: usize = 64;
 
 /// A set of locks, each once and in one mode, of a fixed size.
 ///
-/// Contracts see it as the list of its locks with their modes, in the order of their numbers (own rule).
+/// Contracts see it as the list of its locks with their modes, in the order of their numbers.
 #[derive(Drop)]
 pub struct LockSet {
     pub(crate) modes: [Option<LockMode>; MAX_LOCKS],
@@ -27,7 +27,6 @@ impl LockSet {
     ghost use Rattle.std.specs.Prelude.{◌≡◌, slice_get};
 
     /// The lock at place `i`, from 0, in the order of the locks' numbers, and its mode; `None` past the last one.
-    /// Takes no memory. Own rule.
     pub fn get(&self, i: usize) -> Option<(LockNo, LockMode)>
         ensures { result ≡ slice_get self.now i }
     {

@@ -1,10 +1,10 @@
 //! Single steps on the word of one lock. Only these touch the shared words.
 ghost use Rattle.std.specs.Prelude.{◌≡◌, ◌^◌, ◌<◌, ◌==◌, Some, true, false};
-ghost use Rattle.ext_history.specs.Views.{seen};
+ghost use Rattle.ext_history.specs.Histories.{seen};
 ghost use Rattle.ext_locks.specs.History.{holds};
-ghost use Rattle.ext_locks.specs.Words.{bit_of, IsFreeWord};
-ghost use Rattle.ext_locks.specs.Rule.{TakesIf, Stepped, Loaded, told_of, noted};
-ghost use Rattle.ext_locks.specs.Steps.{IsLane};
+ghost use Rattle.ext_locks.specs.InnerWords.{bit_of, IsFreeWord};
+ghost use Rattle.ext_locks.specs.InnerRule.{TakesIf, Stepped, Loaded, told_of, noted};
+ghost use Rattle.ext_locks.specs.InnerSteps.{IsLane};
 
 use crate::rule::{GivesRead, GivesWrite, LaneSeat, LockTable, Notes, Sees, TakesRead, TakesWrite};
 use crate::{LockMode, LockNo};

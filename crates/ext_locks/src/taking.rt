@@ -1,13 +1,13 @@
 //! The steps by which one lock is taken, and those of a whole set of locks.
 ghost use Rattle.std.specs.Prelude.{◌≡◌, ◌+◌, ◌<◌, ◌≤◌, ◌↔◌, true, false, [], ◌∷◌, length, take, IsTrue, IfErr, OnOk, OnErr};
-ghost use Rattle.ext_history.specs.Views.{seen};
+ghost use Rattle.ext_history.specs.Histories.{seen};
 ghost use Rattle.ext_locks.specs.declared.event.LockMode.{LockMode};
 ghost use Rattle.ext_locks.specs.History.{event, holds};
-ghost use Rattle.ext_locks.specs.Words.{IsFreeWord};
-ghost use Rattle.ext_locks.specs.Rule.{lane_view};
+ghost use Rattle.ext_locks.specs.InnerWords.{IsFreeWord};
+ghost use Rattle.ext_locks.specs.InnerRule.{lane_view};
 ghost use Rattle.ext_locks.specs.Sets.{locks_of, takes_of, gives_of, HoldsNothing, HoldsExactly};
 ghost use Rattle.ext_locks.specs.Refusals.{lock_of, undone, steps_to_take, steps_to_refuse, IsRefused};
-ghost use Rattle.ext_locks.specs.Steps.{lane_at, IsLane, Makes, AddsAtMost, SameHeld, HeldBut, Missed, HoldsBetween, IsWithin};
+ghost use Rattle.ext_locks.specs.InnerSteps.{lane_at, IsLane, Makes, AddsAtMost, SameHeld, HeldBut, Missed, HoldsBetween, IsWithin};
 
 use crate::rule::LaneSeat;
 use crate::steps::{LockSteps, MAX_LANES, give_back, load, take_if};

@@ -1,9 +1,9 @@
 //! A lane is told of what another has seen.
 ghost use Rattle.std.specs.Prelude.{◌≡◌, ◌≢◌, ◌+◌, ◌<◌, [], length};
 ghost use mathlib.Core.List.{IsPrefix};
-ghost use Rattle.ext_history.specs.Views.{seen};
+ghost use Rattle.ext_history.specs.Histories.{seen};
 ghost use Rattle.ext_locks.specs.Sets.{Excludes};
-ghost use Rattle.ext_locks.specs.Steps.{lane_at, IsLane, Makes};
+ghost use Rattle.ext_locks.specs.InnerSteps.{lane_at, IsLane, Makes};
 
 use crate::rule::LaneSeat;
 use crate::steps::{LockSteps, tell};

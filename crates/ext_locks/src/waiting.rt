@@ -1,10 +1,10 @@
 //! Locks that a lane waits for, one after another.
 ghost use Rattle.std.specs.Prelude.{◌≡◌, ◌<◌, true, false, [], ◌∷◌};
-ghost use Rattle.ext_history.specs.Views.{seen};
+ghost use Rattle.ext_history.specs.Histories.{seen};
 ghost use Rattle.ext_locks.specs.declared.event.LockMode.{LockMode};
 ghost use Rattle.ext_locks.specs.History.{event, holds};
 ghost use Rattle.ext_locks.specs.Sets.{locks_of, takes_of, HoldsNothing, HoldsExactly};
-ghost use Rattle.ext_locks.specs.Steps.{lane_at, IsLane, Makes, HeldBut, IsWithin};
+ghost use Rattle.ext_locks.specs.InnerSteps.{lane_at, IsLane, Makes, HeldBut, IsWithin};
 
 use crate::rule::LaneSeat;
 use crate::steps::LockSteps;

@@ -4,12 +4,10 @@ use Rattle.std.proofs.Common.{◌≡◌, ℕ, List, [], ◌++◌, sym, ap, ◌�
 use Rattle.std.proofs.lemmas.List.{map-append}
 use Rattle.ext_history.proofs.Composed as calls
 use Rattle.ext_history.proofs.Answered as answers
-use Rattle.ext_history.specs.Views as views
-use Rattle.ext_history.specs.Calls as generic
+use Rattle.ext_history.specs.Histories as histories
 use Rattle.ext_model.specs.declared.event.Act.{Act}
 use Rattle.ext_model.specs.History.{History, Limits, by, lane_of, IsAllowed}
-use Rattle.ext_model.specs.Views.{LaneView, events_by, IsAnswerPoint, IsPointAfter}
-use Rattle.ext_model.specs.Calls.{Calls, HoldsAtPoint}
+use Rattle.ext_model.specs.CallActs.{LaneView, events_by, IsAnswerPoint, IsPointAfter, Calls, HoldsAtPoint}
 
 module _ (limits : Limits) (a b : LaneView) (xs : List (Act ℕ)) (one : Calls limits a b xs) where
   -- acts as events of the lane before the call are those of the lane after it
@@ -21,16 +19,16 @@ module _ (limits : Limits) (a b : LaneView) (xs : List (Act ℕ)) (one : Calls l
 
 -- two calls are one, which makes the events of both
 pub calls_compose : (limits : Limits) (a b c : LaneView) (xs ys : List (Act ℕ)) → Calls limits a b xs → Calls limits b c ys → Calls limits a c (xs ++ ys)
-calls_compose limits a b c xs ys one two = subst (generic.Calls lane_of (IsAllowed limits) a c) (both_events limits a b xs one ys) (calls.calls_compose one two)
+calls_compose limits a b c xs ys one two = subst (histories.Calls lane_of (IsAllowed limits) a c) (both_events limits a b xs one ys) (calls.calls_compose one two)
 
 pub point_of_second : (limits : Limits) (a b c : LaneView) (xs ys : List (Act ℕ)) → Calls limits a b xs → Calls limits b c ys → (zs : List (Act ℕ)) (p : History) → IsPointAfter b c zs p → IsPointAfter a c (xs ++ zs) p
 point_of_second limits a b c xs ys one two zs p at =
-    subst (λ events. views.IsPointAfter lane_of a c events p) (both_events limits a b xs one zs) (calls.point_of_second one two at)
+    subst (λ events. histories.IsPointAfter lane_of a c events p) (both_events limits a b xs one zs) (calls.point_of_second one two at)
 
 pub later_point : (limits : Limits) (a b c : LaneView) (acts : List (Act ℕ)) (p : History) → Calls limits a b [] → Calls limits b c acts → IsAnswerPoint b c acts p → IsAnswerPoint a c acts p
-later_point limits a b c acts p one two at = subst (λ events. views.IsAnswerPoint a c events p) (same_events limits a b [] one acts) (calls.later_point one two p at)
+later_point limits a b c acts p one two at = subst (λ events. histories.IsAnswerPoint a c events p) (same_events limits a b [] one acts) (calls.later_point one two p at)
 
 -- what a call met, both have met, where the other call made no event and came before it
 pub later_answers : (limits : Limits) (a b c : LaneView) (acts : List (Act ℕ)) (Fact : History → Type 0) → Calls limits a b [] → HoldsAtPoint limits b c acts Fact → HoldsAtPoint limits a c acts Fact
 later_answers limits a b c acts Fact one m =
-    subst (λ events. generic.HoldsAtPoint lane_of (IsAllowed limits) a c events Fact) (same_events limits a b [] one acts) (answers.later_answers one m)
+    subst (λ events. histories.HoldsAtPoint lane_of (IsAllowed limits) a c events Fact) (same_events limits a b [] one acts) (answers.later_answers one m)

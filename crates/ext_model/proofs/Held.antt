@@ -8,10 +8,8 @@ use Rattle.ext_model.specs.declared.slot.Slot.TheVariants as slot
 use Rattle.ext_model.specs.Events.{is_on}
 use Rattle.ext_model.specs.History.{History, Limits, by, state_after, version_of, IsQuiet, IsAllowed, IsLegal}
 use Rattle.ext_model.specs.Words.{word_of}
-use Rattle.ext_model.specs.Allowed.{MayStore}
-use Rattle.ext_history.specs.Views.{seen_by}
-use Rattle.ext_model.specs.Views.{LaneView, events_by}
-use Rattle.ext_model.specs.Calls.{Calls, IsHeld, MayStoreNow, GoesOn}
+use Rattle.ext_model.specs.CallActs.{MayStore, LaneView, events_by, Calls, IsHeld, MayStoreNow, GoesOn}
+use Rattle.ext_history.specs.Histories.{seen_by}
 use Rattle.ext_model.proofs.Allowed.{allowed}
 use Rattle.ext_model.proofs.Owned.{own_may_store}
 use Rattle.ext_model.proofs.Versions.{version-cons}

@@ -16,3 +16,4 @@ pub mod Remaining
 pub mod Faults
 pub mod PutIn
 pub mod WorkedRows
+pub mod CountedCloses

@@ -6,9 +6,8 @@ use Rattle.ext_model.specs.declared.event.Act.TheVariants.{Claim}
 use Rattle.ext_model.specs.declared.event.Event.{Event}
 use Rattle.ext_model.specs.declared.look.Look.{Look}
 use Rattle.ext_model.specs.History.{History, by, lane_of, own}
-use Rattle.ext_history.specs.Views.{seen_by}
-use Rattle.ext_model.specs.Views.{LaneView, events_by}
-use Rattle.ext_model.specs.SecondLook.{look_after, LooksAgain, LookedAgain}
+use Rattle.ext_history.specs.Histories.{seen_by}
+use Rattle.ext_model.specs.CallActs.{LaneView, events_by, look_after, LooksAgain, LookedAgain}
 use Rattle.ext_history.proofs.Lanes.{last_own}
 
 pub second_look : (cell_of : ℕ → ℕ) (path : List ℕ) (before after : LaneView) (acts : List (Act ℕ)) (cell : ℕ) (look : Look) → LooksAgain cell_of path before after (acts ++ Claim cell ∷ []) look → LookedAgain cell_of path before.number cell (seen_by after) look

@@ -5,7 +5,7 @@ use Rattle.std.proofs.lemmas.List.Elements.{Contains-push_cases}
 use Rattle.ext_model.specs.declared.event.Act.TheVariants.{Keep}
 use Rattle.ext_model.specs.declared.event.Event.{Event}
 use Rattle.ext_model.specs.History.{History, Limits, by, own, stored_number, state_after, IsAllowed, IsLegal}
-use Rattle.ext_model.specs.Allowed.{MayStore}
+use Rattle.ext_model.specs.CallActs.{MayStore}
 use Rattle.ext_history.proofs.Lists.{contains_none, contains_filter, contains_from_filter, contains_filter_map, contains_from_filter_map}
 use Rattle.ext_history.proofs.Legal.{legal_induct}
 use Rattle.ext_model.proofs.Numbers.{bounded}

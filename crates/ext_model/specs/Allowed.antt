@@ -1,11 +1,12 @@
 -- What has to stand in the store for each act to be an event: the same as `IsAllowed` of `History`, act by act, as a table.
--- Own rule. `history_laws` proves that the two agree; steps of a lane are shown by this one.
-use Rattle.std.specs.Prelude.{ℕ, ◌≡◌, ◌+◌, ◌-◌, ◌^◌, ◌<◌, ◌≤◌, Contains, IsTrue, Option, None, Some}
+-- `history_laws` proves that the two agree; steps of a lane are shown by this one.
+use Rattle.std.specs.Prelude.{ℕ, ◌≡◌, ◌+◌, ◌-◌, ◌^◌, ◌<◌, ◌≤◌, IsTrue, Option, None, Some}
 use Rattle.ext_model.specs.declared.event.Act.{Act}
 use Rattle.ext_model.specs.declared.event.Act.TheVariants.{Keep, Put, Remove, Claim, Fill, Fail, Abandon, Seal}
 use Rattle.ext_model.specs.declared.slot.Slot.{Slot}
 use Rattle.ext_model.specs.declared.slot.Slot.TheVariants as slot
-use Rattle.ext_model.specs.History.{History, Limits, by, stored, state_after, version_of}
+use Rattle.ext_model.specs.History.{History, Limits, state_after, version_of}
+use Rattle.ext_model.specs.CallActs.{MayStore}
 
 -- neither a claim nor a seal stands there
 abbrev pub IsOpen : Option Slot → Type 0
@@ -22,11 +23,6 @@ IsPresent (Some (slot.Entry number)) = Unit {0}
 IsPresent (Some (slot.Fault number)) = Unit {0}
 IsPresent (Some (slot.Claim lane)) = ⊥
 IsPresent (Some (slot.Sealed kept)) = ⊥
-
--- by these events the lane drew the number, and nobody has stored it
-pub record MayStore (lane number : ℕ) (past : History) : Type 0 where
-  pub drew : Contains past (by lane (Keep number))
-  pub fresh : ¬ (Contains (stored past) number)
 
 -- the greatest versions at which a cell takes a put or a remove, and a claim
 abbrev pub last_change : ℕ

@@ -1,5 +1,5 @@
 -- What is true of calls that follow one another on a lane, and of their points: sentences that a reader may judge.
--- Own rule; each is proved, as `call_laws` says. In each, `a`, `b` and `c` are one lane at three moments.
+-- Each is proved, as `call_laws` says. In each, `a`, `b` and `c` are one lane at three moments.
 use Rattle.std.specs.Prelude.{ℕ, ◌≡◌, ◌⊎◌, List, [], ◌∷◌, ◌++◌, All, IsTrue, false, nat_eq}
 use mathlib.Core.List.{IsPrefix}
 use Rattle.ext_model.specs.declared.event.Act.{Act}
@@ -7,10 +7,8 @@ use Rattle.ext_model.specs.declared.event.Act.TheVariants.{Fill, Fail, Abandon}
 use Rattle.ext_model.specs.Events.{is_on}
 use Rattle.ext_model.specs.History.{History, Limits, by, IsAllowed, IsLegal}
 use Rattle.ext_model.specs.Words.{word_of}
-use Rattle.ext_model.specs.Allowed.{MayStore}
-use Rattle.ext_history.specs.Views.{seen_by, moved, call_fronts, first_front, IsStepped, IsPoint}
-use Rattle.ext_model.specs.Views.{LaneView, IsAnswerPoint, IsPointAfter}
-use Rattle.ext_model.specs.Calls.{Calls, IsOvertaken, IsCrowded, IsHeld, MayStoreNow, GoesOn}
+use Rattle.ext_model.specs.CallActs.{MayStore, LaneView, IsAnswerPoint, IsPointAfter, Calls, IsOvertaken, IsCrowded, IsHeld, MayStoreNow, GoesOn}
+use Rattle.ext_history.specs.Histories.{seen_by, moved, call_fronts, first_front, IsStepped, IsPoint}
 
 -- ---- one step
 

@@ -6,10 +6,9 @@ use Rattle.ext_model.specs.declared.event.Act.TheVariants.{Claim}
 use Rattle.ext_model.specs.declared.look.Look.{Look}
 use Rattle.ext_model.specs.declared.slot.Slot.{Slot}
 use Rattle.ext_model.specs.History.{History, Limits, slots_in, faults, IsQuiet, IsLegal}
-use Rattle.ext_history.specs.Views.{seen_by}
-use Rattle.ext_model.specs.Views.{LaneView}
+use Rattle.ext_history.specs.Histories.{seen_by}
+use Rattle.ext_model.specs.CallActs.{LaneView, LooksAgain, LookedAgain}
 use Rattle.ext_model.specs.Closing.{IsClosed, remaining, IsRemaining}
-use Rattle.ext_model.specs.SecondLook.{LooksAgain, LookedAgain}
 
 -- the remaining numbers are just those that seals of the context keep, the greatest first, and none twice
 abbrev pub RemainingIsSo : Type 0

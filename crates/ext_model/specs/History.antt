@@ -1,6 +1,6 @@
--- Histories: the lists of events that all lanes together made, what each of them leaves, and which of them are legal.
--- Own rule. The events of all lanes are one list over cells, the oldest first, and a cell is a context and a key in one number. What a history is for
--- events of any type, which of them are a lane's own, and when it is legal stands in `ext_history`.
+-- Histories: the lists of events that all lanes together made, what each of them leaves, and which of them are legal. The events of all lanes are one
+-- list over cells, the oldest first, and a cell is a context and a key in one number. What a history is for events of any type, which of them are a
+-- lane's own, and when it is legal stands in `ext_history`.
 use Rattle.std.specs.Prelude.{ℕ, ◌≡◌, ◌+◌, ◌<◌, nat_eq, List, Option, None, Some, IfSome, IsTrue, Bool, Contains, fold, count_by, filter_map}
 use Rattle.ext_history.specs.Histories as histories
 use Rattle.ext_model.specs.declared.event.Act.{Act}

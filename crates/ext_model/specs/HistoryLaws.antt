@@ -1,5 +1,5 @@
 -- What is true of all legal histories: sentences that a reader may judge, and that promises about several threads rest on.
--- Own rule; each is proved, as `history_laws` says.
+-- Each is proved, as `history_laws` says.
 use Rattle.std.specs.Prelude.{ℕ, ◌≡◌, ◌<◌, ◌↔◌, nat_eq, Bool, true, false, [], ◌∷◌, ◌++◌, Contains, Option, Some, IfSome, IsFalse}
 use Rattle.std.specs.List.{IsDistinct}
 use Rattle.ext_model.specs.declared.event.Act.{Act}
@@ -9,7 +9,8 @@ use Rattle.ext_model.specs.declared.slot.Slot.{Slot}
 use Rattle.ext_model.specs.declared.slot.Slot.TheVariants as slot
 use Rattle.ext_model.specs.Events.{is_on}
 use Rattle.ext_model.specs.History.{History, Limits, state_after, by, own, stored, stored_number, faults, IsQuiet, IsAllowed, IsLegal}
-use Rattle.ext_model.specs.Allowed.{MayStore, MayHappen}
+use Rattle.ext_model.specs.Allowed.{MayHappen}
+use Rattle.ext_model.specs.CallActs.{MayStore}
 
 -- ---- which histories are legal
 

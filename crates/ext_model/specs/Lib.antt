@@ -5,10 +5,9 @@ pub mod Laws
 pub mod History
 pub mod Words
 pub mod Allowed
-pub mod Views
-pub mod Calls
-pub mod SecondLook
+pub mod CallActs
 pub mod Closing
+pub mod Closed
 pub mod HistoryLaws
 pub mod WordLaws
 pub mod CallLaws

@@ -1,6 +1,6 @@
--- What is true of the words of cells, and of the versions in them: sentences that a reader may judge.
--- Own rule; each is proved, as `word_laws` says. That equal words leave no event between is why two equal readings of
--- several words mean one moment, and that versions rise with events is why many unequal readings mean many events.
+-- What is true of the words of cells, and of the versions in them: sentences that a reader may judge. Each is proved,
+-- as `word_laws` says. That equal words leave no event between is why two equal readings of several words mean one
+-- moment, and that versions rise with events is why many unequal readings mean many events.
 use Rattle.std.specs.Prelude.{ℕ, ◌≡◌, ◌≢◌, ◌+◌, ◌≤◌, ◌<◌, ◌^◌, nat_eq, true, false, List, [], ◌∷◌, ◌++◌, length, sum_by, Contains, Some}
 use Rattle.std.specs.List.{IsDistinct}
 use Rattle.ext_model.specs.declared.event.Event.{Event}

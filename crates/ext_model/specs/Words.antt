@@ -1,6 +1,6 @@
--- A cell in one word of 64 bits: what stands there, and how many events the cell has had.
--- Own rule. Bits 0 to 3 are the state: 0 empty, 1 being computed (a claim), 2 present (a value's number), 3 sealed, 4 failed (a kept
--- fault's number). Bits 4 to 23 are the number that stands or that a seal keeps, and 0 where there is none. Bits 24 to 63 are the version. A cell without events has word 0.
+-- A cell in one word of 64 bits: what stands there, and how many events the cell has had. Bits 0 to 3 are the state: 0 empty, 1 being computed (a claim), 2 present (a
+-- value's number), 3 sealed, 4 failed (a kept fault's number). Bits 4 to 23 are the number that stands or that a seal keeps, and 0 where there is none. Bits 24 to 63 are
+-- the version. A cell without events has word 0.
 use Rattle.std.specs.Prelude.{ℕ, ◌+◌, ◌*◌, ◌^◌, Option, None, Some, unwrap_or}
 use Rattle.ext_model.specs.declared.slot.Slot.{Slot}
 use Rattle.ext_model.specs.declared.slot.Slot.TheVariants.{Entry, Fault, Claim, Sealed}

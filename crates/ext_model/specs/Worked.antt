@@ -11,7 +11,7 @@ use Rattle.ext_model.specs.Events.{Reply, Happens, Answers, Refuses, NumbersFull
 use Rattle.ext_model.specs.History.{History, Limits, by, own, slots_in, reply_after}
 use Rattle.ext_model.specs.Words.{slot_word, word_of}
 use Rattle.ext_model.specs.Closing.{remaining}
-use Rattle.ext_model.specs.SecondLook.{look_after}
+use Rattle.ext_model.specs.CallActs.{look_after}
 
 abbrev pub small : Limits
 small = record { cells = 9; lanes = 2; numbers = 4; keep_faults = true }

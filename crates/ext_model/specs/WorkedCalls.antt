@@ -1,14 +1,12 @@
 -- Worked histories: which of them are legal, and at which points a call may be answered. Each sentence follows from the definitions, as
--- `worked_histories` says. Own rules. The store is that of `Worked`: 9 cells, 2 lanes and 4 numbers.
+-- `worked_histories` says. The store is that of `Worked`: 9 cells, 2 lanes and 4 numbers.
 use Rattle.std.specs.Prelude.{◌≡◌, ◌*◌, false, [], ◌∷◌, ◌++◌, None}
 use Rattle.ext_model.specs.declared.event.Act.TheVariants.{Keep, Put, Remove, Claim, Fill, Fail, Abandon}
 use Rattle.ext_model.specs.declared.look.Look.TheVariants as look
 use Rattle.ext_model.specs.Events.{Happens, Answers}
 use Rattle.ext_model.specs.History.{History, Limits, by, reply_after, IsLegal}
-use Rattle.ext_history.specs.Views.{seen_by, call_fronts}
-use Rattle.ext_model.specs.Views.{LaneView, IsAnswerPoint}
-use Rattle.ext_model.specs.Calls.{HoldsAtPoint, IsOvertaken, IsCrowded}
-use Rattle.ext_model.specs.SecondLook.{LooksAgain}
+use Rattle.ext_history.specs.Histories.{seen_by, call_fronts}
+use Rattle.ext_model.specs.CallActs.{LaneView, IsAnswerPoint, HoldsAtPoint, IsOvertaken, IsCrowded, LooksAgain}
 use Rattle.ext_model.specs.Worked.{small, at_root}
 
 -- ---- lanes

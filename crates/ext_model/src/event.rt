@@ -1,15 +1,15 @@
 //! Acts of lanes on the store, and the numbers that name contexts, keys, cells and lanes.
 
-/// A context: its index, from 0, in the list of contexts that the store was opened with (own rule).
+/// A context: its index, from 0, in the list of contexts that the store was opened with.
 pub type ContextNo = usize;
 
-/// A key: its index, from 0, in the order in which keys were declared (own rule).
+/// A key: its number, from 0.
 pub type KeyNo = usize;
 
-/// A cell: a context and a key in one number, from 0 (own rule).
+/// A cell: a context and a key in one number, from 0.
 pub type CellNo = usize;
 
-/// A lane: whoever acts on the store, one step after another. Lanes are numbered from 0 (own rule).
+/// A lane: whoever acts on the store, one step after another. Lanes are numbered from 0.
 pub type LaneNo = usize;
 
 /// What a lane can do to the store, at a place of type `P`. Numbers of values and of kept faults are from 1.
@@ -36,7 +36,7 @@ pub enum Act<P> {
     Seal(P),
 }
 
-/// An act by a lane, which happened (own rule).
+/// An act by a lane, which happened.
 #[derive(Clone, Copy, Debug, PartialEq, Eq)]
 pub struct Event<P> {
     /// Who did it.

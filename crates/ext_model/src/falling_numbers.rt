@@ -30,7 +30,7 @@ impl Model for FallingNumbers {
 }
 
 impl FallingNumbers {
-    /// None yet. Takes no memory.
+    /// None yet.
     pub fn new() -> FallingNumbers
         ensures { result ≡ [] }
     {
@@ -48,8 +48,7 @@ impl FallingNumbers {
         self.numbers.as_slice()
     }
 
-    /// Puts a number in, any one, where it belongs: before the first that is less. One that is there already is not put
-    /// in again. Takes no memory.
+    /// Puts a number in, any one, where it belongs: before the first that is less. One that is there already is not put in again.
     ///
     /// It is a condition that there are fewer than 64.
     pub fn put_in(&mut self, number: u32)
@@ -66,7 +65,7 @@ impl FallingNumbers {
         }
     }
 
-    /// Puts in what a seal keeps, if it keeps a number. Takes no memory.
+    /// Puts in what a seal keeps, if it keeps a number.
     ///
     /// It is a condition that there are fewer than 64.
     pub fn put_in_kept(&mut self, kept: Option<u32>)

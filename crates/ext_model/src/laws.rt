@@ -22,7 +22,7 @@ pub fn store_laws()
     ensures abandoned { AbandonUndoesClaim }
 {}
 
-/// Proves the laws of histories. It does nothing when it runs (own rule).
+/// Proves the laws of histories. It does nothing when it runs.
 pub fn history_laws()
     ensures prefixes { PrefixesAreLegal }
     ensures one_more { AllowedEventsFollow }
@@ -48,7 +48,7 @@ pub fn history_laws()
     ensures keeping { KeepingAddsFails }
 {}
 
-/// Proves the laws of words and versions. It does nothing when it runs (own rule).
+/// Proves the laws of words and versions. It does nothing when it runs.
 pub fn word_laws()
     ensures event { EventChangesItsWord }
     ensures elsewhere { OtherWordsStay }
@@ -66,7 +66,7 @@ pub fn word_laws()
     ensures seals_left { CellsCanBeSealed }
 {}
 
-/// Proves the laws of calls that follow one another on a lane. It does nothing when it runs (own rule).
+/// Proves the laws of calls that follow one another on a lane. It does nothing when it runs.
 pub fn call_laws()
     ensures step { StepsAreCalls }
     ensures event { EventsAreCalls }
@@ -96,7 +96,7 @@ pub fn call_laws()
     ensures own_numbers { OwnNumbersMayBeStored }
 {}
 
-/// Proves the laws of closed contexts and of second looks. It does nothing when it runs (own rule).
+/// Proves the laws of closed contexts and of second looks. It does nothing when it runs.
 pub fn closing_laws()
     ensures remaining { RemainingIsSo }
     ensures one_list { RemainingIsOne }

@@ -6,13 +6,17 @@
 //! claims, seals and refusals are own rules. The definitions are in `specs/`: `State` has the state
 //! and the look-up, `Events` what each act answers and leaves, and `Plain` the words of `PlainStore`.
 //! For several lanes, `History` and `Allowed` have lists of events and which of them are legal, `Words`
-//! a cell in one word, `Views` and `Calls` what a lane has seen and what the contract of a call says,
-//! `SecondLook` and `Closing` the parts that computing and closing need; `FallingNumbers` holds the numbers
+//! a cell in one word, `CallActs` what the contract of a call on a lane says and what is looked up under a claim,
+//! `Closing` what a closed context still has, and `Closed` what closes came to; `FallingNumbers` holds the numbers
 //! that a closed context still has. What is true of the definitions is in `Laws`, `HistoryLaws`, `WordLaws`,
 //! `CallLaws` and `ClosingLaws`, and examples are in `Worked` and `WorkedCalls`: functions that do nothing
 //! prove them.
+//!
+//! Unless its comment says otherwise, a public call takes no memory and waits for nobody. What
+//! names no source in JUnit is an own rule.
 #![tactic(auto)]
 
+mod closed;
 mod event;
 mod falling_numbers;
 mod laws;
@@ -22,6 +26,7 @@ mod plain_fault;
 mod slot;
 mod worked;
 
+pub use closed::Closed;
 pub use event::{Act, CellNo, ContextNo, Event, KeyNo, LaneNo};
 pub use falling_numbers::FallingNumbers;
 pub use laws::{call_laws, closing_laws, history_laws, store_laws, word_laws};

@@ -21,7 +21,7 @@ pub enum Look {
     Closed(ContextNo),
 }
 
-/// Why a factory, an action or a step failed (own rule). Prints its text.
+/// Why a factory, an action or a step failed. Prints its text.
 #[derive(Debug, Drop, PartialEq, Eq, Error)]
 pub enum Fault {
     /// The caller's own text.

@@ -39,7 +39,7 @@ impl Model for PlainStore {
 
 impl PlainStore {
     /// An empty store whose numbers are 1 to `numbers`, which is any; with 0, `keep` is always refused.
-    /// Takes no memory: the allocator is for later calls (own rule).
+    /// Takes no memory: the allocator is for later calls.
     pub fn new(alloc: Global, numbers: u32) -> PlainStore
         ensures state { state_of result ≡ opening }
         ensures numbers { result.numbers ≡ numbers }
@@ -51,7 +51,7 @@ impl PlainStore {
         }
     }
 
-    /// Draws the next number and answers it: the first is 1, each is the last plus one. Takes no memory (own rule).
+    /// Draws the next number and answers it: the first is 1, each is the last plus one.
     ///
     /// Refused as `NumbersFull` where all numbers of the store were drawn.
     pub fn keep(&mut self) -> Result<u32, PlainFault>
@@ -74,7 +74,7 @@ impl PlainStore {
     }
 
     /// Looks the key up along the path, a context and its ancestors from the nearest on: the first where anything
-    /// stands decides. On a path with no context, or where nothing stands, the answer is `Absent`. Takes no memory.
+    /// stands decides. On a path with no context, or where nothing stands, the answer is `Absent`.
     ///
     /// JUnit 5 User Guide, section "Keeping State in Extensions"; `ExtensionContext.Store`, `get`.
     #[tactic(auto, using(crate::proofs::Lookups::lookup_here, crate::proofs::Lookups::lookup_past))]
@@ -104,7 +104,7 @@ impl PlainStore {
     }
 
     /// Stores the number at the place, and answers the number that stood there, of a value or of a fault, which it replaces. Any number will do:
-    /// who wants each value stored once, as in JUnit's store, puts numbers that `keep` gave, each once.
+    /// who wants each value stored once, as in JUnit's store, puts numbers that `keep` gave, each once. May take memory where nothing stood.
     ///
     /// Refused, in this order, as `Busy` where a lane claims the place, `Closed` where it is sealed, and
     /// `Memory`, which can come only where nothing stood. `ExtensionContext.Store`, `put`.
@@ -134,7 +134,7 @@ impl PlainStore {
     }
 
     /// Takes the number from the place, of a value or of a fault, and answers it: `None` where nothing stood. A number that stands under
-    /// the key in another context, such as an ancestor, is left alone. Takes no memory.
+    /// the key in another context, such as an ancestor, is left alone.
     ///
     /// Refused as `Busy` where a lane claims the place, and as `Closed` where it is sealed.
     /// `ExtensionContext.Store`, `remove`.
@@ -165,7 +165,7 @@ impl PlainStore {
         }
     }
 
-    /// Claims the empty place for the lane, until it fills, fails or abandons it.
+    /// Claims the empty place for the lane, until it fills, fails or abandons it. May take memory.
     ///
     /// Refused, in this order, as `Busy` where a lane claims the place, this one or another, `Closed` where it is
     /// sealed, `Taken` with the number of the value that stands there, `FaultStands` with that of the fault that is
@@ -224,7 +224,7 @@ impl PlainStore {
     /// Ends the lane's claim: the number is kept at the place as that of a fault, until it is removed or replaced. It
     /// always answers `Ok`, and takes no memory, since the place is in use.
     ///
-    /// Only the lane of the claim may call it, as `is_claimed_by` tells; any number will do, as for `put`. Own rule: what
+    /// Only the lane of the claim may call it, as `is_claimed_by` tells; any number will do, as for `put`. It is what
     /// becomes of a factory that failed, where its fault is kept.
     pub fn fail(
         &mut self,
@@ -244,10 +244,10 @@ impl PlainStore {
         self.set(at, key, Slot::Fault(number))
     }
 
-    /// Ends the lane's claim: the place is empty. It never fails and takes no memory.
+    /// Ends the lane's claim: the place is empty. It never fails.
     ///
-    /// Only the lane of the claim may call it, as `is_claimed_by` tells. Own rule: a factory that fails leaves its
-    /// place empty, where its fault is not kept.
+    /// Only the lane of the claim may call it, as `is_claimed_by` tells. A factory that fails leaves its place
+    /// empty, where its fault is not kept.
     pub fn abandon(&mut self, at: ContextNo, key: KeyNo, lane: LaneNo)
         requires { under (state_of self.old) key at ≡ Some (slot.Claim lane) }
         ensures reply { plain_reply self.old.numbers (state_of self.old) lane (act.Abandon (at, key)) ≡ Happens None }
@@ -260,11 +260,11 @@ impl PlainStore {
         self.clear(at, key);
     }
 
-    /// Closes the place for good, and answers the number that it keeps: that of the value that stood there, if one did. A
-    /// fault that is kept there goes. A sealed place answers what it keeps, and stays as it is.
+    /// Closes the place for good, and answers the number that it keeps: that of the value that stood there, if one did. A fault
+    /// that is kept there goes. A sealed place answers what it keeps, and stays as it is. May take memory where nothing stood.
     ///
     /// Refused, in this order, as `Busy` where a lane claims the place, and `Memory`, which can come only where
-    /// nothing stood. Own rule: it is what closing a context does to each of its places.
+    /// nothing stood. It is what closing a context does to each of its places.
     #[tactic(auto, using(crate::proofs::Changes::seal_happens, crate::proofs::Changes::seal_again))]
     pub fn seal(&mut self, at: ContextNo, key: KeyNo) -> Result<Option<u32>, PlainFault>
         ensures reply { UnlessMemory result (IsReply what_stood any_lane (act.Seal (at, key)) self.old result) }
@@ -290,7 +290,7 @@ impl PlainStore {
         Ok(kept)
     }
 
-    /// Whether the lane claims the place, as `fill`, `fail` and `abandon` require. Takes no memory (own rule).
+    /// Whether the lane claims the place, as `fill`, `fail` and `abandon` require.
     pub fn is_claimed_by(&self, at: ContextNo, key: KeyNo, lane: LaneNo) -> bool
         ensures { IsTrue result ↔ (under (state_of self.now) key at ≡ Some (slot.Claim lane)) }
     {

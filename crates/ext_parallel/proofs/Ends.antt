@@ -13,7 +13,7 @@ use Rattle.ext_lifecycle.specs.FaultTexts.{VerdictText, verdict_text}
 use Rattle.ext_values.specs.Known.{Known}
 use Rattle.ext_cells.specs.Lanes.{Lane}
 use Rattle.ext_store.specs.Stores.{StoreView}
-use Rattle.ext_store.specs.Calls.{Gets}
+use Rattle.ext_store.specs.LaneCalls.{Gets}
 use Rattle.ext_plan.specs.Verdicts.{SeenText}
 use Rattle.ext_parallel.specs.Saying.{no_memory, Says, Ends}
 use Rattle.ext_parallel.specs.StoreCalls.{PlanLane, PlanNotes, ShowsNumber, ShowsFault, Shows, Sees}

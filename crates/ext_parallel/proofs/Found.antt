@@ -7,7 +7,7 @@ use base.Growing.{prefix_refl, prefix_trans}
 use Rattle.std.proofs.lemmas.List.Elements.{All-nil, All-cons, All-head, All-tail, All-contains, Contains-append_left, Contains-get_or}
 use Rattle.std.proofs.lemmas.Nat.{mod-mul-add}
 use Rattle.std.proofs.lemmas.Bool.Decides.{nat_tests}
-use Rattle.ext_history.specs.Views.{last_after, seen_by}
+use Rattle.ext_history.specs.Histories.{last_after, seen_by}
 use Rattle.ext_history.proofs.Legal.{legal_begun, legal_each}
 use Rattle.ext_history.proofs.Lists.{bools, contains_cons, contains_filter, contains_filter_map, contains_here, contains_later, contains_none}
 use Rattle.ext_history.proofs.Once.{contains-map}
@@ -16,9 +16,8 @@ use Rattle.ext_model.specs.declared.look.Fault.{Fault}
 use Rattle.ext_model.specs.declared.look.Fault.TheVariants as faults
 use Rattle.ext_model.specs.declared.look.Look.{Look}
 use Rattle.ext_model.specs.declared.look.Look.TheVariants as look
-use Rattle.ext_model.specs.SecondLook.{look_after}
+use Rattle.ext_model.specs.CallActs.{look_after, LaneView}
 use Rattle.ext_model.specs.History.{History, Limits, IsAllowed, lane_of, own}
-use Rattle.ext_model.specs.Views.{LaneView}
 use Rattle.ext_lifecycle.specs.declared.call.Call.{Call}
 use Rattle.ext_lifecycle.specs.declared.outcome.Outcome.{Outcome}
 use Rattle.ext_lifecycle.specs.Endings.{is_successful}
@@ -26,34 +25,33 @@ use Rattle.ext_lifecycle.specs.FaultTexts.{VerdictText}
 use Rattle.ext_lifecycle.specs.Lifecycle.{ending_of}
 use Rattle.ext_lifecycle.specs.Results.{ResultOf}
 use Rattle.ext_locks.specs.Sets.{HeldView}
-use Rattle.ext_tree.specs.Keys.{KeyValue}
-use Rattle.ext_tree.specs.KeyPlaces.{IsKeyNumber, KeepsKeys, OneKey, OneNumber, key_at}
+use Rattle.ext_tree.specs.Keys.{KeyValue, IsKeyNumber, KeepsKeys, OneKey, OneNumber, key_at}
 use Rattle.ext_tree.proofs.KeyPlaceLaws.{shared_notes_agree}
 use Rattle.ext_plan.specs.Plans.{PlanText, StepText, put, put_closeable, want, nothing, remove, compute, compute_closeable, compute_fail, fail, abort}
-use Rattle.ext_plan.specs.PlanCalls.{registered, steps_of_call}
+use Rattle.ext_plan.specs.PlanCalls.{steps_of_call}
 use Rattle.ext_values.specs.Known.{Known, AllAgree, known_at}
 use Rattle.ext_cells.specs.Lanes.{CellsId, Lane, fresh_lanes}
 use Rattle.ext_store.specs.Stores.{StoreView, StoreLane, IsLaneOf, cell_in, fresh_store_lane}
 use Rattle.ext_store.specs.declared.computed.Compute.{Compute}
 use Rattle.ext_store.specs.declared.computed.Compute.TheVariants as computes
-use Rattle.ext_store.specs.Calls.{Gets}
-use Rattle.ext_store.specs.Computing.{Computes, ComputesFrom}
+use Rattle.ext_store.specs.LaneCalls.{Gets}
+use Rattle.ext_store.specs.Computing.{Computes, ComputesFrom, Meets}
 use Rattle.ext_store.specs.Waiting.{ComputesAfterWaits}
-use Rattle.ext_shared.specs.Claiming.{Meets}
-use Rattle.ext_plan.specs.Calls.{CallText, label_of, start_of}
+use Rattle.ext_store_cells.specs.ContextCalls as store_cells
+use Rattle.ext_store_cells.specs.Claiming as claiming
+use Rattle.ext_plan.specs.StepCalls.{CallText, label_of, start_of}
 use Rattle.ext_plan.specs.Verdicts.{SeenText, none_verdict, seen_fault, seen_nothing, seen_no_memory, seen_refused, seen_value, want_verdict}
 use Rattle.ext_parallel.specs.declared.steps.stored_value.StoredValue.{StoredValue}
 use Rattle.ext_parallel.specs.StoreCalls.{EndsComputeFail, PlanLane, PlanNotes, Sees, Shows, ShowsFault, ShowsNumber, fault_seen, stored_view}
 use Rattle.ext_parallel.specs.StoreSteps.{StepFails, StepLooks, StepRun, StepsRun, call_of}
-use Rattle.ext_parallel.specs.PlanSuites.{RunsCall, suite_of}
+use Rattle.ext_parallel.specs.PlanSuites.{RunsCall}
 use Rattle.ext_engine.specs.Order.{LaneGoesOn}
-use Rattle.ext_engine.specs.TreeRun.{setting_of}
 use Rattle.ext_engine.proofs.Finer.{tree_finer}
 use Rattle.ext_engine.proofs.Going.{goes_met, goes_same, goes_sealed, goes_then}
 use Rattle.ext_engine.proofs.Relates.{tree_relates}
 use Rattle.ext_parallel.specs.Finding.{CallFinds, ComputeFinds, IsKeptByPlan, IsMetOfPlan, IsSeenOfPlan, LanesNumberAlike, LookFinds, RunsFindWhatIsKept, StepFinds, StepsFind}
 use Rattle.ext_parallel.specs.Opened.{all_known}
-use Rattle.ext_parallel.specs.ParallelRun.{ClosesValue, IsAction, MakesCall, ParallelRun}
+use Rattle.ext_parallel.specs.ParallelRun.{MakesCall, ParallelRun, setting_of_plan}
 use Rattle.ext_parallel.proofs.Moves.{IsOwn, Moves, OwnKept, call_moves, lane_framed, moves_met, moves_same, moves_sealed, moves_then, number_within, plans_go_on, steps_go}
 use Rattle.ext_parallel.proofs.Values.{WasStored, found_stands, own_values, value_stored, was_stored}
 
@@ -139,7 +137,7 @@ module _ (plan : PlanText) (lanes : ℕ) (results : List (ResultOf Fault)) (run 
 
   moved : AllZip (Moves plan store) run.first.first ended
   moved =
-      tree_relates (setting_of store run.locks (suite_of plan) (registered plan) (λ (value : StoredValue). value.value.closeable)) (MakesCall plan store) IsAction ClosesValue (Moves plan store) (moves_same plan store)
+      tree_relates (setting_of_plan plan store run.locks) (Moves plan store) (moves_same plan store)
       (moves_then plan store) (call_moves plan store) (moves_met plan store) (moves_sealed plan store) 16 0 run.first run.ran run.after run.run
 
   from_fresh : AllZip (Moves plan store) (Fresh plan store store.id.cells store.id.places store.id.fault_places store.id.keys 0 lanes) ended
@@ -205,7 +203,7 @@ module _ (plan : PlanText) (lanes : ℕ) (results : List (ResultOf Fault)) (run 
 
     found_kept : (context : ℕ) (a : PlanLane) (at number : ℕ) → Gets store context key a.cells b.cells (Ok (look.Found at number)) → (value : StoredValue) → known_at b.known number ≡ Some value
         → IsKeptByPlan plan name (stored_view value).text
-    unfolding Gets
+    unfolding store_cells.Gets
     found_kept context a at number gets value known =
         let point = (gets.2.replied (λ is. absurd (cc is))).point in
         let found : look_after (cell_in store key) gets.0 point.0 ≡ look.Found at number = cc point.2 in
@@ -213,7 +211,7 @@ module _ (plan : PlanText) (lanes : ℕ) (results : List (ResultOf Fault)) (run 
 
     met_kept : (limits : Limits) (context : ℕ) (ancestors : List ℕ) (a : LaneView) (at number : ℕ) → Meets limits store context ancestors key a b.cells.view (look.Found at number) → (value : StoredValue)
         → known_at b.known number ≡ Some value → IsKeptByPlan plan name (stored_view value).text
-    unfolding Meets
+    unfolding claiming.Meets
     met_kept limits context ancestors a at number (inl here) value known = kept_at at number (context ∷ ancestors) here.point.0 here.point.1.1 here.point.2 value known
     met_kept limits context ancestors a at number (inr given_up) value known =
         let looked = given_up.1.looked in
@@ -312,7 +310,7 @@ module _ (plan : PlanText) (lanes : ℕ) (results : List (ResultOf Fault)) (run 
 
 pub runs_find : RunsFindWhatIsKept
 runs_find plan lanes results run =
-    tree_finer (setting_of run.store run.locks (suite_of plan) (registered plan) (λ (value : StoredValue). value.value.closeable)) (MakesCall plan run.store) (CallFinds plan run.store) IsAction ClosesValue
+    tree_finer (setting_of_plan plan run.store run.locks) (CallFinds plan run.store)
     LaneGoesOn goes_same goes_then (plans_go_on plan run.store) (goes_met run.store) (goes_sealed run.store) (Leads plan lanes results run) (leads_back plan lanes results run) (call_finds plan lanes results run)
     16 0 run.first run.ran run.after run.run (all_lead plan lanes results run)
 

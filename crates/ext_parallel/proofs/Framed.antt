@@ -1,7 +1,7 @@
 -- What calls do to a lane in all: none, one, and some after others.
 use Rattle.std.proofs.Common.{◌≢◌, ℕ, [], ◌∷◌}
 use Rattle.ext_store.specs.Stores.{StoreView, IsKeptBy, IsLaneOf}
-use Rattle.ext_store.specs.Frames.{Frame}
+use Rattle.ext_store.specs.LaneCalls.{Frame}
 use Rattle.ext_store.proofs.Frames.{no_frame, frame_spares, frames_compose}
 use Rattle.ext_parallel.specs.StoreCalls.{PlanLane, HasFrame}
 

@@ -1,27 +1,24 @@
 -- What a step does by its call, from what the store answers a call by a key.
 use Rattle.std.proofs.Common.{◌≡◌, ◌⊎◌, inl, inr, ℕ, List, Option, codes, drop, refl, ap, ◌∙◌, subst, sym}
-use Rattle.std.specs.Prelude.{Result, Ok, Err}
+use Rattle.std.specs.Prelude.{Result, Ok, Err, String, string_bytes}
 use Rattle.ext_model.specs.declared.look.Fault.{Fault}
 use Rattle.ext_model.specs.declared.look.Fault.TheVariants as faults
 use Rattle.ext_lifecycle.specs.declared.outcome.Outcome.{Outcome}
 use Rattle.ext_lifecycle.specs.FaultTexts.{VerdictText}
-use Rattle.ext_tree.specs.Keys.{KeyValue}
-use Rattle.ext_tree.specs.KeyPlaces.{KnownPlace, IsKeyFault, IsKeyNumber}
+use Rattle.ext_tree.specs.Keys.{KeyValue, KnownPlace, IsKeyFault, IsKeyNumber}
 use Rattle.ext_cells.specs.Lanes.{Lane}
-use Rattle.ext_shared.specs.declared.fault.Refusal.{Refusal}
+use Rattle.ext_store_cells.specs.declared.fault.Refusal.{Refusal}
 use Rattle.ext_store.specs.declared.computed.Compute.{Compute}
 use Rattle.ext_store.specs.declared.computed.Compute.TheVariants as computes
 use Rattle.ext_store.specs.Stores.{StoreView, StoreLane}
-use Rattle.ext_store.specs.Calls.{Puts, Removes, KeepsAs}
+use Rattle.ext_store.specs.LaneCalls.{Puts, Removes, KeepsAs, IsKeyRefused, OfKey}
 use Rattle.ext_store.specs.Computing.{Uses}
-use Rattle.ext_store.specs.Keys.{IsKeyRefused, OfKey}
 use Rattle.ext_store.specs.Waiting.{ComputesAfterWaits}
 use Rattle.ext_plan.specs.Plans.{KeyText, StepKeyText}
-use Rattle.ext_plan.specs.KeyNumbers.{key_of_step}
-use Rattle.ext_plan.specs.Calls.{CallText, label_of, start_of}
+use Rattle.ext_plan.specs.StoreKeys.{key_of_step}
+use Rattle.ext_plan.specs.StepCalls.{CallText, label_of, start_of}
 use Rattle.ext_plan.specs.Values.{ValueText}
 use Rattle.ext_plan.specs.Verdicts.{SeenText}
-use Rattle.std.specs.Prelude.{String, string_bytes}
 use Rattle.std.specs.declared.alloc.Global.{Global}
 use Rattle.ext_parallel.specs.declared.steps.stored_value.StoredValue.{StoredValue}
 use Rattle.ext_parallel.specs.Saying.{Ends, EndsRefused}

@@ -9,7 +9,7 @@ mod StepValues
 mod Turning
 mod Values
 pub mod Ends
-pub mod Fitting
+pub mod Runnable
 pub mod Framed
 pub mod Keyed
 pub mod Placed

@@ -4,41 +4,39 @@ use Rattle.std.specs.Prelude.{Result, Ok, Err}
 use mathlib.Core.List.{IsPrefix}
 use base.Growing.{prefix_refl, prefix_trans}
 use Rattle.std.proofs.lemmas.List.Elements.{Contains-append_cases}
-use Rattle.ext_history.specs.Views.{seen_by}
+use Rattle.ext_history.specs.Histories.{seen_by}
 use Rattle.ext_history.proofs.Composed.{seen_goes_on}
 use Rattle.ext_history.proofs.Lists.{bools, contains_cons, contains_here, contains_later, contains_none}
 use Rattle.ext_model.specs.declared.event.Act.{Act}
 use Rattle.ext_model.specs.declared.event.Act.TheVariants.{Keep, Put, Remove, Seal}
 use Rattle.ext_model.specs.declared.look.Fault.{Fault}
-use Rattle.ext_model.specs.Calls.{Calls}
-use Rattle.ext_model.specs.Views.{events_by}
+use Rattle.ext_model.specs.CallActs.{Calls, events_by}
 use Rattle.ext_lifecycle.specs.declared.call.Call.{Call}
 use Rattle.ext_lifecycle.specs.declared.outcome.Outcome.{Outcome}
 use Rattle.ext_lifecycle.specs.Endings.{is_successful}
 use Rattle.ext_lifecycle.specs.FaultTexts.{VerdictText}
 use Rattle.ext_lifecycle.specs.Lifecycle.{ending_of}
 use Rattle.ext_locks.specs.Sets.{HeldView}
-use Rattle.ext_tree.specs.Keys.{KeyValue}
-use Rattle.ext_tree.specs.KeyPlaces.{IsKeyNumber}
+use Rattle.ext_tree.specs.Keys.{KeyValue, IsKeyNumber}
 use Rattle.ext_tree.proofs.KeyPlacing.{key_within, length-places, number_stays}
 use Rattle.ext_plan.specs.Plans.{PlanText, StepKeyText, StepText, put, put_closeable, want, nothing, remove, compute, compute_closeable, compute_fail, fail, abort}
-use Rattle.ext_plan.specs.KeyNumbers.{key_of_step}
+use Rattle.ext_plan.specs.StoreKeys.{key_of_step}
 use Rattle.ext_plan.specs.PlanCalls.{steps_of_call}
 use Rattle.ext_values.specs.Known.{Known, known_at}
 use Rattle.ext_cells.specs.Lanes.{Lane}
-use Rattle.ext_shared.specs.declared.fault.Refusal.{Refusal}
-use Rattle.ext_shared.specs.declared.fault.Refusal.TheVariants as refusal
+use Rattle.ext_store_cells.specs.declared.fault.Refusal.{Refusal}
+use Rattle.ext_store_cells.specs.declared.fault.Refusal.TheVariants as refusal
 use Rattle.ext_store.specs.declared.fault.KeepFault.{KeepFault}
 use Rattle.ext_store.specs.declared.fault.KeepFault.TheVariants as keep_fault
 use Rattle.ext_store.specs.declared.computed.Compute.{Compute}
 use Rattle.ext_store.specs.declared.computed.Compute.TheVariants as computes
 use Rattle.ext_store.specs.Stores.{StoreView, IsLaneOf, cell_in}
-use Rattle.ext_store.specs.Frames.{Frame}
+use Rattle.ext_store.specs.LaneCalls.{Frame}
 use Rattle.ext_store.specs.Computing.{Uses}
-use Rattle.ext_shared.specs.Calls.{put_acts, remove_acts}
+use Rattle.ext_store_cells.specs.ContextCalls.{put_acts, remove_acts}
 use Rattle.ext_parallel.specs.Saying.{EndsRefused}
 use Rattle.ext_closing.specs.Sealing.{MakesSeals, seals_of}
-use Rattle.ext_plan.specs.Calls.{CallText, label_of, start_of}
+use Rattle.ext_plan.specs.StepCalls.{CallText, label_of, start_of}
 use Rattle.ext_plan.specs.Values.{ValueText}
 use Rattle.ext_plan.specs.Verdicts.{SeenText, none_verdict, want_verdict}
 use Rattle.ext_parallel.specs.declared.steps.stored_value.StoredValue.{StoredValue}

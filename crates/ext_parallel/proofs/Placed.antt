@@ -4,19 +4,19 @@ use Rattle.std.specs.Prelude.{Some, Result, Ok, Err}
 use Rattle.ext_model.specs.declared.event.Act.TheVariants.{Put, Remove}
 use Rattle.ext_model.specs.declared.look.Look.{Look}
 use Rattle.ext_model.specs.Events as events
-use Rattle.ext_tree.specs.Keys.{KeyValue}
-use Rattle.ext_tree.specs.KeyPlaces.{KnownPlace, IsKeyFault}
+use Rattle.ext_tree.specs.Keys.{KeyValue, KnownPlace, IsKeyFault}
 use Rattle.ext_tree.specs.declared.key_fault.KeyFault.{KeyFault}
 use Rattle.ext_tree.specs.declared.key_fault.KeyFault.TheVariants as key_fault
 use Rattle.ext_cells.specs.Lanes.{Lane}
-use Rattle.ext_shared.specs.declared.fault.Refusal.{Refusal}
-use Rattle.ext_shared.specs.declared.fault.Refusal.TheVariants as refusal
+use Rattle.ext_store_cells.specs.declared.fault.Refusal.{Refusal}
+use Rattle.ext_store_cells.specs.declared.fault.Refusal.TheVariants as refusal
 use Rattle.ext_store.specs.declared.computed.Compute.{Compute}
 use Rattle.ext_store.specs.declared.computed.Compute.TheVariants as computes
 use Rattle.ext_store.specs.Stores.{StoreView, cell_in}
-use Rattle.ext_store.specs.Calls.{Gets, Puts, Removes, reply_to, result_at, with_kept}
-use Rattle.ext_store.specs.Computing.{IsRefused, ComputesFrom, Computes}
-use Rattle.ext_store.specs.Keys.{IsKeyRefused, OfKey, key_refusal}
+use Rattle.ext_store.specs.LaneCalls.{Gets, Puts, Removes, reply_to, result_at, with_kept, IsKeyRefused, OfKey, key_refusal}
+use Rattle.ext_store_cells.specs.ContextCalls as cells
+use Rattle.ext_store_cells.specs.Claiming as claiming
+use Rattle.ext_store.specs.Computing.{ComputesFrom, Computes}
 use Rattle.ext_store.specs.Waiting.{ComputesAfterWaits, IsDecided}
 use Rattle.ext_parallel.specs.declared.steps.stored_value.StoredValue.{StoredValue}
 use Rattle.ext_parallel.specs.StoreCalls.{PlanLane}
@@ -24,7 +24,7 @@ use Rattle.ext_parallel.specs.StoreCalls.{PlanLane}
 -- ---- looks
 
 look_is_ok : (store : StoreView) (context key : ℕ) (before after : Lane) (why : Refusal) → Gets store context key before after (Err why) → IsDecided why → ⊥
-unfolding Gets
+unfolding cells.Gets
 look_is_ok store context key before after (refusal.Busy at) looks decided = decided
 look_is_ok store context key before after (refusal.Closed at) looks decided = let h = looks.2.replied (λ e. cc) in cc (h.point.2)
 look_is_ok store context key before after refusal.Contended looks decided = decided
@@ -72,7 +72,7 @@ kept_apart number (Ok stood) = refl
 kept_apart number (Err why) = refl
 
 removes_placed : (store : StoreView) (context key : ℕ) (before after : Lane) (why : Refusal) → Removes store context key before after (Err why) → why ≢ refusal.Unplaced
-unfolding Removes
+unfolding cells.Removes
 removes_placed store context key before after why removes same =
     let r = subst (λ w. Removes store context key before after (Err w)) same removes in
     let h = r.replied (λ e. cc) in
@@ -84,7 +84,7 @@ remove_placed store context key a b why (inl named) = removes_placed store conte
 remove_placed store context key a b why (inr refused) = let same : why ≡ refused.0 = cc refused.2 in λ e. key_placed key a b refused.0 refused.1 (sym same ∙ e)
 
 puts_placed : (store : StoreView) (context key number : ℕ) (before after : Lane) (back : ℕ) (why : Refusal) → Puts store context key number before after (Err (back, why)) → why ≢ refusal.Unplaced
-unfolding Puts
+unfolding cells.Puts
 puts_placed store context key number before after back why puts same =
     let r = subst (λ w. Puts store context key number before after (Err (back, w))) same puts in
     let h = r.replied (λ e. let apart = ap without_kept e in cc) in
@@ -100,7 +100,7 @@ put_placed store context key number a b back why (inr refused) =
 
 computes_placed : (store : StoreView) (context key : ℕ) (before after : Lane) (why : Refusal) (unused : Unit {0})
     → ComputesAfterWaits {V = StoredValue} store context key before after (computes.Refused why unused) → why ≢ refusal.Unplaced
-unfolding IsRefused ComputesFrom Computes ComputesAfterWaits
+unfolding claiming.IsRefused ComputesFrom Computes ComputesAfterWaits
 computes_placed store context key before after why unused computed same =
     let r = subst (λ w. ComputesAfterWaits {V = StoredValue} store context key before after (computes.Refused w unused)) same computed in r.then_is.2
 

@@ -8,25 +8,24 @@ use Rattle.ext_model.specs.declared.look.Fault.TheVariants as faults
 use Rattle.ext_model.specs.declared.look.Look.{Look}
 use Rattle.ext_model.specs.declared.look.Look.TheVariants as look
 use Rattle.ext_model.specs.History.{Limits}
-use Rattle.ext_model.specs.Calls.{Calls}
-use Rattle.ext_model.specs.Views.{LaneView}
+use Rattle.ext_model.specs.CallActs.{Calls, LaneView}
 use Rattle.ext_values.specs.Known.{known_at}
 use Rattle.ext_cells.specs.Lanes.{Lane}
-use Rattle.ext_shared.specs.declared.fault.Refusal.{Refusal}
-use Rattle.ext_shared.specs.declared.fault.Refusal.TheVariants as refusal
-use Rattle.ext_shared.specs.declared.claim.Unused.TheVariants as unused
-use Rattle.ext_shared.specs.Calls.{put_acts, remove_acts}
-use Rattle.ext_shared.specs.Calls as shared
-use Rattle.ext_shared.specs.Claiming.{IsRefused, Meets, given_up_events}
-use Rattle.ext_shared.specs.Waiting.{IsDecided, VainAttempt, VainAttempts}
+use Rattle.ext_store_cells.specs.declared.fault.Refusal.{Refusal}
+use Rattle.ext_store_cells.specs.declared.fault.Refusal.TheVariants as refusal
+use Rattle.ext_store_cells.specs.declared.claim.Unused.TheVariants as unused
+use Rattle.ext_store_cells.specs.ContextCalls.{put_acts, remove_acts}
+use Rattle.ext_store_cells.specs.ContextCalls as shared
+use Rattle.ext_store_cells.specs.Claiming as claiming
+use Rattle.ext_store_cells.specs.Waiting.{VainAttempts}
 use Rattle.ext_store.specs.declared.fault.KeepFault.{KeepFault}
 use Rattle.ext_store.specs.declared.fault.KeepFault.TheVariants as keep_fault
 use Rattle.ext_store.specs.declared.computed.Compute.{Compute}
 use Rattle.ext_store.specs.declared.computed.Compute.TheVariants as computes
-use Rattle.ext_store.specs.Stores.{StoreView, cell_in}
-use Rattle.ext_store.specs.Calls.{Gets, Puts, Removes, KeepFails, KeepsAs, KeepsNothing}
-use Rattle.ext_store.specs.Computing.{ComputesFrom, Computes, IsUnkept}
-use Rattle.ext_store.specs.Waiting.{ComputesAfterWaits}
+use Rattle.ext_store.specs.Stores.{StoreView, cell_in, context_cells}
+use Rattle.ext_store.specs.LaneCalls.{Gets, Puts, Removes, KeepFails, KeepsAs, KeepsNothing}
+use Rattle.ext_store.specs.Computing.{ComputesFrom, Computes, IsRefused, IsUnkept, Meets, given_up_events}
+use Rattle.ext_store.specs.Waiting.{ComputesAfterWaits, IsDecided}
 use Rattle.ext_parallel.specs.declared.steps.stored_value.StoredValue.{StoredValue}
 use Rattle.ext_parallel.specs.StoreCalls.{PlanLane}
 use Rattle.ext_parallel.proofs.Values.{calls_quiet, calls_values, own_values}
@@ -34,18 +33,18 @@ use Rattle.ext_parallel.proofs.Values.{calls_quiet, calls_values, own_values}
 -- ---- store calls
 
 pub gets_quiet : (store : StoreView) (context key : ℕ) (a b : Lane) (answer : Look) → Gets store context key a b (Ok answer) → own_values b.view ≡ own_values a.view
-unfolding Gets
+unfolding shared.Gets
 gets_quiet store context key a b answer gets = calls_quiet a.view b.view [] (gets.2.replied (λ is. absurd (cc is))).calls refl
 
 -- of a change that was not refused because others were in the way
 pub puts_values : (store : StoreView) (context key number : ℕ) (a b : Lane) (result : Result (Option ℕ) (ℕ × Refusal)) → Puts store context key number a b result → result ≢ Err (number, refusal.Contended)
     → Calls a.cells.limits a.view b.view (put_acts (cell_in store key context) number result)
-unfolding Puts
+unfolding shared.Puts
 puts_values store context key number a b result puts decided = (puts.replied decided).calls
 
 pub removes_values : (store : StoreView) (context key : ℕ) (a b : Lane) (result : Result (Option ℕ) Refusal) → Removes store context key a b result → result ≢ Err refusal.Contended
     → Calls a.cells.limits a.view b.view (remove_acts (cell_in store key context) result)
-unfolding Removes
+unfolding shared.Removes
 removes_values store context key a b result removes decided = (removes.replied decided).calls
 
 pub keep_quiet : (store : StoreView) (a b : Lane) (why : KeepFault) → KeepFails store a b why → own_values b.view ≡ own_values a.view
@@ -58,12 +57,12 @@ keep_quiet store a b keep_fault.Unplaced fails = calls_quiet a.view b.view (Keep
 -- ---- computes
 
 meets_quiet : (limits : Limits) (store : StoreView) (context : ℕ) (ancestors : List ℕ) (key : ℕ) (a b : LaneView) (met : Look) → Meets limits store context ancestors key a b met → own_values b ≡ own_values a
-unfolding Meets
+unfolding claiming.Meets
 meets_quiet limits store context ancestors key a b met (inl at) = calls_quiet a b [] at.calls refl
 meets_quiet limits store context ancestors key a b met (inr given_up) = calls_quiet a b (given_up_events store context key) given_up.0 refl
 
 refused_quiet : (limits : Limits) (store : StoreView) (context : ℕ) (ancestors : List ℕ) (key : ℕ) (a b : LaneView) (why : Refusal) → IsRefused limits store context ancestors key a b why → own_values b ≡ own_values a
-unfolding IsRefused
+unfolding claiming.IsRefused
 refused_quiet limits store context ancestors key a b (refusal.Busy at) r = meets_quiet limits store context ancestors key a b (look.Busy at) r
 refused_quiet limits store context ancestors key a b (refusal.Closed at) r = meets_quiet limits store context ancestors key a b (look.Closed at) r
 refused_quiet limits store context ancestors key a b refusal.Contended (inl overtaken) = calls_quiet a b [] overtaken.calls refl
@@ -73,7 +72,7 @@ refused_quiet limits store context ancestors key a b refusal.Unplaced r = absurd
 refused_quiet limits store context ancestors key a b refusal.Memory r = absurd r
 refused_quiet limits store context ancestors key a b refusal.Exhausted r = calls_quiet a b [] r.0.calls refl
 
-vain_quiet : (store : StoreView) (context key attempts : ℕ) (a b : LaneView) → VainAttempts store context key attempts a b → own_values b ≡ own_values a
+vain_quiet : (store : StoreView) (context key attempts : ℕ) (a b : LaneView) → VainAttempts (context_cells store) context key attempts a b → own_values b ≡ own_values a
 vain_quiet store context key zero a b same = ap own_values same
 vain_quiet store context key (suc attempts) a b more =
     refused_quiet store.id.cells.limits store context more.2.refused.0 key more.0 b more.2.why more.2.refused.2 ∙ vain_quiet store context key attempts a more.0 more.1

@@ -5,19 +5,20 @@ use Rattle.std.specs.List.{AllZip}
 use mathlib.Core.List.{IsPrefix}
 use base.Growing.{prefix_refl, prefix_trans}
 use Rattle.std.proofs.lemmas.List.Elements.{All-nil, All-cons, All-head, All-tail}
-use Rattle.ext_history.specs.Views.{Follow, seen_by}
+use Rattle.ext_history.specs.Histories.{Follow, seen_by}
 use Rattle.ext_history.proofs.Legal.{legal_empty}
 use Rattle.ext_history.proofs.Composed.{calls_none, seen_goes_on}
 use Rattle.ext_history.proofs.Lanes.{own_between}
 use Rattle.ext_model.specs.History.{History, Limits, IsAllowed, IsLegal, lane_of, own}
-use Rattle.ext_model.specs.Calls.{Calls}
+use Rattle.ext_model.specs.CallActs.{Calls}
 use Rattle.ext_model.proofs.Composed.{calls_compose}
-use Rattle.ext_tree.specs.KeyPlaces.{KnownPlace, KeepsKeys}
+use Rattle.ext_tree.specs.Keys.{KnownPlace, KeepsKeys}
 use Rattle.ext_tree.proofs.KeyPlacing.{keeps_all, keeps_both}
 use Rattle.ext_values.specs.Known.{AllAgree}
 use Rattle.ext_store.specs.Stores.{StoreView, StoreLane, IsLaneOf}
 use Rattle.ext_store.proofs.Frames.{fronts_are_seen}
-use Rattle.ext_parallel.specs.Opened.{HasRecalled, ShareHistory, ShareKeys, Turns, all_faults, all_known}
+use Rattle.ext_parallel.specs.InnerMeeting.{HasRecalled, Turns}
+use Rattle.ext_parallel.specs.Opened.{ShareHistory, ShareKeys, all_faults, all_known}
 
 longer : (h g : History) (fronts : List History) → IsPrefix h g → All (λ front. IsPrefix front h) fronts → All (λ front. IsPrefix front g) fronts
 longer h g fronts on all = λ i d within. prefix_trans _ h g (all i d within) on

@@ -5,7 +5,7 @@ use Rattle.std.specs.List.{filter_map}
 use mathlib.Core.List.{IsPrefix}
 use Rattle.std.proofs.lemmas.List.Elements.{Contains-append_left, Contains-push, filter_map-append}
 use Rattle.ext_history.proofs.Lists.{bools}
-use Rattle.ext_history.specs.Views.{seen_by}
+use Rattle.ext_history.specs.Histories.{seen_by}
 use Rattle.ext_history.proofs.Legal.{legal_steps}
 use Rattle.ext_model.specs.declared.event.Act.{Act}
 use Rattle.ext_model.specs.declared.event.Act.TheVariants.{Keep, Put, Remove, Claim, Fill, Fail, Abandon, Seal}
@@ -13,12 +13,10 @@ use Rattle.ext_model.specs.declared.event.Event.{Event}
 use Rattle.ext_model.specs.declared.look.Look.TheVariants as look
 use Rattle.ext_model.specs.declared.slot.Slot.{Slot}
 use Rattle.ext_model.specs.declared.slot.Slot.TheVariants as slot
-use Rattle.ext_model.specs.Calls.{Calls}
+use Rattle.ext_model.specs.CallActs.{Calls, look_after, LaneView, events_by}
 use Rattle.ext_model.specs.Events.{is_on, slot_after}
 use Rattle.ext_model.specs.History.{History, Limits, IsAllowed, IsLegal, by, own, slots_in, state_after}
-use Rattle.ext_model.specs.SecondLook.{look_after}
 use Rattle.ext_model.specs.State.{look_at, look_in, lookup}
-use Rattle.ext_model.specs.Views.{LaneView, events_by}
 use Rattle.ext_model.proofs.Claims.{same_cell, slot_off, slot_on}
 
 -- ---- what an act stores

@@ -9,26 +9,24 @@ use Rattle.ext_lifecycle.specs.Lifecycle.{ending_of}
 use Rattle.ext_lifecycle.specs.Results.{ResultOf}
 use Rattle.ext_locks.specs.Sets.{HeldView}
 use Rattle.ext_model.specs.declared.look.Fault.{Fault}
-use Rattle.ext_tree.specs.Keys.{KeyValue}
-use Rattle.ext_tree.specs.KeyPlaces.{OneKey, OneNumber}
-use Rattle.ext_tree.specs.Paths.{IsPathOf}
+use Rattle.ext_tree.specs.Keys.{KeyValue, OneKey, OneNumber}
+use Rattle.ext_tree.specs.Trees.{IsPathOf}
 use Rattle.ext_plan.specs.Plans.{PlanText, StepKeyText, StepText, put, put_closeable, want, nothing, remove, compute, compute_closeable, compute_fail, fail, abort}
-use Rattle.ext_plan.specs.KeyNumbers.{key_of_step}
-use Rattle.ext_plan.specs.PlanCalls.{registered, steps_of_call}
+use Rattle.ext_plan.specs.StoreKeys.{key_of_step}
+use Rattle.ext_plan.specs.PlanCalls.{steps_of_call}
 use Rattle.ext_store.specs.declared.computed.Compute.{Compute}
 use Rattle.ext_store.specs.declared.computed.Compute.TheVariants as computes
 use Rattle.ext_store.specs.Stores.{StoreView}
-use Rattle.ext_plan.specs.Calls.{CallText, start_of}
+use Rattle.ext_plan.specs.StepCalls.{CallText, start_of}
 use Rattle.ext_plan.specs.Values.{ValueText}
 use Rattle.ext_plan.specs.Verdicts.{SeenText, seen_value, seen_fault, seen_no_memory, seen_nothing, seen_refused, want_verdict, none_verdict}
 use Rattle.ext_parallel.specs.Saying.{Ends}
 use Rattle.ext_parallel.specs.StoreCalls.{ComputesFault, EndsComputeFail, PlanLane, Sees}
 use Rattle.ext_parallel.specs.StoreSteps.{AddsUp, FindsNoMemory, OfCall, OfCallKey, StepRun, call_of}
 use Rattle.ext_parallel.specs.declared.steps.stored_value.StoredValue.{StoredValue}
-use Rattle.ext_parallel.specs.PlanSuites.{suite_of}
 use Rattle.ext_engine.specs.Order.{CallsGoOn}
-use Rattle.ext_engine.specs.TreeRun.{TreeRun, setting_of}
-use Rattle.ext_parallel.specs.ParallelRun.{ClosesValue, IsAction, MakesCall, ParallelRun}
+use Rattle.ext_engine.specs.TreeRun.{TreeRun, with_calls}
+use Rattle.ext_parallel.specs.ParallelRun.{MakesCall, ParallelRun, setting_of_plan}
 
 -- ---- what a plan keeps
 
@@ -132,7 +130,7 @@ PlansGoOn = (plan : PlanText) (store : StoreView) → CallsGoOn (MakesCall plan 
 -- the same key
 abbrev pub RunsFindWhatIsKept : Type 0
 RunsFindWhatIsKept = (plan : PlanText) (lanes : ℕ) (results : List (ResultOf Fault)) (run : ParallelRun plan lanes results)
-    → TreeRun (setting_of run.store run.locks (suite_of plan) (registered plan) (λ (value : StoredValue). value.value.closeable)) (CallFinds plan run.store) IsAction ClosesValue 16 0 run.first run.ran run.after
+    → TreeRun (with_calls (CallFinds plan run.store) (setting_of_plan plan run.store run.locks)) 16 0 run.first run.ran run.after
 
 -- Any two lanes of a run have one number for a key that both know, and know one key of a number that both know
 abbrev pub LanesNumberAlike : Type 0

@@ -1,10 +1,13 @@
 pub mod Finding
-pub mod Helpers
+pub mod InnerHelpers
+pub mod InnerKeys
+pub mod InnerMeeting
 pub mod Opened
 pub mod ParallelRun
 pub mod PlanActions
-pub mod PlanKeys
 pub mod PlanSuites
 pub mod Saying
 pub mod StoreCalls
 pub mod StoreSteps
+pub use Rattle.ext_engine.specs.declared.node.fault.EngineFault
+pub use Rattle.ext_model.specs.declared.look.Fault

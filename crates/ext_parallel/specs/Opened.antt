@@ -1,18 +1,17 @@
 -- The store and the locks that a run of a plan opens, and the one history of lanes that met.
 -- Own rule. JUnit 5 User Guide, "Keeping State in Extensions" and "Synchronization", for stores and locks.
-use Rattle.std.specs.Prelude.{◌≡◌, ℕ, ◌*◌, List, [], length, map, All, AllPairs, IsPermutation}
+use Rattle.std.specs.Prelude.{◌≡◌, ℕ, ◌*◌, List, length, map, All, AllPairs, IsPermutation}
 use mathlib.Core.List.{IsPrefix}
 use Rattle.ext_model.specs.declared.look.Fault.{Fault}
 use Rattle.ext_model.specs.History.{History, IsLegal, own}
 use Rattle.ext_plan.specs.Plans.{PlanText}
-use Rattle.ext_plan.specs.Laws.{ids_of_nodes}
-use Rattle.ext_plan.specs.Locks.{lock_names}
-use Rattle.ext_tree.specs.KeyPlaces.{KnownPlace, KeepsKeys}
-use Rattle.ext_history.specs.Views.{Follow, seen_by}
-use Rattle.ext_model.specs.Calls.{Calls}
+use Rattle.ext_plan.specs.ReadPlans.{ids_of_nodes}
+use Rattle.ext_plan.specs.LockNames.{lock_names}
+use Rattle.ext_tree.specs.Keys.{KnownPlace, KeepsKeys}
+use Rattle.ext_history.specs.Histories.{seen_by}
 use Rattle.ext_values.specs.Known.{Known, AllAgree}
 use Rattle.ext_store.specs.Opening.{fault_count}
-use Rattle.ext_store.specs.Stores.{StoreView, StoreLane, IsLaneOf}
+use Rattle.ext_store.specs.Stores.{StoreView, StoreLane}
 use Rattle.ext_locks.specs.Opening.{LocksView}
 
 -- how many numbers a run's store draws at most
@@ -37,22 +36,6 @@ pub record IsLocksOf (plan : PlanText) (lanes : ℕ) (locks : LocksView) : Type 
   pub names : IsPermutation (lock_names plan.nodes) locks.names
   pub same_lanes : locks.lanes ≡ lanes
   pub tries : locks.tries ≡ run_tries
-
--- what is true of each lane in hand: what it has seen is legal, and each of its fronts goes on from the one before it
-pub record HasRecalled {V : Type 0} (lane : StoreLane V) : Type 0 where
-  pub legal : IsLegal lane.cells.cells.limits (seen_by lane.cells.view)
-  pub follow : Follow [] lane.cells.view.fronts
-
--- The lane stayed one of the store, made no event and knows of values and faults what it knew. In between it saw this history, which goes on from what it had seen, and this
--- numbering of keys has what it knew of keys
-pub record Turns {V : Type 0} (store : StoreView) (h : History) (numbering : List KnownPlace) (before after : StoreLane V) : Type 0 where
-  pub lane : IsLaneOf store.id after
-  pub calls : Calls store.id.cells.limits before.cells.view after.cells.view []
-  pub since : IsPrefix (seen_by before.cells.view) h
-  pub until : IsPrefix h (seen_by after.cells.view)
-  pub known : after.known ≡ before.known
-  pub faults : after.faults ≡ before.faults
-  pub keys : KeepsKeys before.keys numbering
 
 -- what each of the lanes knows of values
 abbrev pub all_known : {V : Type 0} → List (StoreLane V) → List (List (Known V))

@@ -17,7 +17,7 @@ use Rattle.ext_locks.specs.Opening.{LocksView}
 use Rattle.ext_locks.specs.Sets.{HeldView}
 use Rattle.ext_engine.specs.declared.node.fault.EngineFault.{EngineFault}
 use Rattle.ext_engine.specs.declared.node.fault.EngineFault.TheVariants as faults
-use Rattle.ext_engine.specs.TreeRun.{IsUnjoined, Lanes, Ran, TreeRun, all_results, setting_of}
+use Rattle.ext_engine.specs.TreeRun.{IsUnjoined, Lanes, Ran, TreeRun, TreeSetting, all_results}
 use Rattle.ext_parallel.specs.declared.steps.stored_value.StoredValue.{StoredValue}
 use Rattle.ext_parallel.specs.Opened.{IsStoreOf, IsLocksOf, ShareHistory, ShareKeys}
 use Rattle.ext_plan.specs.Values.{close_fault}
@@ -38,6 +38,19 @@ IsAction node action = Unit {0}
 abbrev pub ClosesValue : PlanAction → ℕ → StoredValue → Result (Unit {0}) Fault → PlanAction → Type 0
 ClosesValue action number value answer left = AnswersClose (close_fault (stored_view value)) answer × (left ≡ action)
 
+-- what the run of a plan's nodes goes over
+abbrev pub setting_of_plan : PlanText → StoreView → LocksView → TreeSetting StoredValue PlanAction
+setting_of_plan plan store locks = record {
+  store = store;
+  locks = locks;
+  suite = suite_of plan;
+  registered = registered plan;
+  call_gives = MakesCall plan store;
+  action_gives = IsAction;
+  is_closeable = λ value. value.value.closeable;
+  close_gives = ClosesValue;
+}
+
 -- A run of the plan on so many lanes, and what it tells of its nodes, in the order of the plan
 pub record ParallelRun (plan : PlanText) (lanes : ℕ) (results : List (ResultOf Fault)) : Type 0 where
   pub store : StoreView
@@ -51,7 +64,7 @@ pub record ParallelRun (plan : PlanText) (lanes : ℕ) (results : List (ResultOf
   -- the run of the tree, and its results
   pub ran : List Ran
   pub after : Lanes StoredValue
-  pub run : TreeRun (setting_of store locks (suite_of plan) (registered plan) (λ (value : StoredValue). value.value.closeable)) (MakesCall plan store) IsAction ClosesValue 16 0 first ran after
+  pub run : TreeRun (setting_of_plan plan store locks) 16 0 first ran after
   pub results_are : results ≡ all_results (suite_of plan) (length plan.nodes) ran
   -- what all lanes have seen is one history, in which each of them made just its own events, and what two of them know of a number is the same
   pub shared : ShareHistory store after.first
@@ -66,7 +79,7 @@ pub record CannotClose (plan : PlanText) (lanes context number : ℕ) : Type 0 w
   pub store_is : IsStoreOf plan lanes store
   pub locks : LocksView
   pub locks_are : IsLocksOf plan lanes locks
-  pub unjoined : IsUnjoined (setting_of store locks (suite_of plan) (registered plan) (λ (value : StoredValue). value.value.closeable)) IsAction ClosesValue context number
+  pub unjoined : IsUnjoined (setting_of_plan plan store locks) context number
 
 -- why a run gives no results: memory ran out, or a context could not be closed
 abbrev pub IsRefusedRun : PlanText → ℕ → EngineFault → Type 0

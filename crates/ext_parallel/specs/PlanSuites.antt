@@ -6,7 +6,7 @@ use Rattle.std.specs.Prelude.{ℕ, List, map, Some, is_some}
 use Rattle.ext_lifecycle.specs.declared.call.Call.{Call}
 use Rattle.ext_lifecycle.specs.declared.outcome.Outcome.{Outcome}
 use Rattle.ext_locks.specs.declared.event.LockMode.TheVariants as lock_mode
-use Rattle.ext_tree.specs.Paths.{IsPathOf}
+use Rattle.ext_tree.specs.Trees.{IsPathOf}
 use Rattle.ext_plan.specs.Plans.{LockText, read, read_write, PlanText}
 use Rattle.ext_plan.specs.PlanCalls.{concurrent_of, isolated_of, locks_of, steps_of_call, test_of}
 use Rattle.ext_store.specs.Stores.{StoreView}

@@ -1,5 +1,4 @@
 -- What a step on a store for several threads says: its verdict has the text of what happened, or memory for that text ran out.
--- Own rule.
 use Rattle.std.specs.Prelude.{◌≡◌, ◌⊎◌, ℕ, List}
 use Rattle.ext_model.specs.declared.look.Fault.TheVariants as faults
 use Rattle.ext_lifecycle.specs.declared.outcome.Outcome.{Outcome}
@@ -9,8 +8,8 @@ use Rattle.ext_lifecycle.specs.Endings.{successful, aborted, failed}
 use Rattle.ext_lifecycle.specs.FaultTexts.{VerdictText, verdict_text}
 use Rattle.ext_plan.specs.declared.reason.Reason.TheVariants as reasons
 use Rattle.ext_plan.specs.Verdicts.{refused}
-use Rattle.ext_shared.specs.declared.fault.Refusal.{Refusal}
-use Rattle.ext_shared.specs.declared.fault.Refusal.TheVariants as refusal
+use Rattle.ext_store_cells.specs.declared.fault.Refusal.{Refusal}
+use Rattle.ext_store_cells.specs.declared.fault.Refusal.TheVariants as refusal
 use Rattle.ext_store.specs.declared.fault.KeepFault.{KeepFault}
 use Rattle.ext_store.specs.declared.fault.KeepFault.TheVariants as keep_fault
 

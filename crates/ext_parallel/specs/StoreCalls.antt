@@ -12,13 +12,12 @@ use Rattle.ext_model.specs.declared.look.Look.TheVariants as look
 use Rattle.ext_lifecycle.specs.declared.outcome.Outcome.{Outcome}
 use Rattle.ext_lifecycle.specs.Endings.{successful}
 use Rattle.ext_values.specs.Known.{Known, Learns, known_at}
-use Rattle.ext_shared.specs.declared.fault.Refusal.{Refusal}
+use Rattle.ext_store_cells.specs.declared.fault.Refusal.{Refusal}
 use Rattle.ext_store.specs.declared.fault.KeepFault.{KeepFault}
 use Rattle.ext_store.specs.declared.computed.Compute.{Compute}
 use Rattle.ext_store.specs.declared.computed.Compute.TheVariants as computes
 use Rattle.ext_store.specs.Stores.{StoreView, StoreLane}
-use Rattle.ext_store.specs.Frames.{Frame}
-use Rattle.ext_store.specs.Calls.{Gets, Puts, Removes, KeepsNothing}
+use Rattle.ext_store.specs.LaneCalls.{Frame, Gets, Puts, Removes, KeepsNothing}
 use Rattle.ext_store.specs.Computing.{Uses}
 use Rattle.ext_store.specs.Waiting.{ComputesAfterWaits}
 use Rattle.ext_plan.specs.declared.reason.Reason.TheVariants as reasons

@@ -8,11 +8,10 @@ use Rattle.ext_lifecycle.specs.Endings.{successful, aborted, failed, is_successf
 use Rattle.ext_lifecycle.specs.FaultTexts.{VerdictText}
 use Rattle.ext_lifecycle.specs.Lifecycle.{ending_of}
 use Rattle.ext_plan.specs.Plans.{KeyText, StepKeyText, StepText, put, put_closeable, want, nothing, remove, compute, compute_closeable, compute_fail, fail, abort}
-use Rattle.ext_plan.specs.KeyNumbers.{key_of_step}
-use Rattle.ext_store.specs.Calls.{KeepsAs}
-use Rattle.ext_store.specs.Keys.{OfKey}
+use Rattle.ext_plan.specs.StoreKeys.{key_of_step}
+use Rattle.ext_store.specs.LaneCalls.{KeepsAs, OfKey}
 use Rattle.ext_store.specs.Stores.{StoreView}
-use Rattle.ext_plan.specs.Calls.{CallText, is_made, label_of, start_of}
+use Rattle.ext_plan.specs.StepCalls.{CallText, is_made, label_of, start_of}
 use Rattle.ext_plan.specs.Values.{ValueText}
 use Rattle.ext_plan.specs.Verdicts.{SeenText, want_verdict, none_verdict}
 use Rattle.ext_parallel.specs.declared.steps.stored_value.StoredValue.{StoredValue}

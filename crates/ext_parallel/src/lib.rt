@@ -6,7 +6,10 @@
 //!
 //! `PlanSuite` is what the nodes of a plan are to the engine: a call of a node makes the steps of the plan on a lane of the store
 //! (module `steps`). `PlanAction` closes the values of a context. `specs/PlanSuites` says what the nodes are and what a call does,
-//! `specs/PlanActions` what a close does, and `specs/StoreSteps` what steps do one after another. Own rule.
+//! `specs/PlanActions` what a close does, and `specs/StoreSteps` what steps do one after another.
+//!
+//! Unless its comment says otherwise, a public call takes no memory and waits for nobody. What
+//! names no source in JUnit is an own rule.
 #![tactic(auto)]
 
 mod laws;

@@ -2,10 +2,11 @@
 ghost use Rattle.std.specs.Prelude.{◌≡◌, List, All, AllPairs};
 ghost use Rattle.std.specs.List.{AllZip};
 ghost use Rattle.ext_model.specs.History.{History, IsLegal};
-ghost use Rattle.ext_tree.specs.KeyPlaces.{KnownPlace};
+ghost use Rattle.ext_tree.specs.Keys.{KnownPlace};
 ghost use Rattle.ext_values.specs.Known.{AllAgree};
 ghost use Rattle.ext_store.specs.Stores.{IsLaneOf};
-ghost use Rattle.ext_parallel.specs.Opened.{HasRecalled, ShareHistory, ShareKeys, Turns, all_faults, all_known};
+ghost use Rattle.ext_parallel.specs.InnerMeeting.{HasRecalled, Turns};
+ghost use Rattle.ext_parallel.specs.Opened.{ShareHistory, ShareKeys, all_faults, all_known};
 
 use ext_store::{Lane, Store, StoreValue};
 

@@ -2,7 +2,7 @@
 ghost use Rattle.std.specs.Prelude.{◌≡◌, ◌<◌, ◌≤◌, All, length, map, IfOk, IfErr};
 ghost use Rattle.ext_lifecycle.specs.Results.{told};
 ghost use Rattle.ext_plan.specs.Plans.{plan_view};
-ghost use Rattle.ext_plan.specs.Laws.{CallbacksAreFew, HasFewLocks, NamespacesHaveParts, NodesAreTree, StepListsAreShort, TestsHaveNoChildren};
+ghost use Rattle.ext_plan.specs.ReadPlans.{IsRunnablePlan, NodesAreTree, TestsHaveNoChildren};
 ghost use Rattle.ext_locks.specs.Opening as locking;
 ghost use Rattle.ext_parallel.specs.Opened.{IsLocksOf};
 ghost use Rattle.ext_parallel.specs.ParallelRun.{IsRefusedRun, ParallelRun};
@@ -22,7 +22,7 @@ use std::thread::Threads;
 /// Runs a plan on so many lanes, 1 to 16, each at most by one thread, and gives one result a node, in the order of the plan.
 ///
 /// A store with the plan's contexts and locks with its names are opened for this run, and the tree of the nodes is run over them by
-/// `ext_engine::run_tree`. A key gets its number where a lane first names it, the same in all lanes. The listener is told of each node that has ended. Steps make the calls of the store that wait. The plan is one as `ext_plan_reading::read_plan` gives it.
+/// `ext_engine::run_tree`. A key gets its number where a lane first names it, the same in all lanes. The listener is told of each node that has ended. Steps make the calls of the store that wait. Each plan that `ext_plan_reading::read_plan` gives is runnable.
 ///
 /// Refused as `Memory`, where memory that the run itself needs is refused, and as `Unjoined`, where a context can't be closed, as no lane in
 /// hand knows a value that remains in it; no plan is known for which it comes. `NoThread` is never answered. Want of memory in a step is the step's own fault. Takes memory, and may wait: it promises its clauses if it returns.
@@ -36,12 +36,7 @@ pub fn parallel_results<R: Threads + Wait + Sync, L: RunListener + Sync>(
     listener: &L,
 ) -> Result<Vec<NodeResult>, EngineFault>
     requires lanes { (1 ≤ lanes) × (lanes ≤ 16) }
-    requires tree { NodesAreTree (plan_view plan.now) }
-    requires tests { TestsHaveNoChildren (plan_view plan.now) }
-    requires locks { HasFewLocks (plan_view plan.now) }
-    requires namespaces { NamespacesHaveParts (plan_view plan.now) }
-    requires short { StepListsAreShort (plan_view plan.now) }
-    requires few { CallbacksAreFew (plan_view plan.now) }
+    requires runnable { IsRunnablePlan (plan_view plan.now) }
     ensures run { IfOk result (λ results. ParallelRun (plan_view plan.now) lanes (map told results.items)) }
     ensures in_tree { IfOk result (λ results. All (λ r. r.node < length plan.now.nodes.items) results.items) }
     ensures fault { IfErr result (IsRefusedRun (plan_view plan.now) lanes) }

@@ -1,6 +1,6 @@
 //! The suite of a plan.
 ghost use Rattle.std.specs.Prelude.{◌≡◌, IfOk};
-ghost use Rattle.ext_plan.specs.Laws.{CallbacksAreFew, NamespacesHaveParts, StepListsAreShort};
+ghost use Rattle.ext_plan.specs.ReadPlans.{CallbacksAreFew, NamespacesHaveParts, StepListsAreShort};
 ghost use Rattle.ext_plan.specs.Plans.{lock_view, plan_view};
 ghost use Rattle.ext_engine.specs.Suites.{asks};
 ghost use Rattle.ext_parallel.specs.PlanSuites.{asked};
@@ -19,7 +19,7 @@ use std::marker::Model;
 use std::sync::Wait;
 
 /// The suite of a plan: its nodes are those of the plan, in the order of the plan, and their calls make the plan's steps. It is seen as
-/// the plan. A listener is told of each node that has ended. Own rule.
+/// the plan. A listener is told of each node that has ended.
 #[derive(Drop)]
 pub struct PlanSuite<'a, L> {
     alloc: Global,
@@ -31,7 +31,7 @@ pub struct PlanSuite<'a, L> {
 
 impl<'a, L> Model for PlanSuite<'a, L> {
     ghost use Rattle.ext_plan.specs.Plans.{PlanText, plan_view};
-    ghost use Rattle.ext_parallel.specs.Helpers.{IsSuiteOf};
+    ghost use Rattle.ext_parallel.specs.InnerHelpers.{IsSuiteOf};
 
     ghost Value = { PlanText };
 
@@ -45,7 +45,7 @@ impl<'a, L> PlanSuite<'a, L> {
     /// among it for the key of a step that names no label, which is made where the step runs.
     ///
     /// A namespace that is given has a part; lists of steps and of callbacks are not longer than a plan's. All this holds of each plan that was read. `AllocError` comes only where
-    /// memory is refused. Own rule.
+    /// memory is refused.
     pub fn new(
         alloc: Global,
         plan: &'a Plan,
@@ -81,7 +81,7 @@ impl<'a, L: RunListener> Suite<StoredValue<'a>> for PlanSuite<'a, L> {
 
     type Action = PlanAction;
 
-    ghost nodes = { suite_of };
+    ghost suite_view = { suite_of };
 
     ghost fits = { λ plan store. Unit {0} };
 

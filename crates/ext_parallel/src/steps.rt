@@ -3,7 +3,7 @@
 //! `StoreSteps` makes the steps of a test or a callback on a lane of the store, in order, up to the first that isn't
 //! successful. The store keeps each value of a plan as a `StoredValue`. What each call of a step does stands in
 //! `specs/StoreCalls`, by the contracts of the store's calls, and what the steps do one after another in
-//! `specs/StoreSteps`; what a step says is that of `ext_plan`. Want of memory is the step's own fault. Own rule.
+//! `specs/StoreSteps`; what a step says is that of `ext_plan`. Want of memory is the step's own fault.
 
 mod calls;
 mod changes;

@@ -4,16 +4,15 @@ use Rattle.std.specs.Prelude.{cond, filter, fold, slice_set, IfSome, if◌then�
 use Rattle.std.specs.List.{AllByRecursion}
 use Rattle.std.proofs.lemmas.Bool.{cases_eq}
 use Rattle.std.proofs.lemmas.List.{length-map}
-use Rattle.ext_tree.specs.Trees.{Id}
-use Rattle.ext_tree.specs.Paths.{IsParentOf, children_of}
+use Rattle.ext_tree.specs.Trees.{Id, IsParentOf, children_of}
 use Rattle.ext_tree.proofs.TreeFacts.{child_not_root, one_parent}
 use Rattle.ext_plan.specs.Plans.{NodeText, PlanText}
-use Rattle.ext_plan.specs.Laws.{ids_of_nodes, NodesAreTree}
+use Rattle.ext_plan.specs.ReadPlans.{ids_of_nodes, NodesAreTree}
 use Rattle.ext_lifecycle.specs.declared.status.Status.TheVariants as statuses
 use Rattle.ext_lifecycle.specs.Endings.{all_successful}
 use Rattle.ext_lifecycle.specs.FaultTexts.{NodeOutcome}
 use Rattle.ext_lifecycle.specs.Modes.{in_run_order}
-use Rattle.ext_plain.specs.Closes.{seal_keys, closes}
+use Rattle.ext_plain.specs.ContextEnds.{seal_keys, faults_of_closes}
 use Rattle.ext_plain.specs.Laws.{HasRun}
 use Rattle.ext_plan.specs.PlanCalls.{test_of, concurrent_of}
 use Rattle.ext_plain.specs.NodeCalls.{befores_run}
@@ -100,14 +99,14 @@ module _ (plan : PlanText) (tree : NodesAreTree plan) where
       let tested = test_end plan at path run in
       let contained = container_end plan (node_run plan levels) at path run in
       let before = befores_run plan false at path run.state in
-      let x = outcome_of at true tested (closes key_limit at (seal_keys key_limit at tested.state)) in
-      let y = outcome_of at false contained (closes key_limit at (seal_keys key_limit at contained.state)) in
+      let x = outcome_of at true tested (faults_of_closes key_limit at (seal_keys key_limit at tested.state)) in
+      let y = outcome_of at false contained (faults_of_closes key_limit at (seal_keys key_limit at contained.state)) in
       let below : (child : ℕ) (run : RunState) → IsParentOf ids at child → AreAbove ids path run.results → AreAbove ids path (node_run plan levels (child ∷ path) run).results =
       λ child r is old. node-above levels child path r is.child_within (record { parent = λ p other. inl (one_parent ids tree p at child other is) }) old in
       let body = body-above (node_run plan levels) at above below (all_successful before.calls) (record { state = before.state; results = run.results }) within wide in
       either-above ids above (is_some (test_of plan at)) (test_node_run plan at path run) (container_run plan (node_run plan levels) at path run)
-      (set-above ids at above run.results x (outcome-ran at true tested (closes key_limit at (seal_keys key_limit at tested.state))) under wide)
-      (set-above ids at above (body_end plan (node_run plan levels) at path run).results y (outcome-ran at false contained (closes key_limit at (seal_keys key_limit at contained.state))) under body)
+      (set-above ids at above run.results x (outcome-ran at true tested (faults_of_closes key_limit at (seal_keys key_limit at tested.state))) under wide)
+      (set-above ids at above (body_end plan (node_run plan levels) at path run).results y (outcome-ran at false contained (faults_of_closes key_limit at (seal_keys key_limit at contained.state))) under body)
 
 -- ---- the whole run
 

@@ -4,13 +4,12 @@ use Rattle.ext_lifecycle.specs.declared.call.Call.{Call}
 use Rattle.ext_lifecycle.specs.declared.outcome.Outcome.{Outcome}
 use Rattle.ext_plan.specs.Plans.{KeyText, StepText}
 use Rattle.ext_plan.specs.PlanCalls.{steps_of_call}
-use Rattle.ext_tree.specs.Trees.{IsTree}
-use Rattle.ext_tree.specs.Paths.{IsPathOf}
+use Rattle.ext_tree.specs.Trees.{IsTree, IsPathOf}
 use Rattle.ext_tree.proofs.TreeLaws.{paths_are_unique}
 use Rattle.ext_plain.specs.declared.callers.NodeCaller.{NodeCaller}
-use Rattle.ext_plain.specs.Helpers.{DoesCall, plan_in, state_view, step_end}
+use Rattle.ext_plain.specs.InnerHelpers.{DoesCall, plan_in, state_view, step_end}
 use Rattle.ext_plain.specs.NodeCalls.{call_run}
-use Rattle.ext_plain.specs.Steps.{steps_run}
+use Rattle.ext_plain.specs.StepRuns.{steps_run}
 use Rattle.ext_plain.specs.ValueStates.{Memory, with_memory}
 
 pub does : (before after : NodeCaller) (call : Call) (outcome : Outcome) (keys : List KeyText) (path slice : List ℕ) (steps : List StepText) (lacked : Bool)

@@ -7,8 +7,8 @@ use Rattle.ext_model.specs.declared.look.Look.TheVariants as look
 use Rattle.ext_model.specs.declared.slot.Slot.{Slot}
 use Rattle.ext_model.specs.Plain.{Place}
 use Rattle.ext_plan.specs.Plans.{KeyText, StepKeyText, StepText, put, put_closeable, want, nothing, remove, compute, compute_closeable, compute_fail, fail, abort, PlanText}
-use Rattle.ext_plan.specs.Laws.{ids_of_nodes}
-use Rattle.ext_tree.specs.Paths.{children_of}
+use Rattle.ext_plan.specs.ReadPlans.{ids_of_nodes}
+use Rattle.ext_tree.specs.Trees.{children_of}
 use Rattle.ext_lifecycle.specs.declared.call.Call.{Call}
 use Rattle.ext_lifecycle.specs.Callbacks.{afters_of, befores_of, test_call}
 use Rattle.ext_lifecycle.specs.Endings.{all_successful, successful, aborted, failed}
@@ -18,13 +18,13 @@ use Rattle.ext_plan.specs.declared.reason.Reason.{Reason}
 use Rattle.ext_plan.specs.declared.reason.Reason.TheVariants as reasons
 use Rattle.ext_plan.specs.Verdicts.{refused, none_verdict, want_verdict}
 use Rattle.ext_tree.specs.Keys.{KeyValue}
-use Rattle.ext_plan.specs.KeyNumbers.{key_of_step}
+use Rattle.ext_plan.specs.StoreKeys.{key_of_step}
 use Rattle.ext_plan.specs.Steps.{step_key}
-use Rattle.ext_plan.specs.Calls.{is_made, label_of, start_of}
+use Rattle.ext_plan.specs.StepCalls.{is_made, label_of, start_of}
 use Rattle.ext_plan.specs.Values.{ValueText}
 use Rattle.ext_plain.specs.ValueStates.{key_limit, Memory, enough, no_key, no_value, no_number, no_place, no_words, ValueState, with_memory, next_found, found_later, after_act, why_refused, next_number, keep_value, Numbering, known, next, full, numbering_of, with_number}
-use Rattle.ext_plain.specs.Steps.{StepEnd, ended, no_memory, said_by, lacks_key, lacks_value, lacks_number, lacks_place, number_by, numbered_by, found_along, or_refused, kept_or_refused, put_kept, put_in, put_by, keeping_by, keyed_by, factory_gave, factory_failed, if_empty, if_absent, claim_and, compute_looked, compute_by, computefail_looked, computefail_by, step_by, next_step, unless_ended, steps_run, act_ends, want_numbered, none_numbered, remove_numbered, compute_numbered, computefail_numbered, seen_by}
-use Rattle.ext_plain.specs.Closes.{seal_keys}
+use Rattle.ext_plain.specs.StepRuns.{StepEnd, ended, no_memory, said_by, lacks_key, lacks_value, lacks_number, lacks_place, number_by, numbered_by, found_along, or_refused, kept_or_refused, put_kept, put_in, put_by, keeping_by, keyed_by, factory_gave, factory_failed, if_empty, if_absent, claim_and, compute_looked, compute_by, computefail_looked, computefail_by, step_by, next_step, unless_ended, steps_run, act_ends, want_numbered, none_numbered, remove_numbered, compute_numbered, computefail_numbered, seen_by}
+use Rattle.ext_plain.specs.ContextEnds.{seal_keys}
 use Rattle.ext_plan.specs.PlanCalls.{registered, steps_of_call, test_of, concurrent_of}
 use Rattle.ext_plain.specs.NodeCalls.{CallsEnd, befores_run, call_run, make, make_all, make_befores, make_if_successful, no_calls, test_run}
 use Rattle.ext_plain.specs.PlainRun.{RunState, body_run, container_run, node_run, test_node_run}

@@ -17,15 +17,15 @@ use Rattle.ext_model.proofs.Lookups.{nearest_decides}
 use Rattle.ext_model.proofs.Steps.{abandon_undoes_claim}
 use Rattle.ext_lifecycle.specs.Endings.{failed, successful}
 use Rattle.ext_plan.specs.Plans.{KeyText, PlanText, StepKeyText, compute_fail}
-use Rattle.ext_plan.specs.KeyNumbers.{key_of_step}
+use Rattle.ext_plan.specs.StoreKeys.{key_of_step}
 use Rattle.ext_tree.specs.Keys.{KeyValue}
 use Rattle.ext_plan.specs.declared.reason.Reason.{Reason}
-use Rattle.ext_plan.specs.Calls.{label_of, start_of}
+use Rattle.ext_plan.specs.StepCalls.{label_of, start_of}
 use Rattle.ext_plan.specs.StepTexts.{met_fault_text}
 use Rattle.ext_plan.specs.Values.{ValueText}
 use Rattle.ext_plan.specs.Verdicts.{seen_fault, fail_verdict, none_verdict, want_verdict}
 use Rattle.ext_plain.specs.ValueStates.{enough, ValueState, run_numbers, reply_to, after_act, why_refused, next_number, keep_value, value_of, Numbering, known, next, full, numbering_of, with_number}
-use Rattle.ext_plain.specs.Steps.{StepEnd, ended, or_refused, shown, shown_fault, seen_by, factory_failed, claim_and, compute_looked, compute_numbered, computefail_looked, computefail_numbered, found_along, none_numbered, number_by, numbered_by, step_run, want_numbered}
+use Rattle.ext_plain.specs.StepRuns.{StepEnd, ended, or_refused, shown, shown_fault, seen_by, factory_failed, claim_and, compute_looked, compute_numbered, computefail_looked, computefail_numbered, found_along, none_numbered, number_by, numbered_by, step_run, want_numbered}
 use Rattle.ext_plain.specs.PlainRun.{RunState, node_run}
 use Rattle.ext_plain.specs.Laws.{HasNoFaults, HasValues, MeetsFault, named_by}
 use Rattle.ext_plain.proofs.Kept.{IsKept, IsKeptNumbered, node-kept}

@@ -4,18 +4,18 @@ use Rattle.std.specs.Prelude.{◌&&◌, if◌then◌else◌}
 use Rattle.ext_lifecycle.specs.declared.outcome.Outcome.{Outcome}
 use Rattle.ext_tree.specs.Keys.{KeyValue}
 use Rattle.ext_plan.specs.Plans.{KeyText, StepKeyText}
-use Rattle.ext_plan.specs.KeyNumbers.{key_of_step}
+use Rattle.ext_plan.specs.StoreKeys.{key_of_step}
 use Rattle.ext_plan.specs.declared.reason.Reason.{Reason}
 use Rattle.ext_plan.specs.declared.reason.Reason.TheVariants as reasons
-use Rattle.ext_plan.specs.Calls.{CallText, is_made, label_of, start_of}
+use Rattle.ext_plan.specs.StepCalls.{CallText, is_made, label_of, start_of}
 use Rattle.ext_plan.specs.Values.{ValueText}
 use Rattle.ext_plan.specs.Verdicts.{refused}
 use Rattle.ext_plain.specs.declared.lack.Lack.{Lack}
 use Rattle.ext_plain.specs.declared.lack.Lack.TheVariants as lacks
 use Rattle.ext_plain.specs.declared.lack.StepLack.{StepLack}
 use Rattle.ext_plain.specs.ValueStates.{Memory, enough, no_words, full, numbering_of, with_number, ValueState, keep_value, next_number, why_refused}
-use Rattle.ext_plain.specs.Steps.{StepEnd, ended, no_memory, said_by, lacks_key, lacks_number, lacks_value, made_by, number_by, numbered_by, keeping_by, keyed_by, kept_or_refused, put_by, put_in}
-use Rattle.ext_plain.specs.Helpers.{HasBeenNumbered, HasNoNumber, IsKeptAs, IsNotKept, Numbers, Says, answer_end, end_of_step, lifted, memory_of, memory_of_step}
+use Rattle.ext_plain.specs.StepRuns.{StepEnd, ended, no_memory, said_by, lacks_key, lacks_number, lacks_value, made_by, number_by, numbered_by, keeping_by, keyed_by, kept_or_refused, put_by, put_in}
+use Rattle.ext_plain.specs.InnerHelpers.{HasBeenNumbered, HasNoNumber, IsKeptAs, IsNotKept, Numbers, Says, answer_end, end_of_step, lifted, memory_of, memory_of_step}
 use Rattle.ext_plain.proofs.Lacks.{says-by}
 
 -- what is done once the key has its number lacks neither memory for the key nor for the number

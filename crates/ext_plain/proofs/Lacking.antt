@@ -11,12 +11,12 @@ use Rattle.ext_lifecycle.specs.Endings.{successful, aborted, failed}
 use Rattle.ext_lifecycle.specs.FaultTexts.{VerdictText}
 use Rattle.ext_plan.specs.declared.reason.Reason.{Reason}
 use Rattle.ext_plan.specs.Values.{ValueText}
-use Rattle.ext_plan.specs.Calls.{is_made, label_of, start_of}
+use Rattle.ext_plan.specs.StepCalls.{is_made, label_of, start_of}
 use Rattle.ext_tree.specs.Keys.{KeyValue}
-use Rattle.ext_plan.specs.KeyNumbers.{key_of_step}
+use Rattle.ext_plan.specs.StoreKeys.{key_of_step}
 use Rattle.ext_plain.specs.ValueStates.{Memory, enough, no_key, no_value, no_number, no_place, no_words, ValueState, after_act, why_refused, next_number, keep_value, Numbering, known, next, full, numbering_of, with_number}
 use Rattle.ext_plan.specs.Verdicts.{none_verdict, want_verdict}
-use Rattle.ext_plain.specs.Steps.{StepEnd, ended, no_memory, without_words, said_by, lacks_key, lacks_value, lacks_number, made_by, number_by, numbered_by, or_refused, kept_or_refused, put_kept, put_in, put_by, factory_gave, factory_failed, if_empty, if_absent, claim_and, compute_looked, compute_by, computefail_looked, computefail_by, found_along, keeping_by, keyed_by, step_by, step_run, act_ends, want_numbered, none_numbered, remove_numbered, compute_numbered, computefail_numbered, seen_by}
+use Rattle.ext_plain.specs.StepRuns.{StepEnd, ended, no_memory, without_words, said_by, lacks_key, lacks_value, lacks_number, made_by, number_by, numbered_by, or_refused, kept_or_refused, put_kept, put_in, put_by, factory_gave, factory_failed, if_empty, if_absent, claim_and, compute_looked, compute_by, computefail_looked, computefail_by, found_along, keeping_by, keyed_by, step_by, step_run, act_ends, want_numbered, none_numbered, remove_numbered, compute_numbered, computefail_numbered, seen_by}
 
 abbrev Either : StepEnd → StepEnd → Type 0
 Either end whole = (end ≡ whole) ⊎ (end.verdict ≡ no_memory)

@@ -5,17 +5,17 @@ use Rattle.std.proofs.lemmas.Bool.{ltb-true}
 use Rattle.ext_tree.specs.Keys.{KeyValue, HasNumber}
 use Rattle.ext_tree.proofs.Numbers.{different_with}
 use Rattle.ext_plan.specs.Plans.{KeyText, StepKeyText, StepText, put, put_closeable, want, nothing, remove, compute, compute_closeable, compute_fail, fail, abort}
-use Rattle.ext_plan.specs.KeyNumbers.{is_there, key_of_step}
+use Rattle.ext_plan.specs.StoreKeys.{is_there, key_of_step}
 use Rattle.ext_plan.specs.Steps.{step_key}
 use Rattle.ext_plan.proofs.KeyLists.{not_contained}
 use Rattle.ext_plan.specs.declared.reason.Reason.{Reason}
 use Rattle.ext_plan.specs.declared.reason.Reason.TheVariants as reasons
-use Rattle.ext_plan.specs.Calls.{is_made, label_of, start_of}
+use Rattle.ext_plan.specs.StepCalls.{is_made, label_of, start_of}
 use Rattle.ext_plan.specs.Values.{ValueText}
 use Rattle.ext_plan.specs.Verdicts.{refused, none_verdict, want_verdict}
 use Rattle.ext_plain.specs.ValueStates.{key_limit, Memory, enough, no_key, no_value, no_number, no_place, no_words, ValueState, why_refused, next_number, keep_value, Numbering, known, next, full, numbering_of, with_number}
 use Rattle.ext_model.specs.declared.event.Act.TheVariants.{Remove}
-use Rattle.ext_plain.specs.Steps.{StepEnd, ended, no_memory, said_by, lacks_key, lacks_number, lacks_value, number_by, numbered_by, keeping_by, keyed_by, kept_or_refused, found_along, put_by, put_in, step_by, act_ends, want_numbered, none_numbered, remove_numbered, compute_numbered, computefail_numbered, seen_by}
+use Rattle.ext_plain.specs.StepRuns.{StepEnd, ended, no_memory, said_by, lacks_key, lacks_number, lacks_value, number_by, numbered_by, keeping_by, keyed_by, kept_or_refused, found_along, put_by, put_in, step_by, act_ends, want_numbered, none_numbered, remove_numbered, compute_numbered, computefail_numbered, seen_by}
 use Rattle.ext_plain.specs.Laws.{IsUnchangedButKept, KeepsNumber, NumbersKeys, NumbersOnce, kept_first}
 use Rattle.ext_plain.proofs.Kept.{IsKept, IsKeptNumbered, compute_by-kept, computefail_by-kept, node-kept, put_in-kept, said-kept, step-kept, steps-kept}
 use Rattle.ext_plain.proofs.Numberings.{known_is, next_is, number_stays, there_then}

@@ -2,8 +2,7 @@
 use Rattle.std.proofs.Common.{◌≡◌, ◌≢◌, ℕ, zero, suc, ◌-◌, ◌<◌, Bool, get_or, map, List, [], ◌∷◌, length, Option, is_some, Contains, refl, ap, sym, subst, ◌∙◌, arith}
 use Rattle.std.specs.Prelude.{option_map, if◌then◌else◌}
 use Rattle.std.proofs.lemmas.List.Elements.{Contains-get_or}
-use Rattle.ext_tree.specs.Trees.{Id}
-use Rattle.ext_tree.specs.Paths.{IsPathOf, IsParentOf, IsWalk, children_of}
+use Rattle.ext_tree.specs.Trees.{Id, IsPathOf, IsParentOf, IsWalk, children_of}
 use Rattle.ext_tree.proofs.TreeLaws.{parents_list_children}
 use Rattle.ext_plan.specs.Plans.{PlanText}
 use Rattle.ext_model.specs.declared.look.Fault.{Fault}
@@ -13,9 +12,9 @@ use Rattle.ext_lifecycle.specs.FaultTexts.{NodeOutcome, fault_text, result_view}
 use Rattle.ext_lifecycle.specs.Lifecycle.{computed_in, endings_of, found_in}
 use Rattle.ext_lifecycle.specs.Results.{result_of, told, with_fault_told}
 use Rattle.ext_lifecycle.proofs.OtherFaults.{result_of-to}
-use Rattle.ext_plan.specs.Calls.{start_of}
-use Rattle.ext_plain.specs.Closes.{seal_keys, closes}
-use Rattle.ext_plain.specs.Helpers.{calls_end}
+use Rattle.ext_plan.specs.StepCalls.{start_of}
+use Rattle.ext_plain.specs.ContextEnds.{seal_keys, faults_of_closes}
+use Rattle.ext_plain.specs.InnerHelpers.{calls_end}
 use Rattle.ext_plan.specs.PlanCalls.{test_of}
 use Rattle.ext_plain.specs.NodeCalls.{CallsEnd}
 use Rattle.ext_plain.specs.PlainRun.{RunState, container_run, outcome_of, with_result, node_end, node_run, test_node_run}
@@ -68,8 +67,8 @@ outcome_is at is_test s closed outcomes faults r is closes =
     ∙ ap (outcome_of at is_test (calls_end s outcomes)) closes
 
 pub end_is : (at : ℕ) (is_test : Bool) (end : CallsEnd) (results : List NodeOutcome) (sealed : ValueState) (closed : List (Option (List ℕ))) (o : NodeOutcome)
-    → sealed ≡ seal_keys key_limit at end.state → closed ≡ closes key_limit at sealed → o ≡ outcome_of at is_test end closed
+    → sealed ≡ seal_keys key_limit at end.state → closed ≡ faults_of_closes key_limit at sealed → o ≡ outcome_of at is_test end closed
     → (let run : RunState = record { state = sealed; results = with_result o results } in run ≡ node_end at is_test end results)
 end_is at is_test end results sealed closed o is told shown =
     ap (λ o. record { state = sealed; results = with_result o results }) (shown ∙ ap (outcome_of at is_test end) told)
-    ∙ ap (λ s. record { state = s; results = with_result (outcome_of at is_test end (closes key_limit at s)) results }) is
+    ∙ ap (λ s. record { state = s; results = with_result (outcome_of at is_test end (faults_of_closes key_limit at s)) results }) is

@@ -4,7 +4,7 @@ use Rattle.std.specs.Prelude.{nat_lt, if◌then◌else◌}
 use Rattle.std.specs.Option.{unwrap_or}
 use Rattle.ext_tree.specs.Keys.{KeyValue, AreDifferent, HasNumber}
 use Rattle.ext_tree.proofs.Numbers.{contains_at, one_place}
-use Rattle.ext_plan.specs.KeyNumbers.{is_there, place_of_key}
+use Rattle.ext_plan.specs.StoreKeys.{is_there, place_of_key}
 use Rattle.ext_plan.proofs.KeyLists.{has_place, not_contained, not_there, place_last, there_with, with_new}
 use Rattle.ext_plain.specs.ValueStates.{key_limit, Numbering, known, next, full, numbering_of}
 

@@ -4,12 +4,11 @@ use Rattle.std.proofs.Common.{◌≡◌, ◌≢◌, ◌<◌, ◌≤◌, ◌+◌,
 use Rattle.std.specs.Prelude.{cond, filter, fold, not, slice_get, slice_set, IfSome, if◌then◌else◌}
 use Rattle.std.specs.List.{All, HoldsAt, range_with_len}
 use Rattle.std.proofs.lemmas.List.{length-map}
-use Rattle.ext_tree.specs.Trees.{Id, IsTree}
-use Rattle.ext_tree.specs.Paths.{IsParentOf, children_of}
+use Rattle.ext_tree.specs.Trees.{Id, IsTree, IsParentOf, children_of}
 use Rattle.ext_tree.proofs.TreeFacts.{parent_first}
 use Rattle.ext_tree.proofs.TreeLaws.{parents_list_children}
 use Rattle.ext_plan.specs.Plans.{StepText, NodeText, PlanText}
-use Rattle.ext_plan.specs.Laws.{ids_of_nodes, NodesAreTree, TestsHaveNoChildren}
+use Rattle.ext_plan.specs.ReadPlans.{ids_of_nodes, NodesAreTree, TestsHaveNoChildren}
 use Rattle.ext_lifecycle.specs.declared.call.Call.{Call}
 use Rattle.ext_lifecycle.specs.declared.call.Kind.TheVariants as kinds
 use Rattle.ext_lifecycle.specs.declared.status.Status.TheVariants as statuses
@@ -17,8 +16,8 @@ use Rattle.ext_lifecycle.specs.Endings.{all_successful, first_abort, first_fault
 use Rattle.ext_lifecycle.specs.FaultTexts.{NodeOutcome}
 use Rattle.ext_lifecycle.specs.Modes.{in_run_order}
 use Rattle.ext_lifecycle.specs.Results.{close_ending}
-use Rattle.ext_plan.specs.Calls.{start_of}
-use Rattle.ext_plain.specs.Closes.{seal_keys, closes}
+use Rattle.ext_plan.specs.StepCalls.{start_of}
+use Rattle.ext_plain.specs.ContextEnds.{seal_keys, faults_of_closes}
 use Rattle.ext_plain.specs.Laws.{HasNoBeforeAlls, HasRun, goes_on}
 use Rattle.ext_plan.specs.PlanCalls.{callbacks_in, test_in, test_of, concurrent_of}
 use Rattle.ext_plain.specs.NodeCalls.{CallsEnd, befores_run, call_run, make_befores, no_calls}
@@ -174,7 +173,7 @@ module _ (plan : PlanText) where
       let before = befores_run plan false at path run.state in
       let opened : RunState = record { state = before.state; results = run.results } in
       let end = container_end plan (node_run plan levels) at path run in
-      let closed = closes key_limit at (seal_keys key_limit at end.state) in
+      let closed = faults_of_closes key_limit at (seal_keys key_limit at end.state) in
       let body : HasRun k (body_end plan (node_run plan levels) at path run).results = subst (λ b. HasRun k (body_run plan (node_run plan levels) b path opened).results) (sym go) reached in
       let ran : HasRun k (container_run plan (node_run plan levels) at path run).results = set-kept (body_end plan (node_run plan levels) at path run).results at k (outcome_of at false end closed) (outcome-ran at false end closed) body in
       subst (λ (r : RunState). HasRun k r.results) (sym (node_run-suc plan levels path run ∙ ap (λ b. if b then test_node_run plan at path run else container_run plan (node_run plan levels) at path run) container)) ran
@@ -197,8 +196,8 @@ node-ran plan levels path run =
     let contained = container_end plan (node_run plan levels) at path run in
     subst (λ (r : RunState). HasRun at r.results) (sym (node_run-suc plan levels path run))
     (either-ran at (is_some (test_of plan at)) (test_node_run plan at path run) (container_run plan (node_run plan levels) at path run)
-    (set-here run.results at (outcome_of at true tested (closes key_limit at (seal_keys key_limit at tested.state))) (outcome-ran at true tested (closes key_limit at (seal_keys key_limit at tested.state))))
-    (set-here (body_end plan (node_run plan levels) at path run).results at (outcome_of at false contained (closes key_limit at (seal_keys key_limit at contained.state))) (outcome-ran at false contained (closes key_limit at (seal_keys key_limit at contained.state)))))
+    (set-here run.results at (outcome_of at true tested (faults_of_closes key_limit at (seal_keys key_limit at tested.state))) (outcome-ran at true tested (faults_of_closes key_limit at (seal_keys key_limit at tested.state))))
+    (set-here (body_end plan (node_run plan levels) at path run).results at (outcome_of at false contained (faults_of_closes key_limit at (seal_keys key_limit at contained.state))) (outcome-ran at false contained (faults_of_closes key_limit at (seal_keys key_limit at contained.state)))))
 
 pub runs_node : (plan : PlanText) (levels : ℕ) (path : List ℕ) (run : RunState) → HasRun (start_of path) (node_run plan (levels + 1) path run).results
 runs_node plan levels path run = subst (λ n. HasRun (start_of path) (node_run plan n path run).results) (sym (add-one levels)) (node-ran plan levels path run)
@@ -223,7 +222,7 @@ skips_body plan levels other path run container stop differ =
     ap (λ n. node_run plan n path run) (add-one levels) ∙ node_run-suc plan levels path run ∙ ap (λ b. if b then test_node_run plan at path run else container_run plan (node_run plan levels) at path run) container in
     let body : (body_end plan (node_run plan levels) at path run).results ≡ run.results = ap (λ b. (body_run plan (node_run plan levels) b path opened).results) stop in
     ap (λ (r : RunState). slice_get r.results other) whole
-    ∙ set-elsewhere (body_end plan (node_run plan levels) at path run).results at other (outcome_of at false end (closes key_limit at (seal_keys key_limit at end.state))) differ
+    ∙ set-elsewhere (body_end plan (node_run plan levels) at path run).results at other (outcome_of at false end (faults_of_closes key_limit at (seal_keys key_limit at end.state))) differ
     ∙ ap (λ rs. slice_get rs other) body
 
 -- ---- without callbacks before all children

@@ -9,7 +9,7 @@ use Rattle.ext_tree.specs.Traits.{key_eq}
 use Rattle.ext_tree.proofs.Equalities.{keys_Decides}
 use Rattle.ext_tree.proofs.Numbers.{different_with}
 use Rattle.ext_plan.specs.Plans.{KeyText, StepKeyText, StepText, PlanText}
-use Rattle.ext_plan.specs.KeyNumbers.{is_there, key_of_step}
+use Rattle.ext_plan.specs.StoreKeys.{is_there, key_of_step}
 use Rattle.ext_plan.specs.Steps.{step_key}
 use Rattle.ext_plan.specs.PlanCalls.{steps_of_call}
 use Rattle.ext_plan.proofs.KeyLists.{not_contained}

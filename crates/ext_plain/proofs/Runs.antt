@@ -5,8 +5,7 @@ use mathlib.Core.Bool.{beq}
 use Rattle.std.proofs.lemmas.Grind.{fold-append}
 use Rattle.std.proofs.lemmas.List.{drop_more}
 use Rattle.ext_plan.specs.Plans.{PlanText}
-use Rattle.ext_tree.specs.Trees.{IsTree}
-use Rattle.ext_tree.specs.Paths.{IsParentOf, IsPathOf, children_of}
+use Rattle.ext_tree.specs.Trees.{IsTree, IsParentOf, IsPathOf, children_of}
 use Rattle.ext_tree.proofs.TreeLaws.{paths_are_unique}
 use Rattle.ext_lifecycle.specs.declared.call.Call.{Call}
 use Rattle.ext_lifecycle.specs.declared.outcome.Outcome.{Outcome}
@@ -17,13 +16,13 @@ use Rattle.ext_lifecycle.specs.FaultTexts.{NodeOutcome}
 use Rattle.ext_lifecycle.specs.Lifecycle.{MakesAll, MakesBefores, MakesCalls, endings_of, tally_of}
 use Rattle.ext_plain.specs.declared.callers.NodeCaller.{NodeCaller}
 use Rattle.ext_plain.specs.declared.setting.Setting.{Setting}
-use Rattle.ext_plain.specs.Helpers.{DoesCall, EndsNode, RunSoFar, RunsAs, TellsLacks, calls_end, chosen, plan_in, run_with, state_view}
+use Rattle.ext_plain.specs.InnerHelpers.{DoesCall, EndsNode, RunSoFar, RunsAs, TellsLacks, calls_end, chosen, plan_in, run_with, state_view}
 use Rattle.ext_plan.specs.PlanCalls.{registered, test_of, concurrent_of}
 use Rattle.ext_plain.specs.NodeCalls.{CallsEnd, afters_run, befores_run, call_run, make_all, make_befores, make_if_successful}
 use Rattle.ext_plain.specs.PlainRun.{RunState, body_run, container_run, node_end, node_run, test_node_run}
 use Rattle.ext_plain.specs.ValueStates.{Memory, ValueState, with_memory}
 use Rattle.ext_lifecycle.specs.Modes.{in_run_order}
-use Rattle.ext_plan.specs.Laws.{ids_of_nodes}
+use Rattle.ext_plan.specs.ReadPlans.{ids_of_nodes}
 use Rattle.ext_plan.proofs.NodeIds.{ids-map}
 use Rattle.ext_plain.proofs.Nodes.{child_path, node_run-more, node_run-zero, start_is}
 use Rattle.ext_plain.proofs.Telling.{tells-after, tells-before, tells-both, tells-none}

@@ -9,12 +9,12 @@ use Rattle.ext_model.specs.Closing.{kept_by, put_in_kept, remaining}
 use Rattle.ext_model.proofs.Changes.{same_place_is}
 use Rattle.ext_model.proofs.Steps.{others_stay}
 use Rattle.ext_plain.specs.ValueStates.{ValueState, run_numbers, after_act, value_of}
-use Rattle.ext_plain.specs.Closes.{seal_keys, numbers_left, if_closeable, closeables}
+use Rattle.ext_plain.specs.ContextEnds.{seal_keys, numbers_left, if_closeable, closeables}
 use Rattle.ext_model.specs.declared.look.Fault.{Fault}
-use Rattle.ext_lifecycle.specs.declared.closes.Closes.{Closes}
-use Rattle.ext_lifecycle.specs.Results.{closes_of}
+use Rattle.ext_model.specs.declared.closed.Closed.{Closed}
+use Rattle.ext_model.specs.Closed.{closed_of}
 use Rattle.ext_lifecycle.specs.FaultTexts.{fault_text}
-use Rattle.ext_plain.specs.Helpers.{only_closeable, HasClosed}
+use Rattle.ext_plain.specs.InnerHelpers.{only_closeable, HasClosed}
 use Rattle.ext_plan.specs.Values.{ValueText, close_fault}
 
 pub seal_keys-zero : (at : ℕ) (s : ValueState) → seal_keys 0 at s ≡ s
@@ -101,13 +101,13 @@ closes-same values numbers i within is =
     ∙ ap (map close_fault) (closeables-append values (take i numbers) (number ∷ []) ∙ ap (λ vs. closeables values (take i numbers) ++ vs) one ∙ append-nil (closeables values (take i numbers)))
 
 -- one close more
-pub HasClosed-more : (old new : Closes) (told : List (Option (List ℕ))) (fault : Option Fault) (text : Option (List ℕ)) → HasClosed old told
-    → ((faults : List (Option Fault)) → old ≡ closes_of faults → new ≡ closes_of (faults ++ fault ∷ [])) → option_map fault_text fault ≡ text → HasClosed new (told ++ text ∷ [])
+pub HasClosed-more : (old new : Closed) (told : List (Option (List ℕ))) (fault : Option Fault) (text : Option (List ℕ)) → HasClosed old told
+    → ((faults : List (Option Fault)) → old ≡ closed_of faults → new ≡ closed_of (faults ++ fault ∷ [])) → option_map fault_text fault ≡ text → HasClosed new (told ++ text ∷ [])
 HasClosed-more old new told fault text closed counted is = record {
   faults = closed.faults ++ fault ∷ [];
   counted = counted closed.faults closed.counted;
   texts = map-append (option_map fault_text) closed.faults (fault ∷ []) ∙ ap (λ l. l ++ option_map fault_text fault ∷ []) closed.texts ∙ ap (λ t. told ++ t ∷ []) is;
 }
 
-pub HasClosed-is : (a b : Closes) (xs ys : List (Option (List ℕ))) → a ≡ b → xs ≡ ys → HasClosed b ys → HasClosed a xs
+pub HasClosed-is : (a b : Closed) (xs ys : List (Option (List ℕ))) → a ≡ b → xs ≡ ys → HasClosed b ys → HasClosed a xs
 HasClosed-is a b xs ys is same closed = subst (λ e. HasClosed e xs) (sym is) (subst (HasClosed b) (sym same) closed)

@@ -14,14 +14,14 @@ use Rattle.ext_model.proofs.Changes.{here, same_place_is}
 use Rattle.ext_model.proofs.Steps.{others_stay, seals_stay, abandon_undoes_claim}
 use Rattle.ext_plan.specs.Plans.{PlanText}
 use Rattle.ext_plain.specs.ValueStates.{key_limit, ValueState, run_numbers, refusal, reply_to, after_act, why_refused, next_number, keep_value}
-use Rattle.ext_plain.specs.Closes.{seal_keys}
+use Rattle.ext_plain.specs.ContextEnds.{seal_keys}
 use Rattle.ext_plain.specs.PlainRun.{RunState, container_run, node_end, node_run, test_node_run}
 use Rattle.ext_plain.specs.Laws.{HasNoClaims}
 use Rattle.ext_plain.proofs.Ends.{body_end, container_end, test_end}
 use Rattle.ext_plain.proofs.Kept.{IsKept, IsKeptNumbered, container-open, node-kept, seals-kept, test-open}
 use Rattle.ext_lifecycle.specs.FaultTexts.{NodeOutcome}
 use Rattle.ext_plan.specs.Values.{ValueText}
-use Rattle.ext_plan.specs.Calls.{start_of}
+use Rattle.ext_plan.specs.StepCalls.{start_of}
 use Rattle.ext_plan.specs.PlanCalls.{test_of}
 use Rattle.ext_plain.specs.NodeCalls.{CallsEnd}
 

@@ -3,15 +3,15 @@ use Rattle.std.proofs.Common.{◌≡◌, ℕ, zero, suc, ◌+◌, ◌<◌, ◌�
 use Rattle.std.specs.Prelude.{fold, slice_get, slice_set, IfSome, if◌then◌else◌}
 use Rattle.std.specs.List.{All, AllByRecursion, range_with_len}
 use Rattle.std.proofs.lemmas.List.{map-set}
-use Rattle.ext_tree.specs.Paths.{children_of}
+use Rattle.ext_tree.specs.Trees.{children_of}
 use Rattle.ext_plan.specs.Plans.{NodeText, PlanText}
-use Rattle.ext_plan.specs.Laws.{ids_of_nodes}
+use Rattle.ext_plan.specs.ReadPlans.{ids_of_nodes}
 use Rattle.ext_lifecycle.specs.declared.node_result.NodeResult.{NodeResult}
 use Rattle.ext_lifecycle.specs.Endings.{all_successful}
 use Rattle.ext_lifecycle.specs.FaultTexts.{NodeOutcome, result_view}
 use Rattle.ext_lifecycle.specs.Modes.{in_run_order}
-use Rattle.ext_plan.specs.Calls.{start_of}
-use Rattle.ext_plain.specs.Closes.{seal_keys, closes}
+use Rattle.ext_plan.specs.StepCalls.{start_of}
+use Rattle.ext_plain.specs.ContextEnds.{seal_keys, faults_of_closes}
 use Rattle.ext_plan.specs.PlanCalls.{test_in, test_of, concurrent_of}
 use Rattle.ext_plain.specs.NodeCalls.{CallsEnd, befores_run}
 use Rattle.ext_plain.specs.PlainRun.{RunState, body_run, container_run, node_run, outcome_of, plain_run_by, run_opening, skipped_from, test_node_run, ArePlain}
@@ -39,12 +39,12 @@ node-by-kept : (plan : PlanText) (P : List NodeOutcome → Type 0) → IsKept pl
     → P (if is_test then test_node_run plan at path run else container_run plan path_run at path run).results
 node-by-kept plan P kept path_run each at true is path run h =
     let end = test_end plan at path run in
-    let closed = closes key_limit at (seal_keys key_limit at end.state) in
+    let closed = faults_of_closes key_limit at (seal_keys key_limit at end.state) in
     subst (λ b. P (slice_set run.results at (outcome_of at b end closed))) is (kept at end closed run.results h)
 node-by-kept plan P kept path_run each at false is path run h =
     let end = container_end plan path_run at path run in
     let body = body_end plan path_run at path run in
-    let closed = closes key_limit at (seal_keys key_limit at end.state) in
+    let closed = faults_of_closes key_limit at (seal_keys key_limit at end.state) in
     subst (λ b. P (slice_set body.results at (outcome_of at b end closed))) is
     (kept at end closed body.results (body-kept plan P path_run each (all_successful (befores_run plan false at path run.state).calls) path (record { state = (befores_run plan false at path run.state).state; results = run.results }) h))
 

@@ -3,7 +3,7 @@ use Rattle.std.proofs.Common.{◌≡◌, ℕ, ◌+◌, List, [], ◌∷◌, true
 use Rattle.ext_plan.specs.Plans.{KeyText, StepText}
 use Rattle.ext_lifecycle.specs.Endings.{successful, aborted, failed, is_successful}
 use Rattle.ext_plain.specs.ValueStates.{ValueState}
-use Rattle.ext_plain.specs.Steps.{StepEnd, ended, and_then, unless_ended, next_step, steps_run}
+use Rattle.ext_plain.specs.StepRuns.{StepEnd, ended, and_then, unless_ended, next_step, steps_run}
 use Rattle.ext_lifecycle.specs.FaultTexts.{VerdictText}
 
 -- what steps come to after others that computed and found so many

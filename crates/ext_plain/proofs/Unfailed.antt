@@ -4,23 +4,23 @@ use Rattle.std.specs.Prelude.{fold, slice_get, slice_set, IsSomeAnd, if◌then�
 use Rattle.std.specs.List.{AllByRecursion}
 use Rattle.std.proofs.lemmas.Bool.{cases_eq}
 use Rattle.std.proofs.lemmas.List.{length-map}
-use Rattle.ext_tree.specs.Trees.{Id, IsTree}
-use Rattle.ext_tree.specs.Paths.{IsParentOf, IsPathOf, IsWalk, children_of}
+use Rattle.ext_tree.specs.Trees.{Id, IsTree, IsParentOf, IsPathOf, IsWalk, children_of}
 use Rattle.ext_tree.proofs.TreeLaws.{paths_are_unique}
 use Rattle.ext_lifecycle.specs.declared.call.Call.{Call}
 use Rattle.ext_lifecycle.specs.declared.status.Status.TheVariants as statuses
 use Rattle.ext_lifecycle.specs.Callbacks.{afters_of, befores_of, test_call}
-use Rattle.ext_lifecycle.specs.Endings.{all_successful, fault_in, first_abort, first_fault, or_else, successful, aborted, failed, total_by, unsuccessful}
+use Rattle.ext_model.specs.Closed.{or_else}
+use Rattle.ext_lifecycle.specs.Endings.{all_successful, fault_in, first_abort, first_fault, successful, aborted, failed, total_by, unsuccessful}
 use Rattle.ext_lifecycle.specs.FaultTexts.{NodeOutcome, VerdictText}
 use Rattle.ext_lifecycle.specs.Modes.{in_run_order}
 use Rattle.ext_lifecycle.specs.Results.{close_ending}
 use Rattle.ext_plan.specs.Plans.{KeyText, PlanText, StepText}
 use Rattle.ext_plan.specs.PlanCalls.{concurrent_of, registered, steps_of_call, test_of}
-use Rattle.ext_plan.specs.Laws.{ids_of_nodes, NodesAreTree}
+use Rattle.ext_plan.specs.ReadPlans.{ids_of_nodes, NodesAreTree}
 use Rattle.ext_plain.specs.ValueStates.{key_limit, Memory, ValueState, enough, found_later, next_found, with_memory}
-use Rattle.ext_plain.specs.Steps.{StepEnd, and_then, next_step, no_memory, step_by, step_run, steps_run, unless_ended}
+use Rattle.ext_plain.specs.StepRuns.{StepEnd, and_then, next_step, no_memory, step_by, step_run, steps_run, unless_ended}
 use Rattle.ext_plain.specs.NodeCalls.{CallsEnd, and_call, befores_run, call_run, make, make_all, make_befores, make_if_successful, no_calls, test_run}
-use Rattle.ext_plain.specs.Closes.{seal_keys, closes}
+use Rattle.ext_plain.specs.ContextEnds.{seal_keys, faults_of_closes}
 use Rattle.ext_plain.specs.PlainRun.{HasNoFailed, RunState, body_run, container_run, node_end, node_run, outcome_of, plain_run, plain_run_by, run_opening, test_node_run}
 use Rattle.ext_plain.proofs.Below.{children-all}
 use Rattle.ext_plain.proofs.Ends.{body_end, container_end, test_end}
@@ -152,7 +152,7 @@ module _ (plan : PlanText) (path : List ℕ) where
 
 end-forgets : (at : ℕ) (is_test : Bool) (end : CallsEnd) (results : List NodeOutcome) → run_forgotten (node_end at is_test end results) ≡ node_end at is_test (forgotten end) results
 end-forgets at is_test end results =
-    ap (λ s. record { state = s; results = slice_set results at (outcome_of at is_test end (closes key_limit at s)) }) (seal_keys-with [] key_limit at end.state)
+    ap (λ s. record { state = s; results = slice_set results at (outcome_of at is_test end (faults_of_closes key_limit at s)) }) (seal_keys-with [] key_limit at end.state)
 
 abbrev Unfailed : NodeOutcome → Type 0
 Unfailed r = r.status ≢ statuses.Failed
@@ -234,8 +234,8 @@ module _ (plan : PlanText) (tree : NodesAreTree plan) where
       let before = befores_run plan false at path run.state in
       let opened : RunState = record { state = before.state; results = run.results } in
       let body = body_end plan (node_run plan levels) at path run in
-      let x = outcome_of at true tested (closes key_limit at (seal_keys key_limit at tested.state)) in
-      let y = outcome_of at false contained (closes key_limit at (seal_keys key_limit at contained.state)) in
+      let x = outcome_of at true tested (faults_of_closes key_limit at (seal_keys key_limit at tested.state)) in
+      let y = outcome_of at false contained (faults_of_closes key_limit at (seal_keys key_limit at contained.state)) in
       let one : (r : RunState) (child : ℕ) → IsParentOf ids at child → Elsewhere ids path (node_run plan levels (child ∷ path) r).results r.results k =
       λ r child is. under-parent ids child path (node_run plan levels (child ∷ path) r).results r.results k (outside levels child path k r (is, walk) is.child_within) in
       either-outside path run.results k (is_some (test_of plan at)) (test_node_run plan at path run) (container_run plan (node_run plan levels) at path run)
@@ -293,7 +293,7 @@ module _ (plan : PlanText) (tree : NodesAreTree plan) where
   test-node-forgets at above run walk after =
       let path = at ∷ above in
       let end = test_end plan at path run in
-      let closed = closes key_limit at (seal_keys key_limit at end.state) in
+      let closed = faults_of_closes key_limit at (seal_keys key_limit at end.state) in
       let none = outcome-unfailed at true end closed (set-at run.results at (outcome_of at true end closed) (after.each at [] (refl, walk))) in
       end-forgets at true end run.results ∙ ap (λ e. node_end at true e run.results) (test-forgets plan path at run none)
 
@@ -308,7 +308,7 @@ module _ (plan : PlanText) (tree : NodesAreTree plan) where
       let body = body_end plan path_run at path run in
       let before = befores_run plan false at path run.state in
       let opened : RunState = record { state = before.state; results = run.results } in
-      let closed = closes key_limit at (seal_keys key_limit at end.state) in
+      let closed = faults_of_closes key_limit at (seal_keys key_limit at end.state) in
       let outcome = outcome_of at false end closed in
       let none = outcome-unfailed at false end closed (set-at body.results at outcome (after.each at [] (refl, walk))) in
       let closing : CallsEnd = record before { state = body.state } in

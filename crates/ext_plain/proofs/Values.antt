@@ -12,14 +12,14 @@ use Rattle.ext_model.specs.Events.{Reply, Happens, Answers, Refuses, NumbersFull
 use Rattle.ext_model.specs.Plain.{Place, under, any_lane, state_by}
 use Rattle.ext_model.proofs.Lookups.{put_found}
 use Rattle.ext_plan.specs.Plans.{KeyText, PlanText, StepKeyText, put, want}
-use Rattle.ext_plan.specs.KeyNumbers.{key_of_step}
+use Rattle.ext_plan.specs.StoreKeys.{key_of_step}
 use Rattle.ext_lifecycle.specs.Endings.{successful, failed}
 use Rattle.ext_plain.specs.ValueStates.{run_numbers, enough, ValueState, refusal, reply_to, after_act, why_refused, next_number, keep_value, value_of, Numbering, known, next, full, numbering_of, with_number}
-use Rattle.ext_plain.specs.Steps.{StepEnd, kept_or_refused, number_by, numbered_by, put_in, put_kept, seen_by, shown, step_run, want_numbered}
+use Rattle.ext_plain.specs.StepRuns.{StepEnd, kept_or_refused, number_by, numbered_by, put_in, put_kept, seen_by, shown, step_run, want_numbered}
 use Rattle.ext_plain.specs.PlainRun.{RunState, node_run}
 use Rattle.ext_plain.specs.Laws.{HasValues}
 use Rattle.ext_plain.proofs.Kept.{IsKept, IsKeptNumbered, node-kept}
-use Rattle.ext_plan.specs.Calls.{label_of, start_of}
+use Rattle.ext_plan.specs.StepCalls.{label_of, start_of}
 use Rattle.ext_plain.proofs.Numberings.{known_then}
 use Rattle.ext_plan.specs.declared.reason.Reason.{Reason}
 use Rattle.ext_plan.specs.StepTexts.{other_text}

@@ -1,13 +1,13 @@
 -- Which nodes of a plain run are skipped: where each node begins, and whether it goes on to its body.
 -- JUnit 5 User Guide, "Relative Execution Order of User Code and Extensions"; that all nodes below a body that is skipped are skipped is an own rule.
 use Rattle.std.specs.Prelude.{◌≡◌, ◌⊎◌, ◌↔◌, ℕ, ◌-◌, Bool, false, List, [], ◌∷◌, fold, length, nat_eq, slice_get, IsSomeAnd, if◌then◌else◌}
-use Rattle.ext_tree.specs.Paths.{IsPathOf, children_of}
+use Rattle.ext_tree.specs.Trees.{IsPathOf, children_of}
 use Rattle.ext_lifecycle.specs.declared.status.Status.TheVariants as statuses
 use Rattle.ext_lifecycle.specs.FaultTexts.{NodeOutcome}
 use Rattle.ext_lifecycle.specs.Modes.{in_run_order}
 use Rattle.ext_plan.specs.Plans.{PlanText}
 use Rattle.ext_plan.specs.PlanCalls.{concurrent_of}
-use Rattle.ext_plan.specs.Laws.{ids_of_nodes, NodesAreTree, TestsHaveNoChildren}
+use Rattle.ext_plan.specs.ReadPlans.{ids_of_nodes, NodesAreTree, TestsHaveNoChildren}
 use Rattle.ext_plain.specs.ValueStates.{Memory}
 use Rattle.ext_plain.specs.NodeCalls.{befores_run}
 use Rattle.ext_plain.specs.PlainRun.{RunState, node_run, plain_run_by, run_opening}

@@ -8,20 +8,20 @@ use Rattle.ext_model.specs.declared.slot.Slot.TheVariants as slot
 use Rattle.ext_model.specs.State.{IsClaimed, IsSealed}
 use Rattle.ext_model.specs.Plain.{Place}
 use Rattle.ext_tree.specs.Keys.{KeyValue, AreDifferent, HasNumber}
-use Rattle.ext_tree.specs.Paths.{IsParentOf}
+use Rattle.ext_tree.specs.Trees.{IsParentOf}
 use Rattle.ext_lifecycle.specs.declared.call.Call.{Call}
 use Rattle.ext_lifecycle.specs.declared.status.Status.TheVariants as statuses
 use Rattle.ext_lifecycle.specs.Endings.{all_successful, failed, successful}
 use Rattle.ext_lifecycle.specs.FaultTexts.{NodeOutcome}
 use Rattle.ext_plan.specs.Plans.{KeyText, PlanText, StepKeyText, StepText, put, put_closeable, want, nothing, remove, compute, compute_closeable, compute_fail, fail, abort}
-use Rattle.ext_plan.specs.KeyNumbers.{is_there, key_of_step}
-use Rattle.ext_plan.specs.Laws.{ids_of_nodes, NodesAreTree, OfAllSteps, TestsHaveNoChildren}
+use Rattle.ext_plan.specs.StoreKeys.{is_there, key_of_step}
+use Rattle.ext_plan.specs.ReadPlans.{ids_of_nodes, NodesAreTree, OfAllSteps, TestsHaveNoChildren}
 use Rattle.ext_plan.specs.Steps.{step_key}
-use Rattle.ext_plan.specs.Calls.{label_of, start_of}
+use Rattle.ext_plan.specs.StepCalls.{label_of, start_of}
 use Rattle.ext_plan.specs.StepTexts.{met_fault_text, other_fault_text}
 use Rattle.ext_plan.specs.Values.{ValueText}
 use Rattle.ext_plain.specs.ValueStates.{key_limit, Memory, Numbering, known, next, full, numbering_of, ValueState, value_opening, keep_value, with_number}
-use Rattle.ext_plain.specs.Steps.{ended, no_memory, step_by, step_run, steps_run}
+use Rattle.ext_plain.specs.StepRuns.{ended, no_memory, step_by, step_run, steps_run}
 use Rattle.ext_plan.specs.PlanCalls.{test_of}
 use Rattle.ext_plain.specs.NodeCalls.{befores_run, call_run}
 use Rattle.ext_plain.specs.PlainRun.{HasNoFailed, RunState, node_run, plain_run, plain_run_by}

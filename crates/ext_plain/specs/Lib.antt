@@ -1,8 +1,8 @@
-pub mod ValueStates
-pub mod Steps
-pub mod Closes
+pub mod Ancestors
+pub mod ContextEnds
+pub mod InnerHelpers
+pub mod Laws
 pub mod NodeCalls
 pub mod PlainRun
-pub mod Laws
-pub mod Ancestors
-pub mod Helpers
+pub mod StepRuns
+pub mod ValueStates

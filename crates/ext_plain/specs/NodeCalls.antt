@@ -10,7 +10,7 @@ use Rattle.ext_lifecycle.specs.FaultTexts.{VerdictText}
 use Rattle.ext_plan.specs.Plans.{PlanText}
 use Rattle.ext_plan.specs.PlanCalls.{registered, steps_of_call}
 use Rattle.ext_plain.specs.ValueStates.{ValueState}
-use Rattle.ext_plain.specs.Steps.{StepEnd, steps_run}
+use Rattle.ext_plain.specs.StepRuns.{StepEnd, steps_run}
 
 module _ (plan : PlanText) where
   -- a call of a node with this path: its steps run in the context of that node, also where another node registered them

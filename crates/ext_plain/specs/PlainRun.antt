@@ -12,11 +12,11 @@ use Rattle.ext_lifecycle.specs.FaultTexts.{NodeOutcome}
 use Rattle.ext_lifecycle.specs.Modes.{in_run_order}
 use Rattle.ext_lifecycle.specs.Results.{result_of, skipped_result}
 use Rattle.ext_plan.specs.Plans.{NodeText, PlanText}
-use Rattle.ext_plan.specs.Laws.{ids_of_nodes}
-use Rattle.ext_plan.specs.Calls.{start_of}
-use Rattle.ext_tree.specs.Paths.{children_of}
+use Rattle.ext_plan.specs.ReadPlans.{ids_of_nodes}
+use Rattle.ext_plan.specs.StepCalls.{start_of}
+use Rattle.ext_tree.specs.Trees.{children_of}
 use Rattle.ext_plain.specs.ValueStates.{key_limit, Memory, ValueState, value_opening, with_memory}
-use Rattle.ext_plain.specs.Closes.{seal_keys, closes}
+use Rattle.ext_plain.specs.ContextEnds.{seal_keys, faults_of_closes}
 use Rattle.ext_plan.specs.PlanCalls.{concurrent_of, test_of}
 use Rattle.ext_plain.specs.NodeCalls.{CallsEnd, befores_run, test_run, afters_run}
 
@@ -39,7 +39,7 @@ with_result outcome results = slice_set results outcome.node outcome
 abbrev pub node_end : ℕ → Bool → CallsEnd → List NodeOutcome → RunState
 node_end at is_test end results =
     let sealed = seal_keys key_limit at end.state in
-    record { state = sealed; results = with_result (outcome_of at is_test end (closes key_limit at sealed)) results }
+    record { state = sealed; results = with_result (outcome_of at is_test end (faults_of_closes key_limit at sealed)) results }
 
 -- ---- the tree
 

@@ -7,7 +7,7 @@ use Rattle.ext_model.specs.State.{State, opening}
 use Rattle.ext_model.specs.Events.{Reply, Happens, Answers, Refuses, Refusal, NumbersFull, Busy, Closed, Standing, FaultStanding, Exhausted, Barred}
 use Rattle.ext_model.specs.Plain.{Place, any_lane, plain_reply, next_state}
 use Rattle.ext_tree.specs.Keys.{KeyValue}
-use Rattle.ext_plan.specs.KeyNumbers.{is_there, place_of_key}
+use Rattle.ext_plan.specs.StoreKeys.{is_there, place_of_key}
 use Rattle.ext_plan.specs.declared.reason.Reason.{Reason}
 use Rattle.ext_plan.specs.declared.reason.Reason.TheVariants as reasons
 use Rattle.ext_plan.specs.Values.{ValueText}

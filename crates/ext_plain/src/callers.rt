@@ -30,7 +30,7 @@ impl NodeCaller<'_> {
 }
 
 impl Caller for NodeCaller<'_> {
-    ghost use Rattle.ext_plain.specs.Helpers.{DoesCall, IsReady};
+    ghost use Rattle.ext_plain.specs.InnerHelpers.{DoesCall, IsReady};
 
     ghost ready = { λ c. IsReady c };
 

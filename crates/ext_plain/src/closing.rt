@@ -2,12 +2,11 @@
 ghost use Rattle.std.specs.Prelude.{◌≡◌, ◌≤◌, length, map, option_map, IfOk, OnOk};
 ghost use Rattle.ext_plan.specs.Values.{close_fault, value_view};
 ghost use Rattle.ext_plain.specs.ValueStates.{value_of};
-ghost use Rattle.ext_plain.specs.Closes.{seal_keys, numbers_left, closeables};
-ghost use Rattle.ext_plain.specs.Helpers.{state_view, only_closeable, HasClosed};
+ghost use Rattle.ext_plain.specs.ContextEnds.{seal_keys, numbers_left, closeables};
+ghost use Rattle.ext_plain.specs.InnerHelpers.{state_view, only_closeable, HasClosed};
 
 use crate::value_store::ValueStore;
-use ext_lifecycle::Closes;
-use ext_model::{ContextNo, FallingNumbers};
+use ext_model::{Closed, ContextNo, FallingNumbers};
 use ext_plan::{PlanValue, close_fault};
 use std::alloc::{AllocError, Global};
 
@@ -29,11 +28,11 @@ impl<'a> ValueStore<'a> {
 
     /// Closes the closeable ones among the values of these numbers, in order, each once, and counts them. A close that
     /// fails does not stop the others.
-    pub fn close_values(&self, alloc: Global, numbers: &[u32]) -> Result<Closes, AllocError>
+    pub fn close_values(&self, alloc: Global, numbers: &[u32]) -> Result<Closed, AllocError>
         requires { length numbers.now ≤ 64 }
         ensures { IfOk result (λ closes. HasClosed closes (map close_fault (closeables (state_view self.now).values numbers.now))) }
     {
-        let mut closes = Closes::new();
+        let mut closes = Closed::new();
         for number in numbers {
             if let Some(value) = self.closeable(*number) {
                 closes.add(close_fault(alloc, &value)?);

@@ -3,10 +3,10 @@ ghost use Rattle.std.specs.Prelude.{◌≡◌, Some};
 ghost use Rattle.ext_model.specs.declared.slot.Slot.TheVariants as slot;
 ghost use Rattle.ext_model.specs.declared.look.Look.TheVariants as look;
 ghost use Rattle.ext_model.specs.Plain.{any_lane};
-ghost use Rattle.ext_plain.specs.Steps.{compute_by, compute_numbered, computefail_by, computefail_numbered};
-ghost use Rattle.ext_plan.specs.Calls.{call_view};
+ghost use Rattle.ext_plain.specs.StepRuns.{compute_by, compute_numbered, computefail_by, computefail_numbered};
+ghost use Rattle.ext_plan.specs.StepCalls.{call_view};
 ghost use Rattle.ext_plan.specs.Values.{value_view};
-ghost use Rattle.ext_plain.specs.Helpers.{answer_end, memory_of, place_of_call, state_view, Fails, Gives};
+ghost use Rattle.ext_plain.specs.InnerHelpers.{answer_end, memory_of, place_of_call, state_view, Fails, Gives};
 
 use crate::lack::Lack;
 use crate::said::say_refused;

@@ -1,11 +1,11 @@
 //! Steps that look whether a value is found, and what it is.
 ghost use Rattle.std.specs.Prelude.{◌≡◌, option_map};
-ghost use Rattle.ext_plan.specs.Calls.{call_view};
+ghost use Rattle.ext_plan.specs.StepCalls.{call_view};
 ghost use Rattle.ext_plan.specs.Values.{value_view};
 ghost use Rattle.ext_plan.specs.Verdicts.{fail_verdict, none_verdict, seen_view, want_verdict};
-ghost use Rattle.ext_plain.specs.Steps.{ended, found_along, none_numbered, said_by, seen_by, shown, shown_fault, want_numbered};
+ghost use Rattle.ext_plain.specs.StepRuns.{ended, found_along, none_numbered, said_by, seen_by, shown, shown_fault, want_numbered};
 ghost use Rattle.ext_plain.specs.ValueStates.{value_of};
-ghost use Rattle.ext_plain.specs.Helpers.{answer_end, counted_found, memory_of, state_view};
+ghost use Rattle.ext_plain.specs.InnerHelpers.{answer_end, counted_found, memory_of, state_view};
 
 use crate::lack::Lack;
 use crate::said::said;

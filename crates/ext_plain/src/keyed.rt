@@ -1,9 +1,9 @@
 //! Steps that name a key: the key is made, gets its number, and then the step does what it does under that number.
 ghost use Rattle.std.specs.Prelude.{◌≡◌, false};
-ghost use Rattle.ext_plan.specs.Calls.{call_view};
+ghost use Rattle.ext_plan.specs.StepCalls.{call_view};
 ghost use Rattle.ext_plan.specs.Values.{value_view};
-ghost use Rattle.ext_plain.specs.Steps.{compute_numbered, computefail_numbered, keeping_by, keyed_by, lacks_value, none_numbered, put_in, remove_numbered, want_numbered};
-ghost use Rattle.ext_plain.specs.Helpers.{answer_end, end_of_step, keyed_view, memory_of, memory_of_step, place_of_call, state_view};
+ghost use Rattle.ext_plain.specs.StepRuns.{compute_numbered, computefail_numbered, keeping_by, keyed_by, lacks_value, none_numbered, put_in, remove_numbered, want_numbered};
+ghost use Rattle.ext_plain.specs.InnerHelpers.{answer_end, end_of_step, keyed_view, memory_of, memory_of_step, place_of_call, state_view};
 
 use crate::keyed_step::KeyedStep;
 use crate::lack::{Lack, StepLack};

@@ -1,10 +1,10 @@
 //! A step that names a key.
 ghost use Rattle.std.specs.Prelude.{◌≡◌, true, IfErr, IfOk};
 ghost use Rattle.ext_plan.specs.Plans.{step_key_view};
-ghost use Rattle.ext_plan.specs.KeyNumbers.{key_of_step};
-ghost use Rattle.ext_plan.specs.Calls.{call_key, call_view, is_made, keys_in, label_of};
+ghost use Rattle.ext_plan.specs.StoreKeys.{key_of_step};
+ghost use Rattle.ext_plan.specs.StepCalls.{call_key, call_view, is_made, keys_in, label_of};
 ghost use Rattle.ext_plain.specs.declared.lack.StepLack.TheVariants as step_lacks;
-ghost use Rattle.ext_plain.specs.Helpers.{keyed, keyed_view};
+ghost use Rattle.ext_plain.specs.InnerHelpers.{keyed, keyed_view};
 
 use crate::lack::StepLack;
 use ext_model::ContextNo;

@@ -57,7 +57,7 @@ impl From<AllocError> for Lack {
 }
 
 impl StepLack {
-    ghost use Rattle.ext_plain.specs.Helpers.{lifted, step_found};
+    ghost use Rattle.ext_plain.specs.InnerHelpers.{lifted, step_found};
 
     /// The same answer, of a whole step.
     pub fn of(answer: Result<Outcome, Lack>) -> Result<Outcome, StepLack>
@@ -91,7 +91,7 @@ impl StepLack {
 }
 
 impl Lack {
-    ghost use Rattle.ext_plain.specs.Helpers.{found_lacking};
+    ghost use Rattle.ext_plain.specs.InnerHelpers.{found_lacking};
 
     /// How many values the step had found where it would have computed one.
     fn found(self) -> u32

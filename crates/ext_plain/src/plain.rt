@@ -2,10 +2,9 @@
 ghost use Rattle.std.specs.Prelude.{◌≡◌, ◌<◌, ◌∷◌, length, map, filter, fold, All, IfOk, OnOk};
 ghost use Rattle.ext_lifecycle.specs.FaultTexts.{result_view, results_view};
 ghost use Rattle.ext_lifecycle.specs.Lifecycle.{IsRoomy};
-ghost use Rattle.ext_tree.specs.Trees.{IsTree};
-ghost use Rattle.ext_tree.specs.Paths.{children_of};
+ghost use Rattle.ext_tree.specs.Trees.{IsTree, children_of};
 ghost use Rattle.ext_plan.specs.Plans.{plan_view};
-ghost use Rattle.ext_plan.specs.Laws.{CallbacksAreFew, NamespacesHaveParts, StepListsAreShort};
+ghost use Rattle.ext_plan.specs.ReadPlans.{CallbacksAreFew, NamespacesHaveParts, StepListsAreShort};
 ghost use Rattle.ext_plain.specs.PlainRun.{ArePlain};
 
 use crate::callers::NodeCaller;
@@ -90,7 +89,7 @@ pub fn run_plain<'x, L: RunListener>(
 impl<'a, L: RunListener> PlainRunner<'a, L> {
     ghost use Rattle.ext_plan.specs.PlanCalls.{test_of, concurrent_of};
     ghost use Rattle.ext_plain.specs.PlainRun.{body_run, container_run, node_run, test_node_run, with_result};
-    ghost use Rattle.ext_plain.specs.Helpers.{EndsNode, RunsAs, chosen, plan_in, run_view};
+    ghost use Rattle.ext_plain.specs.InnerHelpers.{EndsNode, RunsAs, chosen, plan_in, run_view};
 
     /// Runs a node and what is below it, so many levels deep.
     #[cycle(nodes)]

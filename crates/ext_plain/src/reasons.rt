@@ -2,7 +2,7 @@
 ghost use Rattle.std.specs.Prelude.{◌≡◌, Err, IfOk, IfErr};
 ghost use Rattle.ext_model.specs.declared.plain_fault.PlainFault.TheVariants as plain;
 ghost use Rattle.ext_plain.specs.declared.lack.Lack.TheVariants as lacks;
-ghost use Rattle.ext_plain.specs.Helpers.{Told};
+ghost use Rattle.ext_plain.specs.InnerHelpers.{Told};
 
 use crate::lack::Lack;
 use ext_model::PlainFault;

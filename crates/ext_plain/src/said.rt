@@ -2,9 +2,9 @@
 ghost use Rattle.std.specs.Prelude.{◌≡◌, false, string_bytes, IfErr, IfOk};
 ghost use Rattle.ext_lifecycle.specs.Endings.{aborted, failed, is_successful};
 ghost use Rattle.ext_lifecycle.specs.FaultTexts.{VerdictText, verdict_text};
-ghost use Rattle.ext_plan.specs.Calls.{call_view};
+ghost use Rattle.ext_plan.specs.StepCalls.{call_view};
 ghost use Rattle.ext_plan.specs.Verdicts.{refused, unless_refused};
-ghost use Rattle.ext_plain.specs.Helpers.{Says};
+ghost use Rattle.ext_plain.specs.InnerHelpers.{Says};
 
 use crate::lack::Lack;
 use ext_lifecycle::{Outcome, Verdict};

@@ -2,8 +2,8 @@
 ghost use Rattle.std.specs.Prelude.{◌≡◌, ◌≤◌, is_some, length, map};
 ghost use Rattle.std.proofs.Props.{props};
 ghost use Rattle.ext_plan.specs.Plans.{keys_view, plan_view, step_view};
-ghost use Rattle.ext_plan.specs.KeyNumbers.{named_key};
-ghost use Rattle.ext_plan.specs.Laws.{CallbacksAreFew, StepListsAreShort};
+ghost use Rattle.ext_plan.specs.StoreKeys.{named_key};
+ghost use Rattle.ext_plan.specs.ReadPlans.{CallbacksAreFew, StepListsAreShort};
 ghost use Rattle.ext_plan.specs.Steps.{step_limit};
 ghost use Rattle.ext_plan.specs.PlanCalls.{steps_called};
 
@@ -25,7 +25,7 @@ pub struct Setting<'a> {
 }
 
 impl<'a> Setting<'a> {
-    ghost use Rattle.ext_plain.specs.Helpers.{plan_in};
+    ghost use Rattle.ext_plain.specs.InnerHelpers.{plan_in};
     ghost use Rattle.ext_plan.specs.PlanCalls.{steps_of_call, test_of, concurrent_of};
 
     /// The plan with its tree, and with the keys of the store that its labels name, in order.
@@ -69,7 +69,7 @@ impl<'a> Setting<'a> {
 }
 
 impl Callbacks for Setting<'_> {
-    ghost use Rattle.ext_plain.specs.Helpers.{plan_in};
+    ghost use Rattle.ext_plain.specs.InnerHelpers.{plan_in};
     ghost use Rattle.ext_plan.specs.PlanCalls.{registered};
 
     ghost registered = { λ s kind node. registered (plan_in s) kind node };

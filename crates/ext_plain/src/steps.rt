@@ -3,10 +3,10 @@ ghost use Rattle.std.specs.Prelude.{◌≡◌, ◌≤◌, true, false, List, [],
 ghost use Rattle.ext_lifecycle.specs.Endings.{is_successful};
 ghost use Rattle.ext_lifecycle.specs.Lifecycle.{ending_of};
 ghost use Rattle.ext_plan.specs.Plans.{step_view};
-ghost use Rattle.ext_plan.specs.Calls.{keys_in};
+ghost use Rattle.ext_plan.specs.StepCalls.{keys_in};
 ghost use Rattle.ext_plain.specs.ValueStates.{Memory, enough, with_memory};
-ghost use Rattle.ext_plain.specs.Steps.{step_by, steps_run};
-ghost use Rattle.ext_plain.specs.Helpers.{end_of_step, end_view, memory_of_step, state_view, step_end, AreFew};
+ghost use Rattle.ext_plain.specs.StepRuns.{step_by, steps_run};
+ghost use Rattle.ext_plain.specs.InnerHelpers.{end_of_step, end_view, memory_of_step, state_view, step_end, AreFew};
 
 use crate::keyed_step::KeyedStep;
 use crate::lack::StepLack;

@@ -39,7 +39,7 @@ pub struct ValueStore<'a> {
 }
 
 impl<'a> ValueStore<'a> {
-    ghost use Rattle.ext_plain.specs.Helpers.{state_view, Keeps, Numbers};
+    ghost use Rattle.ext_plain.specs.InnerHelpers.{state_view, Keeps, Numbers};
 
     /// An empty store, which keeps the faults of factories or not.
     pub fn new(alloc: Global, keep_faults: bool) -> ValueStore<'a>

@@ -4,7 +4,7 @@ use Rattle.std.specs.Prelude.{nat_le}
 use Rattle.std.proofs.lemmas.Bool.{lt-leb}
 use Rattle.ext_tree.specs.Keys.{KeyValue}
 use Rattle.ext_plan.specs.Plans.{KeyText}
-use Rattle.ext_plan.specs.KeyNumbers.{named_key, with_key, keys_with}
+use Rattle.ext_plan.specs.StoreKeys.{named_key, with_key, keys_with}
 use Rattle.ext_plan.proofs.KeyLists.{length_kept}
 
 -- the keys so far are more than a directory holds, and so are all

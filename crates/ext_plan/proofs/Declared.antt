@@ -6,7 +6,7 @@ use Rattle.std.proofs.lemmas.Bool.{cases_eq}
 use Rattle.ext_tree.specs.declared.fault.TreeFault.{TreeFault}
 use Rattle.ext_tree.specs.declared.fault.TreeFault.TheVariants as fault
 use Rattle.ext_tree.specs.Keys.{KeyValue, HasNumber}
-use Rattle.ext_plan.specs.KeyNumbers.{is_there, with_key, place_of_key}
+use Rattle.ext_plan.specs.StoreKeys.{is_there, with_key, place_of_key}
 use Rattle.ext_plan.proofs.KeyLists.{has_place, place_last, not_contained, not_there, with_old, with_new, length_with_new}
 
 -- what `declare` answers, as far as it is needed here

@@ -7,7 +7,7 @@ use Rattle.ext_tree.specs.Keys.{KeyValue, HasNumber}
 use Rattle.ext_tree.specs.Traits.{key_eq, key_eq_equiv}
 use Rattle.ext_tree.proofs.Equalities.{keys_Decides}
 use Rattle.ext_plan.specs.Plans.{KeyText}
-use Rattle.ext_plan.specs.KeyNumbers.{named_key, is_there, with_key, keys_with, place_of_key}
+use Rattle.ext_plan.specs.StoreKeys.{named_key, is_there, with_key, keys_with, place_of_key}
 
 -- ---- whether a key is there
 

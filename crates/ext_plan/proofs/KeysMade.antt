@@ -4,7 +4,7 @@ use Rattle.std.proofs.lemmas.List.{take_more}
 use Rattle.std.specs.Prelude.{length}
 use Rattle.ext_tree.specs.Keys.{KeyValue}
 use Rattle.ext_plan.specs.declared.plan.PlanKey.{PlanKey}
-use Rattle.ext_plan.specs.KeyNumbers.{named_key}
+use Rattle.ext_plan.specs.StoreKeys.{named_key}
 use Rattle.ext_plan.specs.Plans.{key_view, keys_view}
 use Rattle.ext_plan.proofs.Lists.{map-push}
 

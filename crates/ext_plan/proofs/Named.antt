@@ -6,9 +6,9 @@ use Rattle.std.proofs.lemmas.Slice.Eq.{bytes_eq-Decides}
 use Rattle.std.specs.Str.{bytes_eq}
 use Rattle.indexmap.proofs.CallerLemmas.{Contains-list_any}
 use Rattle.ext_tree.specs.Keys.{KeyValue}
-use Rattle.ext_plan.specs.KeyNumbers.{different_keys, is_there, keys_with, named_key, with_key}
-use Rattle.ext_plan.specs.Keys.{is_label}
-use Rattle.ext_plan.specs.Locks.{lock_name, lock_names, named_locks, with_name}
+use Rattle.ext_plan.specs.StoreKeys.{different_keys, is_there, keys_with, named_key, with_key}
+use Rattle.ext_plan.specs.Labels.{is_label}
+use Rattle.ext_plan.specs.LockNames.{lock_name, lock_names, named_locks, with_name}
 use Rattle.ext_plan.specs.PlanCalls.{locks_in}
 use Rattle.ext_plan.specs.Plans.{KeyText, NodeText}
 use Rattle.ext_plan.proofs.KeyLists.{is_contained, there_kept, there_with}

@@ -9,8 +9,8 @@ use Rattle.std.specs.Prelude.{◌||◌, if◌then◌else◌, AllPairs, Contains,
 use Rattle.std.specs.List.{list_any}
 use Rattle.std.specs.Str.{bytes_eq}
 use Rattle.std.specs.Borrow.{Bor}
-use Rattle.ext_plan.specs.Keys.{is_label}
-use Rattle.ext_plan.specs.Locks.{with_name, named_locks, lock_names}
+use Rattle.ext_plan.specs.Labels.{is_label}
+use Rattle.ext_plan.specs.LockNames.{with_name, named_locks, lock_names}
 use Rattle.ext_plan.specs.Plans.{NodeText}
 
 pub shown : (names : List (Bor (List ℕ))) (name : List ℕ) → list_any (λ n. bytes_eq name n.now) names ≡ is_label (map (λ n. n.now) names) name

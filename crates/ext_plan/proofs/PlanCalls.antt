@@ -5,7 +5,7 @@ use Rattle.std.specs.Prelude.{IfSome, slice_get, slice_index_or}
 use Rattle.ext_lifecycle.specs.declared.call.Call.{Call}
 use Rattle.ext_lifecycle.specs.declared.call.Kind.{Kind}
 use Rattle.ext_lifecycle.specs.declared.call.Kind.TheVariants as kinds
-use Rattle.ext_plan.specs.Laws.{OfAllSteps, StepListsAreShort}
+use Rattle.ext_plan.specs.ReadPlans.{OfAllSteps, StepListsAreShort}
 use Rattle.ext_plan.specs.Plans.{StepText, NodeText, PlanText, step_view}
 use Rattle.ext_plan.specs.PlanCalls.{or_no_steps, steps_called, steps_of_call}
 use Rattle.ext_plan.specs.Steps.{step_limit}

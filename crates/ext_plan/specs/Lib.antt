@@ -1,11 +1,11 @@
-pub mod Calls
-pub mod KeyNumbers
-pub mod Keys
-pub mod Laws
-pub mod Locks
+pub mod Labels
+pub mod LockNames
 pub mod PlanCalls
 pub mod Plans
+pub mod ReadPlans
+pub mod StepCalls
 pub mod StepTexts
 pub mod Steps
+pub mod StoreKeys
 pub mod Values
 pub mod Verdicts

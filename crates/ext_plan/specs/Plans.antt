@@ -1,4 +1,4 @@
--- A plan without where it lies in memory: its keys by their labels, its nodes by their ids, and the steps of their callbacks and tests. Texts are bytes. Own rule.
+-- A plan without where it lies in memory: its keys by their labels, its nodes by their ids, and the steps of their callbacks and tests. Texts are bytes.
 use Rattle.std.specs.Prelude.{ℕ, Bool, List, [], map, Option, option_map, Vec, String, string_bytes}
 use Rattle.std.specs.declared.alloc.Global.{Global}
 use Rattle.ext_ids.specs.Grammar.{Pair}

@@ -1,4 +1,4 @@
--- Which key a step names and how far up it goes, and how many steps and callbacks there may be. Own rule.
+-- Which key a step names and how far up it goes, and how many steps and callbacks there may be.
 use Rattle.std.specs.Prelude.{ℕ, Option, Some, None}
 use Rattle.ext_plan.specs.Plans.{StepKeyText, StepText, put, put_closeable, want, nothing, remove, compute, compute_closeable, compute_fail, fail, abort}
 

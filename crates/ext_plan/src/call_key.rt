@@ -5,7 +5,7 @@ ghost use Rattle.ext_tree.specs.Keys.{global_namespace, key_of};
 use ext_tree::{Key, Namespace};
 use std::alloc::{AllocError, Global};
 
-/// The key of the store that a step calls it with. Own rule.
+/// The key of the store that a step calls it with.
 #[derive(Debug, Drop)]
 pub enum CallKey<'b> {
     /// That of a label, which was made before.
@@ -15,7 +15,7 @@ pub enum CallKey<'b> {
 }
 
 impl<'b> CallKey<'b> {
-    ghost use Rattle.ext_plan.specs.Calls.{call_key};
+    ghost use Rattle.ext_plan.specs.StepCalls.{call_key};
 
     /// The key of this name in the global namespace. Takes memory for it; `AllocError` comes only where that is refused. Source: Javadoc
     /// type `ExtensionContext.Namespace`, `GLOBAL`.
@@ -28,7 +28,7 @@ impl<'b> CallKey<'b> {
         }
     }
 
-    /// The key. Takes no memory. Own rule.
+    /// The key.
     pub fn key(&self) -> &Key
         ensures { result.now ≡ call_key self.now }
     {

@@ -2,7 +2,7 @@
 ghost use Rattle.std.specs.Prelude.{◌≡◌, map, IfOk};
 ghost use Rattle.ext_tree.specs.Trees.{IsTree};
 ghost use Rattle.ext_plan.specs.Plans.{plan_view};
-ghost use Rattle.ext_plan.specs.Laws.{NodesAreTree, ids_of_nodes};
+ghost use Rattle.ext_plan.specs.ReadPlans.{NodesAreTree, ids_of_nodes};
 
 use crate::plan::{Plan, PlanNode};
 use ext_ids::UniqueId;
@@ -11,7 +11,7 @@ use std::alloc::{AllocError, Global};
 
 impl Plan {
     /// The tree of the nodes' contexts, numbered as the plan lists the nodes. Takes memory: it holds copies of the ids. `AllocError` comes
-    /// only where that is refused. The ids are those of a tree, as in each plan that was read. Own rule.
+    /// only where that is refused. The ids are those of a tree, as in each plan that was read.
     pub fn tree(&self, alloc: Global) -> Result<Tree, AllocError>
         requires { NodesAreTree (plan_view self.now) }
         ensures { IfOk result (λ tree. tree ≡ ids_of_nodes (plan_view self.now).nodes) }

@@ -2,8 +2,8 @@
 ghost use Rattle.std.specs.Prelude.{◌≡◌, ◌≤◌, ◌<◌, ◌⊎◌, All, Err, IfErr, IfOk, OnOk, length, map, nat_le, string_bytes};
 ghost use Rattle.ext_tree.specs.declared.fault.TreeFault.TheVariants as fault;
 ghost use Rattle.ext_plan.specs.Plans.{key_view, keys_view, plan_view};
-ghost use Rattle.ext_plan.specs.KeyNumbers.{named_key, with_key, different_keys, HasParts};
-ghost use Rattle.ext_plan.specs.Laws.{NamespacesHaveParts};
+ghost use Rattle.ext_plan.specs.StoreKeys.{named_key, with_key, different_keys, HasParts};
+ghost use Rattle.ext_plan.specs.ReadPlans.{NamespacesHaveParts};
 
 use crate::plan::{Plan, PlanKey};
 use ext_model::KeyNo;
@@ -11,7 +11,7 @@ use ext_tree::{Directory, Key, Namespace, TreeFault};
 use std::alloc::{AllocError, Global};
 
 impl PlanKey {
-    ghost use Rattle.ext_plan.specs.KeyNumbers.{named_key, HasParts};
+    ghost use Rattle.ext_plan.specs.StoreKeys.{named_key, HasParts};
     ghost use Rattle.ext_plan.specs.Plans.{key_view};
 
     /// The key of the store that the label names: of the key's namespace, which has a part where it was created, and of the
@@ -63,7 +63,7 @@ fn store_keys_of(alloc: Global, keys: &[PlanKey]) -> Result<Vec<Key>, AllocError
 
 /// Tests whether the labels of these keys name at most 64 different keys. Each namespace that is given has a part.
 ///
-/// Takes memory for up to 64 of the keys, which it gives back before it returns; `AllocError` comes only where that is refused. Own rule.
+/// Takes memory for up to 64 of the keys, which it gives back before it returns; `AllocError` comes only where that is refused.
 pub fn keys_are_few(alloc: Global, keys: &[PlanKey]) -> Result<bool, AllocError>
     requires { All HasParts (keys_view keys.now) }
     ensures { IfOk result (λ few. few ≡ nat_le (length (different_keys (keys_view keys.now))) 64) }

@@ -2,12 +2,15 @@
 //!
 //! A `Plan` has `PlanKey`s and `PlanNode`s; callbacks and tests are lists of `Step`s, each of which names its key by a `StepKey`.
 //! `Plan::store_keys` makes the keys of the labels, and `keys_are_few` counts them. A plan is seen by `plan_view` of
-//! `specs/Plans.antt`; what holds of each plan that was read stands in `specs/Laws.antt`.
+//! `specs/Plans.antt`; what holds of each plan that was read stands in `specs/ReadPlans.antt`.
 //!
 //! A step's call of the store is a `StepCall`, which `StepKeys` makes with the key that the step names. What a look-up shows a
-//! step is `Seen`, and why a call was refused a `Reason`. `want_verdict`, `none_verdict`, `fail_verdict`, `unless_refused`
-//! and `refused` give the verdict that a step makes of them, with its text. `PlanValue` is a value of a run, and `close_fault`
-//! its close action. Nothing here knows a store, so that each run goes by the same words. Own rule.
+//! step is `Seen`, and why a call was refused a `Reason`. `want_verdict`, `none_verdict`, `fail_verdict`, `unless_refused` and
+//! `refused` give the verdict that a step makes of them, with its text. `PlanValue` is a value of a run, and `close_fault` its
+//! close action. Nothing here knows a store, so that each run goes by the same words.
+//!
+//! Unless its comment says otherwise, a public call takes no memory and waits for nobody. JUnit has
+//! no plans: what names no source in it is an own rule.
 #![tactic(auto)]
 
 mod call_key;

@@ -3,7 +3,7 @@ ghost use Rattle.std.specs.Prelude.{◌≡◌, map, fold, IfOk, OnOk};
 ghost use Rattle.std.specs.List.{list_any};
 ghost use Rattle.std.specs.Str.{bytes_eq};
 ghost use Rattle.ext_plan.specs.Plans.{lock_view, nodes_view};
-ghost use Rattle.ext_plan.specs.Locks.{lock_name, lock_names, with_name};
+ghost use Rattle.ext_plan.specs.LockNames.{lock_name, lock_names, with_name};
 
 use crate::plan::{Plan, PlanLock};
 use std::alloc::{AllocError, Global};

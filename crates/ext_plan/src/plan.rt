@@ -7,11 +7,11 @@ use ext_ids::UniqueId;
 use ext_lifecycle::{Call, Kind, Mode};
 use ext_model::ContextNo;
 
-/// The number of a label: the place of its key in `Plan::keys`, from 0. Two labels may name one key of the store. Own rule.
+/// The number of a label: the place of its key in `Plan::keys`, from 0. Two labels may name one key of the store.
 pub type LabelNo = usize;
 
 /// What a run does: whether its store keeps the faults of factories, the keys that are declared, and the nodes of the tree with their
-/// callbacks and tests. Own rule.
+/// callbacks and tests.
 #[derive(Debug, Drop)]
 pub struct Plan {
     /// Whether the store keeps the faults of factories that fail.
@@ -29,8 +29,8 @@ impl Plan {
     ghost use Rattle.ext_plan.specs.Plans.{lock_view, plan_view};
     ghost use Rattle.ext_plan.specs.PlanCalls.{concurrent_of, isolated_of, locks_of, registered, steps_of_call, test_of};
 
-    /// Whether the node, by its place in the plan from 0, is a test; `false` of a node that the plan does not have. Takes no
-    /// memory. Source: Javadoc type `TestDescriptor`, `isTest`.
+    /// Whether the node, by its place in the plan from 0, is a test; `false` of a node that the plan does not have. Source:
+    /// Javadoc type `TestDescriptor`, `isTest`.
     pub fn is_test(&self, node: ContextNo) -> bool
         ensures { result ≡ is_some (test_of (plan_view self.now) node) }
     {
@@ -40,8 +40,8 @@ impl Plan {
         }
     }
 
-    /// Whether the node may be run beside its siblings; `SameThread` of a node that the plan does not have. Takes no memory.
-    /// Source: JUnit 5 User Guide, section "Parallel Execution".
+    /// Whether the node may be run beside its siblings; `SameThread` of a node that the plan does not have. Source: JUnit 5
+    /// User Guide, section "Parallel Execution".
     pub fn mode(&self, node: ContextNo) -> Mode
         ensures { is_concurrent result ≡ concurrent_of (plan_view self.now) node }
     {
@@ -51,8 +51,8 @@ impl Plan {
         }
     }
 
-    /// Whether no other test may be run beside one at or below the node; `false` of a node that the plan does not have. Takes no
-    /// memory. Source: JUnit 5 User Guide, section "Synchronization", and Javadoc type `Isolated`.
+    /// Whether no other test may be run beside one at or below the node; `false` of a node that the plan does not have. Source:
+    /// JUnit 5 User Guide, section "Synchronization", and Javadoc type `Isolated`.
     pub fn is_isolated(&self, node: ContextNo) -> bool
         ensures { result ≡ isolated_of (plan_view self.now) node }
     {
@@ -62,8 +62,8 @@ impl Plan {
         }
     }
 
-    /// The locks that the node names, in the order of the plan; none of a node that the plan does not have. Takes no memory.
-    /// Source: JUnit 5 User Guide, section "Synchronization", and Javadoc type `ResourceLock`.
+    /// The locks that the node names, in the order of the plan; none of a node that the plan does not have. Source: JUnit 5
+    /// User Guide, section "Synchronization", and Javadoc type `ResourceLock`.
     pub fn locks_of(&self, node: ContextNo) -> &[PlanLock]
         ensures { map lock_view result.now ≡ locks_of (plan_view self.now) node }
     {
@@ -74,7 +74,7 @@ impl Plan {
     }
 
     /// How many callbacks of a kind the node registered: 0 of a node that the plan does not have, and of `Kind::Test`, as a
-    /// test is no callback. Takes no memory. Own rule.
+    /// test is no callback.
     pub fn callback_count(&self, kind: Kind, node: ContextNo) -> usize
         ensures { result ≡ registered (plan_view self.now) kind node }
     {
@@ -85,8 +85,7 @@ impl Plan {
     }
 
     /// The steps of a call, in order: those of a callback of its node, by the callback's place among those of its kind, or
-    /// those of a test. There are none where the plan has no such node, no such callback or no such test. Takes no memory.
-    /// Own rule.
+    /// those of a test. There are none where the plan has no such node, no such callback or no such test.
     pub fn steps_of(&self, call: &Call) -> &[Step]
         ensures { map step_view result.now ≡ steps_of_call (plan_view self.now) call.now }
     {
@@ -126,7 +125,7 @@ pub struct PlanKey {
     pub namespace: Option<Vec<String>>,
 }
 
-/// A node of the tree, a container or a test, each with a context of its own (`ExtensionContext`). Own rule.
+/// A node of the tree, a container or a test, each with a context of its own (`ExtensionContext`).
 #[derive(Debug, Drop)]
 pub struct PlanNode {
     /// The unique id (JUnit 5 `UniqueId`): 1 to 16 segments.
@@ -158,7 +157,7 @@ impl PlanNode {
     ghost use Rattle.ext_plan.specs.Plans.{steps_view, node_view, callbacks_of};
 
     /// The callbacks of a kind that the node registers, each with its steps, in the order of registration. Of
-    /// `Kind::Test` there are none: a test is no callback. Takes no memory. Own rule.
+    /// `Kind::Test` there are none: a test is no callback.
     pub fn callbacks(&self, kind: Kind) -> &[Vec<Step>]
         ensures { map steps_view result.now ≡ callbacks_of kind (node_view self.now) }
     {
@@ -184,10 +183,10 @@ pub enum PlanLock {
 
 impl PlanLock {
     ghost use Rattle.std.specs.Prelude.{◌≡◌};
-    ghost use Rattle.ext_plan.specs.Locks.{lock_name};
+    ghost use Rattle.ext_plan.specs.LockNames.{lock_name};
     ghost use Rattle.ext_plan.specs.Plans.{lock_view};
 
-    /// The name of the lock. Takes no memory. Own rule.
+    /// The name of the lock.
     pub fn name(&self) -> &str
         ensures { result.now ≡ lock_name (lock_view self.now) }
     {
@@ -198,7 +197,7 @@ impl PlanLock {
     }
 }
 
-/// The key of the store that a step names: by a label of the plan, or by its own name. Own rule.
+/// The key of the store that a step names: by a label of the plan, or by its own name.
 #[derive(Debug, Drop)]
 pub enum StepKey {
     /// The declared key of this label. In a plan that was read the label is one of the plan's.
@@ -278,7 +277,7 @@ impl Step {
     ghost use Rattle.ext_plan.specs.Plans.{step_key_view};
     ghost use Rattle.ext_plan.specs.Steps.{step_key};
 
-    /// The key that the step names; `None` of `fail` and `abort`, which name none. Takes no memory. Own rule.
+    /// The key that the step names; `None` of `fail` and `abort`, which name none.
     pub fn key(&self) -> Option<&StepKey>
         ensures { option_map (λ k. step_key_view k.now) result ≡ step_key (step_view self.now) }
     {

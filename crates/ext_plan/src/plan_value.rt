@@ -7,7 +7,7 @@ use crate::step_text::close_text;
 use ext_model::Fault;
 use std::alloc::{AllocError, Global};
 
-/// A value of a run: its text, which the plan has, and whether it is closed with its context. Own rule.
+/// A value of a run: its text, which the plan has, and whether it is closed with its context.
 #[derive(Clone, Copy, Debug, PartialEq, Eq)]
 pub struct PlanValue<'a> {
     /// The value's text.
@@ -17,7 +17,7 @@ pub struct PlanValue<'a> {
 }
 
 impl<'a> PlanValue<'a> {
-    /// A value that isn't closeable. Takes no memory. Own rule.
+    /// A value that isn't closeable.
     pub fn not_closeable(text: &'a str) -> PlanValue<'a>
         ensures { value_view result ≡ record { text = text.now; closeable = false } }
     {
@@ -27,7 +27,7 @@ impl<'a> PlanValue<'a> {
         }
     }
 
-    /// A closeable value. Takes no memory. Own rule.
+    /// A closeable value.
     pub fn closeable(text: &'a str) -> PlanValue<'a>
         ensures { value_view result ≡ record { text = text.now; closeable = true } }
     {

@@ -24,7 +24,7 @@ pub enum Reason {
 impl Reason {
     ghost use Rattle.ext_plan.specs.StepTexts.{words};
 
-    /// The words for it. Takes no memory. Own rule.
+    /// The words for it.
     pub fn words(&self) -> &'static str
         ensures { result.now ≡ words self.now }
     {

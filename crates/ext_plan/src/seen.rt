@@ -2,7 +2,7 @@
 ghost use Rattle.std.specs.Prelude.{◌≡◌, false, IfErr, IfOk};
 ghost use Rattle.ext_lifecycle.specs.Endings.{is_successful};
 ghost use Rattle.ext_lifecycle.specs.FaultTexts.{verdict_text};
-ghost use Rattle.ext_plan.specs.Calls.{call_view};
+ghost use Rattle.ext_plan.specs.StepCalls.{call_view};
 ghost use Rattle.ext_plan.specs.Verdicts.{fail_verdict, none_verdict, seen_view, want_verdict};
 
 use crate::step_text::{got_text, met_fault_text, missing_text, other_fault_text, other_text};
@@ -32,7 +32,6 @@ pub enum Seen<'a> {
 /// refused, with `NAME KEY: REASON`. It fails with a met fault that is want of memory.
 ///
 /// Takes memory for the text of a failure; `AllocError` comes only where that is refused, and so never in place of a success.
-/// Own rule.
 pub fn want_verdict(
     alloc: Global,
     call: &StepCall<'_>,
@@ -57,7 +56,6 @@ pub fn want_verdict(
 /// `NAME KEY: REASON`. It fails with a met fault that is want of memory.
 ///
 /// Takes memory for the text of a failure; `AllocError` comes only where that is refused, and so never in place of a success.
-/// Own rule.
 pub fn none_verdict(
     alloc: Global,
     call: &StepCall<'_>,
@@ -79,7 +77,6 @@ pub fn none_verdict(
 /// runs then, and where a kept fault of the same text was found. It fails as `none` else.
 ///
 /// Takes memory for the text of a failure; `AllocError` comes only where that is refused, and so never in place of a success.
-/// Own rule.
 pub fn fail_verdict(
     alloc: Global,
     call: &StepCall<'_>,

@@ -4,7 +4,7 @@ ghost use Rattle.std.specs.Prelude.{◌≡◌};
 use ext_model::ContextNo;
 use ext_tree::Key;
 
-/// What a step calls the store with. Own rule.
+/// What a step calls the store with.
 #[derive(Clone, Copy, Debug)]
 pub struct StepCall<'b> {
     /// The step's first word.
@@ -18,10 +18,9 @@ pub struct StepCall<'b> {
 }
 
 impl<'b> StepCall<'b> {
-    ghost use Rattle.ext_plan.specs.Calls.{call_view, start_of};
+    ghost use Rattle.ext_plan.specs.StepCalls.{call_view, start_of};
 
-    /// The context that the step acts on; 0 where the path is empty, as no path of a context is. Takes no memory. Own
-    /// rule.
+    /// The context that the step acts on; 0 where the path is empty, as no path of a context is.
     pub fn at(&self) -> ContextNo
         ensures { result ≡ start_of (call_view self.now).path }
     {

@@ -1,7 +1,7 @@
 //! The keys that steps name.
 ghost use Rattle.std.specs.Prelude.{◌≡◌, drop, map, true, IfErr, IfOk};
 ghost use Rattle.ext_plan.specs.Plans.{keys_view, step_key_view};
-ghost use Rattle.ext_plan.specs.KeyNumbers.{key_of_step, named_key};
+ghost use Rattle.ext_plan.specs.StoreKeys.{key_of_step, named_key};
 
 use crate::call_key::CallKey;
 use crate::step_call::StepCall;
@@ -10,7 +10,7 @@ use ext_model::ContextNo;
 use ext_tree::Key;
 use std::alloc::{AllocError, Global};
 
-/// The declared keys of a plan, and for each of them the key of the store that was made of it. Own rule.
+/// The declared keys of a plan, and for each of them the key of the store that was made of it.
 #[derive(Clone, Copy)]
 pub struct StepKeys<'b> {
     keys: &'b [PlanKey],
@@ -19,9 +19,9 @@ pub struct StepKeys<'b> {
 }
 
 impl<'b> StepKeys<'b> {
-    ghost use Rattle.ext_plan.specs.Calls.{call_key, call_view, is_made, keys_in, label_of};
+    ghost use Rattle.ext_plan.specs.StepCalls.{call_key, call_view, is_made, keys_in, label_of};
 
-    /// The declared keys, with the key of the store of each, in order (`Plan::store_keys`). Takes no memory. Own rule.
+    /// The declared keys, with the key of the store of each, in order (`Plan::store_keys`).
     pub fn of(keys: &'b [PlanKey], made: &'b [Key]) -> StepKeys<'b>
         requires { made.now ≡ map named_key (keys_view keys.now) }
         ensures { keys_in result ≡ keys_view keys.now }
@@ -32,7 +32,7 @@ impl<'b> StepKeys<'b> {
     /// The key of the store that a step names: that of its label, or the one of its name in the global namespace. A label that the plan
     /// doesn't have names the key of the empty name in the global namespace.
     ///
-    /// Takes memory for a key that is no label's; `AllocError` comes only where that is refused. Own rule.
+    /// Takes memory for a key that is no label's; `AllocError` comes only where that is refused.
     pub fn key_of(&self, alloc: Global, key: &StepKey) -> Result<CallKey<'b>, AllocError>
         ensures key { IfOk result (λ k. call_key k ≡ key_of_step (keys_in self.now) (step_key_view key.now)) }
         ensures made { IfErr result (λ _. is_made (keys_in self.now) (step_key_view key.now) ≡ true) }
@@ -48,8 +48,6 @@ impl<'b> StepKeys<'b> {
 
     /// The call of a step of this name and this key, which goes up so many contexts on the path of the context in which it runs. `made`
     /// is the key of the store. A label that the plan doesn't have is the empty text.
-    ///
-    /// Takes no memory. Own rule.
     pub fn call<'c>(
         &'c self,
         name: &'c str,

@@ -2,7 +2,7 @@
 ghost use Rattle.std.specs.Prelude.{◌≡◌, false, string_bytes, IfOk, IfErr};
 ghost use Rattle.ext_lifecycle.specs.Endings.{aborted, failed, is_successful};
 ghost use Rattle.ext_lifecycle.specs.FaultTexts.{verdict_text};
-ghost use Rattle.ext_plan.specs.Calls.{call_view};
+ghost use Rattle.ext_plan.specs.StepCalls.{call_view};
 ghost use Rattle.ext_plan.specs.Verdicts.{refused, unless_refused};
 
 use crate::step_text::refused_text;
@@ -11,14 +11,14 @@ use ext_lifecycle::Verdict;
 use ext_model::Fault;
 use std::alloc::{AllocError, Global};
 
-/// Failed with this text. Takes no memory. Own rule.
+/// Failed with this text.
 pub fn failed(text: String) -> Verdict
     ensures { verdict_text result ≡ failed (string_bytes text) }
 {
     Verdict::Failed(Fault::Text(text))
 }
 
-/// Aborted with this text. Takes no memory. Own rule.
+/// Aborted with this text.
 pub fn aborted(text: String) -> Verdict
     ensures { verdict_text result ≡ aborted (string_bytes text) }
 {
@@ -27,7 +27,7 @@ pub fn aborted(text: String) -> Verdict
 
 /// How a step ends whose call of the store was refused: failed with `NAME KEY: REASON`.
 ///
-/// Takes memory for the text; `AllocError` comes only where that is refused. Own rule.
+/// Takes memory for the text; `AllocError` comes only where that is refused.
 pub fn refused(alloc: Global, call: &StepCall<'_>, why: Reason) -> Result<Verdict, AllocError>
     ensures { IfOk result (λ v. verdict_text v ≡ refused (call_view call.now).name (call_view call.now).label why) }
 {
@@ -36,8 +36,7 @@ pub fn refused(alloc: Global, call: &StepCall<'_>, why: Reason) -> Result<Verdic
 
 /// How a step ends by why its call of the store was refused, if it was: else it is successful.
 ///
-/// Takes memory for the text of a refusal; `AllocError` comes only where that is refused, and so never in place of a
-/// success. Own rule.
+/// Takes memory for the text of a refusal; `AllocError` comes only where that is refused, and so never in place of a success.
 pub fn unless_refused(
     alloc: Global,
     call: &StepCall<'_>,

@@ -6,9 +6,9 @@ use Rattle.std.proofs.lemmas.List.Elements.{All-push, All-nil}
 use Rattle.ext_plan.specs.Plans.{StepText}
 use Rattle.ext_plan.specs.Steps.{callback_limit}
 use Rattle.ext_plan_reading.specs.declared.fault.PlanFault.TheVariants as faults
-use Rattle.ext_plan_reading.specs.Callbacks.{CallbackTexts, CallbackSteps, callbacks_after, callbacks_at, node_callbacks_at}
+use Rattle.ext_plan_reading.specs.CallbackReading.{CallbackTexts, CallbackSteps, callbacks_after, callbacks_at, node_callbacks_at}
 use Rattle.ext_plan_reading.specs.Faults.{check}
-use Rattle.ext_plan_reading.specs.Steps.{steps_at}
+use Rattle.ext_plan_reading.specs.StepReading.{steps_at}
 use Rattle.ext_plan_reading.proofs.Gave.{ok_value, both_gave, passed}
 use Rattle.ext_plan_reading.proofs.StepReading.{AreFitting, steps_read}
 

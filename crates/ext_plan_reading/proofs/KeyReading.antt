@@ -10,14 +10,14 @@ use Rattle.std.specs.List.{AllPairs}
 use Rattle.std.specs.Str.{bytes_eq}
 use Rattle.toml.specs.Data.{Members, get_member}
 use Rattle.ext_plan.specs.Plans.{KeyText}
-use Rattle.ext_plan.specs.KeyNumbers.{HasParts}
-use Rattle.ext_plan.specs.Keys.{labels_of, is_label, is_word}
+use Rattle.ext_plan.specs.StoreKeys.{HasParts}
+use Rattle.ext_plan.specs.Labels.{labels_of, is_label, is_word}
 use Rattle.ext_plan.proofs.Lists.{map-push}
 use Rattle.ext_plan_reading.specs.declared.fault.PlanFault.TheVariants as faults
 use Rattle.ext_plan_reading.specs.declared.fault.Place.TheVariants as places
 use Rattle.ext_plan_reading.specs.Faults.{some_or, check}
 use Rattle.ext_plan_reading.specs.Fields.{has_only, text_at, text_or_none, texts_or_none}
-use Rattle.ext_plan_reading.specs.Keys.{key_fields, has_parts, key_at, keys_after}
+use Rattle.ext_plan_reading.specs.KeyReading.{key_fields, has_parts, key_at, keys_after}
 use Rattle.ext_plan_reading.proofs.Gave.{ok_value, both_gave, passed}
 
 differs : (labels : List (List ℕ)) (label : List ℕ) → is_label labels label ≡ false → (k : ℕ) (d : List ℕ) → k < length labels → get_or labels k d ≢ label

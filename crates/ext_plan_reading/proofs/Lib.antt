@@ -3,13 +3,14 @@ pub mod FieldNames
 pub mod Gave
 pub mod KeyReading
 pub mod LabelLists
-pub mod Laws
 pub mod Lists
 pub mod NeverNotUtf8
 pub mod NodeReading
 pub mod Parents
+pub mod ReadPlans
 pub mod StepReading
 pub mod StepWords
 pub mod TestDepths
 pub mod TreeTests
 pub mod Turns
+pub use Rattle.ext_plan.proofs.NodeIds

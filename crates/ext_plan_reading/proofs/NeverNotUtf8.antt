@@ -8,23 +8,23 @@ use Rattle.ext_ids.specs.Reading.{read_id}
 use Rattle.ext_tree.specs.Decided.{is_tree}
 use Rattle.ext_plan.specs.declared.plan.Plan.{Plan}
 use Rattle.ext_plan.specs.Plans.{KeyText, LockText, StepText, NodeText, plan_view}
-use Rattle.ext_plan.specs.Locks.{lock_names, lock_limit}
-use Rattle.ext_plan.specs.KeyNumbers.{different_keys}
-use Rattle.ext_plan.specs.Keys.{labels_of, is_label, is_word}
+use Rattle.ext_plan.specs.LockNames.{lock_names, lock_limit}
+use Rattle.ext_plan.specs.StoreKeys.{different_keys}
+use Rattle.ext_plan.specs.Labels.{labels_of, is_label, is_word}
 use Rattle.ext_plan.specs.Steps.{height, step_limit, callback_limit}
 use Rattle.ext_plan_reading.specs.declared.fault.PlanFault.{PlanFault}
 use Rattle.ext_plan_reading.specs.declared.fault.PlanFault.TheVariants as faults
 use Rattle.ext_plan_reading.specs.declared.fault.Place.TheVariants as places
 use Rattle.ext_plan_reading.specs.Faults.{some_or, check, Gives, ◌>>=◌}
 use Rattle.ext_plan_reading.specs.Fields.{has_only, text_at, texts_in, tables_in, text_or_none, texts_or_none, text_lists_in, text_lists_or_none, tables_or_none, truth_or_false}
-use Rattle.ext_plan_reading.specs.Callbacks.{CallbackTexts, callback_texts_at, callbacks_after, callbacks_at, node_callbacks_at}
+use Rattle.ext_plan_reading.specs.CallbackReading.{CallbackTexts, callback_texts_at, callbacks_after, callbacks_at, node_callbacks_at}
 use Rattle.ext_plan_reading.specs.Depths.{least_test_depth}
-use Rattle.ext_plan_reading.specs.Modes.{mode_at, mode_of}
+use Rattle.ext_plan_reading.specs.ModeReading.{mode_at, mode_of}
 use Rattle.ext_lifecycle.specs.declared.mode.Mode.TheVariants as modes
-use Rattle.ext_plan_reading.specs.Locks.{lock_at, lock_of, locks_after, locks_at}
-use Rattle.ext_plan_reading.specs.Keys.{key_fields, has_parts, key_at, keys_after}
-use Rattle.ext_plan_reading.specs.Nodes.{Sketch, node_fields, id_or, sketch_at, sketches_after, ids_of, outlines_of, has_children, is_bad_test, test_at, node_at, nodes_after, nodes_of_tables}
-use Rattle.ext_plan_reading.specs.Steps.{step_of, step_at, steps_after, steps_at}
+use Rattle.ext_plan_reading.specs.LockReading.{lock_at, lock_of, locks_after, locks_at}
+use Rattle.ext_plan_reading.specs.KeyReading.{key_fields, has_parts, key_at, keys_after}
+use Rattle.ext_plan_reading.specs.NodeReading.{Sketch, node_fields, id_or, sketch_at, sketches_after, ids_of, outlines_of, has_children, is_bad_test, test_at, node_at, nodes_after, nodes_of_tables}
+use Rattle.ext_plan_reading.specs.StepReading.{step_of, step_at, steps_after, steps_at}
 use Rattle.ext_plan_reading.specs.Reading.{top_fields, plan_of, plan_of_tables}
 
 -- the reading has another end than the fault `NotUtf8`

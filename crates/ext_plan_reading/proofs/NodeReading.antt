@@ -4,20 +4,19 @@ use Rattle.std.specs.Prelude.{not, is_some}
 use Rattle.std.proofs.lemmas.Bool.{not-false, eqb-true, cases_eq}
 use Rattle.std.proofs.lemmas.List.{get_or_append_left, get_or_push}
 use Rattle.std.proofs.lemmas.List.Elements.{All-push}
-use Rattle.ext_tree.specs.Paths.{children_of}
-use Rattle.ext_tree.specs.Trees.{Id}
-use Rattle.ext_plan.specs.Laws.{HasNoContainerCallbacks}
+use Rattle.ext_tree.specs.Trees.{children_of, Id}
+use Rattle.ext_plan.specs.ReadPlans.{HasNoContainerCallbacks}
 use Rattle.ext_plan.specs.Plans.{StepText, NodeText}
 use Rattle.ext_plan.specs.Steps.{callback_limit}
 use Rattle.ext_plan.proofs.Lists.{map-push}
 use Rattle.ext_plan_reading.specs.declared.fault.PlanFault.TheVariants as faults
-use Rattle.ext_plan_reading.specs.Callbacks.{node_callbacks_at}
+use Rattle.ext_plan_reading.specs.CallbackReading.{node_callbacks_at}
 use Rattle.ext_plan_reading.specs.Depths.{Outline, least_test_depth}
 use Rattle.ext_plan_reading.specs.Faults.{check}
-use Rattle.ext_plan_reading.specs.Locks.{locks_at}
-use Rattle.ext_plan_reading.specs.Modes.{mode_at}
-use Rattle.ext_plan_reading.specs.Nodes.{Sketch, ids_of, outline_of, outlines_of, has_children, is_bad_test, test_at, node_at, nodes_after}
-use Rattle.ext_plan_reading.specs.Steps.{steps_at}
+use Rattle.ext_plan_reading.specs.LockReading.{locks_at}
+use Rattle.ext_plan_reading.specs.ModeReading.{mode_at}
+use Rattle.ext_plan_reading.specs.NodeReading.{Sketch, ids_of, outline_of, outlines_of, has_children, is_bad_test, test_at, node_at, nodes_after}
+use Rattle.ext_plan_reading.specs.StepReading.{steps_at}
 use Rattle.ext_plan_reading.proofs.CallbackReading.{FieldFits, callbacks_read}
 use Rattle.ext_plan_reading.proofs.Gave.{ok_value, both_gave, passed}
 use Rattle.ext_plan_reading.proofs.Lists.{nil_from_length}

@@ -1,12 +1,11 @@
 -- A turn of the loop over the nodes of a tree: the list of a node's children tells whether it is a parent.
 use Rattle.std.proofs.Common.{◌≡◌, ℕ, Bool, not, List, [], ◌∷◌, ◌++◌, Ok, Err, length, ap, sym, ◌∙◌}
 use Rattle.std.specs.Prelude.{◌==◌}
-use Rattle.ext_tree.specs.Paths.{children_of}
-use Rattle.ext_tree.specs.Trees.{Id}
+use Rattle.ext_tree.specs.Trees.{children_of, Id}
 use Rattle.ext_plan.specs.Plans.{NodeText}
 use Rattle.ext_plan_reading.specs.declared.fault.PlanFault.{PlanFault}
 use Rattle.ext_plan_reading.specs.Depths.{least_test_depth}
-use Rattle.ext_plan_reading.specs.Nodes.{Sketch, has_children, ids_of, outlines_of, node_at, nodes_after}
+use Rattle.ext_plan_reading.specs.NodeReading.{Sketch, has_children, ids_of, outlines_of, node_at, nodes_after}
 use Rattle.ext_plan_reading.proofs.Turns.{node_in, nodes_go, nodes_stop}
 
 -- `children` are those of the node of this number in the tree of all sketches, `childless` says whether there are none, and `least` is how far up its callbacks

@@ -7,12 +7,12 @@ use Rattle.std.proofs.lemmas.Bool.{leb-true, ltb-true}
 use Rattle.std.proofs.lemmas.List.Elements.{All-push, All-nil}
 use Rattle.std.proofs.lemmas.List.Quantifiers.{position-Some}
 use Rattle.ext_plan.specs.Plans.{StepKeyText, StepText, put, put_closeable, want, nothing, remove, compute, compute_closeable, compute_fail, fail, abort}
-use Rattle.ext_plan.specs.Laws.{IsLabelBelow, NamesLabelBelow, StayOnPath}
+use Rattle.ext_plan.specs.ReadPlans.{IsLabelBelow, NamesLabelBelow, StayOnPath}
 use Rattle.ext_plan.specs.Steps.{step_key, height, step_limit}
 use Rattle.ext_plan_reading.specs.declared.fault.PlanFault.TheVariants as faults
 use Rattle.ext_plan_reading.specs.Faults.{some_or, check}
-use Rattle.ext_plan_reading.specs.Keys.{label_number}
-use Rattle.ext_plan_reading.specs.Steps.{height_of, key_of_word, key_or_named, key_step, text_step, worded_key_step, worded_text_step, step_of_words, step_of, step_at, steps_after, steps_at}
+use Rattle.ext_plan_reading.specs.KeyReading.{label_number}
+use Rattle.ext_plan_reading.specs.StepReading.{height_of, key_of_word, key_or_named, key_step, text_step, worded_key_step, worded_text_step, step_of_words, step_of, step_at, steps_after, steps_at}
 use Rattle.ext_plan_reading.proofs.Gave.{ok_value, both_gave, was_some, passed}
 
 -- ---- the key that a step names

@@ -3,7 +3,7 @@ use Rattle.std.proofs.Common.{◌≡◌, ◌<◌, ◌≤◌, ℕ, suc, Bool, tru
 use Rattle.std.specs.Prelude.{if◌then◌else◌, ◌==◌, codes}
 use Rattle.std.specs.List.{list_any, slice_split}
 use Rattle.std.specs.Str.{bytes_eq}
-use Rattle.ext_plan_reading.specs.Steps.{heights, height_of, step_of_words, step_of}
+use Rattle.ext_plan_reading.specs.StepReading.{heights, height_of, step_of_words, step_of}
 use Rattle.ext_plan_reading.specs.declared.steps.TheConstants.{HEIGHTS}
 use Rattle.ext_plan_reading.proofs.Lists.{list_any-map, position-map}
 

@@ -6,7 +6,7 @@ use Rattle.std.proofs.Math.Nat.{min-le_left, min-le_right}
 use Rattle.ext_ids.specs.Ids.{pair_eq}
 use Rattle.ext_ids.proofs.Pairs.{pair_eq-Decides}
 use Rattle.ext_tree.specs.Trees.{Id}
-use Rattle.ext_plan.specs.Laws.{IsAtOrBelow}
+use Rattle.ext_plan.specs.ReadPlans.{IsAtOrBelow}
 use Rattle.ext_plan_reading.specs.Depths.{Outline, is_at_or_below, with_depth, least_test_depth}
 
 begins : (above rest : Id) → is_at_or_below above (above ++ rest) ≡ true

@@ -2,16 +2,16 @@
 use Rattle.std.proofs.Common.{◌≡◌, ℕ, List, [], ◌∷◌, ◌++◌, length, Result, Ok, Err, refl}
 use Rattle.toml.specs.Data.{Members}
 use Rattle.ext_plan.specs.Plans.{KeyText, LockText, StepText, NodeText}
-use Rattle.ext_plan.specs.Keys.{labels_of}
+use Rattle.ext_plan.specs.Labels.{labels_of}
 use Rattle.ext_plan_reading.specs.declared.fault.PlanFault.{PlanFault}
 use Rattle.ext_plan_reading.specs.declared.fault.PlanFault.TheVariants as faults
-use Rattle.ext_plan_reading.specs.Locks.{lock_at, locks_after}
+use Rattle.ext_plan_reading.specs.LockReading.{lock_at, locks_after}
 use Rattle.ext_plan_reading.specs.Faults.{Fails}
-use Rattle.ext_plan_reading.specs.Keys.{key_at, keys_after}
-use Rattle.ext_plan_reading.specs.Callbacks.{callbacks_after}
+use Rattle.ext_plan_reading.specs.KeyReading.{key_at, keys_after}
+use Rattle.ext_plan_reading.specs.CallbackReading.{callbacks_after}
 use Rattle.ext_plan_reading.specs.Depths.{least_test_depth}
-use Rattle.ext_plan_reading.specs.Nodes.{Sketch, sketch_at, sketches_after, ids_of, outlines_of, has_children, node_at, nodes_after}
-use Rattle.ext_plan_reading.specs.Steps.{step_at, steps_after, steps_at}
+use Rattle.ext_plan_reading.specs.NodeReading.{Sketch, sketch_at, sketches_after, ids_of, outlines_of, has_children, node_at, nodes_after}
+use Rattle.ext_plan_reading.specs.StepReading.{step_at, steps_after, steps_at}
 
 -- what fails a part fails the whole
 pub Fails-whole : {A B : Type 0} (e : PlanFault) (part : Result A PlanFault) (whole : Result B PlanFault) → (part ≡ Err e → whole ≡ Err e) → Fails e part → Fails e whole

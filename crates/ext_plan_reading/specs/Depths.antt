@@ -1,5 +1,5 @@
 -- How far up the callbacks round tests may go: they run on the context of each test at or below their node, so that the test with the shortest path to the
--- root decides. Own rule.
+-- root decides.
 use Rattle.std.specs.Prelude.{ℕ, min, fold, Bool, true, false, ◌&&◌, List, [], ◌∷◌, length, if◌then◌else◌}
 use Rattle.ext_ids.specs.Ids.{pair_eq}
 use Rattle.ext_tree.specs.Trees.{Id}

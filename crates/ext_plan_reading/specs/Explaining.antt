@@ -1,10 +1,10 @@
--- What a line that explains a fault says: where in the plan the fault is, and then what is meant. Own rule.
+-- What a line that explains a fault says: where in the plan the fault is, and then what is meant.
 use Rattle.std.specs.Prelude.{◌≡◌, ℕ, codes, List, ◌++◌}
 use Rattle.std.specs.Fmt.{decimal}
 use Rattle.ext_plan_reading.specs.declared.fault.PlanFault.{PlanFault}
 use Rattle.ext_plan_reading.specs.declared.fault.Place.{Place}
 use Rattle.ext_plan_reading.specs.declared.fault.Place.TheVariants as places
-use Rattle.ext_plan_reading.specs.Places.{place_of}
+use Rattle.ext_plan_reading.specs.FaultPlaces.{place_of}
 
 -- a place in words
 abbrev pub place_words : Place → List ℕ

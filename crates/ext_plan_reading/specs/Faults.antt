@@ -1,4 +1,4 @@
--- Reading step by step, with the first fault that is met, and what a function answers that may want memory. Own rule.
+-- Reading step by step, with the first fault that is met, and what a function answers that may want memory.
 use Rattle.std.specs.Prelude.{◌≡◌, Bool, true, false, Option, Some, None, Result, Ok, Err}
 use Rattle.ext_plan_reading.specs.declared.fault.PlanFault.{PlanFault}
 use Rattle.ext_plan_reading.specs.declared.fault.PlanFault.TheVariants as faults
@@ -40,8 +40,3 @@ Fails faults.TooMany read = read ≡ Err faults.TooMany
 abbrev pub Gives : {X Y : Type 0} → (X → Y) → Result X PlanFault → Result Y PlanFault → Type 0
 Gives view (Ok x) read = read ≡ Ok (view x)
 Gives view (Err e) read = Fails e read
-
--- The same for what can't be refused.
-abbrev pub GivesAll : {X Y : Type 0} → (X → Y) → Result X PlanFault → Y → Type 0
-GivesAll view (Ok x) read = read ≡ view x
-GivesAll view (Err e) read = e ≡ faults.Memory

@@ -1,4 +1,4 @@
--- The fields of a TOML table, as the kit's `toml` reads it: which there are, and which types they have. Own rule.
+-- The fields of a TOML table, as the kit's `toml` reads it: which there are, and which types they have.
 use Rattle.std.specs.Prelude.{ℕ, Bool, true, false, ◌&&◌, List, [], ◌∷◌, ◌++◌, Option, Some, None, option_and_then, Result, Ok}
 use Rattle.std.specs.List.{list_any}
 use Rattle.std.specs.Str.{bytes_eq}

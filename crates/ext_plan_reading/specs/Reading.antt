@@ -1,18 +1,18 @@
--- Which texts are plans, and of which keys and nodes: the text's TOML document, read in order with the first fault that is met. Own rule.
+-- Which texts are plans, and of which keys and nodes: the text's TOML document, read in order with the first fault that is met.
 use Rattle.std.specs.Prelude.{ℕ, nat_le, Bool, codes, List, [], ◌∷◌, length, Result, Ok}
 use Rattle.toml.specs.Data.{Members, get_member}
 use Rattle.toml.specs.Parse.{parse_document}
 use Rattle.ext_plan.specs.Plans.{PlanText}
-use Rattle.ext_plan.specs.Keys.{labels_of}
-use Rattle.ext_plan.specs.KeyNumbers.{different_keys}
-use Rattle.ext_plan.specs.Locks.{lock_names, lock_limit}
+use Rattle.ext_plan.specs.Labels.{labels_of}
+use Rattle.ext_plan.specs.StoreKeys.{different_keys}
+use Rattle.ext_plan.specs.LockNames.{lock_names, lock_limit}
 use Rattle.ext_plan_reading.specs.declared.fault.PlanFault.{PlanFault}
 use Rattle.ext_plan_reading.specs.declared.fault.PlanFault.TheVariants as faults
 use Rattle.ext_plan_reading.specs.declared.fault.Place.TheVariants as places
 use Rattle.ext_plan_reading.specs.Faults.{some_or, check, ◌>>=◌}
 use Rattle.ext_plan_reading.specs.Fields.{has_only, tables_or_none, truth_or_false}
-use Rattle.ext_plan_reading.specs.Keys.{keys_after}
-use Rattle.ext_plan_reading.specs.Nodes.{nodes_of_tables}
+use Rattle.ext_plan_reading.specs.KeyReading.{keys_after}
+use Rattle.ext_plan_reading.specs.NodeReading.{nodes_of_tables}
 
 abbrev pub top_fields : List (List ℕ)
 top_fields = codes "keep_faults" ∷ codes "key" ∷ codes "node" ∷ []

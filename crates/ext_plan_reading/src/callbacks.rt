@@ -2,9 +2,9 @@
 ghost use Rattle.std.specs.Prelude.{◌≡◌, [], map, option_map};
 ghost use Rattle.toml.specs.View.{table_view};
 ghost use Rattle.ext_plan.specs.Plans.{callbacks_view};
-ghost use Rattle.ext_plan_reading.specs.Callbacks.{are_of_container, callback_texts_at, callbacks_after, callbacks_at, node_callbacks_at};
+ghost use Rattle.ext_plan_reading.specs.CallbackReading.{are_of_container, callback_texts_at, callbacks_after, callbacks_at, node_callbacks_at};
 ghost use Rattle.ext_plan_reading.specs.Faults.{Gives};
-ghost use Rattle.ext_plan_reading.specs.Helpers.{callback_steps_view, callback_texts_view, lists_view, words_view};
+ghost use Rattle.ext_plan_reading.specs.InnerHelpers.{callback_steps_view, callback_texts_view, lists_view, words_view};
 
 use crate::fault::{Place, PlanFault};
 use crate::fields::text_lists_at;
@@ -37,7 +37,7 @@ pub(crate) struct NodeCallbacks {
 
 impl<'a> CallbackSketch<'a> {
     /// The callbacks that the table of a node writes. `node` is its place in the plan.
-    #[tactic(auto, unfolding(crate::specs::Callbacks::callback_texts_at))]
+    #[tactic(auto, unfolding(crate::specs::CallbackReading::callback_texts_at))]
     pub fn of(alloc: Global, node: usize, table: &'a Table) -> Result<CallbackSketch<'a>, PlanFault>
         ensures { Gives callback_texts_view result (callback_texts_at node (table_view table.now)) }
     {
@@ -78,7 +78,7 @@ impl<'a> CallbackSketch<'a> {
 
     /// The callbacks with their steps, where `own` is how many segments the node's id has and `least` how many the id of a
     /// test at or below it has at least. `node` is the node's place in the plan.
-    #[tactic(auto, unfolding(crate::specs::Callbacks::node_callbacks_at))]
+    #[tactic(auto, unfolding(crate::specs::CallbackReading::node_callbacks_at))]
     pub fn read(
         &self,
         alloc: Global,
@@ -112,7 +112,7 @@ fn texts_in<'b, 'a>(lists: &'b Option<Vec<Vec<&'a str>>>) -> &'b [Vec<&'a str>] 
 
 /// The callbacks of a field, if they are not too many. `depth` is how many contexts the shortest path has on which one
 /// runs.
-#[tactic(auto, unfolding(crate::specs::Callbacks::callbacks_at))]
+#[tactic(auto, unfolding(crate::specs::CallbackReading::callbacks_at))]
 fn callbacks_of(
     alloc: Global,
     labels: &Labels<'_>,

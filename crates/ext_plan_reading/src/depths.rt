@@ -2,8 +2,8 @@
 ghost use Rattle.std.specs.Prelude.{◌≡◌, ◌<◌, IfSome, length, map, slice_get};
 ghost use Rattle.ext_ids.specs.Ids.{pair_eq};
 ghost use Rattle.ext_plan_reading.specs.Depths.{is_at_or_below, least_test_depth, with_depth};
-ghost use Rattle.ext_plan_reading.specs.Helpers.{sketch_view};
-ghost use Rattle.ext_plan_reading.specs.Nodes.{outline_of, outlines_of};
+ghost use Rattle.ext_plan_reading.specs.InnerHelpers.{sketch_view};
+ghost use Rattle.ext_plan_reading.specs.NodeReading.{outline_of, outlines_of};
 
 use crate::nodes::NodeSketch;
 use ext_ids::UniqueId;

@@ -1,13 +1,13 @@
 //! Why a text is no plan.
 ghost use Rattle.std.specs.Prelude.{◌≡◌};
-ghost use Rattle.ext_plan_reading.specs.Places.{place_of};
+ghost use Rattle.ext_plan_reading.specs.FaultPlaces.{place_of};
 ghost use Rattle.ext_plan_reading.specs.declared.fault.PlanFault.TheVariants.{Memory};
 
 use std::alloc::{AllocError, AllocFailed};
 use std::fmt;
 use thiserror::Error;
 
-/// Where in a plan a fault is. Keys and nodes are numbered from 0 in the order of the plan. Own rule.
+/// Where in a plan a fault is. Keys and nodes are numbered from 0 in the order of the plan.
 ///
 /// Its text stands behind a code: nothing for the plan as a whole, else as ` key 1` or ` node 2`.
 #[derive(Clone, Copy, Debug, PartialEq, Eq)]
@@ -30,7 +30,7 @@ impl fmt::Display for Place {
     }
 }
 
-/// Why a plan was refused: the first fault of its text, in this order. Own rule.
+/// Why a plan was refused: the first fault of its text, in this order.
 ///
 /// 1. `NotUtf8`, `NotToml`.
 /// 2. `UnknownField`, then `BadField`, of the top fields.
@@ -78,7 +78,7 @@ pub enum PlanFault {
 }
 
 impl PlanFault {
-    /// Where in the plan the fault is. Takes no memory. Own rule.
+    /// Where in the plan the fault is.
     pub fn place(self) -> Place
         ensures { result ≡ place_of self }
     {

@@ -4,9 +4,9 @@ ghost use Rattle.std.specs.Str.{bytes_eq};
 ghost use Rattle.std.specs.List.{list_any};
 ghost use Rattle.toml.specs.View.{view, table_view, items_view};
 ghost use Rattle.toml.specs.Data.{get_member};
-ghost use Rattle.ext_plan_reading.specs.Faults.{Gives, GivesAll};
+ghost use Rattle.ext_plan_reading.specs.Faults.{Gives};
 ghost use Rattle.ext_plan_reading.specs.Fields.{has_only, text_at, texts_in, tables_in, texts_after, tables_after, text_or_none, texts_or_none, text_lists_in, text_lists_after, text_lists_or_none, tables_or_none, truth_or_false};
-ghost use Rattle.ext_plan_reading.specs.Helpers.{lists_view};
+ghost use Rattle.ext_plan_reading.specs.InnerHelpers.{GivesAll, lists_view};
 
 use crate::fault::PlanFault;
 use std::alloc::Global;

@@ -2,10 +2,10 @@
 ghost use Rattle.std.specs.Prelude.{◌≡◌, [], ◌++◌, ◌∷◌, All, map, option_map, IfOk, string_bytes};
 ghost use Rattle.toml.specs.View.{table_view};
 ghost use Rattle.ext_plan.specs.Plans.{texts_view, key_view, keys_view};
-ghost use Rattle.ext_plan.specs.KeyNumbers.{HasParts};
-ghost use Rattle.ext_plan.specs.Keys.{is_word, labels_of};
+ghost use Rattle.ext_plan.specs.StoreKeys.{HasParts};
+ghost use Rattle.ext_plan.specs.Labels.{is_word, labels_of};
 ghost use Rattle.ext_plan_reading.specs.Faults.{Gives};
-ghost use Rattle.ext_plan_reading.specs.Keys.{has_parts, key_at, keys_after};
+ghost use Rattle.ext_plan_reading.specs.KeyReading.{has_parts, key_at, keys_after};
 
 use crate::fault::{Place, PlanFault};
 use crate::fields::{has_only, text_at, text_if_given, texts_at};
@@ -40,7 +40,7 @@ pub(crate) fn keys_of<'a>(alloc: Global, tables: &[&'a Table]) -> Result<Keys<'a
 }
 
 /// The key that a table writes. `number` is its place in the plan. Its label is added to the labels.
-#[tactic(auto, unfolding(crate::specs::Keys::key_at))]
+#[tactic(auto, unfolding(crate::specs::KeyReading::key_at))]
 fn key_of<'a>(
     alloc: Global,
     labels: &mut Labels<'a>,

@@ -1,7 +1,7 @@
 //! The labels of a plan's keys, each found without going over the others.
 ghost use Rattle.std.specs.Prelude.{◌≡◌, ◌++◌, ◌∷◌, [], not, length, if◌then◌else◌, is_ok, IfOk};
-ghost use Rattle.ext_plan.specs.Keys.{is_label};
-ghost use Rattle.ext_plan_reading.specs.Keys.{label_number};
+ghost use Rattle.ext_plan.specs.Labels.{is_label};
+ghost use Rattle.ext_plan_reading.specs.KeyReading.{label_number};
 
 use std::alloc::{AllocFailed, Global};
 use std::collections::BTreeMap;
@@ -17,8 +17,8 @@ pub(crate) struct Labels<'a> {
 
 impl<'a> Model for Labels<'a> {
     ghost use Rattle.std.specs.Prelude.{ℕ, List, map, ◌≡◌};
-    ghost use Rattle.ext_plan_reading.specs.Keys.{label_number};
-    ghost use Rattle.ext_plan_reading.specs.Helpers.{number_in};
+    ghost use Rattle.ext_plan_reading.specs.KeyReading.{label_number};
+    ghost use Rattle.ext_plan_reading.specs.InnerHelpers.{number_in};
 
     ghost Value = { List (List ℕ) };
 

@@ -2,7 +2,10 @@
 //! fault that it has.
 //!
 //! `read_plan` reads, `Plan` is what was read, `PlanFault` is why a text was refused, and `explain` says what is meant by it. What a
-//! plan is stands in `ext_plan`, whose public names stand here too. Own rule.
+//! plan is stands in `ext_plan`, whose public names stand here too.
+//!
+//! Unless its comment says otherwise, a public call takes no memory and waits for nobody. JUnit has
+//! no plans: what names no source in it is an own rule.
 #![tactic(auto)]
 
 mod callbacks;

@@ -1,9 +1,10 @@
 //! The resource locks that the nodes of a plan name.
 ghost use Rattle.std.specs.Prelude.{◌≡◌, [], map, fold, option_map, length, nat_le, IfErr, OnOk};
 ghost use Rattle.ext_plan.specs.Plans.{lock_view, locks_view, nodes_view};
-ghost use Rattle.ext_plan.specs.Locks.{lock_limit, lock_name, lock_names, with_name};
-ghost use Rattle.ext_plan_reading.specs.Faults.{Gives, GivesAll};
-ghost use Rattle.ext_plan_reading.specs.Locks.{lock_at, lock_named, lock_of, lock_of_words, locks_after, locks_at};
+ghost use Rattle.ext_plan.specs.LockNames.{lock_limit, lock_name, lock_names, with_name};
+ghost use Rattle.ext_plan_reading.specs.Faults.{Gives};
+ghost use Rattle.ext_plan_reading.specs.InnerHelpers.{GivesAll};
+ghost use Rattle.ext_plan_reading.specs.LockReading.{lock_at, lock_named, lock_of, lock_of_words, locks_after, locks_at};
 
 use crate::fault::PlanFault;
 use crate::labels::Labels;
@@ -15,7 +16,7 @@ use std::alloc::Global;
 const LOCK_LIMIT: usize = 63;
 
 /// The locks of a node, in order. `node` is its place in the plan.
-#[tactic(auto, unfolding(crate::specs::Locks::locks_at))]
+#[tactic(auto, unfolding(crate::specs::LockReading::locks_at))]
 pub(crate) fn locks_of(
     alloc: Global,
     node: usize,
@@ -42,7 +43,7 @@ fn locks_in_order(alloc: Global, node: usize, texts: &[&str]) -> Result<Vec<Plan
 }
 
 /// The lock that a text of a node is, if it is one.
-#[tactic(auto, unfolding(crate::specs::Locks::lock_at))]
+#[tactic(auto, unfolding(crate::specs::LockReading::lock_at))]
 pub(crate) fn lock_at(alloc: Global, node: usize, text: &str) -> Result<PlanLock, PlanFault>
     ensures { Gives lock_view result (lock_at node text.now) }
 {
@@ -53,7 +54,7 @@ pub(crate) fn lock_at(alloc: Global, node: usize, text: &str) -> Result<PlanLock
 }
 
 /// The lock that a text is, if it is one.
-#[tactic(auto, unfolding(crate::specs::Locks::lock_of))]
+#[tactic(auto, unfolding(crate::specs::LockReading::lock_of))]
 fn lock_of(alloc: Global, text: &str) -> Result<Option<PlanLock>, PlanFault>
     ensures { GivesAll (option_map lock_view) result (lock_of text.now) }
 {

@@ -1,7 +1,7 @@
 //! The modes of a plan's nodes.
 ghost use Rattle.std.specs.Prelude.{◌≡◌, option_map};
 ghost use Rattle.ext_plan_reading.specs.Faults.{Gives};
-ghost use Rattle.ext_plan_reading.specs.Modes.{mode_at, mode_of};
+ghost use Rattle.ext_plan_reading.specs.ModeReading.{mode_at, mode_of};
 
 use crate::fault::PlanFault;
 use ext_lifecycle::Mode;

@@ -4,9 +4,9 @@ ghost use Rattle.toml.specs.View.{table_view};
 ghost use Rattle.ext_ids.specs.Reading.{read_id};
 ghost use Rattle.ext_tree.specs.Decided.{is_tree};
 ghost use Rattle.ext_plan.specs.Plans.{node_view, nodes_view, steps_view};
-ghost use Rattle.ext_plan_reading.specs.Helpers.{sketch_view};
+ghost use Rattle.ext_plan_reading.specs.InnerHelpers.{sketch_view};
 ghost use Rattle.ext_plan_reading.specs.Faults.{check, Gives};
-ghost use Rattle.ext_plan_reading.specs.Nodes.{id_or, sketch_at, sketches_after, ids_of, is_bad_test, test_at, node_at, nodes_after, nodes_of_tables};
+ghost use Rattle.ext_plan_reading.specs.NodeReading.{id_or, sketch_at, sketches_after, ids_of, is_bad_test, test_at, node_at, nodes_after, nodes_of_tables};
 
 use crate::callbacks::CallbackSketch;
 use crate::depths::least_test_depth;
@@ -47,7 +47,7 @@ pub(crate) struct NodeSketch<'a> {
 }
 
 /// The nodes that the tables write, in order.
-#[tactic(auto, unfolding(crate::specs::Nodes::nodes_of_tables))]
+#[tactic(auto, unfolding(crate::specs::NodeReading::nodes_of_tables))]
 pub(crate) fn nodes_of_tables(
     alloc: Global,
     labels: &Labels<'_>,
@@ -77,7 +77,7 @@ pub(crate) fn sketches_of<'a>(
 }
 
 /// The node that a table writes. `node` is its place in the plan.
-#[tactic(auto, unfolding(crate::specs::Nodes::sketch_at))]
+#[tactic(auto, unfolding(crate::specs::NodeReading::sketch_at))]
 fn sketch_of<'a>(alloc: Global, node: usize, table: &'a Table) -> Result<NodeSketch<'a>, PlanFault>
     ensures { Gives sketch_view result (sketch_at node (table_view table.now)) }
 {
@@ -169,7 +169,7 @@ fn nodes_of(
 
 /// The node of a sketch, where `least` is how many segments the id of a test at or below it has at least. A test that is a
 /// parent or has callbacks of one is refused before its mode and locks are read, and these before its steps.
-#[tactic(auto, unfolding(crate::specs::Nodes::node_at))]
+#[tactic(auto, unfolding(crate::specs::NodeReading::node_at))]
 fn node_of(
     alloc: Global,
     labels: &Labels<'_>,
@@ -209,7 +209,7 @@ fn is_bad_test(is_parent: bool, sketch: &NodeSketch<'_>) -> bool
 }
 
 /// The steps of a node, if it is a test. `depth` is how many segments its id has.
-#[tactic(auto, unfolding(crate::specs::Nodes::test_at))]
+#[tactic(auto, unfolding(crate::specs::NodeReading::test_at))]
 fn test_of(
     alloc: Global,
     labels: &Labels<'_>,

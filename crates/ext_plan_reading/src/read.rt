@@ -2,7 +2,7 @@
 ghost use Rattle.std.specs.Prelude.{◌≡◌, ◌≢◌, Err, map, IfOk};
 ghost use Rattle.toml.specs.View.{table_view};
 ghost use Rattle.ext_plan.specs.Plans.{plan_view};
-ghost use Rattle.ext_plan.specs.Laws.{NodesAreTree, TestsHaveNoChildren, HasFewKeys, HasFewLocks, HasOwnLabels, NamespacesHaveParts, StepsNameLabels, StepsStayBelowRoot, StepListsAreShort, CallbacksAreFew, TestsHaveNoContainerCallbacks};
+ghost use Rattle.ext_plan.specs.ReadPlans.{IsReadPlan};
 ghost use Rattle.ext_plan_reading.specs.Faults.{Gives};
 ghost use Rattle.ext_plan_reading.specs.Reading.{plan_of, plan_of_tables, plan_of_text};
 
@@ -14,7 +14,7 @@ use ext_plan::{Plan, keys_are_few};
 use std::alloc::Global;
 use toml::Table;
 
-/// Reads the plan that the text of a TOML document writes. Own rule.
+/// Reads the plan that the text of a TOML document writes.
 ///
 /// The plan has the text's keys, nodes, callbacks and steps, each in the order of the text. The document has two arrays of
 /// tables, which may be left out.
@@ -53,17 +53,7 @@ pub fn read_plan(alloc: Global, text: &str) -> Result<Plan, PlanFault>
     ensures utf8 { result ≢ Err PlanFault.NotUtf8 }
 
     // What holds of every plan, whatever the text was.
-    ensures tree { IfOk result (λ p. NodesAreTree (plan_view p)) }
-    ensures tests { IfOk result (λ p. TestsHaveNoChildren (plan_view p)) }
-    ensures different { IfOk result (λ p. HasFewKeys (plan_view p)) }
-    ensures labels { IfOk result (λ p. HasOwnLabels (plan_view p)) }
-    ensures namespaces { IfOk result (λ p. NamespacesHaveParts (plan_view p)) }
-    ensures keys { IfOk result (λ p. StepsNameLabels (plan_view p)) }
-    ensures up { IfOk result (λ p. StepsStayBelowRoot (plan_view p)) }
-    ensures locks { IfOk result (λ p. HasFewLocks (plan_view p)) }
-    ensures containers { IfOk result (λ p. TestsHaveNoContainerCallbacks (plan_view p)) }
-    ensures few { IfOk result (λ p. CallbacksAreFew (plan_view p)) }
-    ensures short { IfOk result (λ p. StepListsAreShort (plan_view p)) }
+    ensures plan { IfOk result (λ p. IsReadPlan (plan_view p)) }
 {
     match toml::table_from_str(alloc, text) {
         Ok(top) => plan_of(alloc, &top),

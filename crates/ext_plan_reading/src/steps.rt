@@ -4,8 +4,9 @@ ghost use Rattle.std.specs.List.{slice_split, list_any};
 ghost use Rattle.std.specs.Str.{bytes_eq};
 ghost use Rattle.ext_plan.specs.Plans.{step_key_view, step_view, steps_view};
 ghost use Rattle.ext_plan.specs.Steps.{height};
-ghost use Rattle.ext_plan_reading.specs.Faults.{Gives, GivesAll};
-ghost use Rattle.ext_plan_reading.specs.Steps.{height_of, key_of_word, key_step, text_step, worded_key_step, worded_text_step, short_step, step_of_words, step_of, step_at, steps_after, steps_at};
+ghost use Rattle.ext_plan_reading.specs.Faults.{Gives};
+ghost use Rattle.ext_plan_reading.specs.InnerHelpers.{GivesAll};
+ghost use Rattle.ext_plan_reading.specs.StepReading.{height_of, key_of_word, key_step, text_step, worded_key_step, worded_text_step, short_step, step_of_words, step_of, step_at, steps_after, steps_at};
 
 use crate::fault::PlanFault;
 use crate::labels::Labels;
@@ -23,7 +24,7 @@ const STEP_LIMIT: usize = 4_294_967_295;
 
 /// The steps that the texts of a test or a callback are, in order, if they are not too many. `node` is the place of its
 /// node in the plan, and `depth` how many segments the id of a test or container in which it runs has at least.
-#[tactic(auto, unfolding(crate::specs::Steps::steps_at))]
+#[tactic(auto, unfolding(crate::specs::StepReading::steps_at))]
 pub(crate) fn steps_of(
     alloc: Global,
     labels: &Labels<'_>,
@@ -58,7 +59,7 @@ fn steps_in_order(
 }
 
 /// The step that a text of a node is, if it is one that stays below the root.
-#[tactic(auto, unfolding(crate::specs::Steps::step_at))]
+#[tactic(auto, unfolding(crate::specs::StepReading::step_at))]
 pub(crate) fn step_at(
     alloc: Global,
     labels: &Labels<'_>,
@@ -96,7 +97,7 @@ fn height(step: &Step) -> usize
 }
 
 /// The step that a text is, if it is one.
-#[tactic(auto, unfolding(crate::specs::Steps::step_of))]
+#[tactic(auto, unfolding(crate::specs::StepReading::step_of))]
 pub(crate) fn step_of(
     alloc: Global,
     labels: &Labels<'_>,

@@ -2,8 +2,8 @@
 use Rattle.std.proofs.Common.{◌≡◌, ℕ, ◌+◌, List, [], ◌∷◌, cond, fold, is_some, refl}
 use Rattle.std.specs.Prelude.{option_map}
 use Rattle.std.specs.List.{count_by}
-use Rattle.ext_plan.specs.declared.plan.PlanNode.{PlanNode}
-use Rattle.ext_plan.specs.Plans.{nodes_view, steps_view}
+use Rattle.ext_plan_reading.specs.PlanNode.{PlanNode}
+use Rattle.ext_plan_reading.specs.Plans.{nodes_view, steps_view}
 use Rattle.ext_plain.proofs.Outcomes.{is_some-map}
 use Rattle.ext_run.specs.Checks.{test_count}
 

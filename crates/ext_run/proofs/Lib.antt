@@ -1,4 +1,4 @@
 pub mod ReadBytes
 pub mod Elements
-pub mod RunAnswers
+pub mod RunReports
 mod CheckCounts

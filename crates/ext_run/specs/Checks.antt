@@ -1,11 +1,10 @@
--- What is written of a plan that was read and is not run: how many nodes it has, how many of them are tests, and how many `[[key]]` tables. Numbers are decimal. Own
--- rule.
+-- What is written of a plan that was read and is not run: how many nodes it has, how many of them are tests, and how many `[[key]]` tables. Numbers are decimal.
 use Rattle.std.specs.Prelude.{◌≡◌, ℕ, true, codes, List, ◌++◌, length, is_some, Result, Ok, Err}
 use Rattle.std.specs.Fmt.{decimal}
 use Rattle.std.specs.List.{count_by}
-use Rattle.ext_plan.specs.Plans.{NodeText, PlanText}
+use Rattle.ext_plan_reading.specs.Plans.{NodeText, PlanText}
 use Rattle.ext_run.specs.declared.fault.RunFault.{RunFault}
-use Rattle.ext_run.specs.Answers.{RefusedAs}
+use Rattle.ext_run.specs.Reports.{RefusedAs}
 
 -- how many of the nodes are tests
 abbrev pub test_count : List NodeText → ℕ
@@ -24,8 +23,3 @@ IsCountsOf (Err fault) line = ⊥
 -- it is refused as a plain run of it would be
 abbrev pub RefusedUnrun : RunFault → Result PlanText RunFault → Type 0
 RefusedUnrun fault read = RefusedAs (record { lanes = 1; plain = true }) fault read
-
--- what a function returned is the line of what was read, or a fault that goes with it
-abbrev pub ChecksAs : {X : Type 0} → (X → List ℕ) → Result X RunFault → Result PlanText RunFault → Type 0
-ChecksAs view (Ok x) read = IsCountsOf read (view x)
-ChecksAs view (Err fault) read = RefusedUnrun fault read

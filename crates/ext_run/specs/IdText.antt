@@ -1,4 +1,4 @@
--- What is printed of an id: a line for each segment, its type and its value, decoded, with a space between; and then the id as it is written. Own rule.
+-- What is printed of an id: a line for each segment, its type and its value, decoded, with a space between; and then the id as it is written.
 use Rattle.std.specs.Prelude.{ℕ, codes, List, ◌++◌}
 use Rattle.std.specs.List.{flat_map}
 use Rattle.ext_ids.specs.Grammar.{Pair, id_text}

@@ -1,5 +1,5 @@
-pub mod Answers
+pub mod Reports
 pub mod Checks
 pub mod IdText
 pub mod Requests
-pub mod Helpers
+pub mod InnerHelpers

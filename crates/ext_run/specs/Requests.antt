@@ -1,5 +1,5 @@
 -- What a request to a program over this crate ends with, and its exit status. It is 0 where the request was done and no node failed, 1 where one did; 2 where the command line, the plan or the id is
--- refused, and 3 where the work itself failed. Own rule.
+-- refused, and 3 where the work itself failed.
 use Rattle.std.specs.Prelude.{◌≡◌, ◌≢◌, ℕ, List, Result, Ok, Err, if◌then◌else◌}
 use Rattle.ext_ids.specs.declared.fault.IdFault.TheVariants as ids
 use Rattle.ext_ids.specs.Faults.{HasFault}

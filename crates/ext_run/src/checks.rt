@@ -1,9 +1,10 @@
 //! Reading a plan without running it.
 ghost use Rattle.std.specs.Prelude.{◌≡◌, ◌≢◌, ◌≤◌, ◌+◌, ℕ, List, length, string_bytes, IfOk, IfErr, IfSome, OnOk};
 ghost use Rattle.std.specs.Io.KnownBytes.{Consumes, Appends};
-ghost use Rattle.ext_plan.specs.Plans.{nodes_view, plan_view};
-ghost use Rattle.ext_run.specs.Answers.{input_limit, plan_of_bytes, plan_of_input};
-ghost use Rattle.ext_run.specs.Checks.{ChecksAs, counts_line, IsCountsOf, RefusedUnrun, test_count};
+ghost use Rattle.ext_plan_reading.specs.Plans.{nodes_view, plan_view};
+ghost use Rattle.ext_run.specs.Reports.{input_limit, plan_of_bytes, plan_of_input};
+ghost use Rattle.ext_run.specs.Checks.{counts_line, IsCountsOf, RefusedUnrun, test_count};
+ghost use Rattle.ext_run.specs.InnerHelpers.{ChecksAs};
 
 use crate::fault::RunFault;
 use crate::input::read_input;
@@ -13,12 +14,12 @@ use std::alloc::{AllocError, Global};
 use std::io::{Read, Write};
 
 /// Reads a plan and writes, in one line, how many nodes, tests and `[[key]]` tables it has, as `ok, 7 nodes, 3 tests, 2 keys`; it is not run. Two labels of one key
-/// are two of its `[[key]]` tables. Own rule.
+/// are two of its `[[key]]` tables.
 ///
 /// It reads as `run` does, and is refused as a plain run of the plan is: with `Read`, `TooLong`, `Plan` or `Memory`, with nothing written, or with `Write`.
 ///
 /// Takes memory for the input, the plan and the line, and gives all of it back. It waits where the reader and the writer do.
-#[tactic(auto, unfolding(crate::specs::Answers::plan_of_input))]
+#[tactic(auto, unfolding(crate::specs::Reports::plan_of_input))]
 pub fn check<I: Read, W: Write>(
     alloc: Global,
     reader: &mut I,
@@ -39,7 +40,7 @@ pub fn check<I: Read, W: Write>(
 }
 
 /// The line of the plan that the bytes write.
-#[tactic(auto, unfolding(crate::specs::Answers::plan_of_bytes))]
+#[tactic(auto, unfolding(crate::specs::Reports::plan_of_bytes))]
 fn line_of(alloc: Global, input: &[u8]) -> Result<String, RunFault>
     ensures { ChecksAs string_bytes result (plan_of_bytes input.now) }
 {

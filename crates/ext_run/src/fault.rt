@@ -2,12 +2,12 @@
 ghost use Rattle.std.specs.Prelude.{◌≡◌};
 ghost use Rattle.ext_run.specs.declared.fault.RunFault.TheVariants.{Memory};
 
-use ext_engine::EngineFault;
+use ext_parallel::EngineFault;
 use ext_plan_reading::PlanFault;
 use std::alloc::AllocError;
 use thiserror::Error;
 
-/// Why a run gave no report. The text of a fault is its line on standard error. Own rule.
+/// Why a run gave no report. The text of a fault is its line on standard error.
 ///
 /// After `Write` some of the report may have been written, and nothing tells how much. After each other
 /// fault nothing was written.

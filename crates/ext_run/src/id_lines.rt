@@ -19,7 +19,7 @@ use std::io::Write;
 /// The id that a text spells, in lines: `TYPE VALUE` for each segment, decoded, and then the id as it is written.
 ///
 /// Refused for the text's first fault, I1 to I8; `Memory` (I9) comes only where the text is an id. Takes memory for
-/// the id and the lines. Own rule.
+/// the id and the lines.
 pub fn id_text(alloc: Global, text: &str) -> Result<String, IdFault>
     ensures found { IfOk result (λ lines. (pairs : List Pair) × IsIdText text.now pairs × (string_bytes lines ≡ id_lines pairs)) }
     ensures only { (pairs : List Pair) → IsIdText text.now pairs → MatchResult result (λ lines. string_bytes lines ≡ id_lines pairs) (λ e. e ≡ Memory) }
@@ -32,8 +32,8 @@ pub fn id_text(alloc: Global, text: &str) -> Result<String, IdFault>
 
 /// Writes the segments of the id that a text spells, and the id again, as `id_text` gives them: the request to read an id.
 ///
-/// Refused as `Id` where the text is none, for its first fault, or memory was refused, with nothing written, and as
-/// `Run` with `Write` where the writer failed. Takes memory, all of which it gives back, and waits where the writer does. Own rule.
+/// Refused as `Id` where the text is none, for its first fault, or memory was refused, with nothing written, and as `Run` with
+/// `Write` where the writer failed. Takes memory, all of which it gives back, and waits where the writer does.
 pub fn read_id<W: Write>(alloc: Global, writer: &mut W, text: &str) -> Result<Summary, RequestFault>
     ensures done { IfOk result (λ summary. summary.failed ≡ false) }
     ensures written { OnOk result ((pairs : List Pair)

@@ -1,8 +1,8 @@
 //! Reading a plan's bytes.
 ghost use Rattle.std.specs.Prelude.{◌≡◌, ℕ, ◌+◌, ◌<◌, ◌≤◌, List, length, vec_len, IfOk, IfErr, IfSome, Err};
 ghost use Rattle.std.specs.Io.KnownBytes.{Consumes};
-ghost use Rattle.ext_run.specs.Answers.{input_limit, IsReadFault};
-ghost use Rattle.ext_run.specs.Helpers.{Reads};
+ghost use Rattle.ext_run.specs.Reports.{input_limit, IsReadFault};
+ghost use Rattle.ext_run.specs.InnerHelpers.{Reads};
 
 use crate::fault::RunFault;
 use std::alloc::Global;
@@ -14,7 +14,8 @@ const INPUT_LIMIT: usize = 1_048_576;
 /// How many bytes are read at once.
 const CHUNK: usize = 4096;
 
-/// Reads to the end, but at most one byte past the limit of a plan, 1,048,576 bytes: what `run` and `check` do first. Own rule.
+/// Reads to the end, but at most one byte past the limit of a plan, 1,048,576 bytes: what `run` and `check` do first.
+/// Takes memory for what it reads.
 ///
 /// Refused as `Read` where a read failed, which ends it, as `TooLong` where the input goes past the limit, and as `Memory` where that is refused for it. It waits
 /// where the reader does.

@@ -2,9 +2,12 @@
 //!
 //! `run` reads a plan, runs it on several lanes over a store for several threads (`ext_parallel`), or on one thread over the one-thread store
 //! (`ext_plain`), and writes the report of this run. A plan that is refused, or a device that fails, is a `RunFault`. What a run answers to its
-//! input stands in `specs/Answers.antt`. `check` reads a plan and does not run it; `read_input` and `explain` are for those who tell more of a plan
-//! that was refused. `read_id` writes the lines of an id, and `status_of` is the exit status of a program that is asked for any of this.
-//! The names of `ext_plan_reading`, `ext_plain`, `ext_lifecycle` and `ext_report` that callers need stand here too. Own rule.
+//! input stands in `specs/Reports.antt`. `check` reads a plan and does not run it; `read_input` and `explain` are for those who tell more of a plan
+//! that was refused. `read_id` writes the lines of an id, and `status_of` is the exit status of a program that is asked for any of this. The names
+//! of `ext_plan_reading`, `ext_plain`, `ext_lifecycle` and `ext_report` that callers need stand here too.
+//!
+//! Unless its comment says otherwise, a public call takes no memory and waits for nobody. JUnit has
+//! no plans: what is said here is an own rule.
 #![tactic(auto)]
 
 mod checks;

@@ -1,7 +1,7 @@
 //! How a plan is run, and what became of its run.
 ghost use Rattle.std.specs.Prelude.{◌≡◌, false};
 
-/// How a plan is run. Own rule.
+/// How a plan is run.
 #[derive(Clone, Copy, Debug, PartialEq, Eq)]
 pub struct Options {
     /// How many lanes run the plan, each at most by one thread: 1 to 16. It has no effect on a plain run.
@@ -10,7 +10,7 @@ pub struct Options {
     pub plain: bool,
 }
 
-/// What became of a request that was done: a run whose report was written, or another one, in which no node fails. Own rule.
+/// What became of a request that was done: a run whose report was written, or another one, in which no node fails.
 #[derive(Clone, Copy, Debug, PartialEq, Eq)]
 pub struct Summary {
     /// Whether a node failed, be it a test or a container.
@@ -21,7 +21,7 @@ pub struct Summary {
 }
 
 impl Summary {
-    /// Of a request that was done and runs no step. Takes no memory. Own rule.
+    /// Of a request that was done and runs no step.
     pub fn done() -> Summary
         ensures { result ≡ record { failed = false; lacked = false } }
     {

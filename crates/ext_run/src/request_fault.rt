@@ -6,7 +6,7 @@ use crate::fault::RunFault;
 use crate::options::Summary;
 use ext_ids::IdFault;
 
-/// Why a request was not done. Own rule.
+/// Why a request was not done.
 #[derive(Clone, Copy, Debug, PartialEq, Eq)]
 pub enum RequestFault {
     /// The command line is refused. What is wrong with it has been printed.
@@ -20,7 +20,7 @@ pub enum RequestFault {
 /// The exit status of a request: 0 where it was done and no node failed, 1 where one did, 2 where the command line, the plan
 /// or the id is refused, and 3 where reading, writing or memory failed, or a context could not be closed.
 ///
-/// That memory was refused while an id or a plan was read is status 2, as all their faults. Takes no memory. Own rule.
+/// That memory was refused while an id or a plan was read is status 2, as all their faults.
 pub fn status_of(outcome: &Result<Summary, RequestFault>) -> u8
     ensures { result ≡ status_of outcome.now }
 {

@@ -1,18 +1,18 @@
 //! What a run of a plan tells of its nodes.
 ghost use Rattle.std.specs.Prelude.{◌≡◌, ◌≤◌, ◌<◌, false, length, IfOk, IfErr, All};
-ghost use Rattle.ext_plan.specs.Laws.{CallbacksAreFew, HasFewLocks, NamespacesHaveParts, NodesAreTree, StepListsAreShort, TestsHaveNoChildren, ids_of_nodes};
-ghost use Rattle.ext_plan.specs.Plans.{plan_view};
+ghost use Rattle.ext_plan_reading.specs.ReadPlans.{IsRunnablePlan, ids_of_nodes};
+ghost use Rattle.ext_plan_reading.specs.Plans.{plan_view};
 ghost use Rattle.ext_lifecycle.specs.FaultTexts.{results_view};
 ghost use Rattle.ext_plain.specs.PlainRun.{ArePlain};
-ghost use Rattle.ext_run.specs.Answers.{IsRunAs};
-ghost use Rattle.ext_run.specs.Helpers.{IsPlanFault};
+ghost use Rattle.ext_run.specs.Reports.{IsRunAs};
+ghost use Rattle.ext_run.specs.InnerHelpers.{IsPlanFault};
 
 use crate::fault::RunFault;
 use crate::options::Options;
 use ext_lifecycle::{NodeResult, RunListener};
 use ext_parallel::parallel_results;
 use ext_plain::run_plain;
-use ext_plan::Plan;
+use ext_plan_reading::Plan;
 use ext_tree::Tree;
 use std::alloc::{AllocError, Global};
 use std::sync::Wait;
@@ -35,13 +35,8 @@ pub(crate) fn results_of<R: Threads + Wait + Sync, L: RunListener + Sync>(
     listener: &L,
 ) -> Result<PlanResults, RunFault>
     requires lanes { options.plain ≡ false → (1 ≤ options.lanes) × (options.lanes ≤ 16) }
-    requires tree { NodesAreTree (plan_view plan.now) }
+    requires runnable { IsRunnablePlan (plan_view plan.now) }
     requires contexts { tree.now ≡ ids_of_nodes (plan_view plan.now).nodes }
-    requires tests { TestsHaveNoChildren (plan_view plan.now) }
-    requires locks { HasFewLocks (plan_view plan.now) }
-    requires namespaces { NamespacesHaveParts (plan_view plan.now) }
-    requires short { StepListsAreShort (plan_view plan.now) }
-    requires few { CallbacksAreFew (plan_view plan.now) }
     ensures run { IfOk result (λ told. IsRunAs options (plan_view plan.now) (results_view told.results.items) told.lacked) }
     ensures in_tree { IfOk result (λ told. All (λ r. r.node < length tree.now) told.results.items) }
     ensures fault { IfErr result (IsPlanFault options (plan_view plan.now)) }
@@ -65,11 +60,8 @@ fn plain_results<L: RunListener>(
     tree: &Tree,
     listener: &L,
 ) -> Result<PlanResults, AllocError>
-    requires tree { NodesAreTree (plan_view plan.now) }
+    requires runnable { IsRunnablePlan (plan_view plan.now) }
     requires contexts { tree.now ≡ ids_of_nodes (plan_view plan.now).nodes }
-    requires namespaces { NamespacesHaveParts (plan_view plan.now) }
-    requires short { StepListsAreShort (plan_view plan.now) }
-    requires few { CallbacksAreFew (plan_view plan.now) }
     ensures run { IfOk result (λ told. ArePlain (plan_view plan.now) (results_view told.results.items) told.lacked) }
     ensures in_tree { IfOk result (λ told. All (λ r. r.node < length tree.now) told.results.items) }
 {

@@ -1,12 +1,12 @@
 //! A run from the bytes of a plan to those of its report.
 ghost use Rattle.std.specs.Prelude.{◌≡◌, ◌≢◌, ◌≤◌, ◌<◌, ◌+◌, ℕ, false, List, length, string_bytes, IfOk, IfErr, IfSome, OnOk, All};
 ghost use Rattle.std.specs.Io.KnownBytes.{Consumes, Appends};
-ghost use Rattle.ext_plan.specs.Plans.{plan_view};
-ghost use Rattle.ext_plan.specs.Laws.{CallbacksAreFew, HasFewLocks, NamespacesHaveParts, NodesAreTree, StepListsAreShort, TestsHaveNoChildren};
+ghost use Rattle.ext_plan_reading.specs.Plans.{plan_view};
+ghost use Rattle.ext_plan_reading.specs.ReadPlans.{IsRunnablePlan};
 ghost use Rattle.ext_lifecycle.specs.FaultTexts.{results_view};
 ghost use Rattle.ext_report.specs.Report.{report_of};
-ghost use Rattle.ext_run.specs.Answers.{input_limit, Answers, IsAnswerTo, plan_of_bytes, plan_of_input, RefusedAs};
-ghost use Rattle.ext_run.specs.Helpers.{output_view, AnswersAs, IsPlanFault};
+ghost use Rattle.ext_run.specs.Reports.{input_limit, IsReportOf, plan_of_bytes, plan_of_input, RefusedAs, Reports};
+ghost use Rattle.ext_run.specs.InnerHelpers.{output_view, IsPlanFault, ReportsAs};
 
 use crate::fault::RunFault;
 use crate::input::read_input;
@@ -29,7 +29,7 @@ struct Output {
     lacked: bool,
 }
 
-/// Reads a plan, runs it and writes the report of its run, and nothing else. Own rule.
+/// Reads a plan, runs it and writes the report of its run, and nothing else.
 ///
 /// With `plain` the plan is run on this thread over the one-thread store: its plain run, which has one report where memory suffices. Else it is run on so
 /// many lanes, 1 to 16, each at most by one thread, over a store for several threads (`ext_parallel::parallel_results`). In either run a step for which memory
@@ -62,7 +62,7 @@ pub fn run<R: Threads + Wait + Sync, I: Read, W: Write>(
 ) -> Result<Summary, RunFault>
     requires lanes { options.plain ≡ false → (1 ≤ options.lanes) × (options.lanes ≤ 16) }
     ensures written { IfOk result (λ summary. IfSome (I.remaining reader.old) (λ input. (report : List ℕ)
-        × Answers options (plan_of_input input) (record { report = report; failed = summary.failed; lacked = summary.lacked })
+        × Reports options (plan_of_input input) (record { report = report; failed = summary.failed; lacked = summary.lacked })
         × Appends (W.contents writer.old) (W.contents writer.new) report)) }
     ensures refused { IfErr result (λ fault. IfSome (I.remaining reader.old)
         (λ input. RefusedAs options fault (plan_of_input input))) }
@@ -73,10 +73,10 @@ pub fn run<R: Threads + Wait + Sync, I: Read, W: Write>(
     run_with_listener(rt, alloc, reader, writer, options, &NoListener)
 }
 
-/// Does what `run` does, by the same contract, and tells the listener of each node that has ended. Own rule.
+/// Does what `run` does, by the same contract, and tells the listener of each node that has ended.
 ///
 /// The listener is told from the threads that run the nodes, and has no effect on what is written.
-#[tactic(auto, unfolding(crate::specs::Answers::plan_of_input))]
+#[tactic(auto, unfolding(crate::specs::Reports::plan_of_input))]
 pub fn run_with_listener<R: Threads + Wait + Sync, I: Read, W: Write, L: RunListener + Sync>(
     rt: &R,
     alloc: Global,
@@ -87,7 +87,7 @@ pub fn run_with_listener<R: Threads + Wait + Sync, I: Read, W: Write, L: RunList
 ) -> Result<Summary, RunFault>
     requires lanes { options.plain ≡ false → (1 ≤ options.lanes) × (options.lanes ≤ 16) }
     ensures written { IfOk result (λ summary. IfSome (I.remaining reader.old) (λ input. (report : List ℕ)
-        × Answers options (plan_of_input input) (record { report = report; failed = summary.failed; lacked = summary.lacked })
+        × Reports options (plan_of_input input) (record { report = report; failed = summary.failed; lacked = summary.lacked })
         × Appends (W.contents writer.old) (W.contents writer.new) report)) }
     ensures refused { IfErr result (λ fault. IfSome (I.remaining reader.old)
         (λ input. RefusedAs options fault (plan_of_input input))) }
@@ -96,7 +96,7 @@ pub fn run_with_listener<R: Threads + Wait + Sync, I: Read, W: Write, L: RunList
         × Consumes (I.remaining reader.old) (I.remaining reader.new) bytes }
 {
     let input = read_input(alloc, reader)?;
-    let output = answer(rt, alloc, input.as_slice(), options, listener)?;
+    let output = output_for(rt, alloc, input.as_slice(), options, listener)?;
     write_whole(writer, output.report.as_bytes())?;
     Ok(Summary {
         failed: output.failed,
@@ -104,7 +104,7 @@ pub fn run_with_listener<R: Threads + Wait + Sync, I: Read, W: Write, L: RunList
     })
 }
 
-/// The report of results, each of a context of the tree, as `ext_report::report_text` gives it. Own rule.
+/// The report of results, each of a context of the tree, as `ext_report::report_text` gives it.
 ///
 /// Takes memory for the text. Refused as `Memory` alone, where that is refused.
 pub fn report_text(alloc: Global, tree: &Tree, results: &[NodeResult]) -> Result<String, RunFault>
@@ -126,9 +126,9 @@ pub(crate) fn write_whole<W: Write>(writer: &mut W, bytes: &[u8]) -> Result<(), 
     Ok(())
 }
 
-/// The answer to the bytes of a plan.
-#[tactic(auto, unfolding(crate::specs::Answers::plan_of_bytes))]
-fn answer<R: Threads + Wait + Sync, L: RunListener + Sync>(
+/// The report of what the bytes of a plan write.
+#[tactic(auto, unfolding(crate::specs::Reports::plan_of_bytes))]
+fn output_for<R: Threads + Wait + Sync, L: RunListener + Sync>(
     rt: &R,
     alloc: Global,
     input: &[u8],
@@ -136,7 +136,7 @@ fn answer<R: Threads + Wait + Sync, L: RunListener + Sync>(
     listener: &L,
 ) -> Result<Output, RunFault>
     requires lanes { options.plain ≡ false → (1 ≤ options.lanes) × (options.lanes ≤ 16) }
-    ensures { AnswersAs options result (plan_of_bytes input.now) }
+    ensures { ReportsAs options result (plan_of_bytes input.now) }
 {
     let Ok(text) = std::str::from_utf8(input) else {
         return Err(RunFault::Plan(PlanFault::NotUtf8));
@@ -156,13 +156,8 @@ fn output_of<R: Threads + Wait + Sync, L: RunListener + Sync>(
     listener: &L,
 ) -> Result<Output, RunFault>
     requires lanes { options.plain ≡ false → (1 ≤ options.lanes) × (options.lanes ≤ 16) }
-    requires tree { NodesAreTree (plan_view plan.now) }
-    requires tests { TestsHaveNoChildren (plan_view plan.now) }
-    requires locks { HasFewLocks (plan_view plan.now) }
-    requires namespaces { NamespacesHaveParts (plan_view plan.now) }
-    requires short { StepListsAreShort (plan_view plan.now) }
-    requires few { CallbacksAreFew (plan_view plan.now) }
-    ensures ok { IfOk result (λ o. IsAnswerTo options (plan_view plan.now) (output_view o)) }
+    requires runnable { IsRunnablePlan (plan_view plan.now) }
+    ensures ok { IfOk result (λ o. IsReportOf options (plan_view plan.now) (output_view o)) }
     ensures fault { IfErr result (IsPlanFault options (plan_view plan.now)) }
 {
     let tree = plan.tree(alloc)?;

@@ -6,33 +6,33 @@ use Rattle.ext_model.specs.declared.event.Act.TheVariants.{Keep, Claim, Fill, Fa
 use Rattle.ext_model.specs.declared.look.Look.TheVariants as look
 use Rattle.ext_model.specs.Events as events
 use Rattle.ext_model.specs.History.{Limits, reply_after}
-use Rattle.ext_model.specs.Views.{LaneView}
-use Rattle.ext_model.specs.Calls.{Calls}
+use Rattle.ext_model.specs.CallActs.{LaneView, Calls}
 use Rattle.ext_history.proofs.Composed.{same_number}
 use Rattle.ext_history.proofs.Crowded.{crowded_by_second}
 use Rattle.ext_model.proofs.Composed.{calls_compose, point_of_second}
 use Rattle.ext_store.specs.declared.fault.KeepFault.{KeepFault}
 use Rattle.ext_store.specs.declared.fault.KeepFault.TheVariants as fault
-use Rattle.ext_shared.specs.declared.claim.Unused.{Unused}
-use Rattle.ext_shared.specs.declared.claim.Unused.TheVariants.{Found, FaultStands, Refused}
+use Rattle.ext_store_cells.specs.declared.claim.Unused.{Unused}
+use Rattle.ext_store_cells.specs.declared.claim.Unused.TheVariants.{Found, FaultStands, Refused}
 use Rattle.ext_store.specs.declared.computed.Compute.{Compute}
 use Rattle.ext_store.specs.declared.computed.Compute.TheVariants as compute
 use Rattle.ext_store.specs.declared.computed.Compute.TheVariants.{Computed, Failed, FaultKept, FaultUnkept, Unkept}
 use Rattle.ext_model.specs.declared.look.Fault.{Fault}
-use Rattle.ext_tree.specs.Paths.{IsPathOf}
+use Rattle.ext_tree.specs.Trees.{IsPathOf}
 use Rattle.ext_cells.specs.Lanes.{CellsId, Lane}
-use Rattle.ext_store.specs.Stores.{StoreId, StoreView, StoreLane, IsKeptBy, IsLaneOf, IsOnCells, cell_in}
-use Rattle.ext_store.specs.Frames.{Frame}
+use Rattle.ext_store_cells.specs.ContextCalls.{ContextCells}
+use Rattle.ext_store.specs.Stores.{StoreId, StoreView, StoreLane, IsKeptBy, IsLaneOf, IsOnCells, cell_in, context_cells}
+use Rattle.ext_store.specs.LaneCalls.{Frame}
 use Rattle.ext_store.specs.Computing.{ClaimsAndLooks, given_up_events, Fills, Fails, IsUnkept, EndsFailed, HandsBack, IfComputed, IsFaultless, Uses, ComputesFrom, Computes, without_factory, with_factory}
-use Rattle.ext_shared.specs.Claiming.{ClaimsFrom, ClaimsMissing}
-use Rattle.ext_shared.proofs.Parts.{happens_second, claims_first}
-use Rattle.ext_shared.proofs.Claimed.{StoresNone, claim_acts}
+use Rattle.ext_store_cells.specs.Claiming.{ClaimsFrom, ClaimsMissing}
+use Rattle.ext_store_cells.proofs.Parts.{happens_second, claims_first}
+use Rattle.ext_store_cells.proofs.Claimed.{StoresNone, claim_acts}
 use Rattle.ext_store.proofs.Filling.{storing_none, filled_keeps, failed_keeps}
 use Rattle.ext_store.proofs.Frames.{frame_of, but_frame, frame_spares, frame_lane, frames_compose}
 
 -- the factory is handed back
 pub unused_computes : (V : Type 0) {F : Type 0} (store : StoreView) (context : ℕ) (ancestors : List ℕ) (key : ℕ) (a b : LaneView) (factory : F) (unused : Unused)
-    → ClaimsFrom store context ancestors key a b (Err unused) → ComputesFrom store.id.cells.limits store context ancestors key a b (without_factory (with_factory {V = V} {F = F} factory unused))
+    → ClaimsFrom (context_cells store) context ancestors key a b (Err unused) → ComputesFrom store.id.cells.limits store context ancestors key a b (without_factory (with_factory {V = V} {F = F} factory unused))
 unfolding ComputesFrom
 unused_computes V store context ancestors key a b factory (Found at number) m = m
 unused_computes V store context ancestors key a b factory (FaultStands at number) m = m
@@ -46,7 +46,7 @@ for_path store context ancestors key a b r is path from = (ancestors, path, subs
 
 -- ---- the part after the claim
 
-module _ (store : StoreView) (context : ℕ) (ancestors : List ℕ) (key claim : ℕ) (a b c : LaneView) (m : ClaimsFrom store context ancestors key a b (Ok claim)) where
+module _ (store : StoreView) (context : ℕ) (ancestors : List ℕ) (key claim : ℕ) (a b c : LaneView) (m : ClaimsFrom (context_cells store) context ancestors key a b (Ok claim)) where
   abbrev limits : Limits
   limits = store.id.cells.limits
 
@@ -57,7 +57,7 @@ module _ (store : StoreView) (context : ℕ) (ancestors : List ℕ) (key claim :
   one = m.2
 
   looks : (ys : List (Act ℕ)) → Calls store.id.cells.limits b c ys → ClaimsAndLooks store.id.cells.limits store context ancestors key a c look.Absent
-  looks ys two = claims_first limits store context ancestors key a b c ys one two look.Absent m.3
+  looks ys two = claims_first limits (context_cells store) context ancestors key a b c ys one two look.Absent m.3
 
   pub fails : Calls store.id.cells.limits b c (Abandon claim ∷ []) → ClaimsAndLooks store.id.cells.limits store context ancestors key a c look.Absent × Calls store.id.cells.limits a c (given_up_events store context key)
   fails two =
@@ -113,7 +113,7 @@ module _ (store : StoreView) (context : ℕ) (ancestors : List ℕ) (key claim :
 
 module _ {V : Type 0} (store : StoreView) (why : Fault) (claim : ℕ) (b c : StoreLane V) where
   -- what comes of it is what the whole compute answers
-  pub ends_failed : (context : ℕ) (ancestors : List ℕ) (key : ℕ) (a : LaneView) → ClaimsFrom store context ancestors key a b.cells.view (Ok claim) → (r : Compute V (Unit {0})) → EndsFailed store why claim b c r
+  pub ends_failed : (context : ℕ) (ancestors : List ℕ) (key : ℕ) (a : LaneView) → ClaimsFrom (context_cells store) context ancestors key a b.cells.view (Ok claim) → (r : Compute V (Unit {0})) → EndsFailed store why claim b c r
       → ComputesFrom store.id.cells.limits store context ancestors key a c.cells.view r
   unfolding ComputesFrom
   ends_failed context ancestors key a m (Failed said) e = let f = fails store context ancestors key claim a b.cells.view c.cells.view m e.4 in (e.0, f.0, f.1)
@@ -179,13 +179,13 @@ module _ {V : Type 0} (id : StoreId) (inside a b : StoreLane V) (is : inside ≡
   storing_frame acts none calls = frame_of id inside a b is mine cells on_cells acts calls (storing_none inside.cells.cells.limits inside b acts none calls (ap (λ (l : StoreLane V). l.known) on_cells))
 
   -- by the limits of the store's cells,
-  pub storing_there : (store : StoreView) → store.id ≡ id → (acts : List (Act ℕ)) → All StoresNone acts → Calls store.id.cells.limits inside.cells.view b.cells.view acts → Frame id [] a b
+  pub storing_there : (store : ContextCells) → store.cells ≡ id.cells → (acts : List (Act ℕ)) → All StoresNone acts → Calls store.cells.limits inside.cells.view b.cells.view acts → Frame id [] a b
   storing_there store own acts none calls =
-      let ours : store.id.cells ≡ inside.cells.cells = ap (λ (i : StoreId). i.cells) own ∙ (sym mine.cells ∙ ap (λ (l : StoreLane V). l.cells.cells) (sym is)) in
+      let ours : store.cells ≡ inside.cells.cells = own ∙ (sym mine.cells ∙ ap (λ (l : StoreLane V). l.cells.cells) (sym is)) in
       storing_frame acts none (subst (λ (z : CellsId). Calls z.limits inside.cells.view b.cells.view acts) ours calls)
 
   -- as of the claim of a missing value
-  pub claim_frame : (store : StoreView) → store.id ≡ id → (context key : ℕ) (r : Result ℕ Unused) → ClaimsMissing store context key inside.cells.view b.cells.view r → Frame id [] a b
+  pub claim_frame : (store : ContextCells) → store.cells ≡ id.cells → (context key : ℕ) (r : Result ℕ Unused) → ClaimsMissing store context key inside.cells.view b.cells.view r → Frame id [] a b
   claim_frame store own context key r m =
       let made = claim_acts store context m.0 key inside.cells.view b.cells.view r m.2 in
       storing_there store own made.0 made.1 made.2

@@ -1,5 +1,5 @@
 -- What a call of the store says to be contended, the cells said.
-use Rattle.std.proofs.Common.{◌≡◌, ◌∙◌, ℕ, List, sym, ap, refl, Option, Some, None}
+use Rattle.std.proofs.Common.{◌≡◌, ◌∙◌, ℕ, List, sym, ap, refl, Option}
 use Rattle.std.specs.Prelude.{Result, Ok, Err, MatchResult}
 use Rattle.ext_model.specs.declared.event.Act.{Act}
 use Rattle.ext_values.specs.Known.{Known}
@@ -7,13 +7,13 @@ use Rattle.ext_values.specs.Places.{IsNumber}
 use Rattle.ext_cells.specs.declared.refusal.CellRefusal.{CellRefusal}
 use Rattle.ext_cells.specs.declared.refusal.CellRefusal.TheVariants as cell
 use Rattle.ext_cells.specs.Lanes.{Lane}
-use Rattle.ext_cells.specs.Calls.{ComesLast}
-use Rattle.ext_shared.specs.declared.fault.Refusal.{Refusal}
-use Rattle.ext_shared.specs.declared.fault.Refusal.TheVariants as refusal
+use Rattle.ext_cells.specs.CellCalls.{ComesLast}
+use Rattle.ext_store_cells.specs.declared.fault.Refusal.{Refusal}
+use Rattle.ext_store_cells.specs.declared.fault.Refusal.TheVariants as refusal
 use Rattle.ext_store.specs.declared.fault.KeepFault.{KeepFault}
 use Rattle.ext_store.specs.declared.fault.KeepFault.TheVariants as fault
-use Rattle.ext_store.specs.Keeping.{IsOfCount, PlacesDrawn, keep_fault}
-use Rattle.ext_store.specs.Calls.{with_kept}
+use Rattle.ext_store.specs.InnerKeeping.{IsOfCount, PlacesDrawn, keep_fault}
+use Rattle.ext_store.specs.LaneCalls.{with_kept}
 
 -- why a call was refused that hands something back, or else this
 abbrev cause : {A B C : Type 0} → C → Result A (B × C) → C

@@ -1,6 +1,6 @@
 -- What the keeping of a fault says, by what was drawn and what became of it, and that a store that keeps no faults meets none.
 use Rattle.std.proofs.Common.{◌≡◌, ◌≢◌, arith, ℕ, ◌+◌, ◌≤◌, List, [], ◌∷◌, ◌++◌, sym, refl, ap, ◌∙◌, subst, inl, inr, Some, Contains}
-use Rattle.std.specs.Prelude.{Result, Ok, Err, IfOk, MatchResult, IsFalse, ◌==◌}
+use Rattle.std.specs.Prelude.{Result, Ok, Err, IfErr, IfOk, MatchResult, IsFalse, ◌==◌}
 use Rattle.std.proofs.lemmas.List.Elements.{Contains-append_left}
 use Rattle.ext_model.specs.declared.event.Act.{Act}
 use Rattle.ext_model.specs.declared.event.Act.TheVariants.{Keep}
@@ -9,9 +9,8 @@ use Rattle.ext_model.specs.declared.look.Fault.{Fault}
 use Rattle.ext_model.specs.declared.look.Look.TheVariants as look
 use Rattle.ext_model.specs.Events as events
 use Rattle.ext_model.specs.History.{History, by, state_after, IsLegal}
-use Rattle.ext_history.specs.Views.{seen_by}
-use Rattle.ext_model.specs.Views.{LaneView}
-use Rattle.ext_model.specs.Calls.{Calls, MayStoreNow}
+use Rattle.ext_history.specs.Histories.{seen_by}
+use Rattle.ext_model.specs.CallActs.{LaneView, Calls, IsHeld, MayStoreNow}
 use Rattle.ext_history.proofs.Lists.{contains_from_filter}
 use Rattle.ext_history.proofs.Legal.{legal_prefix, legal_begun}
 use Rattle.ext_history.proofs.Composed.{answer_point, point_legal}
@@ -20,20 +19,20 @@ use Rattle.ext_tree.proofs.KeyPlacing.{keeps_all}
 use Rattle.ext_values.specs.Known.{Known, KeepsKnown, known_at, places_of}
 use Rattle.ext_cells.specs.declared.refusal.CellRefusal.{CellRefusal}
 use Rattle.ext_cells.specs.Lanes.{Lane}
-use Rattle.ext_cells.specs.Calls as cells
-use Rattle.ext_shared.specs.declared.claim.Unused.{Unused}
-use Rattle.ext_shared.specs.declared.claim.Unused.TheVariants.{Found, FaultStands, Refused}
-use Rattle.ext_shared.specs.Claiming.{ClaimsFrom, Meets}
-use Rattle.ext_shared.proofs.Events.{drew_quiet}
-use Rattle.ext_shared.proofs.Faultless.{none_met}
+use Rattle.ext_cells.specs.CellCalls as cells
+use Rattle.ext_store_cells.specs.declared.claim.Unused.{Unused}
+use Rattle.ext_store_cells.specs.declared.claim.Unused.TheVariants.{Found, FaultStands, Refused}
+use Rattle.ext_store_cells.specs.ContextCalls.{ContextCells, cell_in}
+use Rattle.ext_store_cells.specs.Claiming.{ClaimsFrom, Meets}
+use Rattle.ext_store_cells.proofs.Events.{drew_quiet}
+use Rattle.ext_store_cells.proofs.Faultless.{none_met}
 use Rattle.ext_store.specs.declared.fault.KeepFault.{KeepFault}
 use Rattle.ext_store.specs.declared.fault.KeepFault.TheVariants.{Memory, Unplaced}
 use Rattle.ext_store.specs.declared.computed.Compute.{Compute}
-use Rattle.ext_store.specs.Stores.{StoreView, StoreLane, IsKeptBy, IsLaneOf, StillKeeps, cell_in}
-use Rattle.ext_store.specs.Frames.{Frame}
-use Rattle.ext_store.specs.Calls.{HoldsAtPoint, reply_to, KeepFails, KeepsFault, KeepsNoFault}
-use Rattle.ext_store.specs.Computing.{IsFaultless, with_factory}
-use Rattle.ext_store.specs.Keeping.{keep_fault, IsPlaced, PlacesDrawn}
+use Rattle.ext_store.specs.Stores.{StoreView, StoreLane, IsKeptBy, IsLaneOf, StillKeeps, context_cells}
+use Rattle.ext_store.specs.LaneCalls.{Frame, HoldsAtPoint, reply_to, KeepFails, KeepsFault, KeepsNoFault}
+use Rattle.ext_store.specs.Computing.{ClaimsMissing, IsFaultless, IsFaultlessUnused, with_factory}
+use Rattle.ext_store.specs.InnerKeeping.{keep_fault, IsPlaced, PlacesDrawn}
 use Rattle.ext_store.proofs.Keeping.{quiet_keeps, unplaced_keeps, drew, drew_none}
 use Rattle.ext_store.proofs.Frames.{framed, no_frame}
 
@@ -129,18 +128,37 @@ fault_by_drawn store tries same why inside before is mine after cells notes draw
 -- ---- a store that keeps no faults
 
 -- no fault is the reason why a factory is not called
-meets_none : (store : StoreView) (context : ℕ) (ancestors : List ℕ) (key : ℕ) (a b : LaneView) (at number : ℕ) → IsFalse store.id.cells.limits.keep_faults → Meets store.id.cells.limits store context ancestors key a b (look.Fault at number) → ⊥
+meets_none : (store : ContextCells) (context : ℕ) (ancestors : List ℕ) (key : ℕ) (a b : LaneView) (at number : ℕ) → IsFalse store.cells.limits.keep_faults → Meets store.cells.limits store context ancestors key a b (look.Fault at number) → ⊥
 unfolding Meets
 meets_none store context ancestors key a b at number off m = elim m [
-  | inl h ↦ none_met store.id.cells.limits h.point.0 (cell_in store key) (context ∷ ancestors) at number off (point_legal h.calls h.point.0 (answer_point h.calls h.point.0 h.point.1)) h.point.2
-  | inr k ↦ none_met store.id.cells.limits k.1.looked.0 (cell_in store key) ancestors at number off (legal_begun k.1.looked.0 (seen_by b) k.1.looked.1.until k.0.legal) k.1.looked.2
+  | inl h ↦ none_met store.cells.limits h.point.0 (cell_in store key) (context ∷ ancestors) at number off (point_legal h.calls h.point.0 (answer_point h.calls h.point.0 h.point.1)) h.point.2
+  | inr k ↦ none_met store.cells.limits k.1.looked.0 (cell_in store key) ancestors at number off (legal_begun k.1.looked.0 (seen_by b) k.1.looked.1.until k.0.legal) k.1.looked.2
 ]
 
-pub unused_faultless : {V F : Type 0} (store : StoreView) (context : ℕ) (ancestors : List ℕ) (key : ℕ) (a b : LaneView) (factory : F) (unused : Unused) (r : Compute V F) → r ≡ with_factory factory unused
-    → ClaimsFrom store context ancestors key a b (Err unused) → IsFalse store.id.cells.limits.keep_faults → IsFaultless r
-unused_faultless {V} {F} store context ancestors key a b factory unused r is from off = subst IsFaultless (sym is) (faultless unused from)
+pub none_stands : (store : ContextCells) (context : ℕ) (ancestors : List ℕ) (key : ℕ) (a b : LaneView) (unused : Unused) → ClaimsFrom store context ancestors key a b (Err unused) → IsFalse store.cells.limits.keep_faults → IsFaultlessUnused unused
+none_stands store context ancestors key a b (Found at number) m off = tt
+none_stands store context ancestors key a b (FaultStands at number) m off = meets_none store context ancestors key a b at number off m
+none_stands store context ancestors key a b (Refused why) m off = tt
+
+-- so a factory that comes back does not come back for one
+pub handed_faultless : {V F : Type 0} (factory : F) (unused : Unused) (r : Compute V F) → r ≡ with_factory factory unused → IsFaultlessUnused unused → IsFaultless r
+handed_faultless {V} {F} factory unused r is none = subst IsFaultless (sym is) (faultless unused none)
   where
-    faultless : (u : Unused) → ClaimsFrom store context ancestors key a b (Err u) → IsFaultless (with_factory {V = V} {F = F} factory u)
-    faultless (Found at number) m = tt
-    faultless (FaultStands at number) m = meets_none store context ancestors key a b at number off m
-    faultless (Refused why) m = tt
+    faultless : (u : Unused) → IsFaultlessUnused u → IsFaultless (with_factory {V = V} {F = F} factory u)
+    faultless (Found at number) n = tt
+    faultless (FaultStands at number) n = n
+    faultless (Refused why) n = tt
+
+pub unused_faultless : {V F : Type 0} (store : StoreView) (context : ℕ) (ancestors : List ℕ) (key : ℕ) (a b : LaneView) (factory : F) (unused : Unused) (r : Compute V F) → r ≡ with_factory factory unused
+    → ClaimsFrom (context_cells store) context ancestors key a b (Err unused) → IsFalse store.id.cells.limits.keep_faults → IsFaultless r
+unused_faultless store context ancestors key a b factory unused r is from off = handed_faultless factory unused r is (none_stands (context_cells store) context ancestors key a b unused from off)
+
+-- ---- what a begun compute says, whether the claim is won or not
+
+pub begun_held : (store : StoreView) (context key : ℕ) (a b : LaneView) (r : Result ℕ Unused) → ClaimsMissing store context key a b r → IfOk r (IsHeld b)
+begun_held store context key a b (Ok claim) m = m.2.1
+begun_held store context key a b (Err unused) m = tt
+
+pub begun_faultless : (store : StoreView) (context key : ℕ) (a b : LaneView) (r : Result ℕ Unused) → ClaimsMissing store context key a b r → IsFalse store.id.cells.limits.keep_faults → IfErr r IsFaultlessUnused
+begun_faultless store context key a b (Ok claim) m off = tt
+begun_faultless store context key a b (Err unused) m off = none_stands (context_cells store) context m.0 key a b unused m.2 off

@@ -7,7 +7,7 @@ use Rattle.ext_model.specs.declared.event.Act.TheVariants.{Keep, Fill, Fail, Aba
 use Rattle.ext_model.specs.Events as events
 use Rattle.ext_model.specs.Events.{is_on}
 use Rattle.ext_model.specs.History.{Limits, stored_number, reply_after}
-use Rattle.ext_model.specs.Calls.{Calls, HoldsAtPoint, IsOvertaken, IsHeld}
+use Rattle.ext_model.specs.CallActs.{Calls, HoldsAtPoint, IsOvertaken, IsHeld}
 use Rattle.ext_history.proofs.Composed.{point_of_first, answer_first}
 use Rattle.ext_history.proofs.Crowded.{overtaken_crowded, crowded_by_first}
 use Rattle.ext_model.proofs.Composed.{calls_compose}
@@ -17,12 +17,12 @@ use Rattle.ext_cells.specs.Lanes.{CellsId, Lane}
 use Rattle.ext_store.specs.declared.fault.KeepFault.{KeepFault}
 use Rattle.ext_store.specs.declared.fault.KeepFault.TheVariants as fault
 use Rattle.ext_store.specs.Stores.{StoreView, StoreLane, IsKeptBy, StillKeeps}
-use Rattle.ext_store.specs.Calls as calls
-use Rattle.ext_store.specs.Calls.{KeepFails}
+use Rattle.ext_store.specs.LaneCalls as calls
+use Rattle.ext_store.specs.LaneCalls.{KeepFails}
 use Rattle.ext_store.specs.Computing.{Fills, Fails, IsUnkept}
-use Rattle.ext_shared.proofs.Claimed.{StoresNone}
+use Rattle.ext_store_cells.proofs.Claimed.{StoresNone}
 use Rattle.ext_store.proofs.Keeping.{one_kept}
-use Rattle.ext_shared.proofs.Parts.{happens_first, happens_alone}
+use Rattle.ext_store_cells.proofs.Parts.{happens_first, happens_alone}
 
 -- what a lane keeps it keeps on, while its calls store nothing,
 module _ {V : Type 0} (limits : Limits) (before after : StoreLane V) where

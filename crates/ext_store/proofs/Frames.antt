@@ -7,20 +7,19 @@ use base.Growing.{prefix_trans}
 use Rattle.ext_model.specs.declared.event.Act.{Act}
 use Rattle.ext_model.specs.declared.event.Act.TheVariants.{Keep, Put}
 use Rattle.ext_model.specs.History.{History, Limits, lane_of, IsLegal}
-use Rattle.ext_history.specs.Views.{last_after, seen, seen_by, Follow}
-use Rattle.ext_model.specs.Views.{LaneView}
-use Rattle.ext_model.specs.Calls.{Calls}
+use Rattle.ext_history.specs.Histories.{last_after, seen, seen_by, Follow}
+use Rattle.ext_model.specs.CallActs.{LaneView, Calls}
 use Rattle.ext_history.proofs.Fronts.{follow_last}
 use Rattle.ext_history.proofs.Composed.{calls_none}
 use Rattle.ext_model.proofs.Composed.{calls_compose}
-use Rattle.ext_tree.specs.KeyPlaces.{KeepsKeys, key_places_of}
+use Rattle.ext_tree.specs.Keys.{KeepsKeys, key_places_of}
 use Rattle.ext_tree.proofs.KeyPlacing.{keeps_all, keeps_both}
 use Rattle.ext_values.specs.Known.{KeepsKnown, Learns, known_at, places_of}
 use Rattle.ext_cells.specs.Lanes.{CellsId, Lane}
-use Rattle.ext_shared.specs.declared.fault.Refusal.{Refusal}
-use Rattle.ext_store.specs.Stores.{StoreId, StoreView, StoreLane, IsKeptBy, IsLaneOf, IsOnCells, StillKeeps, StillKeepsBut, cell_in}
-use Rattle.ext_store.specs.Calls.{put_acts, remove_acts}
-use Rattle.ext_store.specs.Frames.{Frame, Makes, stored_by}
+use Rattle.ext_store_cells.specs.declared.fault.Refusal.{Refusal}
+use Rattle.ext_store_cells.specs.ContextCalls.{ContextCells, cell_in}
+use Rattle.ext_store.specs.Stores.{StoreId, StoreLane, IsKeptBy, IsLaneOf, IsOnCells, StillKeeps, StillKeepsBut}
+use Rattle.ext_store.specs.LaneCalls.{put_acts, remove_acts, Frame, Makes, stored_by}
 use Rattle.ext_store.proofs.Keeping.{quiet_keeps, stored_keeps, remove_keeps, unplaced_keeps, learnt_keeps}
 
 nowhere : (number : ℕ) → Contains [] number → ⊥
@@ -148,11 +147,11 @@ module _ {V : Type 0} (id : StoreId) (inside a b : StoreLane V) (is : inside ≡
     quiet_frame calls = frame_of [] calls (quiet_keeps inside.cells.cells.limits inside b calls same)
 
     -- or a put, a remove or a seal,
-    pub put_frame : (store : StoreView) (context key number : ℕ) (r : Result (Option ℕ) (ℕ × Refusal)) → Calls inside.cells.cells.limits inside.cells.view b.cells.view (put_acts (cell_in store key context) number r) → Frame id (stored_by number r) a b
+    pub put_frame : (store : ContextCells) (context key number : ℕ) (r : Result (Option ℕ) (ℕ × Refusal)) → Calls inside.cells.cells.limits inside.cells.view b.cells.view (put_acts (cell_in store key context) number r) → Frame id (stored_by number r) a b
     put_frame store context key number (Ok stood) calls = but_frame number (Put (cell_in store key context) number ∷ []) calls (stored_keeps inside.cells.cells.limits inside b (cell_in store key context) number calls same)
     put_frame store context key number (Err e) calls = quiet_frame calls
 
-    pub remove_frame : (store : StoreView) (context key : ℕ) (r : Result (Option ℕ) Refusal) → Calls inside.cells.cells.limits inside.cells.view b.cells.view (remove_acts (cell_in store key context) r) → Frame id [] a b
+    pub remove_frame : (store : ContextCells) (context key : ℕ) (r : Result (Option ℕ) Refusal) → Calls inside.cells.cells.limits inside.cells.view b.cells.view (remove_acts (cell_in store key context) r) → Frame id [] a b
     remove_frame store context key r calls = frame_of (remove_acts (cell_in store key context) r) calls (remove_keeps store context key inside b same r calls)
 
   -- that drew a number, whose value it knows now or not,

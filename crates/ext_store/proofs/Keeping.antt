@@ -8,17 +8,18 @@ use Rattle.ext_model.specs.declared.event.Act.TheVariants.{Keep, Put, Remove}
 use Rattle.ext_model.specs.Events as events
 use Rattle.ext_model.specs.History.{Limits, state_after, stored_number}
 use Rattle.ext_model.specs.Plain.{number_drawn}
-use Rattle.ext_model.specs.Calls.{Calls}
+use Rattle.ext_model.specs.CallActs.{Calls}
 use Rattle.ext_values.specs.Known.{Learns, known_at}
 use Rattle.ext_cells.specs.declared.refusal.CellRefusal.{CellRefusal}
 use Rattle.ext_cells.specs.declared.refusal.CellRefusal.TheVariants as cell
 use Rattle.ext_cells.specs.Lanes.{Lane}
-use Rattle.ext_cells.specs.Calls as cells
+use Rattle.ext_cells.specs.CellCalls as cells
 use Rattle.ext_cells.proofs.Storable.{stays_storable}
-use Rattle.ext_shared.specs.declared.fault.Refusal.{Refusal}
-use Rattle.ext_store.specs.Stores.{StoreView, StoreLane, IsKeptBy, StillKeeps, StillKeepsBut, cell_in}
-use Rattle.ext_store.specs.Keeping.{keep_fault}
-use Rattle.ext_store.specs.Calls.{HoldsAtPoint, reply_to, steps_of, with_kept, put_acts, remove_acts, KeepFails}
+use Rattle.ext_store_cells.specs.declared.fault.Refusal.{Refusal}
+use Rattle.ext_store_cells.specs.ContextCalls.{ContextCells, cell_in}
+use Rattle.ext_store.specs.Stores.{StoreView, StoreLane, IsKeptBy, StillKeeps, StillKeepsBut}
+use Rattle.ext_store.specs.InnerKeeping.{keep_fault}
+use Rattle.ext_store.specs.LaneCalls.{HoldsAtPoint, reply_to, steps_of, with_kept, put_acts, remove_acts, KeepFails}
 use Rattle.ext_store.specs.Waiting.{IsDecided}
 
 -- where two are there, they are one
@@ -88,7 +89,7 @@ decided_back number said r is decided = subst (λ x. IfErr x (λ e. IsDecided e.
     decides (Ok stood) d = tt
     decides (Err why) d = d
 
-module _ {V : Type 0} (store : StoreView) (context key : ℕ) (before after : StoreLane V) (same : after.known ≡ before.known) where
+module _ {V : Type 0} (store : ContextCells) (context key : ℕ) (before after : StoreLane V) (same : after.known ≡ before.known) where
   pub put_keeps : (number : ℕ) (r : Result (Option ℕ) (ℕ × Refusal)) → Calls before.cells.cells.limits before.cells.view after.cells.view (put_acts (cell_in store key context) number r)
       → MatchResult r (λ _. StillKeepsBut number before after) (λ _. StillKeeps before after)
   put_keeps number (Ok stood) calls = stored_keeps before.cells.cells.limits before after (cell_in store key context) number calls same

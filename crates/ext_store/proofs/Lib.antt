@@ -6,7 +6,7 @@ pub mod Refused
 pub mod Frames
 pub mod Placing
 pub mod SealsKeep
-pub mod Unused
+pub mod Uncalled
 pub mod Filling
 pub mod Composing
 pub mod Waited

@@ -2,21 +2,18 @@
 use Rattle.std.proofs.Common.{◌≡◌, ◌≤◌, inl, inr, ℕ, List, sym, subst, ◌∙◌}
 use Rattle.std.specs.Prelude.{Result, Ok, Err, MatchResult}
 use Rattle.ext_model.specs.declared.look.Fault.{Fault}
-use Rattle.ext_tree.specs.Keys.{KeyValue}
-use Rattle.ext_tree.specs.KeyPlaces.{IsKeyNumber, KeepsKeys}
+use Rattle.ext_tree.specs.Keys.{KeyValue, IsKeyNumber, KeepsKeys}
 use Rattle.ext_tree.specs.declared.key_fault.KeyFault.{KeyFault}
 use Rattle.ext_tree.specs.declared.key_fault.KeyFault.TheVariants as fault
 use Rattle.ext_tree.proofs.KeyPlacing.{number_stays}
 use Rattle.ext_values.specs.Known.{Learns}
 use Rattle.ext_cells.specs.Lanes.{Lane}
-use Rattle.ext_shared.specs.declared.fault.Refusal.{Refusal}
+use Rattle.ext_store_cells.specs.declared.fault.Refusal.{Refusal}
 use Rattle.ext_store.specs.declared.computed.Compute.{Compute}
 use Rattle.ext_store.specs.declared.computed.Compute.TheVariants.{Computed, Found, Failed, FaultKept, FaultUnkept, FaultStands, Unkept, Refused}
 use Rattle.ext_store.specs.Stores.{StoreId, StoreLane, IsKeptBy, StillKeeps, StillKeepsBut}
-use Rattle.ext_store.specs.Frames.{Frame}
-use Rattle.ext_store.specs.Calls.{steps_of}
+use Rattle.ext_store.specs.LaneCalls.{Frame, steps_of, IsKeyRefused, OfKey, key_refusal}
 use Rattle.ext_store.specs.Computing.{IfComputed, Uses}
-use Rattle.ext_store.specs.Keys.{IsKeyRefused, OfKey, key_refusal}
 use Rattle.ext_store.specs.Waiting.{IsDecided}
 use Rattle.ext_store.proofs.Keeping.{no_steps}
 

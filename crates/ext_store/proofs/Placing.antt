@@ -3,23 +3,22 @@ use Rattle.std.proofs.Common.{◌≡◌, ◌≢◌, ◌≤◌, arith, length, �
 use Rattle.std.specs.Prelude.{Result, Ok, Err, IfOk, IfErr, MatchResult}
 use Rattle.ext_model.specs.declared.event.Act.{Act}
 use Rattle.ext_model.specs.declared.event.Act.TheVariants.{Keep}
-use Rattle.ext_model.specs.Calls.{Calls, MayStoreNow}
+use Rattle.ext_model.specs.CallActs.{Calls, MayStoreNow}
 use Rattle.ext_tree.proofs.KeyPlacing.{keeps_all}
 use Rattle.ext_values.specs.Places.{IsNumber}
 use Rattle.ext_values.specs.Known.{Known, KeepsKnown, known_at, places_of}
 use Rattle.ext_cells.specs.declared.refusal.CellRefusal.{CellRefusal}
 use Rattle.ext_cells.specs.declared.refusal.CellRefusal.TheVariants as cell
 use Rattle.ext_cells.specs.Lanes.{Lane}
-use Rattle.ext_cells.specs.Calls as cells
+use Rattle.ext_cells.specs.CellCalls as cells
 use Rattle.ext_store.specs.declared.fault.KeepFault.{KeepFault}
 use Rattle.ext_store.specs.declared.fault.KeepFault.TheVariants.{Memory, Unplaced}
 use Rattle.ext_store.specs.Stores.{StoreView, StoreLane, IsKeptBy, IsLaneOf, StillKeeps}
-use Rattle.ext_store.specs.Frames.{Frame}
-use Rattle.ext_store.specs.Calls.{KeepFails, KeepsAs, KeepsNothing}
+use Rattle.ext_store.specs.LaneCalls.{Frame, KeepFails, KeepsAs, KeepsNothing}
 use Rattle.ext_store.specs.Waiting.{IsDecidedFault}
-use Rattle.ext_store.specs.Keeping.{IsOfCount, keep_fault, IsPlaced, PlacesDrawn}
+use Rattle.ext_store.specs.InnerKeeping.{IsOfCount, keep_fault, IsPlaced, PlacesDrawn}
 use Rattle.ext_store.proofs.Keeping.{quiet_keeps, unplaced_keeps, learnt_keeps, drew, drew_number, drew_none, not_both}
-use Rattle.ext_shared.proofs.Events.{drew_quiet}
+use Rattle.ext_store_cells.proofs.Events.{drew_quiet}
 use Rattle.ext_store.proofs.Frames.{framed, no_frame}
 use Rattle.ext_store.proofs.Refused.{draw_refusal}
 

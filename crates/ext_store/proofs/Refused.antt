@@ -6,8 +6,8 @@ use Rattle.ext_model.specs.Plain.{number_drawn}
 use Rattle.ext_cells.specs.declared.refusal.CellRefusal.{CellRefusal}
 use Rattle.ext_cells.specs.declared.refusal.CellRefusal.TheVariants as cell
 use Rattle.ext_cells.specs.Lanes.{Lane}
-use Rattle.ext_cells.specs.Calls as cells
-use Rattle.ext_store.specs.Keeping.{IsOfCount}
+use Rattle.ext_cells.specs.CellCalls as cells
+use Rattle.ext_store.specs.InnerKeeping.{IsOfCount}
 
 abbrev OfCount : {A : Type 0} → Result A CellRefusal → Type 0
 OfCount (Ok value) = Unit {0}

@@ -3,19 +3,19 @@ use Rattle.std.proofs.Common.{◌≡◌, ◌⊎◌, inl, inr, ℕ, [], ◌∷◌
 use Rattle.std.specs.Prelude.{Result, Ok, Err}
 use Rattle.std.proofs.lemmas.List.Elements.{All-nil, All-cons}
 use Rattle.ext_model.specs.declared.event.Act.TheVariants.{Seal}
-use Rattle.ext_model.specs.Calls.{Calls}
+use Rattle.ext_model.specs.CallActs.{Calls}
 use Rattle.ext_values.specs.Known.{known_at}
 use Rattle.ext_cells.specs.Lanes.{Lane}
-use Rattle.ext_shared.specs.declared.fault.Refusal.{Refusal}
-use Rattle.ext_shared.specs.declared.fault.Refusal.TheVariants as refusal
-use Rattle.ext_shared.specs.Sealing.{SealsKey}
-use Rattle.ext_store.specs.Stores.{StoreId, StoreView, StoreLane, IsLaneOf, IsOnCells, cell_in}
-use Rattle.ext_store.specs.Frames.{Frame}
+use Rattle.ext_store_cells.specs.declared.fault.Refusal.{Refusal}
+use Rattle.ext_store_cells.specs.declared.fault.Refusal.TheVariants as refusal
+use Rattle.ext_store_cells.specs.ContextCalls.{ContextCells, SealsKey, cell_in}
+use Rattle.ext_store.specs.Stores.{StoreId, StoreLane, IsLaneOf, IsOnCells}
+use Rattle.ext_store.specs.LaneCalls.{Frame}
 use Rattle.ext_store.proofs.Keeping.{StoresNot, one_kept}
 use Rattle.ext_store.proofs.Frames.{frame_of, quiet_frame}
 
 -- the events of a seal, whatever it answers
-seal_acts : (store : StoreView) (context key : ℕ) (before after : Lane) (r : Result (Option ℕ) Refusal) → SealsKey store context key before after r
+seal_acts : (store : ContextCells) (context key : ℕ) (before after : Lane) (r : Result (Option ℕ) Refusal) → SealsKey store context key before after r
     → Calls before.cells.limits before.view after.view (Seal (cell_in store key context) ∷ []) ⊎ Calls before.cells.limits before.view after.view []
 seal_acts store context key before after (Ok kept) (inl made) = inl made.calls
 seal_acts store context key before after (Ok kept) (inr found) = inr found.calls
@@ -28,7 +28,7 @@ seal_acts store context key before after (Err refusal.Memory) never = absurd nev
 seal_acts store context key before after (Err refusal.Exhausted) never = absurd never
 
 -- so it has a frame
-pub seal_frame : {V : Type 0} (id : StoreId) (store : StoreView) (inside a b : StoreLane V) → inside ≡ a → IsLaneOf id a → b.cells.cells ≡ inside.cells.cells → IsOnCells inside b
+pub seal_frame : {V : Type 0} (id : StoreId) (store : ContextCells) (inside a b : StoreLane V) → inside ≡ a → IsLaneOf id a → b.cells.cells ≡ inside.cells.cells → IsOnCells inside b
     → (context key : ℕ) (r : Result (Option ℕ) Refusal) → SealsKey store context key inside.cells b.cells r → Frame id [] a b
 seal_frame {V} id store inside a b is mine cells on_cells context key r sealed = elim (seal_acts store context key inside.cells b.cells r sealed) [
   | inl made ↦ frame_of id inside a b is mine cells on_cells (Seal (cell_in store key context) ∷ []) made

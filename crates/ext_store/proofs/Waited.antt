@@ -3,16 +3,19 @@ use Rattle.std.proofs.Common.{◌≡◌, ℕ, zero, suc, [], ◌∷◌, ◌++◌
 use Rattle.std.specs.Prelude.{Result, All}
 use Rattle.std.proofs.lemmas.List.Elements.{All-append}
 use Rattle.ext_model.specs.declared.event.Act.TheVariants.{Claim, Abandon}
-use Rattle.ext_model.specs.Views.{LaneView}
+use Rattle.ext_model.specs.CallActs.{LaneView}
 use Rattle.ext_model.proofs.Composed.{calls_compose}
 use Rattle.ext_cells.specs.Lanes.{Lane}
-use Rattle.ext_shared.specs.declared.claim.Unused.{Unused}
-use Rattle.ext_shared.proofs.Claimed.{StoresNone, none_stored, nor_this, claim_acts}
-use Rattle.ext_shared.proofs.Waited.{claims_given_up, begun_legal, gave_up}
+use Rattle.ext_store_cells.specs.declared.claim.Unused.{Unused}
+use Rattle.ext_store_cells.proofs.Claimed.{StoresNone, none_stored, nor_this, claim_acts}
+use Rattle.ext_store_cells.proofs.Waited.{claims_given_up, begun_legal, gave_up}
 use Rattle.ext_store.specs.declared.computed.Compute.{Compute}
-use Rattle.ext_store.specs.Stores.{StoreId, StoreView, StoreLane, IsLaneOf, IsOnCells, cell_in}
-use Rattle.ext_store.specs.Frames.{Frame}
-use Rattle.ext_store.specs.Computing.{given_up_events, ComputesFrom}
+use Rattle.ext_store_cells.specs.ContextCalls.{ContextCells, cell_in}
+use Rattle.ext_store_cells.specs.Claiming.{given_up_events}
+use Rattle.ext_store_cells.specs.Waiting as cells
+use Rattle.ext_store.specs.Stores.{StoreId, StoreView, StoreLane, IsLaneOf, IsOnCells}
+use Rattle.ext_store.specs.LaneCalls.{Frame}
+use Rattle.ext_store.specs.Computing.{ComputesFrom}
 use Rattle.ext_store.specs.Waiting.{ClaimsAfterWaits, ComputesAfterWaits}
 use Rattle.ext_store.proofs.Composing.{storing_there, for_path}
 
@@ -29,18 +32,18 @@ computes_later store context key a c b claimed w r is from = record {
 
 -- ---- the frame of claims that were given up, and then of the last one
 
-giving_up_stores : (store : StoreView) (context key rounds : ℕ) → All StoresNone (claims_given_up store context key rounds)
+giving_up_stores : (store : ContextCells) (context key rounds : ℕ) → All StoresNone (claims_given_up store context key rounds)
 giving_up_stores store context key zero = none_stored
 giving_up_stores store context key (suc rounds) =
     All-append StoresNone (claims_given_up store context key rounds) (given_up_events store context key) (giving_up_stores store context key rounds)
     (nor_this (Claim (cell_in store key context)) (Abandon (cell_in store key context) ∷ []) refl (nor_this (Abandon (cell_in store key context)) [] refl none_stored))
 
 pub waits_frame : {V : Type 0} (id : StoreId) (inside a b : StoreLane V) → inside ≡ a → IsLaneOf id a → b.cells.cells ≡ inside.cells.cells → IsOnCells inside b
-    → (store : StoreView) → store.id ≡ id → (context key : ℕ) (r : Result ℕ Unused) → ClaimsAfterWaits store context key inside.cells.view b.cells.view r → Frame id [] a b
-waits_frame id inside a b is mine cells on_cells store own context key r w =
+    → (store : ContextCells) → store.cells ≡ id.cells → (context key : ℕ) (r : Result ℕ Unused) → cells.ClaimsAfterWaits store context key inside.cells.view b.cells.view r → Frame id [] a b
+waits_frame id inside a b is mine same on_cells store own context key r w =
     let m = w.then_is in
     let made = claim_acts store context m.0 key w.between b.cells.view r m.2 in
     let before = gave_up store context key w.attempts inside.cells.view w.between (begun_legal store context key w.between b.cells.view r m) w.in_vain in
     let given = claims_given_up store context key before.0 in
-    let all = calls_compose store.id.cells.limits inside.cells.view w.between b.cells.view given made.0 before.1 made.2 in
-    storing_there id inside a b is mine cells on_cells store own (given ++ made.0) (All-append StoresNone given made.0 (giving_up_stores store context key before.0) made.1) all
+    let all = calls_compose store.cells.limits inside.cells.view w.between b.cells.view given made.0 before.1 made.2 in
+    storing_there id inside a b is mine same on_cells store own (given ++ made.0) (All-append StoresNone given made.0 (giving_up_stores store context key before.0) made.1) all

@@ -1,6 +1,6 @@
 -- What `compute` says of its result.
 -- Javadoc `ExtensionContext.Store`, `getOrComputeIfAbsent`: a value is computed where the context and its ancestors have none, and is stored in the context. That the
--- context's cell is claimed first and the ancestors are looked at again, and what is refused, are own rules. `Claiming` of ext_shared has the words for that.
+-- context's cell is claimed first and the ancestors are looked at again, and what is refused, are own rules. `Claiming` of ext_store_cells has the words for that.
 -- `before` and `after` are the lane before and after the call; `first` are the events that the call made before the part that a definition speaks of. `Computes` and
 -- `Uses` are for a result without its factory, so that they can be said where the factory's type is not known.
 use Rattle.std.specs.Prelude.{ℕ, ◌≡◌, IsFalse, IsTrue, List, [], ◌∷◌, ◌++◌, Some, Result, Ok, Err}
@@ -10,20 +10,44 @@ use Rattle.ext_model.specs.declared.look.Look.TheVariants as look
 use Rattle.ext_model.specs.declared.look.Fault.{Fault}
 use Rattle.ext_model.specs.Events as events
 use Rattle.ext_model.specs.History.{History, Limits, reply_after}
-use Rattle.ext_model.specs.Views.{LaneView, IsPointAfter}
-use Rattle.ext_model.specs.Calls.{Calls, IsCrowded}
-use Rattle.ext_tree.specs.Paths.{IsPathOf}
+use Rattle.ext_model.specs.CallActs.{LaneView, IsPointAfter, Calls, IsCrowded}
+use Rattle.ext_tree.specs.Trees.{IsPathOf}
 use Rattle.ext_values.specs.Known.{Learns}
 use Rattle.ext_cells.specs.Lanes.{Lane}
-use Rattle.ext_shared.specs.declared.claim.Unused.{Unused}
-use Rattle.ext_shared.specs.declared.claim.Unused.TheVariants as unused
+use Rattle.ext_store_cells.specs.declared.claim.Unused.{Unused}
+use Rattle.ext_store_cells.specs.declared.claim.Unused.TheVariants as unused
 use Rattle.ext_store.specs.declared.fault.KeepFault.{KeepFault}
 use Rattle.ext_store.specs.declared.fault.KeepFault.TheVariants as fault
 use Rattle.ext_store.specs.declared.computed.Compute.{Compute}
 use Rattle.ext_store.specs.declared.computed.Compute.TheVariants.{Computed, Found, Failed, FaultKept, FaultUnkept, FaultStands, Unkept, Refused}
-use Rattle.ext_store.specs.Stores.{StoreView, StoreLane, cell_in}
-pub use Rattle.ext_shared.specs.Claiming.{HappensAfter, LooksFirst, Claims, ClaimsAndLooks, given_up_events}
-unfoldable pub use Rattle.ext_shared.specs.Claiming.{Meets, IsRefused}
+use Rattle.ext_store.specs.Stores.{StoreView, StoreLane, cell_in, context_cells}
+use Rattle.ext_model.specs.declared.look.Look.{Look}
+use Rattle.ext_store_cells.specs.declared.fault.Refusal.{Refusal}
+use Rattle.ext_store_cells.specs.Claiming as claiming
+pub use Rattle.ext_store_cells.specs.Claiming.{HappensAfter, LooksFirst}
+
+-- ---- what a claim of a missing value says, as ext_store_cells says it
+
+-- the look-up from the context is absent at a point of the call, after that the lane claims the cell of the context, and at a point after that and before its next
+-- event the look-up along the ancestors is this
+abbrev pub ClaimsAndLooks : Limits → StoreView → ℕ → List ℕ → ℕ → LaneView → LaneView → Look → Type 0
+ClaimsAndLooks limits store context ancestors key before after look = claiming.ClaimsAndLooks limits (context_cells store) context ancestors key before after look
+
+-- the events of a claim that is given up
+abbrev pub given_up_events : StoreView → ℕ → ℕ → List (Act ℕ)
+given_up_events store context key = claiming.given_up_events (context_cells store) context key
+
+-- the look-up from the context is this, at a point of a call without events; or so is the one from its parent, while the lane's claim stands, which is then given up
+abbrev pub Meets : Limits → StoreView → ℕ → List ℕ → ℕ → LaneView → LaneView → Look → Type 0
+Meets limits store context ancestors key before after met = claiming.Meets limits (context_cells store) context ancestors key before after met
+
+-- what each refusal says
+abbrev pub IsRefused : Limits → StoreView → ℕ → List ℕ → ℕ → LaneView → LaneView → Refusal → Type 0
+IsRefused limits store context ancestors key before after why = claiming.IsRefused limits (context_cells store) context ancestors key before after why
+
+-- a claim under which nothing stands, for the path of the context, or why there is none
+abbrev pub ClaimsMissing : StoreView → ℕ → ℕ → LaneView → LaneView → Result ℕ Unused → Type 0
+ClaimsMissing store context key before after result = claiming.ClaimsMissing (context_cells store) context key before after result
 
 -- ---- what comes of the factory's value
 
@@ -147,6 +171,12 @@ IsFaultless (FaultUnkept why cause) = ⊥
 IsFaultless (FaultStands at number unused) = ⊥
 IsFaultless (Unkept value cause) = Unit {0}
 IsFaultless (Refused why unused) = Unit {0}
+
+-- why no factory is called, in a store that keeps no faults
+abbrev pub IsFaultlessUnused : Unused → Type 0
+IsFaultlessUnused (unused.Found at number) = Unit {0}
+IsFaultlessUnused (unused.FaultStands at number) = ⊥
+IsFaultlessUnused (unused.Refused why) = Unit {0}
 
 -- a fact of the number, where the value was computed and stored under one
 abbrev pub IfComputed : {V F : Type 0} → Compute V F → (ℕ → Type 0) → Type 0

@@ -1,14 +1,13 @@
 -- What is true of frames, and of the histories that lanes in hand have seen: sentences that a reader may judge.
--- Own rule; each is proved, as `frame_laws` says.
+-- Each is proved, as `frame_laws` says.
 use Rattle.std.specs.Prelude.{ℕ, List, [], ◌++◌, map, All}
 use mathlib.Core.List.{IsPrefix}
 use Rattle.ext_model.specs.declared.event.Act.{Act}
 use Rattle.ext_model.specs.History.{Limits, IsLegal}
-use Rattle.ext_history.specs.Views.{seen, seen_by, Follow}
-use Rattle.ext_model.specs.Views.{LaneView}
-use Rattle.ext_model.specs.Calls.{Calls}
+use Rattle.ext_history.specs.Histories.{seen, seen_by, Follow}
+use Rattle.ext_model.specs.CallActs.{LaneView, Calls}
 use Rattle.ext_store.specs.Stores.{StoreId, StoreLane, IsLaneOf, StillKeeps}
-use Rattle.ext_store.specs.Frames.{Frame}
+use Rattle.ext_store.specs.LaneCalls.{Frame}
 
 -- ---- frames
 

@@ -1,10 +1,8 @@
 pub mod Stores
+pub mod ContextCalls
 pub mod Opening
-pub mod Frames
+pub mod LaneCalls
 pub mod FrameLaws
-pub mod Calls
-pub mod Keeping
-pub mod Keys
+pub mod InnerKeeping
 pub mod Computing
 pub mod Waiting
-pub use Rattle.ext_shared.specs.Sealing

@@ -1,5 +1,5 @@
--- What a store is made of that is opened, and why one is not opened.
--- Own rule, below the public contract of `open`, but for `fault_count`.
+-- What a store is made of that is opened, and why one is not opened. Below the public contract of
+-- `open`, but for `fault_count`.
 use Rattle.std.specs.Prelude.{ℕ, ◌≡◌, Bool, if◌then◌else◌, List, length, map}
 use Rattle.ext_cells.specs.Lanes.{CellsView, AreLimits, fresh_lanes}
 use Rattle.ext_store.specs.declared.limits.StoreFault.{StoreFault}

@@ -1,12 +1,42 @@
--- What contracts see of a store, of its lanes and closers, and of kept numbers.
--- Own rule. A lane is seen as its lane of the cells, whose words are those of `Views` of ext_model, and as what it knows of the values of numbers.
-use Rattle.std.specs.Prelude.{ℕ, zero, suc, ◌≡◌, ◌≢◌, ◌<◌, List, [], ◌∷◌, ◌++◌, length, Some}
+-- What contracts see of a store, of its lanes and closers, and of kept numbers. A lane is seen as its lane of the cells, whose words are those of
+-- `CallActs` of ext_model, and as what it knows of the values of numbers.
+use Rattle.std.specs.Prelude.{ℕ, zero, suc, ◌≡◌, ◌≢◌, ◌<◌, IsTrue, IsFalse, List, [], ◌∷◌, ◌++◌, length, Some}
 use Rattle.ext_model.specs.declared.look.Fault.{Fault}
-use Rattle.ext_model.specs.Calls.{MayStoreNow}
-use Rattle.ext_tree.specs.KeyPlaces as keys
+use Rattle.ext_model.specs.CallActs.{MayStoreNow}
+use Rattle.ext_tree.specs.Keys as keys
 use Rattle.ext_values.specs.Known.{Known, AreNotesOf, known_at, nothing_known}
 use Rattle.ext_cells.specs.Lanes.{CellsId, Lane, AreLimits}
-pub use Rattle.ext_shared.specs.Stores.{StoreId, StoreView, cell_in}
+use Rattle.ext_tree.specs.Trees.{Id}
+use Rattle.ext_model.specs.History.{Limits}
+use Rattle.ext_store_cells.specs.ContextCalls as cells
+use Rattle.ext_store_cells.specs.ContextCalls.{ContextCells}
+
+-- Which store it is: its cells, and the names of the places of its values, of its kept faults and of its 64 keys, each in the order of their numbers
+pub record StoreId : Type 0 where
+  pub cells : CellsId
+  pub places : List ℕ
+  pub fault_places : List ℕ
+  pub keys : List ℕ
+
+-- A store: which it is, the ids of its contexts, and how many exchanges a call makes at most
+pub record StoreView : Type 0 where
+  pub id : StoreId
+  pub tree : List Id
+  pub tries : ℕ
+
+-- all of it but its values and its kept faults: what ext_store_cells sees of a store
+abbrev pub context_cells : StoreView → ContextCells
+context_cells store = record { cells = store.id.cells; keys = store.id.keys; tree = store.tree; tries = store.tries }
+
+-- the cell of a context and a place of a key, by their numbers
+abbrev pub cell_in : StoreView → ℕ → ℕ → ℕ
+cell_in store key context = cells.cell_in (context_cells store) key context
+
+-- There is a place for each number; where faults are kept, one for the fault of each number too, and else none
+pub record HasPlaces (limits : Limits) (places fault_places : List ℕ) : Type 0 where
+  pub numbers : limits.numbers ≡ length places
+  pub faults : IsTrue limits.keep_faults → limits.numbers ≡ length fault_places
+  pub no_faults : IsFalse limits.keep_faults → fault_places ≡ []
 
 -- A lane: its steps on the cells, what it knows of the value and of the kept fault of each number, and what it knows of the places of keys
 pub record StoreLane (V : Type 0) : Type 0 where

@@ -1,14 +1,29 @@
 -- What the waiting forms say beside what their plain forms say: what they never answer, and what `compute_wait` may do before it answers.
--- Own rule. JUnit waits for a running factory; that a compute claims its cell and gives it up before it waits is an own rule.
-use Rattle.std.specs.Prelude.{ℕ}
+-- JUnit waits for a running factory; that a compute claims its cell and gives it up before it waits is an own rule.
+use Rattle.std.specs.Prelude.{ℕ, Result}
 use Rattle.ext_cells.specs.Lanes.{Lane}
 use Rattle.ext_store.specs.declared.fault.KeepFault.{KeepFault}
 use Rattle.ext_store.specs.declared.fault.KeepFault.TheVariants as fault
 use Rattle.ext_store.specs.declared.computed.Compute.{Compute}
 use Rattle.ext_store.specs.declared.computed.Compute.TheVariants.{Computed, Found, Failed, FaultKept, FaultUnkept, FaultStands, Unkept, Refused}
-use Rattle.ext_store.specs.Stores.{StoreView}
+use Rattle.ext_model.specs.CallActs.{LaneView}
+use Rattle.ext_store_cells.specs.declared.claim.Unused.{Unused}
+use Rattle.ext_store.specs.Stores.{StoreView, context_cells}
 use Rattle.ext_store.specs.Computing.{Computes}
-pub use Rattle.ext_shared.specs.Waiting.{IsDecidedLook, IsDecided, IsDecidedUnused, VainAttempt, VainAttempts, Waits, ClaimsAfterWaits}
+use Rattle.ext_store_cells.specs.Waiting as waiting
+pub use Rattle.ext_store_cells.specs.Waiting.{IsDecidedLook, IsDecided, IsDecidedUnused}
+
+-- ---- what may come before the answer of a claim that waits, as ext_store_cells says it
+
+-- first the call made some attempts in vain, and then what follows is said from there
+abbrev pub Waits : StoreView → ℕ → ℕ → LaneView → (LaneView → Type 0) → Type 0
+Waits store context key before Then = waiting.Waits (context_cells store) context key before Then
+
+-- the last attempt is the claim of a missing value
+abbrev pub ClaimsAfterWaits : StoreView → ℕ → ℕ → LaneView → LaneView → Result ℕ Unused → Type 0
+ClaimsAfterWaits store context key before after result = waiting.ClaimsAfterWaits (context_cells store) context key before after result
+
+-- ---- what is never answered
 
 -- a value is not kept for another reason than that other lanes were in the way
 abbrev pub IsDecidedFault : KeepFault → Type 0

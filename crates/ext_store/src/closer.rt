@@ -8,7 +8,7 @@ use std::snapshot::Snapshot;
 
 /// The right to close a context, once. `Store::open` gives out one for each context, and there is no other way to
 /// one. It may go to another thread, and where it is dropped its context stays open. In contracts it is the cells of
-/// its store and its context. Own rule.
+/// its store and its context.
 #[derive(Drop)]
 pub struct Closer {
     pub(crate) context: ContextNo,
@@ -24,7 +24,7 @@ impl Model for Closer {
 }
 
 impl Closer {
-    /// The context, from 0. Takes no memory. Own rule.
+    /// The context, from 0.
     pub fn context(&self) -> ContextNo
         ensures { result ≡ self.now.context }
     {

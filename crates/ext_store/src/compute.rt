@@ -1,15 +1,12 @@
 //! Values that are computed where none is found.
 ghost use Rattle.std.specs.Prelude.{ℕ, ◌≡◌, ◌≢◌, ◌+◌, ◌*◌, ◌<◌, ◌≤◌, [], length, Contains, IfOk, IsFalse, IsTrue, MatchResult, IsSome, Some};
 ghost use Rattle.std.specs.Fn.{FnOnceReturnsAt};
-ghost use Rattle.ext_model.specs.Calls.{IsHeld};
-ghost use Rattle.ext_tree.specs.Keys.{KeyValue};
-ghost use Rattle.ext_tree.specs.KeyPlaces.{IsKeyNumber, key_at};
+ghost use Rattle.ext_model.specs.CallActs.{IsHeld};
+ghost use Rattle.ext_tree.specs.Keys.{KeyValue, IsKeyNumber, key_at};
 ghost use Rattle.ext_values.specs.Known.{KeepsKnown, Learns};
 ghost use Rattle.ext_store.specs.declared.computed.Compute.TheVariants.{Refused};
 ghost use Rattle.ext_store.specs.Stores.{IsKeptBy, IsLaneOf, StillKeeps};
-ghost use Rattle.ext_store.specs.Keys.{OfKey};
-ghost use Rattle.ext_store.specs.Frames.{Frame};
-ghost use Rattle.ext_store.specs.Calls.{KeepsFault, KeepsNoFault, steps_of};
+ghost use Rattle.ext_store.specs.LaneCalls.{OfKey, Frame, KeepsFault, KeepsNoFault, steps_of};
 ghost use Rattle.ext_store.specs.Computing.{Computes, EndsFailed, Fails, Fills, HandsBack, IfComputed, IsFaultless, IsUnkept, Uses, without_factory};
 
 use crate::computed::{hand_back, run_factory};
@@ -43,7 +40,7 @@ impl<V: StoreValue + Drop> Store<V> {
     ///
     /// Javadoc `ExtensionContext.Store`, `getOrComputeIfAbsent`; JUnit 5 User Guide, section "Keeping State in
     /// Extensions". Claims, the second look, numbers and refusals are own rules.
-    #[tactic(auto, unfolding(crate::specs::Frames::Frame))]
+    #[tactic(auto, unfolding(crate::specs::LaneCalls::Frame))]
     pub fn compute<F: FnOnce(&Key) -> Result<V, Fault>>(
         &self,
         lane: &mut Lane<V>,
@@ -75,10 +72,9 @@ impl<V: StoreValue + Drop> Store<V> {
     }
 
     /// As `compute`, for the key of this number, as `number` gives it: nothing is hashed. The factory is called with the key
-    /// that stands in the place of this number. It is a condition that the number is below 64, and that the lane knows the
-    /// key of this number, which `Lane::knows_key` tests; refused as `compute` is, save for the key. Takes memory for the
-    /// value. Own rule.
-    #[tactic(auto, unfolding(crate::specs::Frames::Frame))]
+    /// that stands in the place of this number. It is a condition that the number is below 64, and that the lane knows the key
+    /// of this number, which `Lane::knows_key` tests; refused as `compute` is, save for the key. Takes memory for the value.
+    #[tactic(auto, unfolding(crate::specs::LaneCalls::Frame))]
     pub fn compute_numbered<F: FnOnce(&Key) -> Result<V, Fault>>(
         &self,
         lane: &mut Lane<V>,
@@ -107,7 +103,7 @@ impl<V: StoreValue + Drop> Store<V> {
     }
 
     // The same with the key itself, with which the factory is called.
-    #[tactic(auto, unfolding(crate::specs::Frames::Frame))]
+    #[tactic(auto, unfolding(crate::specs::LaneCalls::Frame))]
     fn compute_named<F: FnOnce(&Key) -> Result<V, Fault>>(
         &self,
         lane: &mut Lane<V>,
@@ -131,8 +127,7 @@ impl<V: StoreValue + Drop> Store<V> {
         ensures frame { Frame self.now.id [] lane.old lane.new }
         ensures steps { steps_of lane.old.cells lane.new.cells ≤ 34 * (self.now.tries + 1) + 2 }
     {
-        self.shared.recall();
-        let claim = match self.shared.claim_missing(&mut lane.cells, context, key) {
+        let claim = match self.begin_numbered(lane, context, key) {
             Ok(claim) => claim,
             Err(why) => return hand_back(why, factory),
         };
@@ -140,14 +135,14 @@ impl<V: StoreValue + Drop> Store<V> {
             Ok(value) => value,
             Err(fault) => return self.end_failed(lane, claim, fault),
         };
-        match self.keep_and_fill(lane, claim, value) {
+        match self.fill(lane, claim, value) {
             Ok(number) => Compute::Computed { number },
             Err((value, cause)) => Compute::Unkept { value, cause },
         }
     }
 
     // Ends the claim of a factory that failed: keeps its fault where the store keeps faults, and else gives the claim up.
-    #[tactic(auto, unfolding(crate::specs::Frames::Frame))]
+    #[tactic(auto, unfolding(crate::specs::LaneCalls::Frame))]
     fn end_failed<F>(&self, lane: &mut Lane<V>, claim: Claim, fault: Fault) -> Compute<V, F>
         requires lane { IsLaneOf self.now.id lane.old }
         requires held { IsHeld lane.old.cells.view claim }
@@ -156,91 +151,37 @@ impl<V: StoreValue + Drop> Store<V> {
         ensures steps { steps_of lane.old.cells lane.new.cells ≤ self.now.tries + 3 }
     {
         if !self.keeps_faults() {
-            self.shared.abandon(&mut lane.cells, claim);
+            self.give_up(lane, claim);
             return Compute::Failed(fault);
         }
-        match self.keep_and_fail(lane, claim, fault) {
+        match self.fail(lane, claim, fault) {
             Ok(number) => Compute::FaultKept { number },
             Err((fault, cause)) => Compute::FaultUnkept { fault, cause },
         }
     }
 
-    // Keeps the fault, and its number in the claimed cell, or gives the claim up.
-    #[tactic(auto, unfolding(crate::specs::Frames::Frame))]
-    fn keep_and_fail(
+    // Draws a number for the fault, which has it from then on.
+    #[tactic(auto, unfolding(crate::specs::LaneCalls::KeepFails, crate::specs::LaneCalls::Frame))]
+    pub(crate) fn keep_fault(
         &self,
         lane: &mut Lane<V>,
-        claim: Claim,
         fault: Fault,
     ) -> Result<u32, (Fault, KeepFault)>
         requires lane { IsLaneOf self.now.id lane.old }
         requires faults { IsTrue self.now.id.cells.limits.keep_faults }
-        requires held { IsHeld lane.old.cells.view claim }
-        ensures events { MatchResult result (Fails self.now.id.cells.limits [] claim lane.old.cells.view lane.new.cells.view) (λ e. IsUnkept self.now.id.cells.limits self.now.tries [] claim lane.old.cells.view lane.new.cells.view e.1) }
-        ensures known { lane.new.known ≡ lane.old.known }
-        ensures faults { MatchResult result (λ number. Learns lane.old.faults lane.new.faults number fault) (λ e. (e.0 ≡ fault) × (lane.new.faults ≡ lane.old.faults)) }
-        ensures frame { Frame self.now.id [] lane.old lane.new }
-        ensures steps { steps_of lane.old.cells lane.new.cells ≤ self.now.tries + 3 }
-    {
-        match self.keep_fault(lane, fault) {
-            Ok(number) => {
-                self.shared.fail(&mut lane.cells, claim, number);
-                Ok(number)
-            }
-            Err(unkept) => {
-                self.shared.abandon(&mut lane.cells, claim);
-                Err(unkept)
-            }
-        }
-    }
-
-    // Draws a number for the fault, which has it from then on.
-    #[tactic(auto, unfolding(crate::specs::Calls::KeepFails, crate::specs::Frames::Frame))]
-    fn keep_fault(&self, lane: &mut Lane<V>, fault: Fault) -> Result<u32, (Fault, KeepFault)>
-        requires lane { IsLaneOf self.now.id lane.old }
-        requires faults { IsTrue self.now.id.cells.limits.keep_faults }
         ensures answer { MatchResult result (KeepsFault fault lane.old lane.new) (λ e. KeepsNoFault self.now fault lane.old lane.new e.0 e.1) }
         ensures known { lane.new.known ≡ lane.old.known }
+        ensures keys { lane.new.keys ≡ lane.old.keys }
         ensures apart { IfOk result (λ number. (m : ℕ) → IsKeptBy lane.old m → m ≢ number) }
         ensures frame { Frame self.now.id [] lane.old lane.new }
         ensures steps { steps_of lane.old.cells lane.new.cells ≤ self.now.tries + 1 }
     {
-        self.shared.recall();
+        self.recall();
         let boxed = match Box::new(self.alloc, fault) {
             Ok(boxed) => boxed,
             Err(failed) => return Err((failed.value, KeepFault::Memory)),
         };
-        let drawn = self.shared.cells().next_number(&mut lane.cells);
+        let drawn = self.shared.draw_number(&mut lane.cells);
         self.place_drawn_fault(&mut lane.faults, drawn, boxed)
-    }
-
-    // Keeps the value and stores its number in the claimed cell, or gives the claim up.
-    #[tactic(auto, unfolding(crate::specs::Frames::Frame))]
-    fn keep_and_fill(
-        &self,
-        lane: &mut Lane<V>,
-        claim: Claim,
-        value: V,
-    ) -> Result<u32, (V, KeepFault)>
-        requires lane { IsLaneOf self.now.id lane.old }
-        requires held { IsHeld lane.old.cells.view claim }
-        ensures events { MatchResult result (Fills self.now.id.cells.limits [] claim lane.old.cells.view lane.new.cells.view) (λ e. IsUnkept self.now.id.cells.limits self.now.tries [] claim lane.old.cells.view lane.new.cells.view e.1) }
-        ensures known { MatchResult result (λ number. Learns lane.old.known lane.new.known number value) (λ e. (e.0 ≡ value) × (lane.new.known ≡ lane.old.known)) }
-        ensures faults { lane.new.faults ≡ lane.old.faults }
-        ensures apart { IfOk result (λ number. (m : ℕ) → IsKeptBy lane.old m → m ≢ number) }
-        ensures frame { Frame self.now.id [] lane.old lane.new }
-        ensures steps { steps_of lane.old.cells lane.new.cells ≤ self.now.tries + 3 }
-    {
-        match self.keep(lane, value) {
-            Ok(kept) => {
-                let number = kept.number;
-                self.shared.fill(&mut lane.cells, claim, number);
-                Ok(number)
-            }
-            Err(unkept) => {
-                self.shared.abandon(&mut lane.cells, claim);
-                Err(unkept)
-            }
-        }
     }
 }

@@ -1,17 +1,16 @@
 //! What comes of a call that computes a missing value.
 ghost use Rattle.std.specs.Prelude.{◌≡◌};
 ghost use Rattle.std.specs.Fn.{FnOnceReturnsAt};
-ghost use Rattle.ext_model.specs.Calls.{IsHeld};
+ghost use Rattle.ext_model.specs.CallActs.{IsHeld};
 ghost use Rattle.ext_store.specs.Computing.{with_factory};
 
 use crate::{KeepFault, Lane, Refusal};
 use ext_cells::Claim;
 use ext_model::{ContextNo, Fault};
-use ext_shared::Unused;
+use ext_store_cells::Unused;
 use ext_tree::Key;
 
 /// What `Store::compute` answers. A factory that was not called is handed back as it was, and can be called later.
-/// Own rule.
 #[derive(Drop)]
 pub enum Compute<V, F> {
     /// The factory's value was kept under this number, which stands in the context now.

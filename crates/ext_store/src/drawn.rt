@@ -2,7 +2,7 @@
 ghost use Rattle.std.specs.Prelude.{MatchResult};
 ghost use Rattle.ext_values.specs.Known.{AreNotesOf};
 ghost use Rattle.ext_values.specs.Places.{IsNumber};
-ghost use Rattle.ext_store.specs.Keeping.{IsOfCount, PlacesDrawn};
+ghost use Rattle.ext_store.specs.InnerKeeping.{IsOfCount, PlacesDrawn};
 
 use crate::{KeepFault, Kept, Store, StoreValue};
 use ext_cells::CellRefusal;
@@ -25,7 +25,7 @@ impl<V: StoreValue + Drop> Store<V> {
             Ok(number) => number,
             Err(why) => return Err((Box::into_inner(boxed), KeepFault::of(why))),
         };
-        match notes.place(self.shared.values(), number, boxed) {
+        match notes.place(&self.values, number, boxed) {
             Ok(()) => Ok(Kept { number }),
             Err(back) => Err((Box::into_inner(back), KeepFault::Unplaced)),
         }
@@ -46,7 +46,7 @@ impl<V: StoreValue + Drop> Store<V> {
             Ok(number) => number,
             Err(why) => return Err((Box::into_inner(boxed), KeepFault::of(why))),
         };
-        match notes.place(self.shared.faults(), number, boxed) {
+        match notes.place(&self.faults, number, boxed) {
             Ok(()) => Ok(number),
             Err(back) => Err((Box::into_inner(back), KeepFault::Unplaced)),
         }

@@ -1,11 +1,11 @@
 //! Why a value is not kept.
 ghost use Rattle.std.specs.Prelude.{◌≡◌};
-ghost use Rattle.ext_store.specs.Keeping.{IsOfCount, keep_fault};
+ghost use Rattle.ext_store.specs.InnerKeeping.{IsOfCount, keep_fault};
 
 use ext_cells::CellRefusal;
 use thiserror::Error;
 
-/// Why a value is not kept, by `keep` or by a `compute` whose factory gave it. Own rule.
+/// Why a value is not kept, by `keep` or by a `compute` whose factory gave it.
 #[derive(Clone, Copy, Debug, PartialEq, Eq, Error)]
 pub enum KeepFault {
     /// There is no memory for the value.

@@ -1,8 +1,8 @@
 //! A lane of a store, which a thread owns.
 ghost use Rattle.std.specs.Prelude.{◌≡◌, ◌<◌, [], is_some};
 ghost use Rattle.ext_model.specs.History.{IsLegal};
-ghost use Rattle.ext_history.specs.Views.{Follow, seen_by};
-ghost use Rattle.ext_tree.specs.KeyPlaces.{key_at};
+ghost use Rattle.ext_history.specs.Histories.{Follow, seen_by};
+ghost use Rattle.ext_tree.specs.Keys.{key_at};
 
 use ext_cells::CellLane;
 use ext_model::{Fault, KeyNo, LaneNo};
@@ -14,7 +14,7 @@ use std::marker::Model;
 ///
 /// In contracts it is its lane of the cells, what it knows of the value and of the fault of each number, and what it knows
 /// of the places of keys. A value or a fault is known where the lane kept it or was shown it. A key is known where the
-/// lane named it, was shown it while it named another, or was told it by `Store::meet`. Own rule.
+/// lane named it, was shown it while it named another, or was told it by `Store::meet`.
 #[derive(Drop)]
 pub struct Lane<V> {
     pub(crate) cells: CellLane,
@@ -32,8 +32,7 @@ impl<V> Model for Lane<V> {
 }
 
 impl<V> Lane<V> {
-    /// The lane's number, from 0 in the order in which `Store::open` gave the lanes out, and so below their count. Takes no
-    /// memory. Own rule.
+    /// The lane's number, from 0 in the order in which `Store::open` gave the lanes out, and so below their count.
     pub fn number(&self) -> LaneNo
         ensures number { result ≡ self.now.cells.view.number }
         ensures below { result < self.now.cells.cells.limits.lanes }
@@ -42,7 +41,7 @@ impl<V> Lane<V> {
     }
 
     /// Whether this lane knows the key of this number: whether it named the key, was shown it or was told it. False for a
-    /// number from 64 on. Takes no memory. Own rule.
+    /// number from 64 on.
     pub fn knows_key(&self, number: KeyNo) -> bool
         ensures { result ≡ is_some (key_at self.now.keys number) }
     {
@@ -51,7 +50,7 @@ impl<V> Lane<V> {
 
     /// Tells a proof what is true of every lane in hand: what it has seen is a legal history, and each of its fronts
     /// goes on from the one before it. So where lanes met one after the other, all their fronts are parts of one legal
-    /// history, as `frame_laws` says. It does nothing when it runs. Own rule.
+    /// history, as `frame_laws` says. It does nothing when it runs.
     pub fn recall(&self)
         ensures legal { IsLegal self.now.cells.cells.limits (seen_by self.now.cells.view) }
         ensures follow { Follow [] self.now.cells.view.fronts }

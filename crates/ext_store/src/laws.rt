@@ -2,7 +2,7 @@
 ghost use Rattle.ext_store.specs.FrameLaws.{FramesAreCalls, FramesCompose, FramesKeep, FrontsAreSeen, MetLanesShareHistory, NoCallHasFrame, NoCallIsCall};
 
 /// Proves the laws of frames, which say what calls one after the other do to a lane, and of what lanes have seen. It
-/// does nothing when it runs (own rule).
+/// does nothing when it runs.
 pub fn frame_laws<V>()
     ensures none { NoCallHasFrame V }
     ensures compose { FramesCompose V }

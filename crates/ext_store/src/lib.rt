@@ -11,16 +11,25 @@
 //! memory for a key that is new to its lane, and is refused for the key as `DirectoryFull` or `Memory`, before anything
 //! else.
 //!
-//! `specs/Stores`, `specs/Keys`, `specs/Calls`, `specs/Computing` and `specs/Frames` have the words of the contracts, and
-//! `specs/Waiting` those of the forms that wait; what a call does to a lane of the cells alone is that of ext_shared.
+//! `specs/Stores`, `specs/ContextCalls`, `specs/LaneCalls` and `specs/Computing` have the words of the contracts, and
+//! `specs/Waiting` those of the forms that wait. What a call does to a lane of the cells is said in ext_store_cells, of a store
+//! without its values; `specs/ContextCalls` says it of the whole store.
+//!
+//! An engine that can't hand over a factory computes in two calls: `begin`, and then `fill`, `fail` or `give_up`. The quiet
+//! forms of these (`fill_quietly` and the others) wake nobody, so that a static library can be made of them: whoever has a
+//! lane in a waiting form must not call them.
 //!
 //! Each cell is a word of its own, and no call but the waiting forms (`get_wait` and the others) waits for another lane: where a
 //! factory is in the way of one of these, it sleeps until a claim has ended, and tries again.
 //!
 //! Javadoc `ExtensionContext.Store`; JUnit 5 User Guide, section "Keeping State in Extensions". Numbers, lanes, claims, closers,
 //! refusals and limits are own rules.
+//!
+//! Unless its comment says otherwise, a public call takes no memory and waits for nobody. What
+//! names no source in JUnit is an own rule.
 #![tactic(auto)]
 
+mod begin;
 mod closer;
 mod compute;
 mod computed;
@@ -38,7 +47,8 @@ mod waiting;
 
 pub use closer::Closer;
 pub use computed::Compute;
-pub use ext_shared::Refusal;
+pub use ext_cells::Claim;
+pub use ext_store_cells::{Refusal, Unused};
 pub use fault::KeepFault;
 pub use kept::Kept;
 pub use lane::Lane;

@@ -1,7 +1,7 @@
 //! The limits of a store, and why it is not opened.
 use thiserror::Error;
 
-/// The limits of a store that is opened. Own rule.
+/// The limits of a store that is opened.
 #[derive(Clone, Copy, Debug, PartialEq, Eq)]
 pub struct Limits {
     /// How many lanes there are, for as many threads: 1 to 16.
@@ -17,7 +17,7 @@ pub struct Limits {
     pub keep_faults: bool,
 }
 
-/// Why a store is not opened. Own rule.
+/// Why a store is not opened.
 #[derive(Clone, Copy, Debug, PartialEq, Eq, Error)]
 pub enum StoreFault {
     /// There were to be too few or too many lanes, tries or numbers.

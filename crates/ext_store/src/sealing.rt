@@ -2,22 +2,21 @@
 ghost use Rattle.std.specs.Prelude.{◌≡◌, ◌+◌, ◌<◌, ◌≤◌, [], length, is_some};
 ghost use Rattle.ext_model.specs.declared.event.Act.TheVariants as act_is;
 ghost use Rattle.ext_values.specs.Known.{known_at};
-ghost use Rattle.ext_cells.specs.Calls.{ComesLast};
+ghost use Rattle.ext_cells.specs.CellCalls.{ComesLast};
 ghost use Rattle.ext_store.specs.Stores.{IsCloserOf, IsLaneOf, StillKeeps, cell_in};
-ghost use Rattle.ext_store.specs.Frames.{Frame};
-ghost use Rattle.ext_store.specs.Calls.{steps_of};
-ghost use Rattle.ext_shared.specs.Sealing.{SealsKey};
+ghost use Rattle.ext_store.specs.LaneCalls.{Frame, steps_of};
+ghost use Rattle.ext_store.specs.ContextCalls.{SealsKey};
 
 use crate::{Closer, Lane, Refusal, Store};
 use ext_model::KeyNo;
 
 impl<V> Store<V> {
     /// Seals the key in the closer's context for good, and answers the number of the value that stood there, which the seal
-    /// keeps; a kept fault goes. A key that is sealed already answers what its seal kept, and nothing happens. Takes no memory.
+    /// keeps; a kept fault goes. A key that is sealed already answers what its seal kept, and nothing happens.
     ///
     /// Refused as `Busy` with the context where a lane computes a value for it under this key, and else as
-    /// `Contended`, of events in this context under this key alone. Own rule.
-    #[tactic(auto, unfolding(crate::specs::Frames::Frame))]
+    /// `Contended`, of events in this context under this key alone.
+    #[tactic(auto, unfolding(crate::specs::LaneCalls::Frame))]
     pub fn seal(
         &self,
         lane: &mut Lane<V>,
@@ -41,7 +40,7 @@ impl<V> Store<V> {
     }
 
     /// Whether the lane knows the number's value: whether it kept the value or was shown it. False for a number that
-    /// has no place. Takes no memory. Own rule.
+    /// has no place.
     pub fn knows(&self, lane: &Lane<V>, number: u32) -> bool
         ensures { result ≡ is_some (known_at lane.now.known number) }
     {

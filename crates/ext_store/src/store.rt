@@ -1,25 +1,24 @@
 //! The store and its calls.
-ghost use Rattle.std.specs.Prelude.{ℕ, ◌≡◌, ◌≢◌, ◌↔◌, ◌+◌, ◌*◌, ◌<◌, ◌≤◌, [], All, Contains, IfErr, IfNone, IfOk, IfSome, IsFalse, IsNone, MatchResult, Ok, Err, length, map};
+ghost use Rattle.std.specs.Prelude.{ℕ, ◌≡◌, ◌≢◌, ◌↔◌, ◌+◌, ◌*◌, ◌<◌, ◌≤◌, [], All, Contains, IfErr, IfNone, IfOk, IfSome, IsFalse, IsNone, IsTrue, MatchResult, Ok, Err, length, map};
 ghost use mathlib.Core.List.{IsPrefix};
-ghost use Rattle.ext_model.specs.Calls.{Calls};
+ghost use Rattle.ext_model.specs.CallActs.{Calls};
 ghost use Rattle.ext_model.specs.declared.event.Act.TheVariants as act_is;
-ghost use Rattle.ext_history.specs.Views.{seen_by};
-ghost use Rattle.ext_tree.specs.KeyPlaces.{IsKeyNumber, KeepsKeys, OneKey, OneNumber};
+ghost use Rattle.ext_history.specs.Histories.{seen_by};
+ghost use Rattle.ext_tree.specs.Keys.{IsKeyNumber, KeepsKeys, OneKey, OneNumber};
 ghost use Rattle.ext_values.specs.Known.{AllAgree, KeepsKnown, Learns, known_at};
-ghost use Rattle.ext_cells.specs.Calls.{ComesLast};
+ghost use Rattle.ext_cells.specs.CellCalls.{ComesLast};
 ghost use Rattle.ext_cells.specs.Lanes.{AreLimits, fresh_lanes};
 ghost use Rattle.ext_store.specs.declared.limits.StoreFault.TheVariants as store_fault;
 ghost use Rattle.ext_store.specs.Stores.{AreStoreLimits, IsCloserOf, IsKeptBy, IsLaneOf, StillKeeps, StillKeepsBut, cell_in, closers_below, fresh_store_lane};
 ghost use Rattle.ext_store.specs.Opening.{fault_count};
-ghost use Rattle.ext_store.specs.Frames.{Frame, stored_by};
-ghost use Rattle.ext_store.specs.Keys.{IsKeyRefused, OfKey, key_refusal};
-ghost use Rattle.ext_store.specs.Calls.{Gets, IsFaultlessLook, KeepsAs, KeepsNothing, Puts, Removes, steps_of};
+ghost use Rattle.ext_store.specs.LaneCalls.{Frame, stored_by, IsKeyRefused, OfKey, key_refusal, Gets, IsFaultlessLook, KeepsAs, KeepsNothing, Puts, Removes, steps_of};
 
 use crate::opening::open_parts;
 use crate::{Closer, KeepFault, Kept, Lane, Limits, Refusal, StoreFault, StoreValue};
 use ext_model::{ContextNo, Fault, KeyNo, Look};
-use ext_shared::Shared;
+use ext_store_cells::StoreCells;
 use ext_tree::{Key, KeyFault, Tree};
+use ext_values::Values;
 use std::alloc::Global;
 use std::marker::Model;
 
@@ -36,28 +35,31 @@ use std::marker::Model;
 /// claims, closers and refusals are own rules.
 #[derive(Drop)]
 pub struct Store<V> {
-    pub(crate) shared: Shared<V>,
+    pub(crate) shared: StoreCells,
+    pub(crate) values: Values<V>,
+    pub(crate) faults: Values<Fault>,
     pub(crate) alloc: Global,
 }
 
 impl<V> Model for Store<V> {
-    ghost use Rattle.ext_store.specs.Stores.{StoreView};
+    ghost use Rattle.ext_store.specs.Stores.{HasPlaces, StoreView};
 
     ghost Value = { StoreView };
 
-    ghost view = { λ s. s.shared };
+    ghost view = { λ s. record { id = record { cells = s.shared.cells; places = s.values; fault_places = s.faults; keys = s.shared.keys }; tree = s.shared.tree; tries = s.shared.tries } };
+
+    ghost invariant = { λ s. HasPlaces s.shared.cells.limits s.values s.faults };
 }
 
 impl<V> Store<V> {
-    /// The contexts. Takes no memory. Own rule.
+    /// The contexts.
     pub fn tree(&self) -> &Tree
         ensures { result.now ≡ self.now.tree }
     {
         self.shared.tree()
     }
 
-    /// How many keys can have a number: 64. Each context has a cell for each of these numbers, whether a key has it or
-    /// not. Takes no memory. Own rule.
+    /// How many keys can have a number: 64. Each context has a cell for each of these numbers, whether a key has it or not.
     pub fn key_count(&self) -> KeyNo
         ensures count { result ≡ length self.now.id.keys }
         ensures all { result ≡ 64 }
@@ -66,15 +68,24 @@ impl<V> Store<V> {
         64
     }
 
-    /// Whether the store keeps the faults of factories that fail. Takes no memory. Own rule.
+    /// Whether the store keeps the faults of factories that fail.
     pub fn keeps_faults(&self) -> bool
         ensures { result ≡ self.now.id.cells.limits.keep_faults }
     {
         self.shared.keeps_faults()
     }
 
+    // Tells a proof that there is a place for each number; and where faults are kept one for its fault too, and else none.
+    pub(crate) fn recall(&self)
+        ensures numbers { self.now.id.cells.limits.numbers ≡ length self.now.id.places }
+        ensures faults { IsTrue self.now.id.cells.limits.keep_faults → self.now.id.cells.limits.numbers ≡ length self.now.id.fault_places }
+        ensures no_faults { IsFalse self.now.id.cells.limits.keep_faults → self.now.id.fault_places ≡ [] }
+    {
+        let _tries = self.shared.tries();
+    }
+
     /// How many exchanges a change makes at most, and how many passes after its first a look-up, from 1 to 64, before the
-    /// answer is `Contended`: the clause `steps` of each call counts by it. Takes no memory. Own rule.
+    /// answer is `Contended`: the clause `steps` of each call counts by it.
     pub fn tries(&self) -> u32
         ensures tries { result ≡ self.now.tries }
         ensures within { (1 ≤ self.now.tries) × (self.now.tries ≤ 64) }
@@ -85,10 +96,9 @@ impl<V> Store<V> {
 
 impl<V: StoreValue + Drop> Store<V> {
     /// Opens a store in which nothing stands and no key has a number, with its lanes, which are numbered from 0 in the
-    /// order of the list, and with one closer for each context, in order. Takes all memory that the store needs but for
-    /// the values, the faults and the keys themselves; a store that keeps no faults takes none for them. Nobody but these
-    /// lanes makes an event: where none of them has made one, the history is empty (`no_lane` of `history_laws` in
-    /// ext_model). Own rule.
+    /// order of the list, and with one closer for each context, in order. Takes all memory that the store needs but for the
+    /// values, the faults and the keys themselves; a store that keeps no faults takes none for them. Nobody but these lanes
+    /// makes an event: where none of them has made one, the history is empty (`no_lane` of `history_laws` in ext_model).
     ///
     /// Refused, in this order, as `BadLimit` unless there are 1 to 16 lanes, 1 to 64 tries and 1 to 65,535 numbers, and
     /// as `Memory`. A refused call drops the tree.
@@ -120,17 +130,23 @@ impl<V: StoreValue + Drop> Store<V> {
         let (cells, values, faults, keys, lanes, closers) = open_parts(
             alloc, count, contexts, limits,
         )?;
-        let shared = Shared::new(tree, keys, cells, values, faults);
-        Ok((Store { shared, alloc }, lanes, closers))
+        let shared = StoreCells::new(tree, keys, cells);
+        let store = Store {
+            shared,
+            values,
+            faults,
+            alloc,
+        };
+        Ok((store, lanes, closers))
     }
 
     /// Keeps a value: draws the next number for it, which the value has from then on. The first number is 1, each is
     /// the last plus one, and the order of the numbers is the order of addition. Takes memory for the value.
     ///
-    /// Refused, in this order and with the value handed back, as `Memory`, as `NumbersFull` where all numbers were
-    /// drawn, as `Contended`, where other lanes have drawn at least as many as there are tries and a number is left, and as
-    /// `Unplaced`, where the number is lost. Own rule: JUnit numbers values as they are stored.
-    #[tactic(auto, unfolding(crate::specs::Calls::KeepFails, crate::specs::Frames::Frame))]
+    /// Refused, in this order and with the value handed back, as `Memory`, as `NumbersFull` where all numbers were drawn,
+    /// as `Contended`, where other lanes have drawn at least as many as there are tries and a number is left, and as
+    /// `Unplaced`, where the number is lost. JUnit numbers values as they are stored.
+    #[tactic(auto, unfolding(crate::specs::LaneCalls::KeepFails, crate::specs::LaneCalls::Frame))]
     pub fn keep(&self, lane: &mut Lane<V>, value: V) -> Result<Kept, (V, KeepFault)>
         requires lane { IsLaneOf self.now.id lane.old }
         ensures answer { MatchResult result (KeepsAs value lane.old lane.new) (λ e. KeepsNothing self.now value lane.old lane.new e.0 e.1) }
@@ -144,12 +160,12 @@ impl<V: StoreValue + Drop> Store<V> {
         ensures frame { Frame self.now.id [] lane.old lane.new }
         ensures steps { steps_of lane.old.cells lane.new.cells ≤ self.now.tries + 1 }
     {
-        self.shared.recall();
+        self.recall();
         let boxed = match Box::new(self.alloc, value) {
             Ok(boxed) => boxed,
             Err(failed) => return Err((failed.value, KeepFault::Memory)),
         };
-        let drawn = self.shared.cells().next_number(&mut lane.cells);
+        let drawn = self.shared.draw_number(&mut lane.cells);
         self.place_drawn(&mut lane.notes, drawn, boxed)
     }
 
@@ -159,8 +175,8 @@ impl<V: StoreValue + Drop> Store<V> {
     ///
     /// Refused as `Memory` where there is none for the copy, at the first place that is not known to hold a key, and as
     /// `DirectoryFull` where all 64 places are known to hold other keys; `Unplaced` does not come. A refused call placed no
-    /// key, and the lane may know further keys then. Own rule: JUnit 5 keeps values in maps, under the keys themselves.
-    #[tactic(auto, unfolding(crate::specs::Frames::Frame))]
+    /// key, and the lane may know further keys then. JUnit 5 keeps values in maps, under the keys themselves.
+    #[tactic(auto, unfolding(crate::specs::LaneCalls::Frame))]
     pub fn number(&self, lane: &mut Lane<V>, key: &Key) -> Result<KeyNo, Refusal>
         requires lane { IsLaneOf self.now.id lane.old }
         ensures number { IfOk result (IsKeyNumber lane.new.keys key.now) }
@@ -189,7 +205,7 @@ impl<V: StoreValue + Drop> Store<V> {
     /// `Look::Closed`. In a store that keeps no faults none is met.
     ///
     /// Javadoc `ExtensionContext.Store`, `get`. It answers the context and the number, which `show` makes a value.
-    #[tactic(auto, unfolding(crate::specs::Frames::Frame))]
+    #[tactic(auto, unfolding(crate::specs::LaneCalls::Frame))]
     pub fn get(&self, lane: &mut Lane<V>, context: ContextNo, key: &Key) -> Result<Look, Refusal>
         requires lane { IsLaneOf self.now.id lane.old }
         requires context { context < length self.now.tree }
@@ -209,9 +225,8 @@ impl<V: StoreValue + Drop> Store<V> {
     }
 
     /// As `get`, for the key of this number, as `number` gives it: so a key that is looked up often is hashed once. A place
-    /// without a key is absent. It is a condition that the number is below 64; refused as `Contended` alone. Takes no
-    /// memory. Own rule.
-    #[tactic(auto, unfolding(crate::specs::Frames::Frame))]
+    /// without a key is absent. It is a condition that the number is below 64; refused as `Contended` alone.
+    #[tactic(auto, unfolding(crate::specs::LaneCalls::Frame))]
     pub fn get_numbered(
         &self,
         lane: &mut Lane<V>,
@@ -245,7 +260,7 @@ impl<V: StoreValue + Drop> Store<V> {
     /// handed back, and can still be put.
     ///
     /// Javadoc `ExtensionContext.Store`, `put`. JUnit 5 answers nothing; the answer and the refusals are own rules.
-    #[tactic(auto, unfolding(crate::specs::Frames::Frame))]
+    #[tactic(auto, unfolding(crate::specs::LaneCalls::Frame))]
     pub fn put(
         &self,
         lane: &mut Lane<V>,
@@ -273,8 +288,8 @@ impl<V: StoreValue + Drop> Store<V> {
     }
 
     /// As `put`, for the key of this number, as `number` gives it: nothing is hashed. It is a condition that the number is
-    /// below 64; refused as `put` is, save for the key. Takes no memory. Own rule.
-    #[tactic(auto, unfolding(crate::specs::Frames::Frame))]
+    /// below 64; refused as `put` is, save for the key.
+    #[tactic(auto, unfolding(crate::specs::LaneCalls::Frame))]
     pub fn put_numbered(
         &self,
         lane: &mut Lane<V>,
@@ -313,7 +328,7 @@ impl<V: StoreValue + Drop> Store<V> {
     /// were more than 2^40 - 3 events there, and as `Contended`, of events in this context under this key alone.
     ///
     /// Javadoc `ExtensionContext.Store`, `remove`, which answers the value; the refusals are own rules.
-    #[tactic(auto, unfolding(crate::specs::Frames::Frame))]
+    #[tactic(auto, unfolding(crate::specs::LaneCalls::Frame))]
     pub fn remove(
         &self,
         lane: &mut Lane<V>,
@@ -338,9 +353,8 @@ impl<V: StoreValue + Drop> Store<V> {
     }
 
     /// As `remove`, for the key of this number, as `number` gives it: nothing is hashed. A place without a key has nothing to
-    /// take. It is a condition that the number is below 64; refused as `remove` is, save for the key. Takes no memory. Own
-    /// rule.
-    #[tactic(auto, unfolding(crate::specs::Frames::Frame))]
+    /// take. It is a condition that the number is below 64; refused as `remove` is, save for the key.
+    #[tactic(auto, unfolding(crate::specs::LaneCalls::Frame))]
     pub fn remove_numbered(
         &self,
         lane: &mut Lane<V>,
@@ -365,10 +379,10 @@ impl<V: StoreValue + Drop> Store<V> {
     }
 
     /// The value that the number has, which this lane knows from now on: always where the lane kept it or was shown
-    /// it, and else where this thread finds it; never the value of another number. Takes no memory and never waits.
+    /// it, and else where this thread finds it; never the value of another number.
     ///
-    /// `None`, with nothing changed, for a number that has no place, and where the thread finds no value. Own rule.
-    #[tactic(auto, unfolding(crate::specs::Frames::Frame))]
+    /// `None`, with nothing changed, for a number that has no place, and where the thread finds no value.
+    #[tactic(auto, unfolding(crate::specs::LaneCalls::Frame))]
     pub fn show<'a>(&'a self, lane: &mut Lane<V>, number: u32) -> Option<&'a V>
         requires lane { IsLaneOf self.now.id lane.old }
         ensures found { IfSome result (λ value. Learns lane.old.known lane.new.known number value.now) }
@@ -381,15 +395,15 @@ impl<V: StoreValue + Drop> Store<V> {
         ensures kept { StillKeeps lane.old lane.new }
         ensures frame { Frame self.now.id [] lane.old lane.new }
     {
-        lane.notes.get(self.shared.values(), number)
+        lane.notes.get(&self.values, number)
     }
 
     /// The fault that the number has, which this lane knows from now on: always where the lane kept it or was shown it, and
-    /// else where this thread finds it; never the fault of another number. Takes no memory and never waits.
+    /// else where this thread finds it; never the fault of another number.
     ///
     /// `None`, with nothing changed, for a number that has no place, and where the thread finds no fault; in a store that
-    /// keeps no faults always. Own rule.
-    #[tactic(auto, unfolding(crate::specs::Frames::Frame))]
+    /// keeps no faults always.
+    #[tactic(auto, unfolding(crate::specs::LaneCalls::Frame))]
     pub fn show_fault<'a>(&'a self, lane: &mut Lane<V>, number: u32) -> Option<&'a Fault>
         requires lane { IsLaneOf self.now.id lane.old }
         ensures found { IfSome result (λ fault. Learns lane.old.faults lane.new.faults number fault.now) }
@@ -403,16 +417,15 @@ impl<V: StoreValue + Drop> Store<V> {
         ensures kept { StillKeeps lane.old lane.new }
         ensures frame { Frame self.now.id [] lane.old lane.new }
     {
-        self.shared.recall();
-        lane.faults.get(self.shared.faults(), number)
+        self.recall();
+        lane.faults.get(&self.faults, number)
     }
 
-    /// Afterwards what the first lane has seen is a prefix of what the second has seen: so both speak of one history.
-    /// A number that both know has one value in both, or one fault. A key that both know has one number in both, and a
-    /// key's number that both know has one key in both. The second knows afterwards all keys that the first knows, too: so
-    /// of lanes that meet one after the other the last knows all keys, and all have numbered alike. Neither makes an event.
-    /// Takes no memory. Own rule.
-    #[tactic(auto, unfolding(crate::specs::Frames::Frame))]
+    /// Afterwards what the first lane has seen is a prefix of what the second has seen: so both speak of one history. A
+    /// number that both know has one value in both, or one fault. A key that both know has one number in both, and a key's
+    /// number that both know has one key in both. The second knows afterwards all keys that the first knows, too: so of
+    /// lanes that meet one after the other the last knows all keys, and all have numbered alike. Neither makes an event.
+    #[tactic(auto, unfolding(crate::specs::LaneCalls::Frame))]
     pub fn meet(&self, first: &mut Lane<V>, second: &mut Lane<V>)
         requires first { IsLaneOf self.now.id first.old }
         requires second { IsLaneOf self.now.id second.old }
@@ -434,9 +447,7 @@ impl<V: StoreValue + Drop> Store<V> {
         ensures first_frame { Frame self.now.id [] first.old first.new }
         ensures second_frame { Frame self.now.id [] second.old second.new }
     {
-        self.shared
-            .cells()
-            .meet(&mut first.cells, &mut second.cells);
+        self.shared.meet(&mut first.cells, &mut second.cells);
         first.notes.meet(&mut second.notes);
         first.faults.meet(&mut second.faults);
         self.shared.keys().agree(&mut first.keys, &mut second.keys);

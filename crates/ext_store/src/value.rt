@@ -9,7 +9,7 @@ pub trait StoreValue {
     /// Whether it is closeable.
     ghost is_closeable: { Self → Bool };
 
-    /// Whether the value is to be closed with its context. Takes no memory.
+    /// Whether the value is to be closed with its context.
     fn closeable(&self) -> bool
         ensures { result ≡ is_closeable self.now };
 }

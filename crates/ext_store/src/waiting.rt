@@ -2,15 +2,12 @@
 //! were in the way of at once.
 ghost use Rattle.std.specs.Prelude.{ℕ, ◌≡◌, ◌≢◌, ◌<◌, [], length, Contains, Ok, Err, IfErr, IfOk, IsFalse, IsTrue, MatchResult, IsSome, Some};
 ghost use Rattle.std.specs.Fn.{FnOnceReturnsAt};
-ghost use Rattle.ext_model.specs.Calls.{IsHeld};
-ghost use Rattle.ext_tree.specs.Keys.{KeyValue};
-ghost use Rattle.ext_tree.specs.KeyPlaces.{IsKeyNumber, key_at};
+ghost use Rattle.ext_model.specs.CallActs.{IsHeld};
+ghost use Rattle.ext_tree.specs.Keys.{KeyValue, IsKeyNumber, key_at};
 ghost use Rattle.ext_values.specs.Known.{KeepsKnown, Learns};
 ghost use Rattle.ext_store.specs.declared.computed.Compute.TheVariants.{Refused};
 ghost use Rattle.ext_store.specs.Stores.{IsKeptBy, IsLaneOf, StillKeeps, StillKeepsBut};
-ghost use Rattle.ext_store.specs.Keys.{OfKey};
-ghost use Rattle.ext_store.specs.Frames.{Frame, stored_by};
-ghost use Rattle.ext_store.specs.Calls.{Gets, IsFaultlessLook, KeepsAs, KeepsFault, KeepsNoFault, KeepsNothing, Puts, Removes};
+ghost use Rattle.ext_store.specs.LaneCalls.{OfKey, Frame, stored_by, Gets, IsFaultlessLook, KeepsAs, KeepsFault, KeepsNoFault, KeepsNothing, Puts, Removes};
 ghost use Rattle.ext_store.specs.Computing.{EndsFailed, Fails, Fills, HandsBack, IfComputed, IsFaultless, IsUnkept, Uses, without_factory};
 ghost use Rattle.ext_store.specs.Waiting.{ComputesAfterWaits, IsDecided, IsDecidedCompute, IsDecidedFault, IsDecidedLook};
 
@@ -28,7 +25,7 @@ impl<V: StoreValue + Drop> Store<V> {
     /// promises its clauses if it returns.
     ///
     /// Javadoc `ExtensionContext.Store`, `get`, which waits for a running factory too.
-    #[tactic(auto, unfolding(crate::specs::Frames::Frame))]
+    #[tactic(auto, unfolding(crate::specs::LaneCalls::Frame))]
     pub fn get_wait<R: Wait>(
         &self,
         rt: &R,
@@ -54,9 +51,9 @@ impl<V: StoreValue + Drop> Store<V> {
     }
 
     /// As `get_wait`, for the key of this number, as `number` gives it: so a key that is looked up often is hashed once. A
-    /// place without a key is absent. It is a condition that the number is below 64; never refused. Takes no memory. It
-    /// may wait: it promises its clauses if it returns. Own rule.
-    #[tactic(auto, unfolding(crate::specs::Frames::Frame))]
+    /// place without a key is absent. It is a condition that the number is below 64; never refused. It may wait: it
+    /// promises its clauses if it returns.
+    #[tactic(auto, unfolding(crate::specs::LaneCalls::Frame))]
     pub fn get_wait_numbered<R: Wait>(
         &self,
         rt: &R,
@@ -88,7 +85,7 @@ impl<V: StoreValue + Drop> Store<V> {
     ///
     /// Javadoc `ExtensionContext.Store`, `put`. That it waits for a running factory is an own rule: JUnit 5 replaces at
     /// once.
-    #[tactic(auto, unfolding(crate::specs::Frames::Frame))]
+    #[tactic(auto, unfolding(crate::specs::LaneCalls::Frame))]
     pub fn put_wait<R: Wait>(
         &self,
         rt: &R,
@@ -116,9 +113,8 @@ impl<V: StoreValue + Drop> Store<V> {
     }
 
     /// As `put_wait`, for the key of this number, as `number` gives it: nothing is hashed. It is a condition that the number
-    /// is below 64; refused as `put_wait` is, save for the key. Takes no memory. It may wait: it promises its clauses if it
-    /// returns. Own rule.
-    #[tactic(auto, unfolding(crate::specs::Frames::Frame))]
+    /// is below 64; refused as `put_wait` is, save for the key. It may wait: it promises its clauses if it returns.
+    #[tactic(auto, unfolding(crate::specs::LaneCalls::Frame))]
     pub fn put_wait_numbered<R: Wait>(
         &self,
         rt: &R,
@@ -155,7 +151,7 @@ impl<V: StoreValue + Drop> Store<V> {
     ///
     /// Javadoc `ExtensionContext.Store`, `remove`. That it waits for a running factory is an own rule: JUnit 5 takes the
     /// entry at once.
-    #[tactic(auto, unfolding(crate::specs::Frames::Frame))]
+    #[tactic(auto, unfolding(crate::specs::LaneCalls::Frame))]
     pub fn remove_wait<R: Wait>(
         &self,
         rt: &R,
@@ -180,9 +176,9 @@ impl<V: StoreValue + Drop> Store<V> {
     }
 
     /// As `remove_wait`, for the key of this number, as `number` gives it: nothing is hashed. A place without a key has
-    /// nothing to take. It is a condition that the number is below 64; refused as `remove_wait` is, save for the key. Takes
-    /// no memory. It may wait: it promises its clauses if it returns. Own rule.
-    #[tactic(auto, unfolding(crate::specs::Frames::Frame))]
+    /// nothing to take. It is a condition that the number is below 64; refused as `remove_wait` is, save for the key. It
+    /// may wait: it promises its clauses if it returns.
+    #[tactic(auto, unfolding(crate::specs::LaneCalls::Frame))]
     pub fn remove_wait_numbered<R: Wait>(
         &self,
         rt: &R,
@@ -207,10 +203,10 @@ impl<V: StoreValue + Drop> Store<V> {
             .wait_to_remove(rt, &mut lane.cells, context, key)
     }
 
-    /// As `keep`, but where other lanes were in the way it draws again at once. So it is never refused as `Contended`,
-    /// and else as `keep` is, with the value handed back. Takes memory for the value. It may wait: it promises its clauses
-    /// if it returns. It does not sleep, since no factory is in the way of a number. Own rule.
-    #[tactic(auto, unfolding(crate::specs::Calls::KeepFails, crate::specs::Frames::Frame))]
+    /// As `keep`, but where other lanes were in the way it draws again at once. So it is never refused as `Contended`, and
+    /// else as `keep` is, with the value handed back. Takes memory for the value. It may wait: it promises its clauses if
+    /// it returns. It does not sleep, since no factory is in the way of a number.
+    #[tactic(auto, unfolding(crate::specs::LaneCalls::KeepFails, crate::specs::LaneCalls::Frame))]
     pub fn keep_wait<R: Wait>(
         &self,
         rt: &R,
@@ -232,7 +228,7 @@ impl<V: StoreValue + Drop> Store<V> {
     }
 
     // The same by endless rounds, without the runtime: who holds a claim calls it, and can't sleep in it.
-    #[tactic(auto, unfolding(crate::specs::Calls::KeepFails, crate::specs::Frames::Frame))]
+    #[tactic(auto, unfolding(crate::specs::LaneCalls::KeepFails, crate::specs::LaneCalls::Frame))]
     fn keep_again<R: Wait>(
         &self,
         rounds: Forever<'_, R>,
@@ -250,7 +246,7 @@ impl<V: StoreValue + Drop> Store<V> {
         ensures apart { IfOk result (λ number. (m : ℕ) → IsKeptBy lane.old m → m ≢ number) }
         ensures frame { Frame self.now.id [] lane.old lane.new }
     {
-        self.shared.recall();
+        self.recall();
         let boxed = match Box::new(self.alloc, value) {
             Ok(boxed) => boxed,
             Err(failed) => return Err((failed.value, KeepFault::Memory)),
@@ -270,7 +266,7 @@ impl<V: StoreValue + Drop> Store<V> {
     /// if it returns.
     ///
     /// Javadoc `ExtensionContext.Store`, `getOrComputeIfAbsent`, which waits for a running factory too.
-    #[tactic(auto, unfolding(crate::specs::Frames::Frame))]
+    #[tactic(auto, unfolding(crate::specs::LaneCalls::Frame))]
     pub fn compute_wait<R: Wait, F: FnOnce(&Key) -> Result<V, Fault>>(
         &self,
         rt: &R,
@@ -305,8 +301,8 @@ impl<V: StoreValue + Drop> Store<V> {
     /// As `compute_wait`, for the key of this number, as `number` gives it: nothing is hashed. The factory is called with the
     /// key that stands in the place of this number. It is a condition that the number is below 64, and that the lane knows
     /// the key of this number, which `Lane::knows_key` tests; refused as `compute_wait` is, save for the key. Takes memory
-    /// for the value; may wait. Own rule.
-    #[tactic(auto, unfolding(crate::specs::Frames::Frame))]
+    /// for the value; may wait.
+    #[tactic(auto, unfolding(crate::specs::LaneCalls::Frame))]
     pub fn compute_wait_numbered<R: Wait, F: FnOnce(&Key) -> Result<V, Fault>>(
         &self,
         rt: &R,
@@ -336,7 +332,7 @@ impl<V: StoreValue + Drop> Store<V> {
     }
 
     // The same with the key itself, with which the factory is called.
-    #[tactic(auto, unfolding(crate::specs::Frames::Frame))]
+    #[tactic(auto, unfolding(crate::specs::LaneCalls::Frame))]
     fn compute_wait_named<R: Wait, F: FnOnce(&Key) -> Result<V, Fault>>(
         &self,
         rt: &R,
@@ -378,7 +374,7 @@ impl<V: StoreValue + Drop> Store<V> {
 
     // Ends the claim of a factory that failed: keeps its fault where the store keeps faults, and else gives the claim up.
     // This and what it calls hold a claim, so they are handed endless rounds and no runtime: they can't sleep.
-    #[tactic(auto, unfolding(crate::specs::Frames::Frame))]
+    #[tactic(auto, unfolding(crate::specs::LaneCalls::Frame))]
     fn wait_to_end_failed<R: Wait, F>(
         &self,
         rounds: Forever<'_, R>,
@@ -403,7 +399,7 @@ impl<V: StoreValue + Drop> Store<V> {
     }
 
     // Keeps the fault, and its number in the claimed cell, or gives the claim up.
-    #[tactic(auto, unfolding(crate::specs::Frames::Frame))]
+    #[tactic(auto, unfolding(crate::specs::LaneCalls::Frame))]
     fn wait_to_fail<R: Wait>(
         &self,
         rounds: Forever<'_, R>,
@@ -433,7 +429,7 @@ impl<V: StoreValue + Drop> Store<V> {
     }
 
     // Draws a number for the fault, however often other lanes are in the way.
-    #[tactic(auto, unfolding(crate::specs::Calls::KeepFails, crate::specs::Frames::Frame))]
+    #[tactic(auto, unfolding(crate::specs::LaneCalls::KeepFails, crate::specs::LaneCalls::Frame))]
     fn keep_fault_wait<R: Wait>(
         &self,
         rounds: Forever<'_, R>,
@@ -448,7 +444,7 @@ impl<V: StoreValue + Drop> Store<V> {
         ensures apart { IfOk result (λ number. (m : ℕ) → IsKeptBy lane.old m → m ≢ number) }
         ensures frame { Frame self.now.id [] lane.old lane.new }
     {
-        self.shared.recall();
+        self.recall();
         let boxed = match Box::new(self.alloc, fault) {
             Ok(boxed) => boxed,
             Err(failed) => return Err((failed.value, KeepFault::Memory)),
@@ -459,7 +455,7 @@ impl<V: StoreValue + Drop> Store<V> {
 
     // Keeps the value and stores its number in the claimed cell, or gives the claim up. It holds a claim, so it is handed
     // endless rounds and no runtime: it can't sleep.
-    #[tactic(auto, unfolding(crate::specs::Frames::Frame))]
+    #[tactic(auto, unfolding(crate::specs::LaneCalls::Frame))]
     fn wait_to_fill<R: Wait>(
         &self,
         rounds: Forever<'_, R>,

@@ -5,9 +5,8 @@ use Rattle.std.specs.Bool.{Decides}
 use Rattle.std.proofs.lemmas.Bool.{cases_eq, cases_Bool, true≢false}
 use Rattle.ext_ids.specs.Ids.{is_parent}
 use Rattle.ext_ids.proofs.Pairs.{last_of, is_parent-none, is_parent-push, ids_Decides}
-use Rattle.ext_tree.specs.Trees.{Id, id_at, IsParent, IsTree}
-use Rattle.ext_tree.specs.Paths.{children_below}
-use Rattle.ext_tree.specs.Building.{Follows, AreChildren}
+use Rattle.ext_tree.specs.Trees.{Id, id_at, IsParent, IsTree, children_below}
+use Rattle.ext_tree.specs.InnerBuilding.{Follows, AreChildren}
 use Rattle.ext_tree.proofs.TreeFacts.{longer, has_segment, one_parent, parent_of}
 
 pub is_parent_Decides : (a b : Id) → Decides (is_parent a b) (IsParent a b)

@@ -3,8 +3,7 @@ use Rattle.std.proofs.Common.{ℕ, ◌≡◌, ◌+◌, ◌<◌, ◌≤◌, ◌�
 use Rattle.std.proofs.Math.ListN.{get_or-map}
 use Rattle.std.proofs.lemmas.List.{get_or_default, length-map, set-get_or}
 use Rattle.once_cell.specs.Once.{Agrees}
-use Rattle.ext_tree.specs.Keys.{KeyValue}
-use Rattle.ext_tree.specs.KeyPlaces.{KnownPlace, AgreeBelow, KeepsKeys, OneKey, key_at, key_places_of}
+use Rattle.ext_tree.specs.Keys.{KeyValue, KnownPlace, AgreeBelow, KeepsKeys, OneKey, key_at, key_places_of}
 use Rattle.ext_tree.proofs.KeyPlacing.{key_at-entry, key_at-set_other, key_at-set_same, key_within, keeps_both, keeps_set}
 
 -- the notes hold one key at this number, where both know one

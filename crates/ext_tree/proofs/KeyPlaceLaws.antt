@@ -1,7 +1,6 @@
 -- The laws of the numbers of keys that are made during a run.
 use Rattle.std.proofs.Common.{ℕ, zero, suc, ◌≡◌, List, [], ◌∷◌, Some}
-use Rattle.ext_tree.specs.Keys.{KeyValue}
-use Rattle.ext_tree.specs.KeyPlaces.{OneKey, key_at, no_key_known}
+use Rattle.ext_tree.specs.Keys.{KeyValue, OneKey, key_at, no_key_known}
 use Rattle.ext_tree.specs.KeyPlaceLaws.{KeyNumbersTell, SharedNotesAgree}
 use Rattle.ext_tree.proofs.KeyPlacing.{key_within, never_refused, number_stays, one_key, one_number}
 

@@ -5,10 +5,9 @@ use Rattle.std.proofs.Math.Seq.{map-set_same}
 use Rattle.std.proofs.lemmas.Bool.{cases_eq, cases_order}
 use Rattle.std.proofs.lemmas.List.{get_or-set_same, get_or-set_other, get_or_default, length-map, take_all, take_more_set, map_more}
 use Rattle.std.proofs.lemmas.List.Elements.{All-set, All-weaker}
-use Rattle.ext_tree.specs.Keys.{KeyValue}
+use Rattle.ext_tree.specs.Keys.{KeyValue, KnownPlace, HoldsOther, PassedBefore, IsKeyNumber, IsNext, IsKeyFault, KeepsKeys, OneKey, OneNumber, AreHints, IsHint, Tells, key_at, no_key_known, key_places_of, unknown_place}
 use Rattle.ext_tree.specs.declared.key_fault.KeyFault.{KeyFault}
 use Rattle.ext_tree.specs.declared.key_fault.KeyFault.TheVariants.{DirectoryFull, Unplaced, Memory}
-use Rattle.ext_tree.specs.KeyPlaces.{KnownPlace, HoldsOther, PassedBefore, IsKeyNumber, IsNext, IsKeyFault, KeepsKeys, OneKey, OneNumber, AreHints, IsHint, Tells, key_at, no_key_known, key_places_of, unknown_place}
 
 -- ---- one entry
 

@@ -1,7 +1,6 @@
 -- What comparing a key with that of a place tells.
 use Rattle.std.proofs.Common.{◌≡◌, Bool, true, false, true≢false, Option, Some, IsTrue, ap, sym, ◌∙◌}
-use Rattle.ext_tree.specs.Keys.{KeyValue}
-use Rattle.ext_tree.specs.KeyPlaces.{Tells}
+use Rattle.ext_tree.specs.Keys.{KeyValue, Tells}
 use Rattle.ext_tree.specs.Traits.{key_eq}
 use Rattle.ext_tree.proofs.Equalities.{keys_Decides}
 

@@ -10,10 +10,10 @@ use Rattle.indexmap.specs.IndexSet.{insert_key}
 use Rattle.indexmap.proofs.CallerLemmas.{Contains-list_any}
 use Rattle.ext_ids.specs.Grammar.{Pair}
 use Rattle.ext_ids.specs.Ids.{pair_eq}
-use Rattle.ext_ids.specs.Traits.{pair_eq_equiv}
+use Rattle.ext_ids.specs.InnerTraits.{pair_eq_equiv}
 use Rattle.ext_ids.proofs.Pairs.{ids_Decides, last_of}
 use Rattle.ext_tree.specs.Trees.{Id, id_at, StandsBefore}
-use Rattle.ext_tree.specs.Building.{IsParentBefore}
+use Rattle.ext_tree.specs.InnerBuilding.{IsParentBefore}
 use Rattle.ext_tree.proofs.Numbers.{IsPlace, inserted}
 
 -- one more segment of an id

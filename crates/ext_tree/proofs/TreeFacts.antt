@@ -4,9 +4,8 @@ use Rattle.std.proofs.lemmas.Bool.{cases_order, cases_eq}
 use Rattle.std.proofs.lemmas.List.{get_or_default, get_or_push, get_or_append_left, same_from_push, length_push}
 use Rattle.ext_tree.specs.declared.fault.TreeFault.{TreeFault}
 use Rattle.ext_tree.specs.declared.fault.TreeFault.TheVariants as faults
-use Rattle.ext_tree.specs.Trees.{Id, id_at, IsParent, MayFollow, IsWrong, twice, second_root, without_parent, HasRoot, FollowBelow, IsTree, HasFault, none_at_all, too_many, no_root, later}
-use Rattle.ext_tree.specs.Building.{Follows, AreParents, ArePaths}
-use Rattle.ext_tree.specs.Paths.{IsParentOf, IsPathOf}
+use Rattle.ext_tree.specs.Trees.{Id, id_at, IsParent, MayFollow, IsWrong, twice, second_root, without_parent, HasRoot, FollowBelow, IsTree, HasFault, none_at_all, too_many, no_root, later, IsParentOf, IsPathOf}
+use Rattle.ext_tree.specs.InnerBuilding.{Follows, AreParents, ArePaths}
 
 -- what an index reads
 pub read_id : (ids : List Id) (at : ℕ) (x : Id) → at < length ids → x ≡ get_or ids at x → x ≡ id_at ids at

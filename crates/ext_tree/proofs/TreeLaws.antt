@@ -5,8 +5,7 @@ use Rattle.std.proofs.lemmas.List.Elements.{Contains-push, Contains-push_cases, 
 use Rattle.std.proofs.lemmas.List.{get_or_default}
 use Rattle.std.proofs.lemmas.List.Quantifiers.{all_pairs_push}
 use Rattle.ext_ids.specs.Ids.{is_parent}
-use Rattle.ext_tree.specs.Trees.{Id, id_at, IsParent}
-use Rattle.ext_tree.specs.Paths.{children_below}
+use Rattle.ext_tree.specs.Trees.{Id, id_at, IsParent, children_below}
 use Rattle.ext_tree.specs.Laws.{FaultsTell, PathsAreUnique, ParentsListChildren}
 use Rattle.ext_tree.proofs.TreeFacts.{has_no_fault, one_fault, one_parent, parent_first}
 use Rattle.ext_tree.proofs.Deciding.{tree_or_faulty}

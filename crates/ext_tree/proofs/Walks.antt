@@ -1,9 +1,8 @@
 -- Paths to the root: how long they are, that they go down in number, and that there is one.
 use Rattle.std.proofs.Common.{◌≡◌, ◌<◌, ◌+◌, ℕ, zero, suc, List, [], ◌∷◌, ◌++◌, length, get_or, slice_index, set, take, refl, ap, sym, subst, ◌∙◌, arith, append_assoc}
 use Rattle.std.proofs.lemmas.List.{take_more_set, append-nil}
-use Rattle.ext_tree.specs.Trees.{Id, id_at, IsTree}
-use Rattle.ext_tree.specs.Paths.{IsParentOf, IsWalk, IsPathOf}
-use Rattle.ext_tree.specs.Building.{Follows, AreParents}
+use Rattle.ext_tree.specs.Trees.{Id, id_at, IsTree, IsParentOf, IsWalk, IsPathOf}
+use Rattle.ext_tree.specs.InnerBuilding.{Follows, AreParents}
 use Rattle.ext_tree.proofs.TreeFacts.{longer, only_root, one_parent, parent_first, parent_of, child_not_root}
 
 module _ (ids : List Id) (tree : IsTree ids) where

@@ -1,5 +1,5 @@
 -- The test that a list of ids is a tree, for definitions that have to compute. What a tree is stands in Trees; that the test says the same is the
--- law `decided`. Own rule.
+-- law `decided`.
 use Rattle.std.specs.Prelude.{Bool, true, false, not, ◌&&◌, ◌==◌, nat_le, List, [], ◌∷◌, ◌++◌, length}
 use Rattle.std.specs.List.{list_any}
 use Rattle.std.specs.Cmp.Lexicographic.{pointwise}

@@ -1,8 +1,7 @@
 -- Laws of the numbers of keys that are made during a run, which need no call: they show that the definitions say what is meant.
 use Rattle.std.specs.Prelude.{ℕ, ◌≡◌, ◌<◌, List, length}
-use Rattle.ext_tree.specs.Keys.{KeyValue}
+use Rattle.ext_tree.specs.Keys.{KeyValue, KnownPlace, IsKeyFault, IsKeyNumber, KeepsKeys, OneKey, OneNumber, no_key_known}
 use Rattle.ext_tree.specs.declared.key_fault.KeyFault.{KeyFault}
-use Rattle.ext_tree.specs.KeyPlaces.{KnownPlace, IsKeyFault, IsKeyNumber, KeepsKeys, OneKey, OneNumber, no_key_known}
 
 -- In the notes of one lane a key has at most one number, and a number at most one key. A key that has a number keeps it, and is not refused
 pub record KeyNumbersTell : Type 0 where

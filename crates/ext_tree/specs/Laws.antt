@@ -3,8 +3,7 @@ use Rattle.std.specs.Prelude.{ℕ, true, ◌≡◌, ◌≢◌, ◌<◌, ◌+◌,
 use Rattle.ext_tree.specs.declared.fault.TreeFault.{TreeFault}
 use Rattle.ext_tree.specs.Decided.{is_tree}
 use Rattle.ext_tree.specs.Keys.{NamespaceValue, KeyValue, global_namespace, created_namespace, appended, AreDifferent, HasNumber}
-use Rattle.ext_tree.specs.Paths.{IsPathOf, IsParentOf, children_of}
-use Rattle.ext_tree.specs.Trees.{Id, IsTree, HasFault}
+use Rattle.ext_tree.specs.Trees.{IsPathOf, IsParentOf, children_of, Id, IsTree, HasFault}
 
 -- the list of ids is a tree, or it has a fault
 abbrev pub IsTreeOrFaulty : List Id → Type 0

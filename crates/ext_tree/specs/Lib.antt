@@ -1,9 +1,7 @@
-pub mod Building
+pub mod InnerBuilding
 pub mod Decided
 pub mod KeyPlaceLaws
-pub mod KeyPlaces
 pub mod Keys
 pub mod Laws
-pub mod Paths
-pub mod Traits
 pub mod Trees
+pub mod Traits

@@ -1,10 +1,12 @@
--- Which lists of ids are trees of contexts, and what is wrong with the others.
+-- Which lists of ids are trees of contexts, what is wrong with the others, and the path from a context to the root.
 -- Contexts form a tree as those of JUnit do (User Guide, section "Keeping State in Extensions"); the limit of 256, the order of the list and the
--- order of the faults are own rules. A context is its place in the list, from 0.
-use Rattle.std.specs.Prelude.{ℕ, ◌≡◌, ◌≢◌, ◌<◌, ◌≤◌, List, [], ◌∷◌, ◌++◌, length, slice_index_or}
+-- order of the faults are own rules. A context is its place in the list, from 0. A path is the context, its parent, and so on to the root, nearest first: the order in
+-- which JUnit asks.
+use Rattle.std.specs.Prelude.{ℕ, ◌≡◌, ◌≢◌, ◌<◌, ◌≤◌, List, [], ◌∷◌, ◌++◌, length, slice_index_or, zero, suc, if◌then◌else◌}
 use Rattle.ext_ids.specs.Grammar.{Pair}
 use Rattle.ext_tree.specs.declared.fault.TreeFault.{TreeFault}
 use Rattle.ext_tree.specs.declared.fault.TreeFault.TheVariants as faults
+use Rattle.ext_ids.specs.Ids.{is_parent}
 
 abbrev pub Id : Type 0
 Id = List Pair
@@ -58,3 +60,31 @@ pub data HasFault (ids : List Id) : TreeFault → Type 0 where
   too_many : 256 < length ids → HasFault ids faults.TooMany
   no_root : 0 < length ids → length ids ≤ 256 → length (id_at ids 0) ≢ 1 → HasFault ids faults.NoRoot
   later : HasRoot ids → (k : ℕ) (what : TreeFault) → 0 < k → k < length ids → FollowBelow ids k → IsWrong ids k what → HasFault ids what
+
+-- ---- paths and children
+
+-- one context is the parent of another
+pub record IsParentOf (ids : List Id) (parent child : ℕ) : Type 0 where
+  pub parent_within : parent < length ids
+  pub child_within : child < length ids
+  pub ids_are : IsParent (id_at ids parent) (id_at ids child)
+
+-- from the context, the rest is its parent, and so on to the root, which is context 0
+abbrev pub IsWalk : List Id → ℕ → List ℕ → Type 0
+IsWalk ids context [] = context ≡ 0
+IsWalk ids context (parent ∷ rest) = IsParentOf ids parent context × IsWalk ids parent rest
+
+-- the path of a context: it, and the walk from it
+abbrev pub IsPathOf : List Id → ℕ → List ℕ → Type 0
+IsPathOf ids context [] = ⊥
+IsPathOf ids context (first ∷ walk) = (first ≡ context) × IsWalk ids context walk
+
+-- the context's children among the contexts below n, in order
+abbrev pub children_below : List Id → ℕ → ℕ → List ℕ
+children_below ids context zero = []
+children_below ids context (suc n) =
+    if is_parent (id_at ids context) (id_at ids n) then children_below ids context n ++ n ∷ [] else children_below ids context n
+
+-- the context's children, in order
+abbrev pub children_of : List Id → ℕ → List ℕ
+children_of ids context = children_below ids context (length ids)

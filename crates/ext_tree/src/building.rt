@@ -1,8 +1,7 @@
 //! From a list of ids to the places of their parents, their children and their paths, or to what is wrong with the list.
 ghost use Rattle.std.specs.Prelude.{ℕ, ◌≡◌, ◌≢◌, ◌+◌, ◌<◌, ◌≤◌, ◌↔◌, IsTrue, IfOk, IfErr, OnOk, MatchResult, length, take, []};
-ghost use Rattle.ext_tree.specs.Trees.{StandsBefore, HasRoot, IsTree, HasFault, IsWrong};
-ghost use Rattle.ext_tree.specs.Building.{IsParentBefore, IsJudged, AreParents, AreChildren, ArePaths, Follows};
-ghost use Rattle.ext_tree.specs.Paths.{IsPathOf};
+ghost use Rattle.ext_tree.specs.Trees.{StandsBefore, HasRoot, IsTree, HasFault, IsWrong, IsPathOf};
+ghost use Rattle.ext_tree.specs.InnerBuilding.{IsParentBefore, IsJudged, AreParents, AreChildren, ArePaths, Follows};
 ghost use Rattle.ext_tree.specs.declared.fault.TreeFault.TheVariants.{Memory};
 
 use crate::path::MAX_DEPTH;
@@ -16,7 +15,7 @@ use std::alloc::{AllocError, Global};
 /// How many contexts a tree can have.
 const MAX_CONTEXTS: usize = 256;
 
-/// Whether the list begins as a tree's does. Takes no memory.
+/// Whether the list begins as a tree's does.
 pub fn check_root(ids: &[UniqueId]) -> Result<(), TreeFault>
     ensures ok { OnOk result (HasRoot ids.now) }
     ensures err { IfErr result (HasFault ids.now) }

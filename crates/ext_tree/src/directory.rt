@@ -14,7 +14,7 @@ const MAX_KEYS: usize = 64;
 
 /// The declared keys, in the order of their numbers, which begin at 0. There are at most 64.
 ///
-/// A directory has one owner: `declare` wants it alone. Where several threads give numbers to keys, take `KeyPlaces`. Own rule.
+/// A directory has one owner: `declare` wants it alone. Where several threads give numbers to keys, take `KeyPlaces`.
 #[derive(Drop)]
 pub struct Directory {
     keys: IndexSet<Key>,
@@ -32,7 +32,7 @@ impl Model for Directory {
 }
 
 impl Directory {
-    /// A directory without keys. Takes no memory: the allocator is for later calls. Own rule.
+    /// A directory without keys. Takes no memory: the allocator is for later calls.
     pub fn new(alloc: Global) -> Directory
         ensures { result ≡ [] }
     {
@@ -45,7 +45,7 @@ impl Directory {
     /// May take memory, for a new key only.
     ///
     /// Refused, in this order, as `TooMany` where 64 other keys are declared, and as `Memory`. A refused call
-    /// drops the key, and changes nothing. Own rule.
+    /// drops the key, and changes nothing.
     pub fn declare(&mut self, key: Key) -> Result<KeyNo, TreeFault>
         ensures number { IfOk result (HasNumber self.new key) }
         ensures again { (number : ℕ) → HasNumber self.old key number → (result ≡ Ok number) × (self.new ≡ self.old) }
@@ -67,7 +67,7 @@ impl Directory {
         Ok(number)
     }
 
-    /// The number of the key, 0 to 63, or `None` where it was not declared. Takes no memory. Own rule.
+    /// The number of the key, 0 to 63, or `None` where it was not declared.
     pub fn number_of(&self, key: &Key) -> Option<KeyNo>
         ensures number { IfSome result (HasNumber self.now key.now) }
         ensures found { (number : ℕ) → HasNumber self.now key.now number → result ≡ Some number }
@@ -76,7 +76,7 @@ impl Directory {
         self.keys.get_index_of(key)
     }
 
-    /// The declared key of this number. It is a condition that the number is a declared key's. Takes no memory. Own rule.
+    /// The declared key of this number. It is a condition that the number is a declared key's.
     pub fn key(&self, number: KeyNo) -> &Key
         requires number { number < length self.now }
         ensures key { HasNumber self.now result.now number }
@@ -101,8 +101,7 @@ impl Directory {
     }
 
     /// The cell of a context, 0 to 255, and a declared key: the context times the number of keys, plus the key.
-    /// Different pairs have different cells; once a further key is declared, the cells are others. Takes no memory.
-    /// Own rule.
+    /// Different pairs have different cells; once a further key is declared, the cells are others.
     pub fn cell(&self, context: ContextNo, key: KeyNo) -> CellNo
         requires context { context < 256 }
         requires key { key < length self.now }

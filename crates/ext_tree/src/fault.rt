@@ -5,7 +5,7 @@ ghost use Rattle.ext_tree.specs.declared.fault.TreeFault.TheVariants.{Memory};
 use std::alloc::{AllocError, AllocFailed};
 use thiserror::Error;
 
-/// What is wrong with a list of ids, a key too many, or want of memory. Own rule.
+/// What is wrong with a list of ids, a key too many, or want of memory.
 ///
 /// The numbers are places in the list of ids, from 0. Prints as a sentence without its first capital and point.
 #[derive(Clone, Copy, Debug, PartialEq, Eq, Error)]

@@ -32,7 +32,7 @@ impl Model for Key {
 impl Key {
     /// The key of a namespace and a name, which may be empty; takes memory.
     ///
-    /// `Memory` is its only fault; the namespace is then dropped. Own rule.
+    /// `Memory` is its only fault; the namespace is then dropped.
     pub fn new(alloc: Global, namespace: Namespace, name: &str) -> Result<Key, TreeFault>
         ensures value { IfOk result (λ k. k ≡ key_of namespace name.now) }
         ensures memory { IfErr result (λ e. e ≡ Memory) }
@@ -58,7 +58,7 @@ impl Key {
 impl Clone for Key {
     ghost is_clone = { λ key copy. copy ≡ key };
 
-    /// An equal key. Takes memory for the name, and for the parts of the namespace. Own rule.
+    /// An equal key. Takes memory for the name, and for the parts of the namespace.
     fn clone(&self) -> Result<Key, AllocError> {
         let namespace = self.namespace.clone()?;
         let name = self.name.clone()?;
@@ -71,7 +71,7 @@ impl PartialEq for Key {
 
     ghost laws = { partial_equiv_from_equiv key_eq_equiv };
 
-    /// Tests whether the namespaces are equal and the names are. Own rule.
+    /// Tests whether the namespaces are equal and the names are.
     fn eq(&self, other: &Key) -> bool
         ensures exact { result ≡ key_eq self.now other.now }
         ensures same { IsTrue result ↔ (self.now ≡ other.now) }

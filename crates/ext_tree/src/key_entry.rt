@@ -1,8 +1,7 @@
 //! What a lane knows of one place for a key.
 ghost use Rattle.std.specs.Prelude.{◌≡◌, IfErr, IfNone, IfOk, IfSome, IsSome, IsTrue, None, Some, is_some};
 ghost use Rattle.once_cell.specs.Once.{Agrees, cell_name};
-ghost use Rattle.ext_tree.specs.Keys.{KeyValue};
-ghost use Rattle.ext_tree.specs.KeyPlaces.{Tells, unknown_place};
+ghost use Rattle.ext_tree.specs.Keys.{KeyValue, Tells, unknown_place};
 ghost use Rattle.ext_tree.specs.declared.key_fault.KeyFault.TheVariants.{Memory};
 
 use crate::{Key, KeyFault};
@@ -24,7 +23,7 @@ const _: () = prove!(size_of::<KeyEntry>() == 1);
 
 impl Model for KeyEntry {
     ghost use Rattle.std.specs.Prelude.{◌≡◌, is_some};
-    ghost use Rattle.ext_tree.specs.KeyPlaces.{KnownPlace};
+    ghost use Rattle.ext_tree.specs.Keys.{KnownPlace};
 
     ghost Value = { KnownPlace };
 

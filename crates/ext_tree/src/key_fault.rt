@@ -5,7 +5,7 @@ ghost use Rattle.ext_tree.specs.declared.key_fault.KeyFault.TheVariants.{Memory}
 use std::alloc::{AllocError, AllocFailed};
 use thiserror::Error;
 
-/// Why `KeyPlaces::number` gave a key no number. Own rule. Prints as a sentence without its first capital and point.
+/// Why `KeyPlaces::number` gave a key no number. Prints as a sentence without its first capital and point.
 #[derive(Clone, Copy, Debug, PartialEq, Eq, Error)]
 pub enum KeyFault {
     /// All 64 places hold other keys, and keep them: this key gets no number from now on.

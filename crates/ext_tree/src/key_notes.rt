@@ -1,6 +1,6 @@
 //! What one lane knows of the places for keys.
 ghost use Rattle.std.specs.Prelude.{◌≡◌, is_some, replicate};
-ghost use Rattle.ext_tree.specs.KeyPlaces.{key_at};
+ghost use Rattle.ext_tree.specs.Keys.{key_at};
 
 use crate::key_entry::KeyEntry;
 use crate::key_walk::HINTS;
@@ -9,7 +9,7 @@ use std::marker::Model;
 use std::mem::size_of;
 
 /// What one lane knows of the keys of a `KeyPlaces`: those that it numbered, and those that it was shown meanwhile. A known key stays
-/// known. `KeyPlaces::notes` makes them. They are 192 bytes, and hold no copy of a key. Own rule.
+/// known. `KeyPlaces::notes` makes them. They are 192 bytes, and hold no copy of a key.
 #[derive(Drop)]
 pub struct KeyNotes {
     pub(crate) entries: [KeyEntry; 64],
@@ -22,7 +22,7 @@ const _: () = prove!(size_of::<KeyNotes>() == 192);
 
 impl Model for KeyNotes {
     ghost use Rattle.std.specs.Prelude.{◌≡◌, List, length};
-    ghost use Rattle.ext_tree.specs.KeyPlaces.{AreHints, KnownPlace};
+    ghost use Rattle.ext_tree.specs.Keys.{AreHints, KnownPlace};
 
     ghost Value = { List KnownPlace };
 
@@ -32,8 +32,7 @@ impl Model for KeyNotes {
 }
 
 impl KeyNotes {
-    /// Whether the key of this number is known: whether this lane numbered it, or was shown it. False for a number from 64 on. Takes
-    /// no memory. Own rule.
+    /// Whether the key of this number is known: whether this lane numbered it, or was shown it. False for a number from 64 on.
     pub fn knows(&self, number: KeyNo) -> bool
         ensures { result ≡ is_some (key_at self.now number) }
     {

@@ -1,7 +1,6 @@
 //! Places for keys, which number them during a run.
 ghost use Rattle.std.specs.Prelude.{ℕ, ◌≡◌, ◌+◌, ◌*◌, ◌<◌, IfErr, IfOk, IsSome, Ok, Some, length};
-ghost use Rattle.ext_tree.specs.Keys.{KeyValue};
-ghost use Rattle.ext_tree.specs.KeyPlaces.{AreKeyNotesOf, IsKeyFault, IsKeyNumber, KeepsKeys, OneKey, OneNumber, key_at, no_key_known};
+ghost use Rattle.ext_tree.specs.Keys.{KeyValue, AreKeyNotesOf, IsKeyFault, IsKeyNumber, KeepsKeys, OneKey, OneNumber, key_at, no_key_known};
 ghost use Rattle.ext_tree.specs.declared.fault.TreeFault.TheVariants as fault;
 
 use crate::key_notes::KeyNotes;
@@ -20,7 +19,7 @@ const PLACES: usize = 64;
 ///
 /// Several threads share it, and each asks with notes of its own, `KeyNotes`. Any of them may number any key at any time, without a
 /// lock, and all get the same number for the same key. Where one owner declares all keys, a `Directory` does. In contracts it is
-/// the list of the names of its places. Own rule.
+/// the list of the names of its places.
 #[derive(Drop)]
 pub struct KeyPlaces {
     places: Vec<OnceBox<Key>>,
@@ -41,7 +40,7 @@ impl Model for KeyPlaces {
 impl KeyPlaces {
     /// 64 free places. Takes memory for them at once: one pointer a place. The allocator stays with them, for the keys.
     ///
-    /// Refused as `Memory`, and only where that one allocation fails. Own rule.
+    /// Refused as `Memory`, and only where that one allocation fails.
     pub fn new(alloc: Global) -> Result<KeyPlaces, TreeFault>
         ensures places { IfOk result (λ p. length p ≡ 64) }
         ensures memory { IfErr result (λ e. e ≡ fault.Memory) }
@@ -53,7 +52,7 @@ impl KeyPlaces {
         Ok(KeyPlaces { places, alloc })
     }
 
-    /// Notes of these places for one lane, which know no key yet, whatever the places hold. Takes no memory. Own rule.
+    /// Notes of these places for one lane, which know no key yet, whatever the places hold.
     pub fn notes(&self) -> KeyNotes
         ensures nothing { result ≡ no_key_known self.now }
         ensures of { AreKeyNotesOf self.now result }
@@ -70,9 +69,8 @@ impl KeyPlaces {
     /// copy, and one more for each place that another thread sets in between. Never waits.
     ///
     /// A key that has a number in the notes is never refused. Any other is refused as `Memory` where there is none for a copy, at the
-    /// first place that is not known to hold a key, and as `DirectoryFull` where all 64 places are known to hold other keys;
-    /// `Unplaced` does not come. A refused call placed no key. The notes know then what they knew, and may know the keys of further
-    /// places, too. Own rule.
+    /// first place that is not known to hold a key, and as `DirectoryFull` where all 64 places are known to hold other keys; `Unplaced`
+    /// does not come. A refused call placed no key. The notes know then what they knew, and may know the keys of further places, too.
     pub fn number(&self, notes: &mut KeyNotes, key: &Key) -> Result<KeyNo, KeyFault>
         requires { AreKeyNotesOf self.now notes.old }
         ensures number { IfOk result (IsKeyNumber notes.new key.now) }
@@ -98,8 +96,8 @@ impl KeyPlaces {
         Ok(number)
     }
 
-    /// The key of this number. Takes no memory, and the notes stay as they were. It is a condition that the notes are of these places,
-    /// and that they know the key of this number, which `KeyNotes::knows` tests. Own rule.
+    /// The key of this number. The notes stay as they were. It is a condition that the notes are of these places, and that they know
+    /// the key of this number, which `KeyNotes::knows` tests.
     pub fn key<'a>(&'a self, notes: &mut KeyNotes, number: KeyNo) -> &'a Key
         requires of { AreKeyNotesOf self.now notes.old }
         requires known { IsSome (key_at notes.old number) }
@@ -111,7 +109,7 @@ impl KeyPlaces {
 
     /// Shows that a key that both notes know has one number in both, and that a number that both know has one key in both. Afterwards
     /// the second notes know what the first know, too, and the first know what they knew: so of lanes that meet one after the other
-    /// the last knows all keys. Takes no memory. It is a condition that both are of these places. Own rule.
+    /// the last knows all keys. It is a condition that both are of these places.
     pub fn agree(&self, notes: &mut KeyNotes, others: &mut KeyNotes)
         requires notes { AreKeyNotesOf self.now notes.old }
         requires others { AreKeyNotesOf self.now others.old }
@@ -126,7 +124,7 @@ impl KeyPlaces {
     }
 
     /// The cell of a context, 0 to 255, and a key's number, 0 to 63: the context times 64, plus the key. Different pairs have
-    /// different cells. Takes no memory. Own rule.
+    /// different cells.
     pub fn cell(&self, context: ContextNo, key: KeyNo) -> CellNo
         requires context { context < 256 }
         requires key { key < 64 }

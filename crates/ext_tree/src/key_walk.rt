@@ -1,8 +1,7 @@
 //! The walk over the places for keys, and where it may begin.
 ghost use Rattle.std.specs.Prelude.{ℕ, ◌≡◌, ◌<◌, ◌+◌, ◌⊎◌, IfErr, IfOk, IfSome, IsSome, Some, length, map, slice_set};
 ghost use Rattle.once_cell.specs.Once.{cell_name};
-ghost use Rattle.ext_tree.specs.Keys.{KeyValue};
-ghost use Rattle.ext_tree.specs.KeyPlaces.{AgreeBelow, AreHints, AreKeyNotesOf, IsKeyFault, IsKeyNumber, KeepsKeys, key_at, no_key_known, key_places_of};
+ghost use Rattle.ext_tree.specs.Keys.{KeyValue, AgreeBelow, AreHints, AreKeyNotesOf, IsKeyFault, IsKeyNumber, KeepsKeys, key_at, no_key_known, key_places_of};
 
 use crate::key_entry::KeyEntry;
 use crate::{Key, KeyFault};

@@ -2,7 +2,7 @@
 ghost use Rattle.ext_tree.specs.KeyPlaceLaws.{KeyNumbersTell, SharedNotesAgree};
 ghost use Rattle.ext_tree.specs.Laws.{FaultsTell, TestTells, PathsAreUnique, ParentsListChildren, NumbersTell, CellsTell, NamespacesTell};
 
-/// Proves the laws of trees: faults, the test for trees, paths and children. It does nothing when it runs. Own rule.
+/// Proves the laws of trees: faults, the test for trees, paths and children. It does nothing when it runs.
 pub fn tree_laws()
     ensures faults { FaultsTell }
     ensures decided { TestTells }
@@ -10,14 +10,14 @@ pub fn tree_laws()
     ensures children { ParentsListChildren }
 {}
 
-/// Proves the laws of namespaces, numbers of keys and cells. It does nothing when it runs. Own rule.
+/// Proves the laws of namespaces, numbers of keys and cells. It does nothing when it runs.
 pub fn key_laws()
     ensures namespaces { NamespacesTell }
     ensures numbers { NumbersTell }
     ensures cells { CellsTell }
 {}
 
-/// Proves the laws of the numbers of keys that are made during a run. It does nothing when it runs. Own rule.
+/// Proves the laws of the numbers of keys that are made during a run. It does nothing when it runs.
 pub fn key_place_laws()
     ensures numbers { KeyNumbersTell }
     ensures shared { SharedNotesAgree }

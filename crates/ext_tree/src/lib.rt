@@ -6,6 +6,9 @@
 //! seen as the list of its keys. `KeyPlaces` are shared by several lanes, each of which may name a key at any time, without a lock:
 //! they are seen as the list of the names of their 64 places. What one lane knows of those is its `KeyNotes`, seen as a list of what is
 //! known of each place.
+//!
+//! Unless its comment says otherwise, a public call takes no memory and waits for nobody. What
+//! names no source in JUnit is an own rule.
 #![tactic(auto)]
 
 mod building;

@@ -31,7 +31,7 @@ impl Model for Namespace {
 }
 
 impl Namespace {
-    /// The global namespace. Takes no memory. `ExtensionContext.Namespace.GLOBAL`.
+    /// The global namespace. `ExtensionContext.Namespace.GLOBAL`.
     pub fn global() -> Namespace
         ensures { result ≡ global_namespace }
     {
@@ -93,7 +93,7 @@ impl Namespace {
 impl Clone for Namespace {
     ghost is_clone = { λ namespace copy. copy ≡ namespace };
 
-    /// An equal namespace. Takes memory, but for the global namespace that was given no parts. Own rule.
+    /// An equal namespace. Takes memory, but for the global namespace that was given no parts.
     fn clone(&self) -> Result<Namespace, AllocError> {
         let parts = match &self.parts {
             None => None,
@@ -111,7 +111,7 @@ impl PartialEq for Namespace {
 
     ghost laws = { partial_equiv_from_equiv namespace_eq_equiv };
 
-    /// Tests whether both are global or both created, with equal parts in order. Own rule.
+    /// Tests whether both are global or both created, with equal parts in order.
     fn eq(&self, other: &Namespace) -> bool
         ensures exact { result ≡ namespace_eq self.now other.now }
         ensures same { IsTrue result ↔ (self.now ≡ other.now) }

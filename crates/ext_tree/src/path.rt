@@ -35,7 +35,7 @@ impl Path {
         Path { contexts, depth }
     }
 
-    /// The contexts of the path, nearest first. Takes no memory.
+    /// The contexts of the path, nearest first.
     pub fn as_slice(&self) -> &[ContextNo]
         ensures contexts { result.now ≡ self.now }
         ensures few { length result.now ≤ 16 }

@@ -3,7 +3,7 @@ ghost use Rattle.std.specs.Prelude.{◌≡◌, ◌+◌, ◌≤◌, ◌<◌, IfOk
 ghost use Rattle.std.specs.Cmp.{partial_equiv_from_equiv};
 ghost use Rattle.std.specs.Cmp.Lexicographic.{pointwise, lists_equiv};
 ghost use Rattle.ext_ids.specs.Ids.{pair_eq};
-ghost use Rattle.ext_ids.specs.Traits.{pair_eq_equiv};
+ghost use Rattle.ext_ids.specs.InnerTraits.{pair_eq_equiv};
 ghost use Rattle.ext_tree.specs.Traits.{trail_input, trails_Alike};
 
 use crate::text::Text;

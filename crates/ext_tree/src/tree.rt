@@ -1,9 +1,8 @@
 //! Contexts in a tree, by their unique ids.
 ghost use Rattle.std.specs.Prelude.{ℕ, ◌≡◌, ◌≢◌, ◌<◌, ◌≤◌, Ok, Err, IfOk, IfErr, OnOk, IsErrOf, MatchResult, All, AllPairs, length};
 ghost use Rattle.ext_ids.specs.Grammar.{IsId};
-ghost use Rattle.ext_tree.specs.Trees.{Id, id_at, IsTree, HasFault};
-ghost use Rattle.ext_tree.specs.Paths.{IsPathOf, children_of};
-ghost use Rattle.ext_tree.specs.Building.{AreParents};
+ghost use Rattle.ext_tree.specs.Trees.{Id, id_at, IsTree, HasFault, IsPathOf, children_of};
+ghost use Rattle.ext_tree.specs.InnerBuilding.{AreParents};
 ghost use Rattle.ext_tree.specs.declared.fault.TreeFault.{TreeFault};
 ghost use Rattle.ext_tree.specs.declared.fault.TreeFault.TheVariants.{Memory};
 
@@ -29,7 +28,7 @@ impl Model for Tree {
 
     ghost Value = { List (List (List ℕ × List ℕ)) };
 
-    ghost use Rattle.ext_tree.specs.Building.{IsShaped};
+    ghost use Rattle.ext_tree.specs.InnerBuilding.{IsShaped};
 
     ghost view = { λ t. t.ids.items };
 
@@ -42,7 +41,7 @@ impl Tree {
     /// Refused for the first fault: `NoRoot` for no id at all, `TooMany` for more than 256, `NoRoot` for a first id
     /// that has not one segment; then for each later id in order `Twice`, `TwoRoots` where it has one segment, and
     /// `NoParent` where its parent does not stand before it. `Memory` comes only where nothing is wrong with the
-    /// ids. The ids handed in stay as they are: the tree holds copies. Own rule.
+    /// ids. The ids handed in stay as they are: the tree holds copies.
     pub fn build(alloc: Global, ids: &[UniqueId]) -> Result<Tree, TreeFault>
         // What is accepted is a tree of these ids, and such ids are accepted while there is memory.
         ensures found { OnOk result (IsTree ids.now) }
@@ -61,7 +60,7 @@ impl Tree {
         }
     }
 
-    /// The context, its parent, and so on to the root. Takes no memory.
+    /// The context, its parent, and so on to the root.
     ///
     /// JUnit 5 User Guide, section "Keeping State in Extensions".
     pub fn path(&self, context: ContextNo) -> &Path
@@ -76,7 +75,7 @@ impl Tree {
         &self.paths[context]
     }
 
-    /// The context's children, in order. Takes no memory.
+    /// The context's children, in order.
     pub fn children(&self, context: ContextNo) -> &[ContextNo]
         requires { context < length self.now }
         ensures { result.now ≡ children_of self.now context }
@@ -84,7 +83,7 @@ impl Tree {
         self.lists[context].as_slice()
     }
 
-    /// The context's id. Takes no memory.
+    /// The context's id.
     pub fn id(&self, context: ContextNo) -> &UniqueId
         requires { context < length self.now }
         ensures { result.now ≡ id_at self.now context }

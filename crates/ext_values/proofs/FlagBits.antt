@@ -5,7 +5,7 @@ use Rattle.std.proofs.lemmas.Bool.{cases_eq}
 use Rattle.std.proofs.lemmas.List.{get_or-set_same, get_or-set_other, get_or-replicate, get_or_default, length-replicate, length-set}
 use Rattle.std.proofs.lemmas.List.FromFn.{length-map-range_with_len, get_or-map-range_with_len, fill_by_all}
 use Rattle.std.proofs.lemmas.Nat.Bits.{bit_at-zero, bit_at_set_same, bit_at_set_other, shr_and_one}
-use Rattle.ext_values.specs.Flags.{flag_at, flags_of}
+use Rattle.ext_values.specs.InnerFlags.{flag_at, flags_of}
 
 pub length-flags : (count : ℕ) (words : List ℕ) → length (flags_of count words) ≡ count
 length-flags count words = length-map-range_with_len (λ k. flag_at words k) 0 count

@@ -1,5 +1,5 @@
 -- What a lane knows of the values of all numbers: for each number, in order, the name of its place, and the value that stands there, where that is
--- known. A value is known where the lane placed it or was shown it, and stays known. Own rules throughout.
+-- known. A value is known where the lane placed it or was shown it, and stays known.
 use Rattle.std.specs.Prelude.{ℕ, zero, suc, ◌≡◌, ◌≢◌, Bool, List, map, Option, Some, None, is_some, slice_index_or}
 
 -- what is known of one place

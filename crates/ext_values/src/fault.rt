@@ -5,7 +5,7 @@ ghost use Rattle.ext_values.specs.declared.fault.ValuesFault.TheVariants.{Memory
 use std::alloc::AllocError;
 use thiserror::Error;
 
-/// Want of memory, the one fault of the makers. Own rule. Prints as a sentence without its first capital and point.
+/// Want of memory, the one fault of the makers. Prints as a sentence without its first capital and point.
 #[derive(Clone, Copy, Debug, PartialEq, Eq, Error)]
 pub enum ValuesFault {
     /// An allocation failed.

@@ -21,7 +21,7 @@ pub struct FlagBits {
 impl Model for FlagBits {
     ghost use Rattle.std.specs.Prelude.{◌≡◌, Bool, List, length};
     ghost use Rattle.std.specs.Int.{div_ceil};
-    ghost use Rattle.ext_values.specs.Flags.{flags_of};
+    ghost use Rattle.ext_values.specs.InnerFlags.{flags_of};
 
     ghost Value = { List Bool };
 

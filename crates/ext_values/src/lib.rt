@@ -6,6 +6,8 @@
 //! Memory is taken by the two makers alone, `Values::new` and `Notes::new`: one pointer a number for the places, and
 //! one bit a number, rounded up to 8 bytes, for each lane's notes. `SilentNotes`, which nobody can ask whether they know a
 //! number, take none. The values themselves stand in boxes that the caller hands in. No call takes a runtime or waits.
+//!
+//! Everything here is an own rule: JUnit keeps a value under its key, and has no number for it.
 #![tactic(auto)]
 
 mod entry;

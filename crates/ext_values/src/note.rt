@@ -5,7 +5,7 @@ use once_cell::race;
 use std::marker::Model;
 
 /// What tells that a number has a value, and which one. It is made by the calls of `Values` that place a value or
-/// show one, and holds no copy of the value. Own rule.
+/// show one, and holds no copy of the value.
 #[derive(Drop)]
 pub struct Note<V> {
     pub(crate) number: u32,
@@ -24,7 +24,7 @@ impl<V> Model for Note<V> {
 }
 
 impl<V> Note<V> {
-    /// The number that the note is of, from 1. Takes no memory. Own rule.
+    /// The number that the note is of, from 1.
     pub fn number(&self) -> u32
         ensures { result ≡ self.now.number }
     {

@@ -9,7 +9,7 @@ use std::alloc::Global;
 use std::marker::Model;
 
 /// What one lane knows of the values of all numbers of a `Values`: those that it placed, and those that it was shown.
-/// A known value stays known. Takes one bit a number, rounded up to 8 bytes, however large the values are. Own rule.
+/// A known value stays known. Takes one bit a number, rounded up to 8 bytes, however large the values are.
 #[derive(Drop)]
 pub struct Notes<V> {
     notes: SilentNotes<V>,
@@ -31,7 +31,7 @@ impl<V> Model for Notes<V> {
 impl<V> Notes<V> {
     /// Notes of these places that know nothing yet; takes memory.
     ///
-    /// Refused as `Memory`, and only where its one allocation fails. Own rule.
+    /// Refused as `Memory`, and only where its one allocation fails.
     pub fn new(alloc: Global, values: &Values<V>) -> Result<Notes<V>, ValuesFault>
         ensures nothing { IfOk result (λ n. n ≡ nothing_known values.now) }
         ensures of { IfOk result (λ n. AreNotesOf values.now n) }
@@ -42,7 +42,7 @@ impl<V> Notes<V> {
     }
 
     /// Whether the number's value is known: whether these notes placed it or were shown it. False for a number outside
-    /// 1 to the capacity. Takes no memory. Own rule.
+    /// 1 to the capacity.
     pub fn knows(&self, number: u32) -> bool
         ensures { result ≡ is_some (known_at self.now number) }
     {
@@ -50,10 +50,9 @@ impl<V> Notes<V> {
     }
 
     /// The number's value, which is known from now on: always where it was known, and else where this thread finds it.
-    /// What was known stays known. Takes no memory and never waits. It is a condition that the notes are of these places.
+    /// What was known stays known. It is a condition that the notes are of these places.
     ///
     /// `None`, with nothing changed, for a number outside 1 to the capacity, and where the thread finds the place free.
-    /// Own rule.
     pub fn get<'a>(&mut self, values: &'a Values<V>, number: u32) -> Option<&'a V>
         requires { AreNotesOf values.now self.old }
         ensures within { OnSome result (IsNumber values.now number) }
@@ -68,8 +67,8 @@ impl<V> Notes<V> {
         Some(value)
     }
 
-    /// Shows that a number that both notes know has one value in both; it does nothing else. Takes no memory and never
-    /// waits; the notes stay as they were. It is a condition that both are of the same places. Own rule.
+    /// Shows that a number that both notes know has one value in both; it does nothing else. The notes stay as they
+    /// were. It is a condition that both are of the same places.
     pub fn meet(&mut self, other: &mut Notes<V>)
         requires { places_of self.old ≡ places_of other.old }
         ensures agree { AllAgree self.old other.old }
@@ -80,11 +79,11 @@ impl<V> Notes<V> {
 }
 
 impl<V: Drop> Notes<V> {
-    /// Puts the value at this number, so that its value is known from now on. Takes no memory and never waits. It is a
-    /// condition that the notes are of these places, and that the number is 1 to the capacity.
+    /// Puts the value at this number, so that its value is known from now on. It is a condition that the notes are of
+    /// these places, and that the number is 1 to the capacity.
     ///
     /// Refused where the place is taken, so always where the number's value is known: the box that was handed in comes
-    /// back with its value, and the notes stay as they were. Own rule.
+    /// back with its value, and the notes stay as they were.
     pub fn place(&mut self, values: &Values<V>, number: u32, value: Box<V>) -> Result<(), Box<V>>
         requires of { AreNotesOf values.now self.old }
         requires number { IsNumber values.now number }

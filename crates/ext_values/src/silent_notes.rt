@@ -9,7 +9,7 @@ use std::alloc::Global;
 use std::marker::Model;
 
 /// What one lane knows of the values of all numbers of a `Values`, as `Notes`, save that nobody can ask whether it knows one.
-/// So it takes no byte a number: the notes stand in proofs alone. Own rule.
+/// So it takes no byte a number: the notes stand in proofs alone.
 #[derive(Drop)]
 pub struct SilentNotes<V> {
     entries: Vec<Entry<V>>,
@@ -27,7 +27,7 @@ impl<V> Model for SilentNotes<V> {
 impl<V> SilentNotes<V> {
     /// Notes of these places that know nothing yet. Takes no memory, since no entry has a size.
     ///
-    /// Refused as `Memory`, as the making of any list may be, and only where an allocation fails. Own rule.
+    /// Refused as `Memory`, as the making of any list may be, and only where an allocation fails.
     pub fn new(alloc: Global, values: &Values<V>) -> Result<SilentNotes<V>, ValuesFault>
         ensures nothing { IfOk result (λ n. n ≡ nothing_known values.now) }
         ensures of { IfOk result (λ n. AreNotesOf values.now n) }
@@ -41,10 +41,9 @@ impl<V> SilentNotes<V> {
     }
 
     /// The number's value, which is known from now on: always where it was known, and else where this thread finds it.
-    /// What was known stays known. Takes no memory and never waits. It is a condition that the notes are of these places.
+    /// What was known stays known. It is a condition that the notes are of these places.
     ///
     /// `None`, with nothing changed, for a number outside 1 to the capacity, and where the thread finds the place free.
-    /// Own rule.
     pub fn get<'a>(&mut self, values: &'a Values<V>, number: u32) -> Option<&'a V>
         requires { AreNotesOf values.now self.old }
         ensures within { OnSome result (IsNumber values.now number) }
@@ -60,8 +59,8 @@ impl<V> SilentNotes<V> {
         self.entries[number as usize - 1].get(values.place_at(number))
     }
 
-    /// Shows that a number that both notes know has one value in both; it does nothing else. Takes no memory and never
-    /// waits; the notes stay as they were. It is a condition that both are of the same places. Own rule.
+    /// Shows that a number that both notes know has one value in both; it does nothing else. The notes stay as they
+    /// were. It is a condition that both are of the same places.
     pub fn meet(&mut self, other: &mut SilentNotes<V>)
         requires { places_of self.old ≡ places_of other.old }
         ensures agree { AllAgree self.old other.old }
@@ -74,11 +73,11 @@ impl<V> SilentNotes<V> {
 }
 
 impl<V: Drop> SilentNotes<V> {
-    /// Puts the value at this number, so that its value is known from now on. Takes no memory and never waits. It is a
-    /// condition that the notes are of these places, and that the number is 1 to the capacity.
+    /// Puts the value at this number, so that its value is known from now on. It is a condition that the notes are of
+    /// these places, and that the number is 1 to the capacity.
     ///
     /// Refused where the place is taken, so always where the number's value is known: the box that was handed in comes
-    /// back with its value, and the notes stay as they were. Own rule.
+    /// back with its value, and the notes stay as they were.
     pub fn place(&mut self, values: &Values<V>, number: u32, value: Box<V>) -> Result<(), Box<V>>
         requires of { AreNotesOf values.now self.old }
         requires number { IsNumber values.now number }

@@ -10,7 +10,7 @@ use std::marker::Model;
 use std::mem::size_of;
 
 /// A fixed number of places for values, numbered from 1. Each is set at most once and keeps its value until all are
-/// dropped; any thread may set one, and find it. Takes one pointer a number. Own rule.
+/// dropped; any thread may set one, and find it. Takes one pointer a number.
 #[derive(Drop)]
 pub struct Values<V> {
     places: Vec<OnceBox<V>>,
@@ -35,7 +35,7 @@ impl<V> Values<V> {
     /// So many free places; takes memory, but none for a capacity of 0. It is a condition that the capacity is at most
     /// 65,535: a call with 65,536 is not proved.
     ///
-    /// Refused as `Memory`, and only where its one allocation fails. Own rule.
+    /// Refused as `Memory`, and only where its one allocation fails.
     pub fn new(alloc: Global, capacity: u32) -> Result<Values<V>, ValuesFault>
         requires { IsCapacity capacity }
         ensures { IfOk result (λ v. length v ≡ capacity) }
@@ -47,7 +47,7 @@ impl<V> Values<V> {
         Ok(Values { places })
     }
 
-    /// How many places there are, which is the last number: at most 65,535. Takes no memory. Own rule.
+    /// How many places there are, which is the last number: at most 65,535.
     pub fn capacity(&self) -> u32
         ensures count { result ≡ length self.now }
         ensures within { IsCapacity result }
@@ -55,7 +55,7 @@ impl<V> Values<V> {
         self.places.len() as u32
     }
 
-    /// Whether there is a place with this number: whether it is 1 to the capacity. Takes no memory. Own rule.
+    /// Whether there is a place with this number: whether it is 1 to the capacity.
     pub fn has_number(&self, number: u32) -> bool
         ensures { IsTrue result ↔ IsNumber self.now number }
     {
@@ -64,11 +64,10 @@ impl<V> Values<V> {
 }
 
 impl<V: Drop> Values<V> {
-    /// Puts the value at this number, and gives a note of it. Takes no memory and never waits. It is a condition that
-    /// the number is 1 to the capacity.
+    /// Puts the value at this number, and gives a note of it. It is a condition that the number is 1 to the capacity.
     ///
     /// Refused where the place is taken: the box that was handed in comes back with its value, and the place keeps the
-    /// value that it has. Own rule.
+    /// value that it has.
     pub fn place(&self, number: u32, value: Box<V>) -> Result<Note<V>, Box<V>>
         requires { IsNumber self.now number }
         ensures note { IfOk result (λ n. IsNoteOf self.now n) }
@@ -86,10 +85,10 @@ impl<V: Drop> Values<V> {
 }
 
 impl<V> Values<V> {
-    /// The value of a number and a note of it, where this thread finds one. Takes no memory and never waits.
+    /// The value of a number and a note of it, where this thread finds one.
     ///
     /// `None` for a number outside 1 to the capacity, and where the thread finds the place free. That a value which
-    /// another thread placed is found once that thread was joined is shown by a test, not by a clause. Own rule.
+    /// another thread placed is found once that thread was joined is shown by a test, not by a clause.
     pub fn show(&self, number: u32) -> Option<(&V, Note<V>)>
         ensures within { OnSome result (IsNumber self.now number) }
         ensures note { IfSome result (λ r. IsNoteOf self.now r.1) }
@@ -105,8 +104,7 @@ impl<V> Values<V> {
         Some((value, Note { number, seen }))
     }
 
-    /// The value that the note tells. Takes no memory and never waits; the note stays as it was. It is a condition
-    /// that the note is of these places. Own rule.
+    /// The value that the note tells. The note stays as it was. It is a condition that the note is of these places.
     pub fn show_known<'a>(&'a self, note: &mut Note<V>) -> &'a V
         requires { IsNoteOf self.now note.old }
         ensures value { note.old.value ≡ Some result.now }
@@ -118,8 +116,8 @@ impl<V> Values<V> {
         }
     }
 
-    /// Shows that two notes of one number tell one value; it does nothing else. Takes no memory and never waits; the
-    /// notes stay as they were. It is a condition that both are of these places, and of one number. Own rule.
+    /// Shows that two notes of one number tell one value; it does nothing else. The notes stay as they were. It is a
+    /// condition that both are of these places, and of one number.
     pub fn agree(&self, note: &mut Note<V>, second: &mut Note<V>)
         requires note { IsNoteOf self.now note.old }
         requires second { IsNoteOf self.now second.old }

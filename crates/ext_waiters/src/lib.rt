@@ -6,7 +6,9 @@
 //! ends it first, by one atomic step, and calls `wake_all` then. What is waited for does not stand here.
 //!
 //! Nothing takes memory, and only the sleep takes a runtime and may wait. That a lane that sleeps is woken is not
-//! proved: docs/ARCHITECTURE.md has the order of the steps that makes it so. Own rule.
+//! proved: docs/ARCHITECTURE.md has the order of the steps that makes it so.
+//!
+//! Everything here is an own rule: JUnit has no counterpart.
 #![tactic(auto)]
 
 #[cfg(test)]

@@ -5,14 +5,14 @@ use crossbeam_utils::sync::{EventCount, Key};
 use std::marker::Model;
 use std::sync::Wait;
 
-/// The lanes that wait for something, shared by reference between those that wait and those that end it. Own rule.
+/// The lanes that wait for something, shared by reference between those that wait and those that end it.
 #[derive(Drop)]
 pub struct Waiters {
     ended: EventCount,
 }
 
 impl Waiters {
-    /// Nobody waits. Takes no memory. Own rule.
+    /// Nobody waits.
     pub const fn new() -> Waiters {
         Waiters {
             ended: EventCount::new(),
@@ -20,13 +20,12 @@ impl Waiters {
     }
 
     /// Wakes all lanes that sleep, and keeps those that have announced themselves from falling asleep. To be called after
-    /// what they wait for has ended. Where nobody has announced himself it is one atomic load. Takes no memory and never
-    /// waits. Own rule.
+    /// what they wait for has ended. Where nobody has announced himself it is one atomic load.
     pub fn wake_all(&self) {
         self.ended.notify_all();
     }
 
-    /// Begins a wait, in which nothing is announced yet. Takes no memory and never waits. Own rule.
+    /// Begins a wait, in which nothing is announced yet.
     pub fn begin(&self) -> Waiting<'_>
         ensures { result ≡ false }
     {
@@ -38,7 +37,7 @@ impl Waiters {
 }
 
 /// A lane's wait, from its first try to its last. Where it is dropped the lane waits no longer. In contracts it is
-/// whether the lane has announced that it waits, and is to try once more before it sleeps. Own rule.
+/// whether the lane has announced that it waits, and is to try once more before it sleeps.
 #[derive(Drop)]
 pub struct Waiting<'a> {
     waiters: &'a Waiters,
@@ -54,15 +53,14 @@ impl<'a> Model for Waiting<'a> {
 }
 
 impl<'a> Waiting<'a> {
-    /// Whether the lane has announced that it waits. Takes no memory and never waits. Own rule.
+    /// Whether the lane has announced that it waits.
     pub fn is_announced(&self) -> bool
         ensures { result ≡ self.now }
     {
         self.announced.is_some()
     }
 
-    /// Announces that the lane waits: it is to try once more before it sleeps. Takes no memory, and takes no runtime, so it
-    /// does not sleep. Own rule.
+    /// Announces that the lane waits: it is to try once more before it sleeps. Takes no runtime, so it does not sleep.
     pub fn announce(&mut self)
         ensures { self.new ≡ true }
     {
@@ -70,11 +68,11 @@ impl<'a> Waiting<'a> {
     }
 
     /// Sleeps until somebody calls `wake_all`, if nobody has since the lane announced itself, which it has to have done: the
-    /// lane is to have tried once more since then. Takes no memory. It may wait: it promises its clause if it returns.
+    /// lane is to have tried once more since then. It may wait: it promises its clause if it returns.
     ///
     /// That second try is why no wake is missed. Who ends something ends it first, and then reads whether anybody has
     /// announced himself. So either it finds this lane, and keeps it from sleeping or wakes it; or this lane announced
-    /// itself later than that, and its second try finds that the thing has ended. Own rule.
+    /// itself later than that, and its second try finds that the thing has ended.
     pub fn sleep<R: Wait>(&mut self, rt: &R)
         requires { self.old ≡ true }
         ensures { self.new ≡ false }

@@ -1,10 +1,10 @@
 //! Cells whose answers were worked out by hand.
 ghost use Rattle.std.specs.Prelude.{◌≡◌, ◌<◌, ◌≤◌, IsTrue};
-ghost use Rattle.ext_model.specs.Calls.{IsHeld};
+ghost use Rattle.ext_model.specs.CallActs.{IsHeld};
 
 use crate::hand::{Call, end_claim, fail_claim, go, open, rows};
 use crate::same::same;
-use ext_cells::{CellLane, CellRefusal, Cells, Claim, Claimed, Nearest};
+use ext_cells::{CellLane, CellRefusal, Cells, Claim, Claimed, Nearest, Standing};
 use std::process::Abort;
 
 #[test]
@@ -204,30 +204,33 @@ fn sixteen_cells_at_once(rt: HostRuntime) {
     same(&rt, found, Some(wanted), "the words");
 }
 
-/// The place and the word of the nearest cell, where one was found.
-fn place_and_word(
+/// The place of the nearest cell and what stands there, where one was found.
+fn place_and_standing(
     found: Result<Option<Nearest>, CellRefusal>,
-) -> Result<Option<(usize, u64)>, CellRefusal> {
+) -> Result<Option<(usize, Standing)>, CellRefusal> {
     match found {
-        Ok(Some(nearest)) => Ok(Some((nearest.place, nearest.word))),
+        Ok(Some(nearest)) => Ok(Some((nearest.place, nearest.standing))),
         Ok(None) => Ok(None),
         Err(refusal) => Err(refusal),
     }
 }
 
-/// Asserts what is the nearest of some cells, of which the cells 4 and 2 hold the number of a value each, and cell 7 that of a fault.
+/// Asserts what is the nearest of some cells, of which the cells 4 and 2 hold the number of a value each, cell 7 that of a fault, and cell 5 is sealed.
 fn ask_for_nearest(rt: &impl Abort, cells: &Cells, lane: &mut CellLane)
     requires lane { lane.old.cells ≡ cells.now.id }
     requires cells { 9 ≤ cells.now.id.limits.cells }
 {
-    let own = place_and_word(cells.nearest(lane, &[4, 2, 0]));
-    same(rt, own, Ok(Some((0, 16_777_234))), "the first cell");
-    let above = place_and_word(cells.nearest(lane, &[8, 6, 2, 0]));
-    same(rt, above, Ok(Some((2, 16_777_250))), "a later cell");
-    let none = place_and_word(cells.nearest(lane, &[8, 6, 0]));
+    let own = place_and_standing(cells.nearest(lane, &[4, 2, 0]));
+    same(rt, own, Ok(Some((0, Standing::Value(1)))), "the first cell");
+    let above = place_and_standing(cells.nearest(lane, &[8, 6, 2, 0]));
+    same(rt, above, Ok(Some((2, Standing::Value(2)))), "a later cell");
+    let none = place_and_standing(cells.nearest(lane, &[8, 6, 0]));
     same(rt, none, Ok(None), "empty cells");
-    let failed = place_and_word(cells.nearest(lane, &[8, 7, 2, 0]));
-    same(rt, failed, Ok(Some((1, 33_554_484))), "a cell with a fault");
+    let failed = place_and_standing(cells.nearest(lane, &[8, 7, 2, 0]));
+    let fault = Ok(Some((1, Standing::Fault(3))));
+    same(rt, failed, fault, "a cell with a fault");
+    let closed = place_and_standing(cells.nearest(lane, &[8, 5, 2]));
+    same(rt, closed, Ok(Some((1, Standing::Seal))), "a sealed cell");
 }
 
 #[test]
@@ -241,5 +244,6 @@ fn nearest_cell_decides(rt: HostRuntime) {
     go(&rt, &cells, &mut lane, 4, Call::Puts(1, Ok(None)));
     go(&rt, &cells, &mut lane, 2, Call::Puts(2, Ok(None)));
     go(&rt, &cells, &mut lane, 7, Call::Fails(3));
+    go(&rt, &cells, &mut lane, 5, Call::Seals(Ok(None)));
     ask_for_nearest(&rt, &cells, &mut lane);
 }

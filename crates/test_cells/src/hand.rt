@@ -1,6 +1,6 @@
 //! Cells with both of their lanes in one hand, so that a test names a lane by its number.
 ghost use Rattle.std.specs.Prelude.{◌≡◌, ◌<◌, ◌%◌, IsTrue};
-ghost use Rattle.ext_model.specs.Calls.{IsHeld};
+ghost use Rattle.ext_model.specs.CallActs.{IsHeld};
 
 use crate::same::same;
 use ext_cells::{CellLane, CellRefusal, Cells, Claim, Claimed};

@@ -1,6 +1,6 @@
 //! Keys that lanes number as they come, in one thread, and a caller that goes by the clauses alone.
 ghost use Rattle.std.specs.Prelude.{◌≡◌, IfSome};
-ghost use Rattle.ext_tree.specs.KeyPlaces.{AreKeyNotesOf};
+ghost use Rattle.ext_tree.specs.Keys.{AreKeyNotesOf};
 
 use crate::same::same;
 use ext_tree::{Key, KeyFault, KeyNotes, KeyPlaces, Namespace, TreeFault};

@@ -1,6 +1,6 @@
 //! Keys that two and sixteen threads number at once, in opposite orders.
 ghost use Rattle.std.specs.Prelude.{◌≡◌, All, IfOk};
-ghost use Rattle.ext_tree.specs.KeyPlaces.{AreKeyNotesOf};
+ghost use Rattle.ext_tree.specs.Keys.{AreKeyNotesOf};
 
 use crate::key_places::key;
 use crate::same::same;

@@ -4,7 +4,7 @@ use Rattle.ext_tree.specs.Keys.{KeyValue}
 use Rattle.ext_store.specs.declared.computed.Compute.{Compute}
 use Rattle.ext_store.specs.declared.computed.Compute.TheVariants.{Refused}
 use Rattle.ext_store.specs.Stores.{StoreLane}
-use Rattle.ext_store.specs.Keys.{OfKey}
+use Rattle.ext_store.specs.LaneCalls.{OfKey}
 use Rattle.ext_store.specs.Computing.{without_factory}
 
 pub asked : {V F : Type 0} (before after : StoreLane V) (key : KeyValue) (answer : Compute V F) (factory : F) (Holds : ℕ → Type 0)

@@ -1,3 +1,3 @@
 -- Lemmas of this crate.
 mod Asked
-mod Fitting
+mod ReadyToRun

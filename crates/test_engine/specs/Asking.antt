@@ -2,13 +2,13 @@
 -- Javadoc `ExtensionContext.Store`, `getOrComputeIfAbsent`; how the test ends by that is an own rule.
 use Rattle.std.specs.Prelude.{◌≡◌, ℕ, Ok}
 use Rattle.ext_model.specs.declared.look.Fault.{Fault}
-use Rattle.ext_lifecycle.specs.declared.outcome.Outcome.{Outcome}
-use Rattle.ext_lifecycle.specs.declared.outcome.Verdict.TheVariants.{Successful, Failed}
+use Rattle.ext_engine.specs.Outcome.{Outcome}
+use Rattle.ext_engine.specs.Verdict.TheVariants.{Successful, Failed}
 use Rattle.ext_tree.specs.Keys.{KeyValue}
 use Rattle.ext_store.specs.declared.computed.Compute.{Compute}
 use Rattle.ext_store.specs.declared.computed.Compute.TheVariants as computes
 use Rattle.ext_store.specs.Stores.{StoreView, StoreLane}
-use Rattle.ext_store.specs.Keys.{OfKey}
+use Rattle.ext_store.specs.LaneCalls.{OfKey}
 use Rattle.ext_store.specs.Computing.{Uses}
 use Rattle.ext_store.specs.Waiting.{ComputesAfterWaits}
 

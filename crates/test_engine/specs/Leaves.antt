@@ -2,8 +2,7 @@
 -- JUnit 5 User Guide, "Parallel Execution" and "Synchronization".
 use Rattle.std.specs.Prelude.{ℕ, Bool, false, ◌&&◌, ◌==◌, nat_lt, Some, List, length}
 use Rattle.ext_locks.specs.declared.event.LockMode.TheVariants as lock_mode
-use Rattle.ext_tree.specs.Trees.{Id}
-use Rattle.ext_tree.specs.Paths.{children_of}
+use Rattle.ext_tree.specs.Trees.{Id, children_of}
 use Rattle.ext_engine.specs.Suites.{Asked, SuiteView}
 
 -- a context of the tree with nothing below it

@@ -1,5 +1,5 @@
 //! Signs that threads give one another, and a gate that holds children at their start.
-use ext_crew::Gate;
+use ext_engine::Gate;
 use std::sync::atomic::{AtomicU64, Ordering};
 
 /// How often a thread looks for a sign, by one atomic load each.

@@ -7,8 +7,7 @@ ghost use Rattle.ext_engine.specs.TreeRun.{IsIdle, IsUsable};
 use crate::gates::reaches;
 use crate::opening::{Opened, is_leaf, open, report, same, server_key};
 use ext_closing::CloseAction;
-use ext_crew::OpenGate;
-use ext_engine::{Call, Callbacks, Kind, Mode, Outcome, Suite, Verdict, run_tree};
+use ext_engine::{Call, Callbacks, Kind, Mode, OpenGate, Outcome, Suite, Verdict, run_tree};
 use ext_locks::{Held, LockLane, LockMode, LockRefusal, LockRequest, LockSet, Locks, Resource};
 use ext_model::{ContextNo, Fault};
 use ext_store::{Closer, Lane, Store, StoreValue};
@@ -92,7 +91,7 @@ impl<'a> Suite<Table> for TableSuite<'a> {
 
     type Action = LetTry<'a>;
 
-    ghost nodes = { λ suite. leaves_with suite.tree.now (writes suite.lock.now ∷ []) };
+    ghost suite_view = { λ suite. leaves_with suite.tree.now (writes suite.lock.now ∷ []) };
 
     ghost fits = { λ suite store. suite.tree.now ≡ store.tree };
 

@@ -1,6 +1,6 @@
 //! The store and the locks of a run, and its report.
 ghost use Rattle.std.specs.Prelude.{◌≡◌, ◌<◌, ◌≤◌, ◌+◌, [], ◌∷◌, ◌++◌, All, IfSome, IsFalse, IsPermutation, length, map};
-ghost use Rattle.ext_cells.specs.Lanes.{fresh_lanes};
+ghost use Rattle.ext_engine.specs.Lanes.{fresh_lanes};
 ghost use Rattle.ext_locks.specs.Names.{texts_of};
 ghost use Rattle.ext_locks.specs.Opening as locking;
 ghost use Rattle.ext_store.specs.Stores.{IsLaneOf, closers_below, fresh_store_lane};

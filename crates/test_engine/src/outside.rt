@@ -5,8 +5,9 @@ ghost use Rattle.ext_engine.specs.TreeRun.{IsUsable};
 
 use crate::opening::{Opened, OpenedApart, is_leaf, open_apart, same, server_key};
 use ext_closing::CloseAction;
-use ext_crew::OpenGate;
-use ext_engine::{Call, Callbacks, EngineFault, Kind, Mode, Outcome, Suite, Verdict, run_tree};
+use ext_engine::{
+    Call, Callbacks, EngineFault, Kind, Mode, OpenGate, Outcome, Suite, Verdict, run_tree,
+};
 use ext_locks::{Held, LockRequest};
 use ext_model::{ContextNo, Fault};
 use ext_store::{Lane, Store, StoreValue};
@@ -63,7 +64,7 @@ impl<'a> Suite<Page> for QuietSuite<'a> {
 
     type Action = LetGo;
 
-    ghost nodes = { λ suite. leaves_with suite.tree.now [] };
+    ghost suite_view = { λ suite. leaves_with suite.tree.now [] };
 
     ghost fits = { λ suite store. suite.tree.now ≡ store.tree };
 

@@ -6,8 +6,7 @@ ghost use Rattle.test_engine.specs.Asking.{AsksFor, HasFailed};
 use crate::gates::MeetingGate;
 use crate::opening::{Opened, is_leaf, open, report, same, server_key};
 use ext_closing::CloseAction;
-use ext_crew::{Gate, OpenGate};
-use ext_engine::{Call, Callbacks, Kind, Mode, Outcome, Suite, Verdict, run_tree};
+use ext_engine::{Call, Callbacks, Gate, Kind, Mode, OpenGate, Outcome, Suite, Verdict, run_tree};
 use ext_locks::{Held, LockRequest};
 use ext_model::{ContextNo, Fault};
 use ext_store::{Compute, Lane, Store, StoreValue};
@@ -142,7 +141,7 @@ impl<'a> Suite<Server> for ServerSuite<'a> {
 
     type Action = StopServer<'a>;
 
-    ghost nodes = { λ suite. leaves_with suite.tree.now [] };
+    ghost suite_view = { λ suite. leaves_with suite.tree.now [] };
 
     ghost fits = { λ suite store. (suite.tree.now ≡ store.tree) × (1 < length store.tree) × IsFalse store.id.cells.limits.keep_faults };
 

@@ -1,5 +1,5 @@
 //! The keys of the store that labels and steps name.
-ghost use Rattle.ext_plan.specs.Laws.{NamespacesHaveParts};
+ghost use Rattle.ext_plan.specs.ReadPlans.{NamespacesHaveParts};
 ghost use Rattle.ext_plan.specs.Plans.{plan_view};
 
 use crate::same::same;

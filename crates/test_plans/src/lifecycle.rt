@@ -1,10 +1,10 @@
 //! The calls of a node, written down by a caller that does nothing else.
 use crate::rows::same;
 use ext_lifecycle::{
-    Call, Callbacks, Caller, Closes, Kind, NodeResult, Outcome, Status, Verdict, afters_of,
-    befores_of, run_befores, run_calls,
+    Call, Callbacks, Caller, Kind, NodeResult, Outcome, Status, Verdict, afters_of, befores_of,
+    run_befores, run_calls,
 };
-use ext_model::{ContextNo, Fault};
+use ext_model::{Closed, ContextNo, Fault};
 use std::test::Fail;
 
 /// How many calls are written down.
@@ -147,7 +147,7 @@ fn close_fault_is_told_before_an_abort(rt: HostRuntime) -> Result<(), Fail> {
         "the second",
     );
     same(&rt, tally.status, Status::Aborted, "the status");
-    let mut closes = Closes::new();
+    let mut closes = Closed::new();
     closes.add(None);
     closes.add(Some(Fault::Memory));
     let wanted = NodeResult {

@@ -1,6 +1,6 @@
 //! The suite of a plan with an isolated root that has callbacks, and a test that names locks.
 ghost use Rattle.std.specs.Prelude.{◌<◌, All, IfSome, length};
-ghost use Rattle.ext_plan.specs.Laws.{CallbacksAreFew, NamespacesHaveParts, StepListsAreShort};
+ghost use Rattle.ext_plan.specs.ReadPlans.{IsRunnablePlan};
 ghost use Rattle.ext_plan.specs.Plans.{plan_view};
 ghost use Rattle.ext_store.specs.Stores.{IsLaneOf};
 
@@ -43,9 +43,7 @@ trait Scenario<R> {
 
 /// Plays the scenario with the suite of the plan.
 fn lend<R, S: Scenario<R>>(rt: &R, alloc: Global, plan: &Plan, scenario: &S) -> Result<(), Fail>
-    requires parts { NamespacesHaveParts (plan_view plan.now) }
-    requires short { StepListsAreShort (plan_view plan.now) }
-    requires few { CallbacksAreFew (plan_view plan.now) }
+    requires { IsRunnablePlan (plan_view plan.now) }
 {
     let suite = PlanSuite::new(alloc, plan, &NoListener)?;
     scenario.play(rt, alloc, &suite);

@@ -1,14 +1,15 @@
 //! A store of the chain with both of its lanes in one hand, so that a test names a lane by its number.
-ghost use Rattle.std.specs.Prelude.{◌<◌, All, length};
+ghost use Rattle.std.specs.Prelude.{◌<◌, All, IfOk, length};
+ghost use Rattle.ext_model.specs.CallActs.{IsHeld};
 ghost use Rattle.ext_store.specs.Stores.{IsCloserOf, IsLaneOf};
 
 use crate::asked::{key, same, with_made};
 use crate::closes::Recorder;
 use crate::full::name_from;
 use crate::opening::{Letter, Opened, closeable, open_chain_for, plain};
-use ext_closing::{CloseFault, Closes, close};
+use ext_closing::{CloseFault, Closed, close};
 use ext_model::{ContextNo, Fault, KeyNo, Look};
-use ext_store::{Closer, Compute, KeepFault, Lane, Refusal, Store};
+use ext_store::{Claim, Closer, Compute, KeepFault, Lane, Refusal, Store, Unused};
 use ext_tree::Key;
 use std::alloc::Global;
 use std::marker::Model;
@@ -57,6 +58,17 @@ pub(crate) enum Call {
     FailsToClose(u32, u32, &'static str, [u32; 4]),
 }
 
+/// How a row computes: all ways are to answer the same.
+#[derive(Clone, Copy, PartialEq, Eq)]
+pub(crate) enum Way {
+    /// By one call, which is handed a factory.
+    OneCall,
+    /// By two calls, the first by the key.
+    TwoCalls,
+    /// By two calls that wake nobody, the first by the key's number.
+    TwoQuietCalls,
+}
+
 /// A row of a test: the lane that calls, 0 or 1, the context, 0 to 2, the key's name, and the call.
 pub(crate) type Row = (usize, ContextNo, &'static str, Call);
 
@@ -64,6 +76,7 @@ pub(crate) type Row = (usize, ContextNo, &'static str, Call);
 #[derive(Drop)]
 pub(crate) struct Chain {
     alloc: Global,
+    way: Way,
     store: Store<Letter>,
     lanes: [Lane<Letter>; 2],
     closers: Vec<Closer>,
@@ -94,7 +107,7 @@ impl Chain {
         lane: usize,
         context: ContextNo,
         action: &mut Recorder,
-    ) -> Result<Closes, CloseFault>
+    ) -> Result<Closed, CloseFault>
         requires { lane < 2 }
     {
         let hand = lane + 1;
@@ -261,8 +274,85 @@ fn put_instead<R: Abort>(
     }
 }
 
-/// What a compute answers whose factory answers `made`; where the factory comes back unused, what it answers then.
-fn compute(
+/// The first of the two calls.
+fn begin(
+    way: Way,
+    store: &Store<Letter>,
+    lane: &mut Lane<Letter>,
+    context: ContextNo,
+    key: &Key,
+) -> Result<Claim, Unused>
+    requires lane { IsLaneOf store.now.id lane.old }
+    requires context { context < length store.now.tree }
+    ensures held { IfOk result (IsHeld lane.new.cells.view) }
+    ensures lane { IsLaneOf store.now.id lane.new }
+{
+    if way != Way::TwoQuietCalls {
+        return store.begin(lane, context, key);
+    }
+    match store.number(lane, key) {
+        Ok(number) => store.begin_numbered_quietly(lane, context, number),
+        Err(why) => Err(Unused::Refused(why)),
+    }
+}
+
+/// The second of the two calls, where a value was made.
+fn fill(
+    way: Way,
+    store: &Store<Letter>,
+    lane: &mut Lane<Letter>,
+    claim: Claim,
+    value: Letter,
+) -> Compute<Letter, Result<Letter, Fault>>
+    requires lane { IsLaneOf store.now.id lane.old }
+    requires held { IsHeld lane.old.cells.view claim }
+    ensures { IsLaneOf store.now.id lane.new }
+{
+    let filled = if way == Way::TwoQuietCalls {
+        store.fill_quietly(lane, claim, value)
+    } else {
+        store.fill(lane, claim, value)
+    };
+    match filled {
+        Ok(number) => Compute::Computed { number },
+        Err((value, cause)) => Compute::Unkept { value, cause },
+    }
+}
+
+/// The second of the two calls, where there is a fault in the place of a value.
+fn end_failed(
+    way: Way,
+    store: &Store<Letter>,
+    lane: &mut Lane<Letter>,
+    claim: Claim,
+    fault: Fault,
+) -> Compute<Letter, Result<Letter, Fault>>
+    requires lane { IsLaneOf store.now.id lane.old }
+    requires held { IsHeld lane.old.cells.view claim }
+    ensures { IsLaneOf store.now.id lane.new }
+{
+    if !store.keeps_faults() {
+        if way == Way::TwoQuietCalls {
+            store.give_up_quietly(lane, claim);
+        } else {
+            store.give_up(lane, claim);
+        }
+        return Compute::Failed(fault);
+    }
+    let failed = if way == Way::TwoQuietCalls {
+        store.fail_quietly(lane, claim, fault)
+    } else {
+        store.fail(lane, claim, fault)
+    };
+    match failed {
+        Ok(number) => Compute::FaultKept { number },
+        Err((fault, cause)) => Compute::FaultUnkept { fault, cause },
+    }
+}
+
+/// What the two calls answer, where `made` is what came of the work between them, in the words of a compute.
+fn compute_by_two(
+    way: Way,
     store: &Store<Letter>,
     lane: &mut Lane<Letter>,
     context: ContextNo,
@@ -273,6 +363,51 @@ fn compute(
     requires context { context < length store.now.tree }
     ensures { IsLaneOf store.now.id lane.new }
 {
+    let claim = match begin(way, store, lane, context, key) {
+        Ok(claim) => claim,
+        Err(Unused::Found { at, number }) => {
+            return Compute::Found {
+                at,
+                number,
+                unused: made,
+            };
+        }
+        Err(Unused::FaultStands { at, number }) => {
+            return Compute::FaultStands {
+                at,
+                number,
+                unused: made,
+            };
+        }
+        Err(Unused::Refused(refusal)) => {
+            return Compute::Refused {
+                refusal,
+                unused: made,
+            };
+        }
+    };
+    match made {
+        Ok(value) => fill(way, store, lane, claim, value),
+        Err(fault) => end_failed(way, store, lane, claim, fault),
+    }
+}
+
+/// What a compute answers whose factory answers `made`; where the factory comes back unused, what it answers then.
+fn compute(
+    way: Way,
+    store: &Store<Letter>,
+    lane: &mut Lane<Letter>,
+    context: ContextNo,
+    key: &Key,
+    made: Result<Letter, Fault>,
+) -> Compute<Letter, Result<Letter, Fault>>
+    requires lane { IsLaneOf store.now.id lane.old }
+    requires context { context < length store.now.tree }
+    ensures { IsLaneOf store.now.id lane.new }
+{
+    if way != Way::OneCall {
+        return compute_by_two(way, store, lane, context, key, made);
+    }
     let factory = move |_key: &Key| -> Result<Letter, Fault> { made };
     match store.compute(lane, context, key, factory) {
         Compute::Computed { number } => Compute::Computed { number },
@@ -299,6 +434,7 @@ fn compute(
 
 /// Computes by a factory that makes the value.
 fn make(
+    way: Way,
     store: &Store<Letter>,
     lane: &mut Lane<Letter>,
     context: ContextNo,
@@ -310,11 +446,12 @@ fn make(
     ensures { IsLaneOf store.now.id lane.new }
 {
     let letter = value.letter;
-    tell(compute(store, lane, context, key, Ok(value)), letter)
+    tell(compute(way, store, lane, context, key, Ok(value)), letter)
 }
 
 /// Computes by a factory that fails with the text.
 fn fail(
+    way: Way,
     alloc: Global,
     store: &Store<Letter>,
     lane: &mut Lane<Letter>,
@@ -329,13 +466,14 @@ fn fail(
     let Ok(fault) = String::from_str(alloc, text) else {
         return Told::Other;
     };
-    let outcome = compute(store, lane, context, key, Err(Fault::Text(fault)));
+    let outcome = compute(way, store, lane, context, key, Err(Fault::Text(fault)));
     tell_fault(outcome, text)
 }
 
 /// Asserts that the lane's call has its answer. A close is no lane's.
 fn ask<R: Abort>(
     rt: &R,
+    way: Way,
     alloc: Global,
     store: &Store<Letter>,
     lane: &mut Lane<Letter>,
@@ -361,22 +499,27 @@ fn ask<R: Abort>(
             same(rt, told, (number, refusal, Ok(None)), name);
         }
         Call::Computes(letter, answer) => {
-            same(rt, make(store, lane, at, key, plain(letter)), answer, name);
+            same(
+                rt,
+                make(way, store, lane, at, key, plain(letter)),
+                answer,
+                name,
+            );
         }
         Call::ComputesToClose(letter, answer) => {
             same(
                 rt,
-                make(store, lane, at, key, closeable(letter)),
+                make(way, store, lane, at, key, closeable(letter)),
                 answer,
                 name,
             );
         }
         Call::Fails(text) => {
-            let told = fail(alloc, store, lane, at, key, text);
+            let told = fail(way, alloc, store, lane, at, key, text);
             same(rt, told, Told::Failed, name);
         }
         Call::FailsAs(text, answer) => {
-            let told = fail(alloc, store, lane, at, key, text);
+            let told = fail(way, alloc, store, lane, at, key, text);
             same(rt, told, answer, name);
         }
         Call::ShowsFault(number, text) => {
@@ -447,14 +590,24 @@ impl Chain {
             }
             _ => {
                 let lane = &mut self.lanes[lane];
-                ask(rt, self.alloc, &self.store, lane, at, key, call, name);
+                ask(
+                    rt,
+                    self.way,
+                    self.alloc,
+                    &self.store,
+                    lane,
+                    at,
+                    key,
+                    call,
+                    name,
+                );
             }
         }
     }
 }
 
 /// The opened store with both lanes in one hand.
-fn in_one_hand(alloc: Global, opened: Opened<Letter>) -> Chain
+fn in_one_hand(alloc: Global, way: Way, opened: Opened<Letter>) -> Chain
     requires first { IsLaneOf opened.store.id opened.first }
     requires second { IsLaneOf opened.store.id opened.second }
     requires closers { All (IsCloserOf opened.store) opened.closers.items }
@@ -462,15 +615,18 @@ fn in_one_hand(alloc: Global, opened: Opened<Letter>) -> Chain
 {
     Chain {
         alloc,
+        way,
         store: opened.store,
         lanes: [opened.first, opened.second],
         closers: opened.closers,
     }
 }
 
-/// Opens a store of the chain with so many numbers, which keeps faults or not; `None` where there is no memory.
-fn open(alloc: Global, numbers: u32, keep_faults: bool) -> Option<Chain> {
-    Some(in_one_hand(alloc, open_chain_for(alloc, numbers, keep_faults)?))
+/// Opens a store of the chain with so many numbers, which keeps faults or not, and whose rows compute this way; `None` where there is
+/// no memory.
+fn open(alloc: Global, numbers: u32, keep_faults: bool, way: Way) -> Option<Chain> {
+    let opened = open_chain_for(alloc, numbers, keep_faults)?;
+    Some(in_one_hand(alloc, way, opened))
 }
 
 /// Asserts that the lanes have their numbers, and that each row's call, in order, has its answer.
@@ -482,24 +638,31 @@ fn play<R: Abort>(rt: &R, chain: &mut Chain, rows: &[Row]) {
     }
 }
 
-/// Opens a store of the chain with so many numbers, and asserts that each row's call, in order, has its answer.
+/// For each way to compute, opens a store of the chain with so many numbers, and asserts that each row's call, in order, has its
+/// answer.
 pub(crate) fn rows<R: Abort>(rt: &R, alloc: Global, numbers: u32, rows: &[Row]) {
-    with_made(rt, open(alloc, numbers, false), |chain| {
-        play(rt, chain, rows)
-    });
+    for way in [Way::OneCall, Way::TwoCalls, Way::TwoQuietCalls] {
+        with_made(rt, open(alloc, numbers, false, way), |chain| {
+            play(rt, chain, rows)
+        });
+    }
 }
 
 /// The same where lane 1 has named the keys `0` to `63` before, which have all numbers.
 pub(crate) fn rows_when_full<R: Abort>(rt: &R, alloc: Global, numbers: u32, rows: &[Row]) {
-    with_made(rt, open(alloc, numbers, false), |chain| {
-        chain.fill(rt);
-        play(rt, chain, rows)
-    });
+    for way in [Way::OneCall, Way::TwoCalls, Way::TwoQuietCalls] {
+        with_made(rt, open(alloc, numbers, false, way), |chain| {
+            chain.fill(rt);
+            play(rt, chain, rows)
+        });
+    }
 }
 
 /// The same as `rows` in a store that keeps faults.
 pub(crate) fn rows_with_faults<R: Abort>(rt: &R, alloc: Global, numbers: u32, rows: &[Row]) {
-    with_made(rt, open(alloc, numbers, true), |chain| {
-        play(rt, chain, rows)
-    });
+    for way in [Way::OneCall, Way::TwoCalls, Way::TwoQuietCalls] {
+        with_made(rt, open(alloc, numbers, true, way), |chain| {
+            play(rt, chain, rows)
+        });
+    }
 }

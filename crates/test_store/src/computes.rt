@@ -3,7 +3,7 @@ ghost use Rattle.std.specs.Prelude.{◌<◌, length};
 ghost use Rattle.ext_store.specs.Stores.{IsLaneOf};
 
 use crate::asked::{Scenario, same, with_chain};
-use crate::chain::{Call, Told, rows};
+use crate::chain::{Call, Told, rows, rows_with_faults};
 use crate::opening::{Letter, plain};
 use ext_model::{Fault, Look};
 use ext_store::{Compute, KeepFault, Lane, Store};
@@ -22,6 +22,32 @@ fn failed_factory_leaves_cell_empty(rt: HostRuntime) {
         (0, 2, "a", Call::Gets(Ok(found))),
     ];
     rows(&rt, rt.alloc(), 8, &all);
+}
+
+#[test]
+fn two_calls_answer_as_one(rt: HostRuntime) {
+    let found = Look::Found { at: 1, number: 1 };
+    let all = [
+        (0, 1, "a", Call::Computes('x', Told::Computed(1))),
+        (1, 2, "a", Call::Computes('y', Told::Found(1, 1))),
+        (1, 2, "a", Call::Gets(Ok(found))),
+    ];
+    rows(&rt, rt.alloc(), 8, &all);
+    let all = [
+        (0, 1, "b", Call::Fails("boom")),
+        (0, 1, "b", Call::Gets(Ok(Look::Absent))),
+        (1, 1, "b", Call::Computes('x', Told::Computed(1))),
+        (0, 1, "b", Call::Shows(1, Some(plain('x')))),
+    ];
+    rows(&rt, rt.alloc(), 8, &all);
+    let stands = Look::Fault { at: 1, number: 1 };
+    let all = [
+        (0, 1, "c", Call::FailsAs("boom", Told::FaultKept(1))),
+        (1, 2, "c", Call::Computes('x', Told::FaultStands(1, 1))),
+        (1, 2, "c", Call::Gets(Ok(stands))),
+        (1, 2, "d", Call::Computes('y', Told::Computed(2))),
+    ];
+    rows_with_faults(&rt, rt.alloc(), 8, &all);
 }
 
 #[test]

@@ -6,7 +6,7 @@ ghost use Rattle.ext_closing.specs.Lanes.{first_lane};
 ghost use Rattle.ext_closing.specs.Sealing.{numbers_left};
 ghost use Rattle.ext_closing.specs.Closing.{AreCloseable};
 
-use ext_closing::{CloseAction, CloseFault, Closes, close};
+use ext_closing::{CloseAction, CloseFault, Closed, close};
 use ext_model::Fault;
 use ext_store::{Closer, Lane, Store, StoreValue};
 
@@ -37,7 +37,7 @@ pub fn close_logged<V: StoreValue + Drop>(
     closer: Closer,
     lanes: &mut [Lane<V>],
     log: &mut Log,
-) -> Result<Closes, (Closer, CloseFault)>
+) -> Result<Closed, (Closer, CloseFault)>
     requires lanes { 1 ≤ length lanes.old }
     requires own_lanes { All (IsLaneOf store.now.id) lanes.old }
     requires closer { IsCloserOf store.now closer }

@@ -4,7 +4,7 @@ ghost use Rattle.ext_store.specs.Stores.{IsCloserOf, IsKeptBy, IsLaneOf, StillKe
 
 use crate::gates::Gate;
 use crate::same::same;
-use ext_closing::{CloseFault, Closes, close};
+use ext_closing::{CloseFault, Closed, close};
 use ext_model::{ContextNo, Fault, Look};
 use ext_store::{Closer, Compute, Kept, Lane, Refusal, Store};
 use ext_tree::Key;
@@ -149,7 +149,7 @@ pub(crate) fn close_refused<R: Abort>(
 }
 
 /// Asserts that a close had no fault, and that the values of exactly these numbers are closed, in this order.
-fn check_closed<R: Abort>(rt: &R, closed: &Closes, numbers: &[u32], wanted: &[u32]) {
+fn check_closed<R: Abort>(rt: &R, closed: &Closed, numbers: &[u32], wanted: &[u32]) {
     let counts = (closed.closed as usize, closed.more_faults);
     same(rt, counts, (wanted.len(), 0), "how many are closed");
     assert!(rt; closed.first_fault.is_none());

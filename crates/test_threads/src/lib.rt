@@ -1,4 +1,4 @@
-//! Tests of the store by lanes in threads of their own, the code of docs/GUIDE.md, and tests of the waiting forms (module `waits`).
+//! Tests of the store by lanes in threads of their own, and the code of docs/GUIDE.md.
 #![tactic(auto)]
 
 #[cfg(test)]
@@ -23,5 +23,3 @@ mod opening;
 mod rising;
 #[cfg(test)]
 mod same;
-#[cfg(test)]
-mod waits;

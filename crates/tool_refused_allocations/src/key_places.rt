@@ -1,6 +1,6 @@
 //! Keys that lanes number as they come, of which a refused one is not placed.
 ghost use Rattle.std.specs.Prelude.{◌≡◌, ◌<◌};
-ghost use Rattle.ext_tree.specs.KeyPlaces.{AreKeyNotesOf};
+ghost use Rattle.ext_tree.specs.Keys.{AreKeyNotesOf};
 
 use crate::outcome::Outcome;
 use ext_tree::{Key, KeyFault, KeyNotes, KeyPlaces, Namespace, TreeFault};

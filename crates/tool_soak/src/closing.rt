@@ -7,7 +7,7 @@ use crate::chance::{below, once_in};
 use crate::fault::SoakFault;
 use crate::opening::{CONTEXTS, KEYS, Payload, Place, Shared};
 use crate::told::{Log, Told};
-use ext_closing::{CloseAction, Closes, close};
+use ext_closing::{CloseAction, Closed, close};
 use ext_model::{ContextNo, Fault, Look};
 use ext_store::{Closer, Lane};
 use rand_pcg::Pcg32;
@@ -75,7 +75,7 @@ impl Closing {
     }
 
     /// The context was closed: what the action was given is counted, and each of its faults.
-    fn closed(&mut self, closes: &Closes) {
+    fn closed(&mut self, closes: &Closed) {
         let faults = closes
             .more_faults
             .wrapping_add(u32::from(closes.first_fault.is_some()));

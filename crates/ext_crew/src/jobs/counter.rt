@@ -1,6 +1,6 @@
 //! The counter: it is opened over the items, drawn from by workers, given outcomes, and closed.
 ghost use Rattle.std.specs.Prelude.{◌≡◌, ℕ, ◌+◌, ◌<◌, ◌≤◌, ◌++◌, [], ◌∷◌, List, Option, length, map, cond, ltb, Some, None, slice_get, vec_capacity, filter_map, vec_len, All, IfOk, IfSome, IfNone};
-ghost use Rattle.ext_crew.specs.Counter.{done_by, slot_of, outcomes_in, IsCounter, IsOpen, IsDrawing, HasDrawn, HasEnded};
+ghost use Rattle.ext_crew.specs.InnerCounter.{done_by, slot_of, outcomes_in, IsCounter, IsOpen, IsDrawing, HasDrawn, HasEnded};
 ghost use Rattle.ext_crew.specs.Times.{times};
 ghost use Rattle.ext_crew.specs.declared.jobs.slot.Slot.TheVariants.{Item, Empty};
 
@@ -17,7 +17,7 @@ use std::sync::Wait;
 /// split off (`split_seat::<Hires>` of the counter).
 ///
 /// There are at most 256 items, possibly none. Takes memory for a slot for each item, and for the counter; where an allocation fails
-/// the items are dropped. Own rule.
+/// the items are dropped.
 pub(crate) fn open_counter<T: Drop, O: Drop, M: Allocator + Clone>(
     alloc: &M,
     items: Vec<T, M>,
@@ -50,9 +50,8 @@ fn full_slots<T: Drop, O: Drop, M: Allocator + Clone>(
 /// Draws the next job, and gives back the slot of the job before with its outcome. Answers `None` where all jobs were drawn, and then
 /// this hand draws nothing any more.
 ///
-/// `count` is the number of items. The jobs come in the order of the items, each to one hand. An exchange that fails, since another
-/// hand drew at the same time, is tried again from the number that it found, so the call takes the runtime and may wait. Takes no
-/// memory. Own rule.
+/// `count` is the number of items. The jobs come in the order of the items, each to one hand. An exchange that fails, since another hand
+/// drew at the same time, is tried again from the number that it found, so the call takes the runtime and may wait. Takes no memory.
 pub(crate) fn draw<R: Wait, T: Drop, O: Drop, M: Allocator>(
     rt: &R,
     counter: &Counter<T, O, M>,
@@ -107,8 +106,7 @@ fn take_job<T: Drop, O: Drop, M: Allocator>(
     Some(Job { index, item })
 }
 
-/// Puts the outcome of the job that the hand drew last into its slot, which the hand's next draw gives back. Takes no memory, and does
-/// not wait. Own rule.
+/// Puts the outcome of the job that the hand drew last into its slot, which the hand's next draw gives back. Takes no memory, and does not wait.
 pub(crate) fn put_outcome<T: Drop, O: Drop, M: Allocator>(
     counter: &Counter<T, O, M>,
     hand: &mut Hand<T, O>,
@@ -127,9 +125,9 @@ pub(crate) fn put_outcome<T: Drop, O: Drop, M: Allocator>(
 /// Closes the counter after all workers have ended, and moves the outcomes out of their slots into `outcomes`, in the order of the
 /// jobs.
 ///
-/// Every hand was joined into the first one again (`join_seat::<Hires>` of the counter), so its draws are all that there were:
-/// each number below some number once. Each job that was given back has its outcome at its place; a job that was not drawn has none, and
-/// its item is dropped. `outcomes` is empty and has room for an outcome for each item. Takes no memory, and does not wait. Own rule.
+/// Every hand was joined into the first one again (`join_seat::<Hires>` of the counter), so its draws are all that there were: each
+/// number below some number once. Each job that was given back has its outcome at its place; a job that was not drawn has none, and its
+/// item is dropped. `outcomes` is empty and has room for an outcome for each item. Takes no memory, and does not wait.
 pub(crate) fn take_outcomes<T: Drop, O: Drop, M: Allocator>(
     table: CounterTable<T, O, M>,
     first: Hand<T, O>,

@@ -7,10 +7,10 @@ use std::alloc::Allocator;
 use std::collections::LinkedList;
 use std::snapshot::Snapshot;
 
-/// The counter, word 0, and a slot for each job, as workers share them. The key is the list of items. Own rule.
+/// The counter, word 0, and a slot for each job, as workers share them. The key is the list of items.
 pub(crate) type Counter<T, O, M> = Shared<Slot<T, O>, Drawn<T, O>, Snapshot<Vec<T, M>>, Drawing>;
 
-/// The counter and the slots with their memory. Workers share `shared` of it. Own rule.
+/// The counter and the slots with their memory. Workers share `shared` of it.
 pub(crate) type CounterTable<T, O, M> = Table<
     Slot<T, O>,
     Drawn<T, O>,
@@ -19,7 +19,7 @@ pub(crate) type CounterTable<T, O, M> = Table<
     M,
 >;
 
-/// What a worker has in hand: a seat at the counter, with which it draws jobs and gives back what they gave. It takes no bytes. Own rule.
+/// What a worker has in hand: a seat at the counter, with which it draws jobs and gives back what they gave. It takes no bytes.
 pub(crate) type Hand<T, O> = Seat<Slot<T, O>, Drawn<T, O>>;
 
 /// The view of a seat. No value of it is made.
@@ -40,7 +40,7 @@ pub(crate) struct Drawing;
 
 impl<T, O, M: Allocator> TableRule<Slot<T, O>, Drawn<T, O>, Snapshot<Vec<T, M>>> for Drawing {
     ghost use Rattle.std.specs.Prelude.{[]};
-    ghost use Rattle.ext_crew.specs.Counter.{Kept, drawn};
+    ghost use Rattle.ext_crew.specs.InnerCounter.{Kept, drawn};
 
     ghost holds = { λ key s. Kept key.value.items s };
 
@@ -51,7 +51,7 @@ impl<T, O, M: Allocator> TableRule<Slot<T, O>, Drawn<T, O>, Snapshot<Vec<T, M>>>
 pub(crate) struct Loads;
 
 impl<T, O> Play<Slot<T, O>, Drawn<T, O>> for Loads {
-    ghost use Rattle.ext_crew.specs.Counter.{Loaded};
+    ghost use Rattle.ext_crew.specs.InnerCounter.{Loaded};
 
     ghost then = { λ _ v found w. Loaded v found w };
 }
@@ -61,7 +61,7 @@ pub(crate) struct Draws;
 
 impl<T, O> Play<Slot<T, O>, Drawn<T, O>> for Draws {
     ghost use Rattle.std.specs.Prelude.{◌==◌};
-    ghost use Rattle.ext_crew.specs.Counter.{DrawsIf};
+    ghost use Rattle.ext_crew.specs.InnerCounter.{DrawsIf};
 
     ghost then = { λ s v found w. DrawsIf (found == s.first) v found w };
 }
@@ -70,7 +70,7 @@ impl<T, O> Play<Slot<T, O>, Drawn<T, O>> for Draws {
 pub(crate) struct Hires;
 
 impl<T, O> Split<Drawn<T, O>> for Hires {
-    ghost use Rattle.ext_crew.specs.Counter.{hirer, hired};
+    ghost use Rattle.ext_crew.specs.InnerCounter.{hirer, hired};
 
     ghost left = { hirer };
 
@@ -78,7 +78,7 @@ impl<T, O> Split<Drawn<T, O>> for Hires {
 }
 
 impl<T, O> Join<Drawn<T, O>> for Hires {
-    ghost use Rattle.ext_crew.specs.Counter.{together, spent};
+    ghost use Rattle.ext_crew.specs.InnerCounter.{together, spent};
 
     ghost both = { together };
 

@@ -1,6 +1,6 @@
 //! What stands in the slot of a job.
 ghost use Rattle.std.specs.Prelude.{◌≡◌};
-ghost use Rattle.ext_crew.specs.Counter.{item_in};
+ghost use Rattle.ext_crew.specs.InnerCounter.{item_in};
 
 /// What stands in the slot of a job: its item until it is drawn, its outcome once it has ended, and nothing between.
 #[derive(Drop)]

@@ -1,15 +1,15 @@
 //! The closers of a subtree, and their split among the children of its node.
 ghost use Rattle.std.specs.Prelude.{◌≡◌, ◌≢◌, ◌<◌, ◌≤◌, ℕ, true, not, length, vec_len, map, filter, All, Contains, IfOk, IfNone, IfSome, slice_index_or};
-ghost use Rattle.ext_tree.specs.Paths.{children_of};
+ghost use Rattle.ext_tree.specs.Trees.{children_of};
 ghost use Rattle.ext_store.specs.Stores.{IsCloserOf};
-ghost use Rattle.ext_engine.specs.Closers.{IsItem, IsWithin, OfStore, HasClosers, HasBelow, contexts};
+ghost use Rattle.ext_engine.specs.InnerClosers.{IsItem, IsWithin, OfStore, HasClosers, HasBelow, contexts};
 
 use crate::Suite;
 use ext_model::ContextNo;
 use ext_store::{Closer, Store, StoreValue};
 use std::alloc::{AllocError, Global};
 
-/// A node that is to be run, with the closers of its subtree. Own rule.
+/// A node that is to be run, with the closers of its subtree.
 #[derive(Drop)]
 pub(crate) struct Item {
     /// The node.
@@ -36,7 +36,7 @@ fn is_within<V>(store: &Store<V>, node: ContextNo, context: ContextNo) -> bool
 
 /// Takes out the closer of the node itself, and leaves those of the nodes below it.
 ///
-/// The closers are of the store, and among them are those of the node and of all below it. Takes no memory. Own rule.
+/// The closers are of the store, and among them are those of the node and of all below it. Takes no memory.
 pub(crate) fn take_own<V>(store: &Store<V>, node: ContextNo, closers: &mut Vec<Closer>) -> Closer
     requires own { OfStore store.now closers.old.items }
     requires node { node < length store.now.tree }
@@ -112,8 +112,8 @@ pub(crate) fn items_of_children<V: StoreValue + Drop, S: Suite<V>>(
     requires own { OfStore store.now closers.items }
     requires node { node < length store.now.tree }
     requires closers { HasBelow store.now node closers.items }
-    ensures beside { IfOk result (λ r. map (λ i. i.node) r.0.items ≡ filter (S.nodes suite.now).is_concurrent (children_of store.now.tree node)) }
-    ensures in_turn { IfOk result (λ r. map (λ i. i.node) r.1.items ≡ filter (λ c. not ((S.nodes suite.now).is_concurrent c)) (children_of store.now.tree node)) }
+    ensures beside { IfOk result (λ r. map (λ i. i.node) r.0.items ≡ filter (S.suite_view suite.now).is_concurrent (children_of store.now.tree node)) }
+    ensures in_turn { IfOk result (λ r. map (λ i. i.node) r.1.items ≡ filter (λ c. not ((S.suite_view suite.now).is_concurrent c)) (children_of store.now.tree node)) }
     ensures closers { IfOk result (λ r. All (IsItem store.now node) r.0.items × All (IsItem store.now node) r.1.items) }
     ensures few { IfOk result (λ r. vec_len r.0 ≤ 256) }
 {

@@ -1,14 +1,12 @@
 //! The close of a node's context, asked again until nobody is in its way.
-ghost use Rattle.std.specs.Prelude.{◌≡◌, ◌≤◌, List, length, All, IfOk, IfErr, IfNone, IfSome, Err};
+ghost use Rattle.std.specs.Prelude.{◌≡◌, ◌≤◌, List, length, All, IfOk, IfErr, IfNone, IfSome};
 ghost use Rattle.ext_closing.specs.declared.fault.CloseFault.TheVariants as close_fault;
-ghost use Rattle.ext_closing.specs.Closes as closing;
-ghost use Rattle.ext_closing.specs.Closes.{IsClosedBy};
+ghost use Rattle.ext_closing.specs.Closes.{IsClosedBy, IsLeftUnjoined};
 ghost use Rattle.ext_closing.specs.Lanes.{IsUnknown};
-ghost use Rattle.ext_closing.specs.Steps.{IsOfKey};
+ghost use Rattle.ext_closing.specs.InnerSteps.{IsOfKey};
 ghost use Rattle.ext_store.specs.Stores.{StoreLane, IsCloserOf, IsLaneOf};
 
-use ext_closing::{CloseAction, CloseFault, close};
-use ext_lifecycle::Closes;
+use ext_closing::{CloseAction, CloseFault, Closed, close};
 use ext_store::{Closer, Lane, Store, StoreValue};
 use std::sync::Wait;
 use std::thread;
@@ -20,13 +18,13 @@ pub(crate) fn close_again<R: Wait, V: StoreValue + Drop, A: CloseAction<V>>(
     closer: Closer,
     lanes: &mut [Lane<V>],
     action: &mut A,
-) -> Result<Closes, u32>
+) -> Result<Closed, u32>
     requires lanes { 1 ≤ length lanes.old }
     requires own_lanes { All (IsLaneOf store.now.id) lanes.old }
     requires closer { IsCloserOf store.now closer }
     ensures closes { IfOk result (λ closed. IsClosedBy V.is_closeable A.close_gives store.now closer lanes.old action.old closed lanes.new action.new) }
     ensures unjoined { IfErr result (λ number. (before : List (StoreLane V)) × All (IsLaneOf store.now.id) before
-        × closing.Closes V.is_closeable A.close_gives store.now closer before action.old (Err (closer, close_fault.Unjoined number)) lanes.new action.old) }
+        × IsLeftUnjoined store.now closer before number lanes.new) }
     ensures unknown { IfErr result (IsUnknown lanes.new) }
     ensures own_lanes { All (IsLaneOf store.now.id) lanes.new }
     ensures count { length lanes.new ≡ length lanes.old }

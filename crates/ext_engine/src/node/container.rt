@@ -3,10 +3,10 @@ ghost use Rattle.std.specs.Prelude.{◌≡◌, ℕ, ◌-◌, ◌<◌, ◌≤◌,
 ghost use Rattle.ext_lifecycle.specs.declared.outcome.Outcome.{Outcome};
 ghost use Rattle.ext_store.specs.Stores.{IsLaneOf};
 ghost use Rattle.ext_engine.specs.declared.node.fault.EngineFault.TheVariants as engine_fault;
-ghost use Rattle.ext_engine.specs.Closers.{IsNode};
-ghost use Rattle.ext_engine.specs.NodeRun.{IsFault, IsUnjoinedNode, setting_of};
-ghost use Rattle.ext_engine.specs.Helpers.{ran_view};
-ghost use Rattle.ext_engine.specs.Containers.{AreChildren, IsOpen, IsOpenBy, Opens, Ends};
+ghost use Rattle.ext_engine.specs.InnerClosers.{IsNode};
+ghost use Rattle.ext_engine.specs.NodeRun.{EndsContainer, IsFault, IsUnjoinedNode, setting_of};
+ghost use Rattle.ext_engine.specs.InnerHelpers.{ran_view};
+ghost use Rattle.ext_engine.specs.InnerContainers.{AreChildren, IsOpen, IsOpenBy, Opens};
 
 use crate::Suite;
 use crate::node::parts::{Parts, container_parts};
@@ -17,7 +17,7 @@ use ext_store::{Closer, Lane, StoreValue};
 use std::alloc::Global;
 use std::sync::Wait;
 
-/// A container whose before-callbacks were called. Own rule.
+/// A container whose before-callbacks were called.
 #[derive(Drop)]
 pub(crate) struct OpenContainer {
     /// The closer of its context.
@@ -46,15 +46,16 @@ pub(crate) fn open_container<'a, R: Wait, V: StoreValue + Drop, S: Suite<V>>(
     lanes: &mut [Lane<V>],
 ) -> Result<(OpenContainer, Children), EngineFault>
     requires item { IsNode nodes.now.store.now depth item }
-    requires container { (S.nodes nodes.now.suite.now).is_test item.node ≡ false }
+    requires container { (S.suite_view nodes.now.suite.now).is_test item.node ≡ false }
     requires suite_fits { S.fits nodes.now.suite.now nodes.now.store.now }
     requires lanes { 0 < length lanes.old }
     requires own_lanes { All (IsLaneOf nodes.now.store.now.id) lanes.old }
     ensures own_lanes { All (IsLaneOf nodes.now.store.now.id) lanes.new }
     ensures count { length lanes.new ≡ length lanes.old }
     ensures begun { IfOk result (λ r. IsOpen nodes.now.store.now item.node r.0) }
-    ensures befores { IfOk result (λ r. Opens (setting_of nodes.now.store.now nodes.now.locks.now (S.nodes nodes.now.suite.now) (S.registered nodes.now.suite.now) V.is_closeable) (S.call_gives nodes.now.suite.now nodes.now.store.now) (S.action_gives nodes.now.suite.now) S.Action.close_gives item.node lanes.old r.0 lanes.new) }
-    ensures children { IfOk result (λ r. AreChildren nodes.now.store.now (S.nodes nodes.now.suite.now) (depth - 1) item.node r.1 × (1 ≤ depth)) }
+    ensures befores { IfOk result (λ r. Opens (setting_of V.is_closeable S.suite_view S.registered S.call_gives S.action_gives S.Action.close_gives
+        nodes.now.suite.now nodes.now.store.now nodes.now.locks.now) item.node lanes.old r.0 lanes.new) }
+    ensures children { IfOk result (λ r. AreChildren nodes.now.store.now (S.suite_view nodes.now.suite.now) (depth - 1) item.node r.1 × (1 ≤ depth)) }
     ensures fault { IfErr result (λ why. why ≡ engine_fault.Memory) }
     ensures untouched { IfErr result (λ _. lanes.new ≡ lanes.old) }
 {
@@ -98,16 +99,19 @@ pub(crate) fn close_container<'a, R: Wait, V: StoreValue + Drop, S: Suite<V>>(
     lanes: &mut [Lane<V>],
 ) -> Result<RanNode, EngineFault>
     requires begun { IsOpen nodes.now.store.now node begun }
-    requires container { (S.nodes nodes.now.suite.now).is_test node ≡ false }
+    requires container { (S.suite_view nodes.now.suite.now).is_test node ≡ false }
     requires suite_fits { S.fits nodes.now.suite.now nodes.now.store.now }
     requires lanes { 0 < length lanes.old }
     requires own_lanes { All (IsLaneOf nodes.now.store.now.id) lanes.old }
     ensures own_lanes { All (IsLaneOf nodes.now.store.now.id) lanes.new }
     ensures count { length lanes.new ≡ length lanes.old }
     ensures ends { IfOk result (λ ran. (path : List ℕ) (befores : List Outcome) → IsOpenBy (S.registered nodes.now.suite.now) node path befores begun
-        → Ends (setting_of nodes.now.store.now nodes.now.locks.now (S.nodes nodes.now.suite.now) (S.registered nodes.now.suite.now) V.is_closeable) (S.call_gives nodes.now.suite.now nodes.now.store.now) (S.action_gives nodes.now.suite.now) S.Action.close_gives node path befores lanes.old (ran_view ran) lanes.new) }
-    ensures fault { IfErr result (IsFault (setting_of nodes.now.store.now nodes.now.locks.now (S.nodes nodes.now.suite.now) (S.registered nodes.now.suite.now) V.is_closeable) (S.action_gives nodes.now.suite.now) S.Action.close_gives) }
-    ensures unjoined { IfErr result (IsUnjoinedNode (setting_of nodes.now.store.now nodes.now.locks.now (S.nodes nodes.now.suite.now) (S.registered nodes.now.suite.now) V.is_closeable) (S.action_gives nodes.now.suite.now) S.Action.close_gives node lanes.new) }
+        → EndsContainer (setting_of V.is_closeable S.suite_view S.registered S.call_gives S.action_gives S.Action.close_gives
+        nodes.now.suite.now nodes.now.store.now nodes.now.locks.now) node path befores lanes.old (ran_view ran) lanes.new) }
+    ensures fault { IfErr result (IsFault (setting_of V.is_closeable S.suite_view S.registered S.call_gives S.action_gives S.Action.close_gives
+        nodes.now.suite.now nodes.now.store.now nodes.now.locks.now)) }
+    ensures unjoined { IfErr result (IsUnjoinedNode (setting_of V.is_closeable S.suite_view S.registered S.call_gives S.action_gives S.Action.close_gives
+        nodes.now.suite.now nodes.now.store.now nodes.now.locks.now) node lanes.new) }
 {
     let OpenContainer {
         closer,

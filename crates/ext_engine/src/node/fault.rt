@@ -4,7 +4,7 @@ use ext_model::ContextNo;
 use std::alloc::AllocError;
 use thiserror::Error;
 
-/// Why a tree was not run to its end. Contexts that were not closed yet stay open. Own rule.
+/// Why a tree was not run to its end. Contexts that were not closed yet stay open.
 ///
 /// Prints as a sentence without its first capital and point.
 #[derive(Clone, Copy, Debug, PartialEq, Eq, Error)]

@@ -24,7 +24,8 @@ struct NodeCaller<'a, 'l, R, V, S> {
 }
 
 impl<'a, 'l, R: Wait, V: StoreValue + Drop, S: Suite<V>> Caller for NodeCaller<'a, 'l, R, V, S> {
-    ghost ready = { λ c. IsLaneOf c.store.now.id c.lane.now × (c.node < length c.store.now.tree) × IsLent (S.nodes c.suite.now) c.store.now.tree c.node (option_map (λ h. h.now) c.held) × S.fits c.suite.now c.store.now };
+    ghost ready = { λ c. IsLaneOf c.store.now.id c.lane.now × (c.node < length c.store.now.tree)
+        × IsLent (S.suite_view c.suite.now) c.store.now.tree c.node (option_map (λ h. h.now) c.held) × S.fits c.suite.now c.store.now };
 
     ghost reference = { λ c. c.lane.ghost_name };
 
@@ -42,13 +43,16 @@ impl<'a, 'l, R: Wait, V: StoreValue + Drop, S: Suite<V>> NodeCaller<'a, 'l, R, V
     fn calls(&mut self, befores: &[Call], body: Call, afters: &[Call]) -> Tally
         requires lane { IsLaneOf self.old.store.now.id self.old.lane.now }
         requires node { self.old.node < length self.old.store.now.tree }
-        requires lent { IsLent (S.nodes self.old.suite.now) self.old.store.now.tree self.old.node (option_map (λ h. h.now) self.old.held) }
+        requires lent { IsLent (S.suite_view self.old.suite.now) self.old.store.now.tree self.old.node (option_map (λ h. h.now) self.old.held) }
         requires fits { S.fits self.old.suite.now self.old.store.now }
         requires befores { length befores.now ≤ 2 ^ 30 }
         requires afters { length afters.now ≤ 2 ^ 30 }
         ensures same_reference { self.new.lane.ghost_name ≡ self.old.lane.ghost_name }
         ensures lane { IsLaneOf self.old.store.now.id self.new.lane.now }
-        ensures calls { (made : List Outcome) × MakesCalls (λ a call o b. S.call_gives self.old.suite.now self.old.store.now self.old.node call (option_map (λ h. h.now) self.old.held) a o b) befores.now body afters.now self.old.lane.now made self.new.lane.now × (result ≡ tally_of made) }
+        ensures calls { (made : List Outcome)
+            × MakesCalls (λ a call o b. S.call_gives self.old.suite.now self.old.store.now self.old.node call (option_map (λ h. h.now) self.old.held) a o b)
+            befores.now body afters.now self.old.lane.now made self.new.lane.now
+            × (result ≡ tally_of made) }
         ensures room { IsRoomy 2 result }
     {
         run_calls(befores, body, afters, self)
@@ -58,12 +62,15 @@ impl<'a, 'l, R: Wait, V: StoreValue + Drop, S: Suite<V>> NodeCaller<'a, 'l, R, V
     fn befores(&mut self, calls: &[Call]) -> Tally
         requires lane { IsLaneOf self.old.store.now.id self.old.lane.now }
         requires node { self.old.node < length self.old.store.now.tree }
-        requires lent { IsLent (S.nodes self.old.suite.now) self.old.store.now.tree self.old.node (option_map (λ h. h.now) self.old.held) }
+        requires lent { IsLent (S.suite_view self.old.suite.now) self.old.store.now.tree self.old.node (option_map (λ h. h.now) self.old.held) }
         requires fits { S.fits self.old.suite.now self.old.store.now }
         requires few { length calls.now ≤ 2 ^ 30 }
         ensures same_reference { self.new.lane.ghost_name ≡ self.old.lane.ghost_name }
         ensures lane { IsLaneOf self.old.store.now.id self.new.lane.now }
-        ensures calls { (made : List Outcome) × MakesBefores (λ a call o b. S.call_gives self.old.suite.now self.old.store.now self.old.node call (option_map (λ h. h.now) self.old.held) a o b) calls.now self.old.lane.now made self.new.lane.now × (result ≡ tally_of made) }
+        ensures calls { (made : List Outcome)
+            × MakesBefores (λ a call o b. S.call_gives self.old.suite.now self.old.store.now self.old.node call (option_map (λ h. h.now) self.old.held) a o b)
+            calls.now self.old.lane.now made self.new.lane.now
+            × (result ≡ tally_of made) }
         ensures room { IsRoomy (2 ^ 31) result }
     {
         run_befores(calls, self)
@@ -73,12 +80,15 @@ impl<'a, 'l, R: Wait, V: StoreValue + Drop, S: Suite<V>> NodeCaller<'a, 'l, R, V
     fn afters(&mut self, calls: &[Call], tally: &mut Tally)
         requires lane { IsLaneOf self.old.store.now.id self.old.lane.now }
         requires node { self.old.node < length self.old.store.now.tree }
-        requires lent { IsLent (S.nodes self.old.suite.now) self.old.store.now.tree self.old.node (option_map (λ h. h.now) self.old.held) }
+        requires lent { IsLent (S.suite_view self.old.suite.now) self.old.store.now.tree self.old.node (option_map (λ h. h.now) self.old.held) }
         requires fits { S.fits self.old.suite.now self.old.store.now }
         requires room { IsRoomy (length calls.now) tally.old }
         ensures same_reference { self.new.lane.ghost_name ≡ self.old.lane.ghost_name }
         ensures lane { IsLaneOf self.old.store.now.id self.new.lane.now }
-        ensures calls { (made : List Outcome) × MakesAll (λ a call o b. S.call_gives self.old.suite.now self.old.store.now self.old.node call (option_map (λ h. h.now) self.old.held) a o b) calls.now self.old.lane.now made self.new.lane.now × ((before : List Outcome) → tally.old ≡ tally_of before → tally.new ≡ tally_of (before ++ made)) }
+        ensures calls { (made : List Outcome)
+            × MakesAll (λ a call o b. S.call_gives self.old.suite.now self.old.store.now self.old.node call (option_map (λ h. h.now) self.old.held) a o b)
+            calls.now self.old.lane.now made self.new.lane.now
+            × ((before : List Outcome) → tally.old ≡ tally_of before → tally.new ≡ tally_of (before ++ made)) }
         ensures room { (n : ℕ) → IsRoomy (length calls.now + n) tally.old → IsRoomy n tally.new }
     {
         run_afters(calls, self, tally);
@@ -99,12 +109,14 @@ pub(crate) fn call_test<'a, R: Wait, V: StoreValue + Drop, S: Suite<V>>(
 ) -> Tally
     requires lane { IsLaneOf store.now.id lane.old }
     requires node { node < length store.now.tree }
-    requires lent { IsLent (S.nodes suite.now) store.now.tree node (Some held.now) }
+    requires lent { IsLent (S.suite_view suite.now) store.now.tree node (Some held.now) }
     requires fits { S.fits suite.now store.now }
     requires befores { length befores.now ≤ 2 ^ 30 }
     requires afters { length afters.now ≤ 2 ^ 30 }
     ensures lane { IsLaneOf store.now.id lane.new }
-    ensures calls { (outcomes : List Outcome) × MakesCalls (λ a call o b. S.call_gives suite.now store.now node call (Some held.now) a o b) befores.now body afters.now lane.old outcomes lane.new × (result ≡ tally_of outcomes) }
+    ensures calls { (outcomes : List Outcome)
+        × MakesCalls (λ a call o b. S.call_gives suite.now store.now node call (Some held.now) a o b) befores.now body afters.now lane.old outcomes lane.new
+        × (result ≡ tally_of outcomes) }
     ensures room { IsRoomy 2 result }
 {
     let mut caller = NodeCaller {
@@ -141,11 +153,13 @@ pub(crate) fn call_befores<'a, R: Wait, V: StoreValue + Drop, S: Suite<V>>(
 ) -> Tally
     requires lane { IsLaneOf store.now.id lane.old }
     requires node { node < length store.now.tree }
-    requires lent { IsLent (S.nodes suite.now) store.now.tree node None }
+    requires lent { IsLent (S.suite_view suite.now) store.now.tree node None }
     requires fits { S.fits suite.now store.now }
     requires befores { length befores.now ≤ 2 ^ 30 }
     ensures lane { IsLaneOf store.now.id lane.new }
-    ensures calls { (outcomes : List Outcome) × MakesBefores (λ a call o b. S.call_gives suite.now store.now node call None a o b) befores.now lane.old outcomes lane.new × (result ≡ tally_of outcomes) }
+    ensures calls { (outcomes : List Outcome)
+        × MakesBefores (λ a call o b. S.call_gives suite.now store.now node call None a o b) befores.now lane.old outcomes lane.new
+        × (result ≡ tally_of outcomes) }
     ensures room { IsRoomy (2 ^ 31) result }
 {
     let mut caller = NodeCaller {
@@ -184,13 +198,15 @@ pub(crate) fn call_afters<'a, R: Wait, V: StoreValue + Drop, S: Suite<V>>(
 )
     requires lane { IsLaneOf store.now.id lane.old }
     requires node { node < length store.now.tree }
-    requires lent { IsLent (S.nodes suite.now) store.now.tree node None }
+    requires lent { IsLent (S.suite_view suite.now) store.now.tree node None }
     requires fits { S.fits suite.now store.now }
     requires room { IsRoomy (2 ^ 31) tally.old }
     requires afters { length afters.now ≤ 2 ^ 30 }
     ensures room { IsRoomy 2 tally.new }
     ensures lane { IsLaneOf store.now.id lane.new }
-    ensures calls { (before : List Outcome) → tally.old ≡ tally_of before → (outcomes : List Outcome) × MakesAll (λ a call o b. S.call_gives suite.now store.now node call None a o b) afters.now lane.old outcomes lane.new × (tally.new ≡ tally_of (before ++ outcomes)) }
+    ensures calls { (before : List Outcome) → tally.old ≡ tally_of before
+        → (outcomes : List Outcome) × MakesAll (λ a call o b. S.call_gives suite.now store.now node call None a o b) afters.now lane.old outcomes lane.new
+        × (tally.new ≡ tally_of (before ++ outcomes)) }
 {
     let mut caller = NodeCaller {
         rt,

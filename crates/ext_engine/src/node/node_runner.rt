@@ -1,28 +1,29 @@
 //! How one node is run.
 ghost use Rattle.std.specs.Prelude.{◌≡◌, ◌≢◌, ◌<◌, ◌≤◌, ℕ, List, Option, length, map, All, IfOk, IfErr, true};
 ghost use Rattle.ext_model.specs.declared.look.Fault.{Fault};
-ghost use Rattle.ext_tree.specs.Paths.{IsPathOf};
-ghost use Rattle.ext_lifecycle.specs.Results.{closes_of};
+ghost use Rattle.ext_tree.specs.Trees.{IsPathOf};
+ghost use Rattle.ext_closing.specs.Closed.{closed_of};
 ghost use Rattle.ext_store.specs.Stores.{IsCloserOf, IsLaneOf};
-ghost use Rattle.ext_engine.specs.Closers.{IsNode};
-ghost use Rattle.ext_engine.specs.Helpers.{ran_view, of_test, ArePartsOf, TestEnds};
+ghost use Rattle.ext_engine.specs.InnerClosers.{IsNode};
+ghost use Rattle.ext_engine.specs.InnerHelpers.{ran_view, of_test, ArePartsOf, TestEnds};
 ghost use Rattle.ext_closing.specs.Lanes.{IsUnknown};
 ghost use Rattle.ext_engine.specs.declared.node.fault.EngineFault.TheVariants as engine_fault;
-ghost use Rattle.ext_engine.specs.NodeRun.{setting_of, ClosesNode, IsRefusedClose, IsUnjoinedNode, IsUsable, IsFit, IsFault, TestRun};
+ghost use Rattle.ext_engine.specs.NodeRun.{setting_of, ClosesNode, IsRefusedClose, IsUnjoinedNode, IsUsable, IsRunnable, IsFault, TestRun};
 
 use crate::node::closers::closer_of;
 use crate::node::closing::close_again;
 use crate::node::node_calls::call_test;
 use crate::node::{EngineFault, Item, RanNode};
 use crate::{Suite, give_locks, take_locks, test_set};
-use ext_lifecycle::{Call, Closes, Kind, NodeResult, calls_round};
+use ext_closing::Closed;
+use ext_lifecycle::{Call, Kind, NodeResult, calls_round};
 use ext_locks::{LockLane, LockSet, Locks};
 use ext_model::ContextNo;
 use ext_store::{Closer, Lane, Store, StoreValue};
 use std::alloc::{AllocError, Global};
 use std::sync::Wait;
 
-/// What runs a node: the runtime, the suite of the nodes, the store and the locks. Own rule.
+/// What runs a node: the runtime, the suite of the nodes, the store and the locks.
 #[derive(Drop)]
 pub(crate) struct NodeRunner<'a, R, V: StoreValue + Drop, S: Suite<V>> {
     /// What waits.
@@ -68,16 +69,19 @@ impl<'a, R: Wait, V: StoreValue + Drop, S: Suite<V>> NodeRunner<'a, R, V, S> {
         lock_lanes: &mut [LockLane],
     ) -> Result<Vec<RanNode>, EngineFault>
         requires item { IsNode self.now.store.now depth item }
-        requires fit { IsFit self.now.store.now self.now.locks.now (S.nodes self.now.suite.now) }
+        requires runnable { IsRunnable self.now.store.now self.now.locks.now (S.suite_view self.now.suite.now) }
         requires suite_fits { S.fits self.now.suite.now self.now.store.now }
-        requires test { (S.nodes self.now.suite.now).is_test item.node ≡ true }
+        requires test { (S.suite_view self.now.suite.now).is_test item.node ≡ true }
         requires lanes { IsUsable self.now.store.now self.now.locks.now (record { first = lanes.old; second = lock_lanes.old }) }
         ensures lanes { IsUsable self.now.store.now self.now.locks.now (record { first = lanes.new; second = lock_lanes.new }) }
         ensures count { length lanes.new ≡ length lanes.old }
-        ensures run { IfOk result (λ ran. (path : List ℕ) × IsPathOf self.now.store.now.tree item.node path × TestRun (setting_of self.now.store.now self.now.locks.now (S.nodes self.now.suite.now) (S.registered self.now.suite.now) V.is_closeable) (S.call_gives self.now.suite.now self.now.store.now) (S.action_gives self.now.suite.now) S.Action.close_gives item.node path
+        ensures run { IfOk result (λ ran. (path : List ℕ) × IsPathOf self.now.store.now.tree item.node path
+            × TestRun (setting_of V.is_closeable S.suite_view S.registered S.call_gives S.action_gives S.Action.close_gives self.now.suite.now self.now.store.now self.now.locks.now) item.node path
             (record { first = lanes.old; second = lock_lanes.old }) (map ran_view ran.items) (record { first = lanes.new; second = lock_lanes.new })) }
-        ensures fault { IfErr result (IsFault (setting_of self.now.store.now self.now.locks.now (S.nodes self.now.suite.now) (S.registered self.now.suite.now) V.is_closeable) (S.action_gives self.now.suite.now) S.Action.close_gives) }
-        ensures unjoined { IfErr result (λ why. why ≢ engine_fault.Memory → IsUnjoinedNode (setting_of self.now.store.now self.now.locks.now (S.nodes self.now.suite.now) (S.registered self.now.suite.now) V.is_closeable) (S.action_gives self.now.suite.now) S.Action.close_gives item.node lanes.new why) }
+        ensures fault { IfErr result (IsFault (setting_of V.is_closeable S.suite_view S.registered S.call_gives S.action_gives S.Action.close_gives
+            self.now.suite.now self.now.store.now self.now.locks.now)) }
+        ensures unjoined { IfErr result (λ why. why ≢ engine_fault.Memory → IsUnjoinedNode (setting_of V.is_closeable S.suite_view S.registered S.call_gives S.action_gives S.Action.close_gives
+            self.now.suite.now self.now.store.now self.now.locks.now) item.node lanes.new why) }
         ensures untouched { IfErr result (λ why. why ≡ engine_fault.Memory → (lanes.new ≡ lanes.old) × (lock_lanes.new ≡ lock_lanes.old)) }
     {
         let node = item.node;
@@ -89,8 +93,9 @@ impl<'a, R: Wait, V: StoreValue + Drop, S: Suite<V>> NodeRunner<'a, R, V, S> {
     /// What the test is run with: its callbacks, its locks, and a list for its result. Takes memory for them.
     fn test_parts(&self, alloc: Global, node: ContextNo) -> Result<TestParts, AllocError>
         requires node { node < length self.now.store.now.tree }
-        requires fit { IsFit self.now.store.now self.now.locks.now (S.nodes self.now.suite.now) }
-        ensures { IfOk result (ArePartsOf (setting_of self.now.store.now self.now.locks.now (S.nodes self.now.suite.now) (S.registered self.now.suite.now) V.is_closeable) node) }
+        requires runnable { IsRunnable self.now.store.now self.now.locks.now (S.suite_view self.now.suite.now) }
+        ensures { IfOk result (ArePartsOf (setting_of V.is_closeable S.suite_view S.registered S.call_gives S.action_gives S.Action.close_gives
+            self.now.suite.now self.now.store.now self.now.locks.now) node) }
     {
         let path = self.store.tree().path(node);
         let (befores, afters) = calls_round(alloc, self.suite, true, node, path.as_slice())?;
@@ -115,11 +120,13 @@ impl<'a, R: Wait, V: StoreValue + Drop, S: Suite<V>> NodeRunner<'a, R, V, S> {
     ) -> Result<Vec<RanNode>, EngineFault>
         requires lanes { IsUsable self.now.store.now self.now.locks.now (record { first = lanes.old; second = lock_lanes.old }) }
         requires suite_fits { S.fits self.now.suite.now self.now.store.now }
-        requires test { (S.nodes self.now.suite.now).is_test node ≡ true }
+        requires test { (S.suite_view self.now.suite.now).is_test node ≡ true }
         requires closer { IsCloserOf self.now.store.now closer × (closer.context ≡ node) }
         requires node { node < length self.now.store.now.tree }
-        requires parts { ArePartsOf (setting_of self.now.store.now self.now.locks.now (S.nodes self.now.suite.now) (S.registered self.now.suite.now) V.is_closeable) node parts }
-        ensures { TestEnds (setting_of self.now.store.now self.now.locks.now (S.nodes self.now.suite.now) (S.registered self.now.suite.now) V.is_closeable) (S.call_gives self.now.suite.now self.now.store.now) (S.action_gives self.now.suite.now) S.Action.close_gives (λ ran. map ran_view ran.items) node
+        requires parts { ArePartsOf (setting_of V.is_closeable S.suite_view S.registered S.call_gives S.action_gives S.Action.close_gives
+            self.now.suite.now self.now.store.now self.now.locks.now) node parts }
+        ensures { TestEnds (setting_of V.is_closeable S.suite_view S.registered S.call_gives S.action_gives S.Action.close_gives
+            self.now.suite.now self.now.store.now self.now.locks.now) (λ ran. map ran_view ran.items) node
             (record { first = lanes.old; second = lock_lanes.old }) result (record { first = lanes.new; second = lock_lanes.new }) }
     {
         let result = self.run_locked(node, closer, &parts, lanes, lock_lanes)?;
@@ -142,11 +149,12 @@ impl<'a, R: Wait, V: StoreValue + Drop, S: Suite<V>> NodeRunner<'a, R, V, S> {
     ) -> Result<NodeResult, EngineFault>
         requires lanes { IsUsable self.now.store.now self.now.locks.now (record { first = lanes.old; second = lock_lanes.old }) }
         requires suite_fits { S.fits self.now.suite.now self.now.store.now }
-        requires test { (S.nodes self.now.suite.now).is_test node ≡ true }
+        requires test { (S.suite_view self.now.suite.now).is_test node ≡ true }
         requires closer { IsCloserOf self.now.store.now closer × (closer.context ≡ node) }
         requires node { node < length self.now.store.now.tree }
-        requires parts { ArePartsOf (setting_of self.now.store.now self.now.locks.now (S.nodes self.now.suite.now) (S.registered self.now.suite.now) V.is_closeable) node parts.now }
-        ensures { TestEnds (setting_of self.now.store.now self.now.locks.now (S.nodes self.now.suite.now) (S.registered self.now.suite.now) V.is_closeable) (S.call_gives self.now.suite.now self.now.store.now) (S.action_gives self.now.suite.now) S.Action.close_gives of_test node
+        requires parts { ArePartsOf (setting_of V.is_closeable S.suite_view S.registered S.call_gives S.action_gives S.Action.close_gives
+            self.now.suite.now self.now.store.now self.now.locks.now) node parts.now }
+        ensures { TestEnds (setting_of V.is_closeable S.suite_view S.registered S.call_gives S.action_gives S.Action.close_gives self.now.suite.now self.now.store.now self.now.locks.now) of_test node
             (record { first = lanes.old; second = lock_lanes.old }) result (record { first = lanes.new; second = lock_lanes.new }) }
     {
         let body = Call {
@@ -187,13 +195,15 @@ impl<'a, R: Wait, V: StoreValue + Drop, S: Suite<V>> NodeRunner<'a, R, V, S> {
         node: ContextNo,
         closer: Closer,
         lanes: &mut [Lane<V>],
-    ) -> Result<Closes, u32>
+    ) -> Result<Closed, u32>
         requires lanes { 1 ≤ length lanes.old }
         requires own_lanes { All (IsLaneOf self.now.store.now.id) lanes.old }
         requires closer { IsCloserOf self.now.store.now closer }
         requires context { closer.context ≡ node }
-        ensures closes { IfOk result (λ closes. (faults : List (Option Fault)) × ClosesNode (setting_of self.now.store.now self.now.locks.now (S.nodes self.now.suite.now) (S.registered self.now.suite.now) V.is_closeable) (S.call_gives self.now.suite.now self.now.store.now) (S.action_gives self.now.suite.now) S.Action.close_gives node lanes.old faults lanes.new × (closes ≡ closes_of faults)) }
-        ensures unjoined { IfErr result (λ number. IsRefusedClose (setting_of self.now.store.now self.now.locks.now (S.nodes self.now.suite.now) (S.registered self.now.suite.now) V.is_closeable) (S.action_gives self.now.suite.now) S.Action.close_gives node number lanes.new) }
+        ensures closes { IfOk result (λ closes. (faults : List (Option Fault)) × ClosesNode (setting_of V.is_closeable S.suite_view S.registered S.call_gives S.action_gives S.Action.close_gives
+            self.now.suite.now self.now.store.now self.now.locks.now) node lanes.old faults lanes.new × (closes ≡ closed_of faults)) }
+        ensures unjoined { IfErr result (λ number. IsRefusedClose (setting_of V.is_closeable S.suite_view S.registered S.call_gives S.action_gives S.Action.close_gives
+            self.now.suite.now self.now.store.now self.now.locks.now) node number lanes.new) }
         ensures unknown { IfErr result (IsUnknown lanes.new) }
         ensures own_lanes { All (IsLaneOf self.now.store.now.id) lanes.new }
         ensures count { length lanes.new ≡ length lanes.old }

@@ -1,11 +1,11 @@
 //! What a container is run with.
 ghost use Rattle.std.specs.Prelude.{◌≡◌, ◌≤◌, ℕ, ◌-◌, List, IfOk, IfErr, false, vec_len};
-ghost use Rattle.ext_tree.specs.Paths.{IsPathOf};
+ghost use Rattle.ext_tree.specs.Trees.{IsPathOf};
 ghost use Rattle.ext_lifecycle.specs.Callbacks.{befores_of, afters_of};
 ghost use Rattle.ext_store.specs.Stores.{IsCloserOf};
 ghost use Rattle.ext_engine.specs.declared.node.fault.EngineFault.TheVariants as engine_fault;
-ghost use Rattle.ext_engine.specs.Closers.{IsNode};
-ghost use Rattle.ext_engine.specs.Containers.{AreChildren};
+ghost use Rattle.ext_engine.specs.InnerClosers.{IsNode};
+ghost use Rattle.ext_engine.specs.InnerContainers.{AreChildren};
 
 use crate::Suite;
 use crate::node::{EngineFault, Item, NodeRunner, items_of_children, take_own};
@@ -13,7 +13,7 @@ use ext_lifecycle::{Call, calls_round};
 use ext_store::{Closer, StoreValue};
 use std::alloc::Global;
 
-/// The children of a container, each with the closers of its subtree. Own rule.
+/// The children of a container, each with the closers of its subtree.
 #[derive(Drop)]
 pub(crate) struct Children {
     /// Those that run beside one another.
@@ -44,7 +44,7 @@ pub(crate) fn container_parts<'a, R, V: StoreValue + Drop, S: Suite<V>>(
         × ((path : List ℕ) × IsPathOf nodes.now.store.now.tree item.node path
         × (r.befores.items ≡ befores_of (S.registered nodes.now.suite.now) false item.node path) × (r.afters.items ≡ afters_of (S.registered nodes.now.suite.now) false item.node path))
         × (vec_len r.befores ≤ 16777216) × (vec_len r.afters ≤ 16777216)
-        × AreChildren nodes.now.store.now (S.nodes nodes.now.suite.now) (depth - 1) item.node r.children × (1 ≤ depth))
+        × AreChildren nodes.now.store.now (S.suite_view nodes.now.suite.now) (depth - 1) item.node r.children × (1 ≤ depth))
         × IfErr result (λ why. why ≡ engine_fault.Memory) }
 {
     let Item { node, mut closers } = item;

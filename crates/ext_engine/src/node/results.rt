@@ -3,7 +3,7 @@ ghost use Rattle.std.specs.Prelude.{◌≡◌, ◌<◌, IfOk, IfErr, All, IsOk, 
 ghost use Rattle.std.specs.List.{flat_map};
 ghost use Rattle.ext_lifecycle.specs.Results.{told};
 ghost use Rattle.ext_engine.specs.NodeRun.{all_skipped, placed};
-ghost use Rattle.ext_engine.specs.Helpers.{ran_view, ran_in, HasErr};
+ghost use Rattle.ext_engine.specs.InnerHelpers.{ran_view, ran_in, HasErr};
 
 use crate::Suite;
 use crate::node::EngineFault;
@@ -11,7 +11,7 @@ use ext_lifecycle::NodeResult;
 use ext_store::StoreValue;
 use std::alloc::{AllocError, Global};
 
-/// A node that ran. Own rule.
+/// A node that ran.
 #[derive(Drop)]
 pub(crate) struct RanNode {
     /// What is told of it.
@@ -20,13 +20,13 @@ pub(crate) struct RanNode {
     pub went_on: bool,
 }
 
-/// A result for each of so many nodes before any has run, in order: each is skipped. Refused where memory is. Takes memory. Own rule.
+/// A result for each of so many nodes before any has run, in order: each is skipped. Refused where memory is. Takes memory.
 pub(crate) fn all_skipped<V: StoreValue + Drop, S: Suite<V>>(
     alloc: Global,
     suite: &S,
     count: usize,
 ) -> Result<Vec<NodeResult>, AllocError>
-    ensures { IfOk result (λ v. map told v.items ≡ all_skipped (S.nodes suite.now) count) }
+    ensures { IfOk result (λ v. map told v.items ≡ all_skipped (S.suite_view suite.now) count) }
 {
     let mut results = Vec::new(alloc);
     for node in 0..count {
@@ -35,7 +35,7 @@ pub(crate) fn all_skipped<V: StoreValue + Drop, S: Suite<V>>(
     Ok(results)
 }
 
-/// Puts each result at the place of its node. Each node has a place. Takes no memory. Own rule.
+/// Puts each result at the place of its node. Each node has a place. Takes no memory.
 pub(crate) fn place(results: &mut Vec<NodeResult>, ran: Vec<RanNode>)
     requires { All (λ r. r.result.node < vec_len results.old) ran.items }
     ensures { map told results.new.items ≡ placed (map told results.old.items) (map ran_view ran.items) }
@@ -47,7 +47,7 @@ pub(crate) fn place(results: &mut Vec<NodeResult>, ran: Vec<RanNode>)
 }
 
 /// What ran below all children that ran beside one another, in their order. Refused with the first of their faults, and as `Memory` where
-/// memory is: then what ran is dropped. Takes memory. Own rule.
+/// memory is: then what ran is dropped. Takes memory.
 pub(crate) fn gathered(
     alloc: Global,
     below: Vec<Result<Vec<RanNode>, EngineFault>>,

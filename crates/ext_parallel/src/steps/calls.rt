@@ -18,7 +18,7 @@ use std::alloc::Global;
 use std::sync::Wait;
 
 impl<'b> StoreSteps<'b> {
-    ghost use Rattle.ext_parallel.specs.PlanKeys.{plan_keys};
+    ghost use Rattle.ext_parallel.specs.InnerKeys.{plan_keys};
 
     /// The steps `put` and `put!`.
     pub(crate) fn put<'a, R: Wait>(

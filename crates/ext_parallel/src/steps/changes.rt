@@ -1,7 +1,7 @@
 //! The steps that change what stands in a context: `put`, `put!` and `remove`.
 ghost use Rattle.std.specs.Prelude.{◌≡◌, ◌<◌, length};
 ghost use Rattle.ext_store.specs.Stores.{IsLaneOf};
-ghost use Rattle.ext_plan.specs.Calls.{call_view, start_of};
+ghost use Rattle.ext_plan.specs.StepCalls.{call_view, start_of};
 ghost use Rattle.ext_parallel.specs.StoreCalls.{HasFrame, stored_view};
 ghost use Rattle.ext_parallel.specs.StoreSteps.{StepPuts, StepRemoves};
 

@@ -2,11 +2,10 @@
 ghost use Rattle.std.specs.Prelude.{◌≡◌, ◌<◌, ◌≤◌, ◌⊎◌, ℕ, [], length, string_bytes};
 ghost use Rattle.ext_store.specs.Stores.{IsLaneOf};
 ghost use Rattle.ext_store.specs.declared.computed.Compute.TheVariants.{Refused};
-ghost use Rattle.ext_store.specs.Frames.{Frame};
-ghost use Rattle.ext_store.specs.Keys.{OfKey};
+ghost use Rattle.ext_store.specs.LaneCalls.{Frame, OfKey};
 ghost use Rattle.ext_store.specs.Computing.{Uses, without_factory};
 ghost use Rattle.ext_store.specs.Waiting.{ComputesAfterWaits, IsDecidedCompute};
-ghost use Rattle.ext_plan.specs.Calls.{call_view, start_of};
+ghost use Rattle.ext_plan.specs.StepCalls.{call_view, start_of};
 ghost use Rattle.ext_parallel.specs.StoreCalls.{HasFrame, ShowsFault, stored_view};
 ghost use Rattle.ext_plan.specs.Verdicts.{SeenText, fail_verdict, none_verdict};
 ghost use Rattle.ext_parallel.specs.Saying.{Ends};

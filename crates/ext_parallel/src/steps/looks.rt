@@ -1,9 +1,9 @@
 //! The steps that look up: `want` and `none`.
 ghost use Rattle.std.specs.Prelude.{ℕ, ◌≡◌, ◌<◌, IfErr, IfOk, length};
-ghost use Rattle.ext_tree.specs.KeyPlaces.{IsKeyNumber};
-ghost use Rattle.ext_store.specs.Keys.{IsKeyRefused};
+ghost use Rattle.ext_tree.specs.Keys.{IsKeyNumber};
+ghost use Rattle.ext_store.specs.LaneCalls.{IsKeyRefused};
 ghost use Rattle.ext_store.specs.Stores.{IsLaneOf};
-ghost use Rattle.ext_plan.specs.Calls.{call_view, start_of};
+ghost use Rattle.ext_plan.specs.StepCalls.{call_view, start_of};
 ghost use Rattle.ext_plan.specs.Verdicts.{none_verdict, seen_view, want_verdict};
 ghost use Rattle.ext_parallel.specs.StoreCalls.{HasFrame, KnowsTheSame, Sees, ShowsFault, ShowsNumber};
 ghost use Rattle.ext_parallel.specs.StoreSteps.{StepLooks};

@@ -1,8 +1,8 @@
 //! How steps end whose call of the store was refused.
 ghost use Rattle.std.specs.Prelude.{◌≡◌, ◌≢◌, IfOk, IfErr};
-ghost use Rattle.ext_shared.specs.declared.fault.Refusal.TheVariants as refusal;
+ghost use Rattle.ext_store_cells.specs.declared.fault.Refusal.TheVariants as refusal;
 ghost use Rattle.ext_store.specs.Waiting.{IsDecided, IsDecidedFault};
-ghost use Rattle.ext_plan.specs.Calls.{call_view};
+ghost use Rattle.ext_plan.specs.StepCalls.{call_view};
 ghost use Rattle.ext_plan.specs.Verdicts.{refused};
 ghost use Rattle.ext_parallel.specs.Saying.{Ends, EndsRefused, EndsUnkept, no_memory};
 

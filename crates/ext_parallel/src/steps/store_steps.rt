@@ -4,7 +4,7 @@ ghost use Rattle.ext_lifecycle.specs.Endings.{aborted, failed};
 ghost use Rattle.ext_plan.specs.Plans.{step_view};
 ghost use Rattle.ext_plan.specs.Steps.{step_limit};
 ghost use Rattle.ext_store.specs.Stores.{IsLaneOf};
-ghost use Rattle.ext_plan.specs.Calls.{keys_in};
+ghost use Rattle.ext_plan.specs.StepCalls.{keys_in};
 ghost use Rattle.ext_parallel.specs.Saying.{Ends};
 
 use crate::steps::StoredValue;
@@ -15,7 +15,7 @@ use ext_store::{Lane, Store};
 use std::alloc::Global;
 use std::sync::Wait;
 
-/// The keys of a plan, by the labels that steps name, for any store. It may be shared by all lanes of the store. Own rule.
+/// The keys of a plan, by the labels that steps name, for any store. It may be shared by all lanes of the store.
 #[derive(Drop)]
 pub(crate) struct StoreSteps<'b> {
     pub(crate) alloc: Global,
@@ -23,11 +23,11 @@ pub(crate) struct StoreSteps<'b> {
 }
 
 impl<'b> StoreSteps<'b> {
-    ghost use Rattle.ext_parallel.specs.PlanKeys.{plan_keys};
+    ghost use Rattle.ext_parallel.specs.InnerKeys.{plan_keys};
     ghost use Rattle.ext_parallel.specs.StoreCalls.{HasFrame};
     ghost use Rattle.ext_parallel.specs.StoreSteps.{StepRun, StepsRun};
 
-    /// The steps of a plan with these keys. Takes no memory. Own rule.
+    /// The steps of a plan with these keys.
     pub fn of(alloc: Global, names: StepKeys<'b>) -> StoreSteps<'b>
         ensures { plan_keys result ≡ keys_in names.entry }
     {

@@ -4,7 +4,7 @@ ghost use Rattle.std.specs.Prelude.{◌≡◌, true, false};
 use ext_plan::PlanValue;
 use ext_store::StoreValue;
 
-/// A value of a plan, as a store keeps it: its text, and whether it is closed with its context. Own rule.
+/// A value of a plan, as a store keeps it: its text, and whether it is closed with its context.
 #[derive(Clone, Copy, Debug, PartialEq, Eq)]
 pub struct StoredValue<'a> {
     /// The value.

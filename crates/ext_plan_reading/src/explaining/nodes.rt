@@ -1,7 +1,7 @@
 //! What is meant by a fault of a node that is no step, or of all nodes.
 ghost use Rattle.std.specs.Prelude.{All, IfOk};
 ghost use Rattle.ext_plan.specs.Plans.{keys_view};
-ghost use Rattle.ext_plan.specs.KeyNumbers.{HasParts};
+ghost use Rattle.ext_plan.specs.StoreKeys.{HasParts};
 
 use crate::explaining::fields::table_of;
 use crate::explaining::words::{quoted, said};

@@ -1,6 +1,6 @@
 //! Which step of a node is none, and why.
 ghost use Rattle.std.specs.Prelude.{◌<◌, HoldsAt, IfOk, IfSome, IsErr, length};
-ghost use Rattle.ext_plan_reading.specs.Steps.{step_at};
+ghost use Rattle.ext_plan_reading.specs.StepReading.{step_at};
 
 use crate::depths::least_test_depth;
 use crate::explaining::nodes::{keys_in, sketches_in};

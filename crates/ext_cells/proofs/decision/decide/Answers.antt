@@ -1,7 +1,7 @@
 use Rattle.std.proofs.Common.{◌≡◌, false, sym, ap, subst, ◌∙◌}
 use Rattle.ext_model.specs.Words.{number_code}
 use Rattle.ext_cells.specs.declared.decision.Decision.TheVariants.{Change}
-use Rattle.ext_cells.specs.Deciding.{state_of, is_settled, stood_in, Decides}
+use Rattle.ext_cells.specs.InnerDeciding.{state_of, is_settled, stood_in, Decides}
 use Rattle.ext_cells.proofs.Decisions.{changes, refuses}
 use Rattle.ext_cells.proofs.decision.decide.Goals as goal
 

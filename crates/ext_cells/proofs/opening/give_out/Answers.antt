@@ -1,6 +1,6 @@
 use Rattle.std.proofs.Common.{suc, ap, ◌∙◌, arith}
 use Rattle.ext_cells.specs.declared.rule.View.{View}
-use Rattle.ext_cells.specs.Rule.{giving, born}
+use Rattle.ext_cells.specs.InnerRule.{giving, born}
 use Rattle.ext_cells.proofs.Seats.{splits_lane}
 use Rattle.ext_cells.proofs.Given.{given_one, born_lane, giver_lane}
 use Rattle.ext_cells.proofs.opening.give_out.Goals as goal

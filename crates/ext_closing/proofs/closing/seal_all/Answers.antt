@@ -1,7 +1,7 @@
 use Rattle.std.proofs.Common.{◌≡◌, ◌∙◌, ◌<◌, ◌+◌, length, sym, subst, arith, ap}
 use Rattle.ext_model.specs.Closing.{remaining}
 use Rattle.ext_closing.specs.Sealing.{slots_seen}
-use Rattle.ext_closing.specs.Steps.{SealedSoFar}
+use Rattle.ext_closing.specs.InnerSteps.{SealedSoFar}
 use Rattle.ext_closing.proofs.Sealing.{one_more_sealed, refused_end}
 use Rattle.ext_closing.proofs.Counting.{one_more_within, some_within}
 use Rattle.ext_closing.proofs.closing.seal_all.Goals as goal

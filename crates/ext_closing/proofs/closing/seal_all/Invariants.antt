@@ -1,6 +1,6 @@
 use Rattle.std.proofs.Common.{◌≡◌, ◌≤◌, ◌+◌, ◌*◌, length}
 use Rattle.ext_store.specs.Stores.{IsLaneOf, StillKeeps}
-use Rattle.ext_closing.specs.Steps.{SealedSoFar}
+use Rattle.ext_closing.specs.InnerSteps.{SealedSoFar}
 use Rattle.ext_closing.proofs.closing.seal_all.Given as goal
 
 abbrev pub invariant-loop-key : goal.invariant-loop-key

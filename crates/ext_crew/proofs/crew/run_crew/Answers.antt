@@ -1,8 +1,8 @@
 use Rattle.std.proofs.Common.{rules, ℕ, ◌≡◌, ◌∙◌, ◌<◌, List, length, drop, map, ap, subst, sym}
 use Rattle.std.specs.Prelude.{All, Some, slice_get, flat_map}
-use Rattle.ext_crew.specs.Counter.{Hand}
+use Rattle.ext_crew.specs.InnerCounter.{Hand}
 use Rattle.ext_crew.specs.declared.jobs.done.Done.{Done}
-use Rattle.ext_crew.specs.Hands.{jobs_done, draws_of, given_of, HasWorked}
+use Rattle.ext_crew.specs.InnerHands.{jobs_done, draws_of, given_of, HasWorked}
 use Rattle.ext_crew.specs.Dealing.{times, IsDealing, Runs}
 use Rattle.ext_crew.proofs.Dealt.{dealt}
 use Rattle.ext_crew.proofs.Lists.{lent_back}

@@ -1,7 +1,7 @@
 use Rattle.std.proofs.Common.{rules, subst, sym, refl}
 use Rattle.ext_crew.specs.Dealing.{Share, Accepts, Runs, InTurn}
-use Rattle.ext_crew.specs.Counter.{Hand, IsCounter}
-use Rattle.ext_crew.specs.Hands.{given_of, IsReady, HasWorked}
+use Rattle.ext_crew.specs.InnerCounter.{Hand, IsCounter}
+use Rattle.ext_crew.specs.InnerHands.{given_of, IsReady, HasWorked}
 use Rattle.ext_crew.proofs.Shares.{shares_from, worked-from, all-hands, moved_share}
 use Rattle.ext_crew.proofs.crew.run_hands.Goals as goal
 

@@ -1,8 +1,8 @@
 use Rattle.std.proofs.Common.{rules, ◌≡◌, ◌∷◌, List, length, ap, subst, arith}
 use Rattle.std.specs.Prelude.{All}
 use Rattle.std.proofs.lemmas.List.Elements.{All-head, All-tail}
-use Rattle.ext_crew.specs.Counter.{Hand}
-use Rattle.ext_crew.specs.Hands.{HasWorked}
+use Rattle.ext_crew.specs.InnerCounter.{Hand}
+use Rattle.ext_crew.specs.InnerHands.{HasWorked}
 use Rattle.ext_crew.proofs.Dealt.{joined-step, drawn-step, given-step}
 use Rattle.ext_crew.proofs.Draws.{joins}
 use Rattle.ext_crew.proofs.hand.join_hands.Goals as goal

@@ -1,6 +1,6 @@
 use Rattle.std.proofs.Common.{◌≡◌, ◌++◌, length}
 use Rattle.std.specs.Prelude.{flat_map, All}
-use Rattle.ext_crew.specs.Hands.{draws_of, given_of, HasWorked, IsFirst}
+use Rattle.ext_crew.specs.InnerHands.{draws_of, given_of, HasWorked, IsFirst}
 use Rattle.ext_crew.proofs.hand.join_hands.Given as goal
 
 abbrev pub invariant-loop-hand : goal.invariant-loop-hand

@@ -2,8 +2,8 @@ use Rattle.std.proofs.Common.{rules, ◌≡◌, ◌<◌, ◌-◌, ◌+◌, ℕ, 
 use Rattle.std.specs.Prelude.{All}
 use Rattle.std.proofs.lemmas.List.Elements.{All-push}
 use Rattle.atomic_table.specs.Table.{Me}
-use Rattle.ext_crew.specs.Counter.{Hand, drawn, hirer, hired}
-use Rattle.ext_crew.specs.Hands.{IsReady}
+use Rattle.ext_crew.specs.InnerCounter.{Hand, drawn, hirer, hired}
+use Rattle.ext_crew.specs.InnerHands.{IsReady}
 use Rattle.ext_crew.specs.declared.jobs.rule.Drawn.{Drawn}
 use Rattle.ext_crew.specs.declared.jobs.slot.Slot.{Slot}
 use Rattle.ext_crew.proofs.Draws.{hires}

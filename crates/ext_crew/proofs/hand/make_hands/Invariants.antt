@@ -1,7 +1,7 @@
 use Rattle.std.proofs.Common.{◌≡◌, ◌-◌, ◌≤◌, [], vec_len, vec_capacity}
 use Rattle.std.specs.Prelude.{All}
-use Rattle.ext_crew.specs.Counter.{drawn}
-use Rattle.ext_crew.specs.Hands.{IsReady}
+use Rattle.ext_crew.specs.InnerCounter.{drawn}
+use Rattle.ext_crew.specs.InnerHands.{IsReady}
 use Rattle.ext_crew.proofs.hand.make_hands.Given as goal
 
 abbrev pub invariant-loop : goal.invariant-loop

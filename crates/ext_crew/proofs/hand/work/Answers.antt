@@ -1,7 +1,7 @@
 use Rattle.std.proofs.Common.{refl, ◌≡◌, ◌≤◌, ℕ, [], ◌∷◌, ◌++◌, List, length, ap, ◌∙◌, subst, sym, arith}
 use Rattle.std.specs.Prelude.{Some, slice_get}
 use Rattle.std.proofs.lemmas.List.{length_push}
-use Rattle.ext_crew.specs.Counter.{HasDrawn, done_by}
+use Rattle.ext_crew.specs.InnerCounter.{HasDrawn, done_by}
 use Rattle.ext_crew.specs.Dealing.{Share, Runs, InTurn}
 use Rattle.ext_crew.specs.declared.jobs.done.Done.{Done}
 use Rattle.ext_crew.proofs.Draws.{idle_draws}

@@ -1,5 +1,5 @@
 use Rattle.std.proofs.Common.{◌≡◌, ◌-◌, ◌≤◌, length}
-use Rattle.ext_crew.specs.Counter.{IsDrawing, done_by}
+use Rattle.ext_crew.specs.InnerCounter.{IsDrawing, done_by}
 use Rattle.ext_crew.specs.Dealing.{Runs, InTurn}
 use Rattle.ext_crew.proofs.hand.work.Given as goal
 

@@ -10,12 +10,12 @@ loop-i-init g c = asked-none _
 
 pub unreachable-requires : goal.unreachable-requires
 unreachable-requires g c =
-    let locks = (g.S.Suite.nodes c.args.suite.now).locks c.args.node in
+    let locks = (g.S.Suite.suite_view c.args.suite.now).locks c.args.node in
     let less : c.loop-i.i < length locks = (let test = c.loop-i-test.true in let count = c.lock_count-i-end.ensures in omega (arith, test, count)) in
     asked-some locks c.loop-i.i less c.in-None.ensures
 
 pub returns : goal.returns
 returns g c =
-    let locks = (g.S.Suite.nodes c.args.suite.now).locks c.args.node in
+    let locks = (g.S.Suite.suite_view c.args.suite.now).locks c.args.node in
     let all : c.loop-i.i ≡ length locks = (let most = c.loop-i.auto.i-end in let least = c.loop-i-test.false in let count = c.lock_count-i-end.ensures in omega (arith, most, least, count)) in
     asked-all _ locks c.loop-i.i c.loop-i.requests.items all c.loop-i.invariant

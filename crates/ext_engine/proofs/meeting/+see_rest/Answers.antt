@@ -1,7 +1,7 @@
 use Rattle.std.proofs.Common.{rules, ◌≡◌, ◌∷◌, List, arith, length, refl, subst, sym}
 use Rattle.std.specs.Prelude.{All}
 use Rattle.std.specs.List.{AllZip}
-use Rattle.ext_history.specs.Views.{seen_by}
+use Rattle.ext_history.specs.Histories.{seen_by}
 use Rattle.ext_store.specs.Stores.{StoreLane, IsLaneOf}
 use Rattle.ext_engine.specs.Meeting.{HasSeenWithin, OnlyMeets}
 use Rattle.ext_engine.proofs.Meets.{met_nobody, met_once, met_then, none_met, saw_more}

@@ -1,5 +1,5 @@
 use Rattle.std.proofs.Common.{◌+◌, length, ap, ◌∙◌}
-use Rattle.ext_locks.specs.Rule.{noted}
+use Rattle.ext_locks.specs.InnerRule.{noted}
 use Rattle.ext_locks.proofs.Fronts.{makes_quiet, makes_legal, told_makes, kept_makes}
 use Rattle.ext_locks.proofs.Trying.{loaded_adds}
 use Rattle.ext_locks.proofs.Meeting.{exclusive_one, exclusive_other, sees_other}

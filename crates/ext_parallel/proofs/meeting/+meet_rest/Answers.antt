@@ -1,10 +1,10 @@
 use Rattle.std.proofs.Common.{rules, ◌≡◌, ◌∷◌, [], List, length, subst, sym}
 use Rattle.std.specs.List.{AllZip}
-use Rattle.ext_history.specs.Views.{seen_by}
-use Rattle.ext_tree.specs.KeyPlaces.{KeepsKeys}
+use Rattle.ext_history.specs.Histories.{seen_by}
+use Rattle.ext_tree.specs.Keys.{KeepsKeys}
 use Rattle.ext_store.proofs.Numbered.{frame_keys}
 use Rattle.ext_store.specs.Stores.{StoreLane, IsLaneOf}
-use Rattle.ext_parallel.specs.Opened.{Turns}
+use Rattle.ext_parallel.specs.InnerMeeting.{Turns}
 use Rattle.ext_parallel.proofs.Turning.{none_turn, turns_last, turns_lane, turns_next, legal_here}
 use Rattle.ext_parallel.proofs.meeting.+meet_rest.Goals as goal
 

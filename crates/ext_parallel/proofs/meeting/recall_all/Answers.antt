@@ -3,7 +3,7 @@ use Rattle.std.specs.Prelude.{All, get_or}
 use Rattle.std.proofs.lemmas.List.{take_all}
 use Rattle.std.proofs.lemmas.List.Elements.{All-more}
 use Rattle.ext_store.specs.Stores.{StoreLane}
-use Rattle.ext_parallel.specs.Opened.{HasRecalled}
+use Rattle.ext_parallel.specs.InnerMeeting.{HasRecalled}
 use Rattle.ext_parallel.proofs.meeting.recall_all.Goals as goal
 
 pub loop-lane-preserved : goal.loop-lane-preserved

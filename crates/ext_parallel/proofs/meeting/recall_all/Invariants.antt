@@ -1,6 +1,6 @@
 use Rattle.std.proofs.Common.{take}
 use Rattle.std.specs.Prelude.{All}
-use Rattle.ext_parallel.specs.Opened.{HasRecalled}
+use Rattle.ext_parallel.specs.InnerMeeting.{HasRecalled}
 use Rattle.ext_parallel.proofs.meeting.recall_all.Given as goal
 
 abbrev pub invariant-loop-lane : goal.invariant-loop-lane

@@ -5,7 +5,7 @@ use Rattle.std.proofs.lemmas.List.Elements.{All-head, All-tail}
 use Rattle.ext_history.proofs.Legal.{legal_empty}
 use Rattle.ext_model.specs.History.{IsAllowed}
 use Rattle.ext_store.specs.Stores.{StoreLane}
-use Rattle.ext_parallel.specs.Opened.{HasRecalled, Turns}
+use Rattle.ext_parallel.specs.InnerMeeting.{HasRecalled, Turns}
 use Rattle.ext_parallel.proofs.Turning.{none_turn}
 use Rattle.ext_parallel.proofs.meeting.turn_all.Goals as goal
 

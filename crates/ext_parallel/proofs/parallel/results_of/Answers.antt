@@ -1,16 +1,15 @@
 use Rattle.std.proofs.Common.{◌≡◌, ◌∙◌, ℕ, ◌<◌, All, List, length, map, ap, sym, subst}
 use Rattle.std.proofs.lemmas.List.Sorted.{Contains-permutation}
-use Rattle.ext_plan.specs.Locks.{lock_names}
+use Rattle.ext_plan.specs.LockNames.{lock_names}
 use Rattle.ext_lifecycle.specs.Results.{told}
 use Rattle.ext_plan.specs.Plans.{PlanText, node_view, plan_view}
 use Rattle.ext_store.specs.Stores.{StoreLane}
 use Rattle.ext_parallel.specs.declared.steps.stored_value.StoredValue.{StoredValue}
 use Rattle.std.proofs.lemmas.List.{length-map}
-use Rattle.ext_plan.specs.PlanCalls.{registered}
-use Rattle.ext_engine.specs.TreeRun.{IsFit, IsUsable, Lanes, TreeRun, all_results, setting_of}
+use Rattle.ext_engine.specs.TreeRun.{IsRunnable, IsUsable, Lanes, TreeRun, all_results}
 use Rattle.ext_parallel.specs.PlanSuites.{suite_of}
-use Rattle.ext_parallel.proofs.Fitting.{tree_fits}
-use Rattle.ext_parallel.specs.ParallelRun.{MakesCall, IsAction, ClosesValue}
+use Rattle.ext_parallel.proofs.Runnable.{tree_runnable}
+use Rattle.ext_parallel.specs.ParallelRun.{setting_of_plan}
 use Rattle.ext_parallel.proofs.InTree.{if_err, if_ok, results_within}
 use Rattle.ext_parallel.proofs.Refusals.{refused_run}
 use Rattle.ext_engine.proofs.Fresh.{fresh_usable}
@@ -23,13 +22,13 @@ run_tree-ran-requires-clause-lanes g c κs inside =
     let P : List (StoreLane StoredValue) → Type 0 = λ l. IsUsable st lk (record { first = l; second = c.args.lock_lanes.now }) in
     subst P (sym c.as_mut_slice-all_lanes.ensures.value) usable
 
-pub run_tree-ran-requires-clause-fit : goal.run_tree-ran-requires-clause-fit
-run_tree-ran-requires-clause-fit g c κs inside =
+pub run_tree-ran-requires-clause-runnable : goal.run_tree-ran-requires-clause-runnable
+run_tree-ran-requires-clause-runnable g c κs inside =
     let st = c.in_ok-store.store in let lk = c.args.locks.now in
     let plan = plan_view c.args.plan.now in
-    let fits = tree_fits plan st lk c.in_ok-store.ensures.store.tree (λ name there. Contains-permutation (lock_names plan.nodes) lk.names name c.requires.locks.names there) c.requires.tests in
-    let P : PlanText → Type 0 = λ p. IsFit st lk (suite_of p) in
-    subst P (sym c.requires.suite) fits
+    let runnable = tree_runnable plan st lk c.in_ok-store.ensures.store.tree (λ name there. Contains-permutation (lock_names plan.nodes) lk.names name c.requires.locks.names there) c.requires.tests in
+    let P : PlanText → Type 0 = λ p. IsRunnable st lk (suite_of p) in
+    subst P (sym c.requires.suite) runnable
 
 pub returns-clause-run : goal.returns-clause-run
 returns-clause-run g c =
@@ -48,7 +47,7 @@ returns-clause-run g c =
       fresh_locks = c.requires.lock_lanes;
       ran = ran.0;
       after = after;
-      run = subst (λ (p : PlanText). TreeRun (setting_of st lk (suite_of p) (registered p) (λ (value : StoredValue). value.value.closeable)) (MakesCall p st) IsAction ClosesValue 16 0 first ran.0 after) c.requires.suite ran.1;
+      run = subst (λ (p : PlanText). TreeRun (setting_of_plan p st lk) 16 0 first ran.0 after) c.requires.suite ran.1;
       results_are =
           subst (λ (n : ℕ). map told results.items ≡ all_results (suite_of plan) n ran.0) count
           (subst (λ (p : PlanText). map told results.items ≡ all_results (suite_of p) (length st.tree) ran.0) c.requires.suite ran.2);

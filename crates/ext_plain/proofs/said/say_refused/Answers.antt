@@ -1,6 +1,6 @@
 use Rattle.ext_plain.proofs.Lacks.{never-successful}
 use Rattle.ext_plain.proofs.said.say_refused.Goals as goal
-use Rattle.ext_plan.specs.Calls.{call_view}
+use Rattle.ext_plan.specs.StepCalls.{call_view}
 use Rattle.ext_plan.specs.Verdicts.{refused}
 
 pub returns : goal.returns

@@ -1,5 +1,5 @@
 use Rattle.ext_plain.proofs.said.say_unless_refused.Goals as goal
-use Rattle.ext_plan.specs.Calls.{call_view}
+use Rattle.ext_plan.specs.StepCalls.{call_view}
 use Rattle.ext_plan.specs.Verdicts.{unless_refused}
 
 pub returns : goal.returns

@@ -1,6 +1,6 @@
 use Rattle.std.proofs.Common.{◌+◌, ◌∙◌, ap, arith, drop, Err}
 use Rattle.ext_plan.specs.Plans.{key_view, keys_view}
-use Rattle.ext_plan.specs.KeyNumbers.{keys_with, HasParts}
+use Rattle.ext_plan.specs.StoreKeys.{keys_with, HasParts}
 use Rattle.ext_plan.proofs.Lists.{map-drop, All-map-at}
 use Rattle.ext_plan.proofs.Counted.{are_many}
 use Rattle.ext_plan.proofs.keys.keys_are_few.Goals as goal

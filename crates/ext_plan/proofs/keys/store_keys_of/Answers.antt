@@ -1,4 +1,4 @@
-use Rattle.ext_plan.specs.KeyNumbers.{HasParts}
+use Rattle.ext_plan.specs.StoreKeys.{HasParts}
 use Rattle.ext_plan.specs.Plans.{key_view}
 use Rattle.ext_plan.proofs.Lists.{All-map-at}
 use Rattle.ext_plan.proofs.KeysMade.{one_more_key}

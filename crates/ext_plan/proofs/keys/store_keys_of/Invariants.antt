@@ -1,5 +1,5 @@
 use Rattle.std.proofs.Common.{◌≡◌, map, take}
-use Rattle.ext_plan.specs.KeyNumbers.{named_key}
+use Rattle.ext_plan.specs.StoreKeys.{named_key}
 use Rattle.ext_plan.specs.Plans.{keys_view}
 use Rattle.ext_plan.proofs.keys.store_keys_of.Given as goal
 

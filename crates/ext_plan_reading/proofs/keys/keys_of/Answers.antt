@@ -3,7 +3,7 @@ use Rattle.std.proofs.lemmas.List.{drop_all, length-map}
 use Rattle.std.proofs.lemmas.Result.{err_from_is_err_and}
 use Rattle.toml.specs.View.{table_view}
 use Rattle.std.proofs.lemmas.List.Elements.{All-push}
-use Rattle.ext_plan.specs.KeyNumbers.{HasParts}
+use Rattle.ext_plan.specs.StoreKeys.{HasParts}
 use Rattle.ext_plan.specs.Plans.{key_view, keys_view}
 use Rattle.ext_plan.proofs.Lists.{map-push, map-drop}
 use Rattle.ext_plan_reading.proofs.Turns.{keys_go, keys_stop, keys_end, Fails-whole}

@@ -1,9 +1,9 @@
 use Rattle.std.proofs.Common.{◌≡◌, All, drop, map, []}
 use Rattle.toml.specs.View.{table_view}
 use Rattle.ext_plan.specs.Plans.{keys_view}
-use Rattle.ext_plan.specs.Keys.{labels_of}
-use Rattle.ext_plan.specs.KeyNumbers.{HasParts}
-use Rattle.ext_plan_reading.specs.Keys.{keys_after}
+use Rattle.ext_plan.specs.Labels.{labels_of}
+use Rattle.ext_plan.specs.StoreKeys.{HasParts}
+use Rattle.ext_plan_reading.specs.KeyReading.{keys_after}
 use Rattle.ext_plan_reading.proofs.keys.keys_of.Given as goal
 
 abbrev pub invariant-loop-table : goal.invariant-loop-table

@@ -1,7 +1,7 @@
 use Rattle.std.proofs.Common.{◌≡◌, drop}
 use Rattle.std.specs.Prelude.{fold, map}
 use Rattle.ext_plan.specs.Plans.{lock_view}
-use Rattle.ext_plan.specs.Locks.{lock_name, with_name}
+use Rattle.ext_plan.specs.LockNames.{lock_name, with_name}
 use Rattle.ext_plan_reading.proofs.locks.add_names.Given as goal
 
 abbrev pub invariant-loop-lock : goal.invariant-loop-lock

@@ -1,7 +1,7 @@
 use Rattle.std.proofs.Common.{◌≡◌, drop}
 use Rattle.std.specs.Prelude.{fold}
 use Rattle.ext_plan.specs.Plans.{nodes_view}
-use Rattle.ext_plan.specs.Locks.{lock_names, named_locks, with_name}
+use Rattle.ext_plan.specs.LockNames.{lock_names, named_locks, with_name}
 use Rattle.ext_plan_reading.proofs.locks.locks_are_few.Given as goal
 
 abbrev pub invariant-loop-node : goal.invariant-loop-node

@@ -1,6 +1,6 @@
 use Rattle.std.proofs.Common.{◌≡◌, drop, map, []}
 use Rattle.ext_plan.specs.Plans.{locks_view}
-use Rattle.ext_plan_reading.specs.Locks.{locks_after}
+use Rattle.ext_plan_reading.specs.LockReading.{locks_after}
 use Rattle.ext_plan_reading.proofs.locks.locks_in_order.Given as goal
 
 abbrev pub invariant-loop-text : goal.invariant-loop-text

@@ -1,6 +1,6 @@
 use Rattle.std.proofs.Common.{◌≡◌, map, take}
-use Rattle.ext_plan_reading.specs.Helpers.{sketch_view}
-use Rattle.ext_plan_reading.specs.Nodes.{ids_of}
+use Rattle.ext_plan_reading.specs.InnerHelpers.{sketch_view}
+use Rattle.ext_plan_reading.specs.NodeReading.{ids_of}
 use Rattle.ext_plan_reading.proofs.nodes.ids_of.Given as goal
 
 abbrev pub invariant-loop-sketch : goal.invariant-loop-sketch

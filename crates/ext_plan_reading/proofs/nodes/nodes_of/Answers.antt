@@ -3,7 +3,7 @@ use Rattle.std.proofs.lemmas.List.{drop_all, length-map}
 use Rattle.std.proofs.lemmas.Result.{err_from_is_err_and}
 use Rattle.ext_plan.specs.Plans.{nodes_view}
 use Rattle.ext_plan.proofs.Lists.{map-push, map-drop}
-use Rattle.ext_plan_reading.specs.Helpers.{sketch_view}
+use Rattle.ext_plan_reading.specs.InnerHelpers.{sketch_view}
 use Rattle.ext_plan_reading.proofs.Turns.{nodes_end, Fails-whole}
 use Rattle.ext_plan_reading.proofs.Parents.{tree_go, tree_stop}
 use Rattle.ext_plan_reading.proofs.nodes.nodes_of.Goals as goal

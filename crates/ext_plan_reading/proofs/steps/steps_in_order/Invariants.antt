@@ -1,6 +1,6 @@
 use Rattle.std.proofs.Common.{◌≡◌, drop, map, []}
 use Rattle.ext_plan.specs.Plans.{steps_view}
-use Rattle.ext_plan_reading.specs.Steps.{steps_after}
+use Rattle.ext_plan_reading.specs.StepReading.{steps_after}
 use Rattle.ext_plan_reading.proofs.steps.steps_in_order.Given as goal
 
 abbrev pub invariant-loop-text : goal.invariant-loop-text

@@ -2,7 +2,7 @@ use Rattle.std.proofs.Common.{rules, ◌≡◌, ◌∙◌, ap, append_assoc, ari
 use Rattle.std.specs.Prelude.{IfOk, string_bytes, codes, ◌++◌}
 use Rattle.std.specs.Fmt.{decimal}
 use Rattle.std.proofs.lemmas.List.{length-map}
-use Rattle.ext_plan.specs.Plans.{key_view, keys_view, node_view, nodes_view}
+use Rattle.ext_plan_reading.specs.Plans.{key_view, keys_view, node_view, nodes_view}
 use Rattle.ext_run.specs.Checks.{counts_line, test_count}
 use Rattle.ext_run.proofs.checks.counts_line.Goals as goal
 

@@ -1,5 +1,5 @@
 use Rattle.std.proofs.Common.{true}
-use Rattle.ext_run.proofs.RunAnswers.{plan_of_utf8, plan_of_others, RefusedAs-plan}
+use Rattle.ext_run.proofs.RunReports.{plan_of_utf8, plan_of_others, RefusedAs-plan}
 use Rattle.ext_run.proofs.checks.line_of.Goals as goal
 
 pub returns-in_default : goal.returns-in_default

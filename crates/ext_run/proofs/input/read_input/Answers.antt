@@ -1,6 +1,6 @@
 use Rattle.std.proofs.Common.{◌≡◌, ◌+◌, length, arith, length-append, ap, ◌∙◌, sym, subst}
 use Rattle.std.specs.Io.KnownBytes.{Consumes}
-use Rattle.ext_run.specs.Answers.{IsReadFault}
+use Rattle.ext_run.specs.Reports.{IsReadFault}
 use Rattle.ext_run.proofs.ReadBytes.{Consumes-all, Consumes-long, Consumes-more, fault_is, fault_same, not_ok}
 use Rattle.ext_run.proofs.input.read_input.Goals as goal
 

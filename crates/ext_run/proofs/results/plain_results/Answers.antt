@@ -1,5 +1,5 @@
 use Rattle.std.proofs.Common.{◌∙◌, sym}
-use Rattle.ext_plan.proofs.NodeIds.{ids-map}
+use Rattle.ext_plan_reading.proofs.NodeIds.{ids-map}
 use Rattle.ext_run.proofs.results.plain_results.Goals as goal
 
 pub run_plain-requires-clause-nodes : goal.run_plain-requires-clause-nodes

@@ -1,16 +1,16 @@
 use Rattle.std.proofs.Common.{Bool, true, map, refl, sym, subst}
 use Rattle.ext_lifecycle.specs.FaultTexts.{results_view}
 use Rattle.ext_lifecycle.specs.Results.{told}
-use Rattle.ext_plan.specs.Plans.{plan_view}
+use Rattle.ext_plan_reading.specs.Plans.{plan_view}
 use Rattle.ext_run.specs.declared.fault.RunFault.TheVariants as faults
-use Rattle.ext_run.specs.Answers.{IsRunBy}
-use Rattle.ext_run.specs.Helpers.{IsPlanFault}
+use Rattle.ext_run.specs.Reports.{IsRunBy}
+use Rattle.ext_run.specs.InnerHelpers.{IsPlanFault}
 use Rattle.ext_run.proofs.ReadBytes.{fault_is, not_ok}
-use Rattle.ext_run.proofs.RunAnswers.{with_texts}
+use Rattle.ext_run.proofs.RunReports.{with_texts}
 use Rattle.ext_run.proofs.results.results_of.Goals as goal
 
 pub plain_results-requires : goal.plain_results-requires
-plain_results-requires g c = record { tree = c.requires.tree; contexts = c.requires.contexts; namespaces = c.requires.namespaces; short = c.requires.short; few = c.requires.few }
+plain_results-requires g c = record { runnable = c.requires.runnable; contexts = c.requires.contexts }
 
 pub returns-in_err-plain_results : goal.returns-in_err-plain_results
 returns-in_err-plain_results g c = record {

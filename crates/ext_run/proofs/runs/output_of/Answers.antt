@@ -1,7 +1,7 @@
 use Rattle.std.proofs.Common.{◌≡◌, ◌∙◌, ◌<◌, All, length, ap, sym, subst}
 use Rattle.ext_lifecycle.specs.FaultTexts.{results_view}
 use Rattle.ext_report.specs.Report.{any_failed, report_of}
-use Rattle.ext_run.proofs.RunAnswers.{answer_is}
+use Rattle.ext_run.proofs.RunReports.{run_report_is}
 use Rattle.ext_run.proofs.runs.output_of.Goals as goal
 
 pub report_text-requires : goal.report_text-requires
@@ -15,5 +15,5 @@ returns-clause-ok g c =
     record {
       results = results;
       run = c.in-Ok.ensures.run;
-      report_is = answer_is _ _ _ _ _ (c.in_ok-report.ensures.text ∙ ap (report_of c.in_ok-tree.tree) first ∙ ap (λ ids. report_of ids results) c.in_ok-tree.ensures) (c.any_failed.ensures ∙ ap any_failed again);
+      report_is = run_report_is _ _ _ _ _ (c.in_ok-report.ensures.text ∙ ap (report_of c.in_ok-tree.tree) first ∙ ap (λ ids. report_of ids results) c.in_ok-tree.ensures) (c.any_failed.ensures ∙ ap any_failed again);
     }

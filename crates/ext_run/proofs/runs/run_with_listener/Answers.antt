@@ -1,5 +1,5 @@
-use Rattle.ext_run.specs.Helpers.{output_view}
-use Rattle.ext_run.proofs.RunAnswers.{unwritten, written}
+use Rattle.ext_run.specs.InnerHelpers.{output_view}
+use Rattle.ext_run.proofs.RunReports.{unwritten, written}
 use Rattle.ext_run.proofs.runs.run_with_listener.Goals as goal
 
 pub returns-in_err-write_whole-clause-refused : goal.returns-in_err-write_whole-clause-refused

@@ -1,4 +1,4 @@
-use Rattle.ext_tree.specs.Building.{AreChildren}
+use Rattle.ext_tree.specs.InnerBuilding.{AreChildren}
 use Rattle.ext_tree.proofs.building.children_lists.Given as goal
 
 abbrev pub invariant-loop-i : goal.invariant-loop-i

@@ -3,7 +3,7 @@ use Rattle.std.specs.List.{list_any}
 use Rattle.indexmap.specs.IndexSet.{insert_key}
 use Rattle.std.specs.Cmp.Lexicographic.{pointwise, lists_equiv}
 use Rattle.ext_ids.specs.Ids.{pair_eq}
-use Rattle.ext_ids.specs.Traits.{pair_eq_equiv}
+use Rattle.ext_ids.specs.InnerTraits.{pair_eq_equiv}
 use Rattle.ext_ids.proofs.Pairs.{ids_Decides}
 use Rattle.ext_tree.specs.Trees.{id_at}
 use Rattle.ext_tree.proofs.TreeFacts.{read_id}

@@ -1,6 +1,6 @@
 use Rattle.std.proofs.Common.{◌∙◌, ap, sym, length, true≢false, subst}
 use Rattle.ext_tree.specs.Trees.{twice, second_root, without_parent}
-use Rattle.ext_tree.specs.Building.{IsParentBefore}
+use Rattle.ext_tree.specs.InnerBuilding.{IsParentBefore}
 use Rattle.ext_tree.proofs.TreeFacts.{read_id}
 use Rattle.ext_tree.proofs.building.judge.Goals as goal
 

@@ -1,7 +1,7 @@
 use Rattle.std.proofs.Common.{sym, subst, arith}
 use Rattle.std.proofs.lemmas.Result.{err_from_is_err_and}
 use Rattle.ext_tree.specs.Trees.{later}
-use Rattle.ext_tree.specs.Building.{AreParents}
+use Rattle.ext_tree.specs.InnerBuilding.{AreParents}
 use Rattle.ext_tree.proofs.TreeFacts.{more_parents, followed}
 use Rattle.ext_tree.proofs.building.parents_by.Goals as goal
 

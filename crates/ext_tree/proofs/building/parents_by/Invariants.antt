@@ -1,5 +1,5 @@
 use Rattle.std.proofs.Common.{◌≡◌, take}
-use Rattle.ext_tree.specs.Building.{AreParents}
+use Rattle.ext_tree.specs.InnerBuilding.{AreParents}
 use Rattle.ext_tree.proofs.building.parents_by.Given as goal
 
 abbrev pub invariant-loop-i : goal.invariant-loop-i

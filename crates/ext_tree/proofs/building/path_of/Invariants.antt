@@ -1,6 +1,5 @@
 use Rattle.std.proofs.Common.{◌≡◌, ◌<◌, ◌+◌, ◌++◌, ℕ, List, length, take}
-use Rattle.ext_tree.specs.Trees.{id_at}
-use Rattle.ext_tree.specs.Paths.{IsWalk, IsPathOf}
+use Rattle.ext_tree.specs.Trees.{id_at, IsWalk, IsPathOf}
 use Rattle.ext_tree.proofs.building.path_of.Given as goal
 
 abbrev pub invariant-loop-i : goal.invariant-loop-i

@@ -1,5 +1,5 @@
 use Rattle.std.proofs.Common.{◌+◌, ◌∙◌, ap, sym, subst}
-use Rattle.ext_tree.specs.Building.{ArePaths}
+use Rattle.ext_tree.specs.InnerBuilding.{ArePaths}
 use Rattle.ext_tree.proofs.TreeFacts.{more_paths}
 use Rattle.ext_tree.proofs.building.paths_of.Goals as goal
 

@@ -1,5 +1,5 @@
 use Rattle.std.proofs.Common.{◌≡◌, length, vec_len, vec_capacity}
-use Rattle.ext_tree.specs.Building.{ArePaths}
+use Rattle.ext_tree.specs.InnerBuilding.{ArePaths}
 use Rattle.ext_tree.proofs.building.paths_of.Given as goal
 
 abbrev pub invariant-loop-context : goal.invariant-loop-context

@@ -1,6 +1,6 @@
 use Rattle.std.proofs.Common.{◌≡◌, length, map, take}
 use Rattle.once_cell.specs.Once.{cell_name}
-use Rattle.ext_tree.specs.KeyPlaces.{unknown_place}
+use Rattle.ext_tree.specs.Keys.{unknown_place}
 use Rattle.ext_tree.proofs.key_walk.entries_of.Given as goal
 
 abbrev pub invariant-loop-place : goal.invariant-loop-place

@@ -1,6 +1,6 @@
 use Rattle.std.proofs.Common.{rules, ◌+◌, ◌-◌, ◌<◌, ◌%◌, ◌∙◌, ap, length, slice_index_or, subst, sym}
 use Rattle.once_cell.specs.Once.{cell_name}
-use Rattle.ext_tree.specs.KeyPlaces.{KnownPlace, key_places_of}
+use Rattle.ext_tree.specs.Keys.{KnownPlace, key_places_of}
 use Rattle.ext_tree.proofs.KeyPlacing.{hint_below, place_matches}
 use Rattle.ext_tree.proofs.key_walk.hinted.Goals as goal
 

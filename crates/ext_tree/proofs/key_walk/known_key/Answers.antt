@@ -1,6 +1,6 @@
 use Rattle.std.proofs.Common.{◌∙◌, ap, sym}
 use Rattle.once_cell.specs.Once.{cell_name}
-use Rattle.ext_tree.specs.KeyPlaces.{KnownPlace}
+use Rattle.ext_tree.specs.Keys.{KnownPlace}
 use Rattle.ext_tree.proofs.KeyPlacing.{known_within, place_matches}
 use Rattle.ext_tree.proofs.key_walk.known_key.Goals as goal
 

@@ -1,6 +1,6 @@
 use Rattle.std.proofs.Common.{◌<◌, ◌∙◌, ap, arith, get_or, length, subst, sym}
 use Rattle.once_cell.specs.Once.{cell_name}
-use Rattle.ext_tree.specs.KeyPlaces.{KnownPlace, Tells}
+use Rattle.ext_tree.specs.Keys.{KnownPlace, Tells}
 use Rattle.ext_tree.proofs.KeyPlacing.{as_long, place_matches, key_places_of-set, read_again, step_finds, step_keeps, step_passes}
 use Rattle.ext_tree.proofs.key_walk.walk.Goals as goal
 

@@ -1,6 +1,6 @@
 use Rattle.std.proofs.Common.{map}
 use Rattle.once_cell.specs.Once.{cell_name}
-use Rattle.ext_tree.specs.KeyPlaces.{AreKeyNotesOf, KeepsKeys, PassedBefore}
+use Rattle.ext_tree.specs.Keys.{AreKeyNotesOf, KeepsKeys, PassedBefore}
 use Rattle.ext_tree.proofs.key_walk.walk.Given as goal
 
 abbrev pub invariant-loop-number : goal.invariant-loop-number

@@ -17,3 +17,7 @@ nearest-requires-3-clause-different g c = ((refl, (refl, tt)), ((refl, tt), (tt,
 pub nearest-requires-4-clause-different : goal.nearest-requires-4-clause-different
 unfolding IsDistinct
 nearest-requires-4-clause-different g c = ((refl, (refl, (refl, tt))), ((refl, (refl, tt)), ((refl, tt), (tt, tt))))
+
+pub nearest-requires-5-clause-different : goal.nearest-requires-5-clause-different
+unfolding IsDistinct
+nearest-requires-5-clause-different g c = ((refl, (refl, tt)), ((refl, tt), (tt, tt)))

@@ -1,4 +1,4 @@
-use Rattle.ext_tree.specs.KeyPlaces.{AreKeyNotesOf}
+use Rattle.ext_tree.specs.Keys.{AreKeyNotesOf}
 use Rattle.test_cells.proofs.key_places.tells_namespaces_apart.Given as goal
 
 abbrev pub invariant-loop-parts : goal.invariant-loop-parts

@@ -1,5 +1,5 @@
 use Rattle.std.specs.Prelude.{All}
-use Rattle.ext_tree.specs.KeyPlaces.{AreKeyNotesOf}
+use Rattle.ext_tree.specs.Keys.{AreKeyNotesOf}
 use Rattle.test_cells.proofs.key_threads.agree_in_turn.Given as goal
 
 abbrev pub invariant-loop-notes : goal.invariant-loop-notes

@@ -1,4 +1,4 @@
-use Rattle.ext_tree.specs.KeyPlaces.{AreKeyNotesOf}
+use Rattle.ext_tree.specs.Keys.{AreKeyNotesOf}
 use Rattle.test_cells.proofs.key_threads.number_all.Given as goal
 
 abbrev pub invariant-loop-step : goal.invariant-loop-step

@@ -1,5 +1,5 @@
 use Rattle.std.proofs.Common.{[], ◌∷◌, ◌++◌, refl}
-use Rattle.test_engine.proofs.Fitting.{opened_usable}
+use Rattle.test_engine.proofs.ReadyToRun.{opened_usable}
 use Rattle.test_engine.proofs.opening.open.Goals as goal
 
 pub returns-clause-usable : goal.returns-clause-usable

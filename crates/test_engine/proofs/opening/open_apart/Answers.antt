@@ -1,5 +1,5 @@
 use Rattle.std.proofs.Common.{rules, ◌≤◌, length}
-use Rattle.test_engine.proofs.Fitting.{one_less}
+use Rattle.test_engine.proofs.ReadyToRun.{one_less}
 use Rattle.test_engine.proofs.opening.open_apart.Goals as goal
 
 pub returns-clause-usable : goal.returns-clause-usable

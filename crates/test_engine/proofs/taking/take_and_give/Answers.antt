@@ -1,5 +1,5 @@
 use Rattle.std.proofs.Common.{ℕ, List, subst}
-use Rattle.ext_history.proofs.Composed.{same_number}
+use Rattle.ext_engine.proofs.Composed.{same_number}
 use Rattle.ext_locks.specs.declared.event.LockMode.{LockMode}
 use Rattle.ext_locks.specs.Views.{LaneCalls}
 use Rattle.ext_locks.specs.Sets.{gives_of}

@@ -1,4 +1,4 @@
-use Rattle.ext_tree.specs.KeyPlaces.{AreKeyNotesOf}
+use Rattle.ext_tree.specs.Keys.{AreKeyNotesOf}
 use Rattle.tool_refused_allocations.proofs.key_places.numbers_all.Given as goal
 
 abbrev pub invariant-loop-number : goal.invariant-loop-number

@@ -1,7 +1,7 @@
 use Rattle.std.proofs.Common.{◌≡◌, ◌<◌, ◌^◌, sym, ap, ◌∙◌, subst, arith, refl, true≢false}
 use Rattle.ext_model.specs.History.{IsLegal}
-use Rattle.ext_history.specs.Views.{seen_by}
-use Rattle.ext_cells.specs.Passes.{ReadPass}
+use Rattle.ext_history.specs.Histories.{seen_by}
+use Rattle.ext_cells.specs.InnerPasses.{ReadPass}
 use Rattle.ext_cells.proofs.Collecting.{passes_once, passes_again, passes_overtaken, passes_legal, steps_within, steps_all, moment, stood}
 use Rattle.ext_cells.proofs.cells.Cells.collect.Goals as goal
 

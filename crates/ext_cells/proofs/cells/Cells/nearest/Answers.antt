@@ -2,7 +2,8 @@ use Rattle.std.proofs.Common.{◌≡◌, ◌<◌, ◌^◌, ◌++◌, [], take, d
 use Rattle.std.specs.Prelude.{All, sum_by}
 use Rattle.std.proofs.lemmas.List.{length-drop, take_all}
 use Rattle.std.proofs.lemmas.List.Elements.{All-take, All-drop}
-use Rattle.ext_cells.specs.Passes.{FirstPass, ReadPass, version_in}
+use Rattle.ext_cells.specs.InnerPasses.{FirstPass, ReadPass}
+use Rattle.ext_cells.specs.Words.{version_in}
 use Rattle.ext_cells.proofs.Collecting.{passes_again, passes_overtaken, steps_within, steps_all, stood}
 use Rattle.ext_cells.proofs.Readings.{still_none, still_some, begun_here, same_again, nearest_of, within_two}
 use Rattle.ext_cells.proofs.cells.Cells.nearest.Goals as goal
@@ -17,7 +18,7 @@ returns-in-Some-clause-nearest c =
     let three = c.read_on-again.ensures.read [] c.new.ensures.reading in
     let on = subst (λ z. ReadPass z.limits c.read_empty-stands.new.lane.view c.read_on-again.new.lane.view (take c.read_empty-stands.result.0.count c.args.cells.now) three.0) c.read_empty-stands.ensures.lane three.1 in
     let t = subst (λ s. FirstPass c.args.lane.now.cells.limits c.args.lane.now.view c.read_empty-stands.new.lane.view c.args.cells.now c.read_empty-stands.result.0 s) c.in-Some.is c.read_empty-stands.ensures.read in
-    let r = still_some c.args.lane.now c.read_on-again.new.lane mid.view c.args.cells.now empty c.read_on-again.result few known three.0 on three.2 c.in-Some.word t c.if-again-empty.true in r.0
+    let r = still_some c.args.lane.now c.read_on-again.new.lane mid.view c.args.cells.now empty c.read_on-again.result few known three.0 on three.2 c.in-Some.standing t c.if-again-empty.true in r.0
 
 pub returns-in-Some-clause-steps : goal.returns-in-Some-clause-steps
 returns-in-Some-clause-steps c =
@@ -29,7 +30,7 @@ returns-in-Some-clause-steps c =
     let three = c.read_on-again.ensures.read [] c.new.ensures.reading in
     let on = subst (λ z. ReadPass z.limits c.read_empty-stands.new.lane.view c.read_on-again.new.lane.view (take c.read_empty-stands.result.0.count c.args.cells.now) three.0) c.read_empty-stands.ensures.lane three.1 in
     let t = subst (λ s. FirstPass c.args.lane.now.cells.limits c.args.lane.now.view c.read_empty-stands.new.lane.view c.args.cells.now c.read_empty-stands.result.0 s) c.in-Some.is c.read_empty-stands.ensures.read in
-    let r = still_some c.args.lane.now c.read_on-again.new.lane mid.view c.args.cells.now empty c.read_on-again.result few known three.0 on three.2 c.in-Some.word t c.if-again-empty.true in within_two _ _ _ c.recall.ensures.tries r.1
+    let r = still_some c.args.lane.now c.read_on-again.new.lane mid.view c.args.cells.now empty c.read_on-again.result few known three.0 on three.2 c.in-Some.standing t c.if-again-empty.true in within_two _ _ _ c.recall.ensures.tries r.1
 
 pub returns-in-None-clause-nearest : goal.returns-in-None-clause-nearest
 returns-in-None-clause-nearest c =
@@ -87,7 +88,7 @@ returns-then-again-seen-clause-nearest c =
     let again = c.read_on-again-in-loop.ensures.read [] c.new-in-loop.ensures.reading in
     let read = subst (λ z. ReadPass z.limits c.loop.lane.view c.read_on-again-in-loop.new.lane.view c.args.cells.now again.0) i.cells again.1 in
     let same = same_again c.args.lane.now.cells.limits _ _ _ _ words again.0 c.loop.counter i.passes.2 read few (sym again.2.versions ∙ (c.if-again-seen.true ∙ i.passes.1.versions)) in
-    nearest_of c.args.lane.now c.read_on-again-in-loop.new.lane c.args.cells.now again.0 c.read_on-again-in-loop.result
+    nearest_of c.args.lane.now c.read_on-again-in-loop.new.lane c.args.cells.now again.0 c.read_on-again-in-loop.result few
     (stood c.args.lane.now.cells.limits _ _ _ _ words again.0 c.loop.counter i.passes.2 read same few c.args.lane.now c.read_on-again-in-loop.new.lane refl refl refl) again.2
 
 pub returns-then-again-seen-clause-steps : goal.returns-then-again-seen-clause-steps

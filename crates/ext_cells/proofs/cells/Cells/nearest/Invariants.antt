@@ -1,5 +1,5 @@
 use Rattle.std.proofs.Common.{◌≡◌, ℕ, List}
-use Rattle.ext_cells.specs.Passes.{IsReading}
+use Rattle.ext_cells.specs.InnerPasses.{IsReading}
 use Rattle.ext_cells.proofs.Collecting.{Passes}
 use Rattle.ext_cells.proofs.cells.Cells.nearest.Given as goal
 

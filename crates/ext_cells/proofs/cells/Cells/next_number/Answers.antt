@@ -2,7 +2,7 @@ use Rattle.std.proofs.Common.{◌≡◌, ◌<◌, ◌+◌, sym, ap, ◌∙◌, s
 use Rattle.ext_model.specs.declared.event.Act.TheVariants.{Keep}
 use Rattle.ext_model.specs.History.{History}
 use Rattle.ext_cells.specs.Lanes.{Lane}
-use Rattle.ext_cells.specs.Steps.{Finds, MayGoOn}
+use Rattle.ext_cells.specs.InnerSteps.{Finds, MayGoOn}
 use Rattle.ext_cells.proofs.Tries.{first_on, next_on, overtaken, steps_next}
 use Rattle.ext_cells.proofs.Drawing.{full_now, would_draw, may_draw, drew, not_drawn}
 use Rattle.ext_cells.proofs.Storable.{drew_storable}

@@ -1,7 +1,7 @@
 use Rattle.std.proofs.Common.{◌≡◌, ◌<◌, ℕ, List, get_or, take, length, sym, ap, ◌∙◌, subst, arith, length-take-le}
 use Rattle.ext_cells.specs.Lanes.{Lane}
-use Rattle.ext_cells.specs.Passes.{ReadPass}
-use Rattle.ext_cells.specs.Steps.{Finds}
+use Rattle.ext_cells.specs.InnerPasses.{ReadPass}
+use Rattle.ext_cells.specs.InnerSteps.{Finds}
 use Rattle.ext_cells.proofs.Collecting.{known_at, take_next, read_length, pass_more}
 use Rattle.ext_cells.proofs.cells.Cells.pass.Goals as goal
 

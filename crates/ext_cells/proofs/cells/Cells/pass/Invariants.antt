@@ -1,5 +1,5 @@
 use Rattle.std.proofs.Common.{◌≡◌, take}
-use Rattle.ext_cells.specs.Passes.{ReadPass}
+use Rattle.ext_cells.specs.InnerPasses.{ReadPass}
 use Rattle.ext_cells.proofs.cells.Cells.pass.Given as goal
 
 abbrev pub invariant-loop-cell : goal.invariant-loop-cell

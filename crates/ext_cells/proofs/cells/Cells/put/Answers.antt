@@ -1,7 +1,7 @@
 use Rattle.std.proofs.Common.{sym, subst}
 use Rattle.ext_model.specs.declared.event.Act.TheVariants.{Put}
 use Rattle.ext_cells.specs.declared.refusal.CellRefusal.TheVariants as refusal
-use Rattle.ext_cells.specs.Calls.{Answers, ComesLast, change_reply, put_acts}
+use Rattle.ext_cells.specs.CellCalls.{Answers, ComesLast, change_reply, put_acts}
 use Rattle.ext_cells.proofs.Answered.{put_answers, number_last}
 use Rattle.ext_cells.proofs.Storable.{refused_storable}
 use Rattle.ext_cells.proofs.cells.Cells.put.Goals as goal

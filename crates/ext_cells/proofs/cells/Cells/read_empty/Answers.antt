@@ -1,8 +1,9 @@
 use Rattle.std.proofs.Common.{◌<◌, ◌++◌, [], ◌∷◌, get_or, sym, refl, ap, ◌∙◌, subst, arith, rules}
 use Rattle.std.proofs.lemmas.List.Elements.{All-nil, All-push}
 use Rattle.ext_cells.specs.Lanes.{Lane}
-use Rattle.ext_cells.specs.Passes.{IsEmptyWord, ReadPass}
-use Rattle.ext_cells.specs.Steps.{Finds}
+use Rattle.ext_cells.specs.InnerPasses.{ReadPass}
+use Rattle.ext_cells.specs.Words.{IsEmptyWord}
+use Rattle.ext_cells.specs.InnerSteps.{Finds}
 use Rattle.ext_cells.proofs.Collecting.{known_at, take_next, pass_none, pass_more}
 use Rattle.ext_cells.proofs.cells.Cells.read_empty.Goals as goal
 

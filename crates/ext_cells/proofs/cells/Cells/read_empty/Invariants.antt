@@ -1,6 +1,7 @@
 use Rattle.std.proofs.Common.{◌≡◌, ◌≤◌, ◌*◌, ◌^◌, ℕ, List, take}
 use Rattle.std.specs.Prelude.{All}
-use Rattle.ext_cells.specs.Passes.{IsEmptyWord, IsReading, ReadPass}
+use Rattle.ext_cells.specs.InnerPasses.{IsReading, ReadPass}
+use Rattle.ext_cells.specs.Words.{IsEmptyWord}
 use Rattle.ext_cells.proofs.cells.Cells.read_empty.Given as goal
 
 abbrev pub invariant-loop-cell : goal.invariant-loop-cell

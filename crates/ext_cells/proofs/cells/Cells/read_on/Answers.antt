@@ -1,8 +1,8 @@
 use Rattle.std.proofs.Common.{◌<◌, ◌++◌, [], ◌∷◌, get_or, sym, refl, ap, ◌∙◌, subst, arith, append_assoc, append-nil}
 use Rattle.std.proofs.lemmas.List.{take_all}
 use Rattle.ext_cells.specs.Lanes.{Lane}
-use Rattle.ext_cells.specs.Passes.{IsReading, ReadPass}
-use Rattle.ext_cells.specs.Steps.{Finds}
+use Rattle.ext_cells.specs.InnerPasses.{IsReading, ReadPass}
+use Rattle.ext_cells.specs.InnerSteps.{Finds}
 use Rattle.ext_cells.proofs.Collecting.{known_at, take_next, pass_none, pass_more}
 use Rattle.ext_cells.proofs.cells.Cells.read_on.Goals as goal
 

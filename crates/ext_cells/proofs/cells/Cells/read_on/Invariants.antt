@@ -1,5 +1,5 @@
 use Rattle.std.proofs.Common.{◌≡◌, ◌≤◌, ◌+◌, ◌*◌, ◌^◌, ◌++◌, ℕ, List, take}
-use Rattle.ext_cells.specs.Passes.{IsReading, ReadPass}
+use Rattle.ext_cells.specs.InnerPasses.{IsReading, ReadPass}
 use Rattle.ext_cells.proofs.cells.Cells.read_on.Given as goal
 
 abbrev pub invariant-loop-cell : goal.invariant-loop-cell

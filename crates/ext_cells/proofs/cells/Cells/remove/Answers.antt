@@ -1,7 +1,7 @@
 use Rattle.std.proofs.Common.{sym, subst}
 use Rattle.ext_model.specs.declared.event.Act.TheVariants.{Remove}
 use Rattle.ext_cells.specs.declared.refusal.CellRefusal.TheVariants as refusal
-use Rattle.ext_cells.specs.Calls.{Answers, ComesLast, change_reply, remove_acts}
+use Rattle.ext_cells.specs.CellCalls.{Answers, ComesLast, change_reply, remove_acts}
 use Rattle.ext_cells.proofs.Answered.{remove_answers, number_last}
 use Rattle.ext_cells.proofs.cells.Cells.remove.Goals as goal
 

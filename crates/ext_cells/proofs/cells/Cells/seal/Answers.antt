@@ -1,7 +1,7 @@
 use Rattle.std.proofs.Common.{sym, subst}
 use Rattle.ext_model.specs.declared.event.Act.TheVariants.{Seal}
 use Rattle.ext_cells.specs.declared.refusal.CellRefusal.TheVariants as refusal
-use Rattle.ext_cells.specs.Calls.{ComesLast, SealAnswers}
+use Rattle.ext_cells.specs.CellCalls.{ComesLast, SealAnswers}
 use Rattle.ext_cells.proofs.Answered.{seal_answers, value_last}
 use Rattle.ext_cells.proofs.cells.Cells.seal.Goals as goal
 

@@ -1,6 +1,6 @@
 use Rattle.std.proofs.Common.{◌≡◌, ℕ, [], ◌∷◌, sym, ◌∙◌, refl, subst, arith, rules}
 use Rattle.std.specs.Prelude.{Some, slice_get}
-use Rattle.ext_crew.specs.Counter.{IsDrawing, HasDrawn, Took, done_by}
+use Rattle.ext_crew.specs.InnerCounter.{IsDrawing, HasDrawn, Took, done_by}
 use Rattle.ext_crew.specs.declared.jobs.job.Job.{Job}
 use Rattle.ext_crew.specs.declared.jobs.slot.Slot.TheVariants as slot
 use Rattle.std.proofs.lemmas.Option.{slice_get_within}

@@ -1,6 +1,6 @@
 use Rattle.std.proofs.Common.{rules, ◌≡◌, ◌∷◌, [], List, sym, subst}
 use Rattle.atomic_table.specs.Table.{opening}
-use Rattle.ext_crew.specs.Counter.{Kept, drawn}
+use Rattle.ext_crew.specs.InnerCounter.{Kept, drawn}
 use Rattle.ext_crew.specs.declared.jobs.slot.Slot.{Slot}
 use Rattle.ext_crew.proofs.Draws.{opens}
 use Rattle.ext_crew.proofs.jobs.counter.open_counter.Goals as goal

@@ -1,7 +1,7 @@
 use Rattle.std.proofs.Common.{◌<◌, length, ap, sym, ◌∙◌, subst, rules}
 use Rattle.std.specs.Prelude.{slice_get, Option}
 use Rattle.std.specs.Option.{IsSome}
-use Rattle.ext_crew.specs.Counter.{item_in, slot_of}
+use Rattle.ext_crew.specs.InnerCounter.{item_in, slot_of}
 use Rattle.ext_crew.specs.declared.jobs.slot.Slot.{Slot}
 use Rattle.ext_crew.proofs.Draws.{taken_slot, holds_one, same_value, item_in-slot_of, some_item}
 use Rattle.ext_crew.proofs.jobs.counter.take_job.Goals as goal

@@ -3,7 +3,7 @@ use Rattle.std.proofs.lemmas.List.{length-map}
 use Rattle.std.specs.Slots.{slots_items, slots_filled}
 use lib.ListN.{get_elem?}
 use mathlib.Core.Option.{some}
-use Rattle.ext_crew.specs.Counter.{outcome_in, outcomes_in}
+use Rattle.ext_crew.specs.InnerCounter.{outcome_in, outcomes_in}
 use Rattle.ext_crew.specs.declared.jobs.slot.Slot.{Slot}
 use Rattle.ext_crew.proofs.Draws.{ends_with}
 use Rattle.std.proofs.Common.{take_all}

@@ -1,7 +1,7 @@
 use Rattle.std.proofs.Common.{◌≡◌, ℕ, ◌<◌, ◌≤◌, false, get_or, take, length, vec_len, vec_capacity}
 use Rattle.std.specs.Slots.{slots_items, slots_filled, slots_len}
 use Rattle.std.specs.Slots.Ownership.{Filled}
-use Rattle.ext_crew.specs.Counter.{outcomes_in}
+use Rattle.ext_crew.specs.InnerCounter.{outcomes_in}
 use Rattle.ext_crew.proofs.jobs.counter.take_outcomes.Given as goal
 
 abbrev pub invariant-loop-slot : goal.invariant-loop-slot

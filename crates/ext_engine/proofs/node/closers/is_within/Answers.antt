@@ -1,7 +1,7 @@
 use Rattle.std.proofs.Common.{◌<◌, length, sym, subst}
 use Rattle.std.specs.Prelude.{All}
 use Rattle.std.proofs.lemmas.Bool.{eqb-true, eq-eqb}
-use Rattle.ext_engine.specs.Closers.{IsWithin}
+use Rattle.ext_engine.specs.InnerClosers.{IsWithin}
 use Rattle.ext_engine.proofs.Within.{shown, within-of, at-within}
 use Rattle.ext_engine.proofs.node.closers.is_within.Goals as goal
 

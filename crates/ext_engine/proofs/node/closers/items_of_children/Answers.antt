@@ -1,6 +1,5 @@
 use Rattle.std.proofs.Common.{rules, ◌≡◌, ◌∷◌, true, false, not, length, refl, ap, ◌∙◌, subst, arith}
-use Rattle.ext_tree.specs.Trees.{IsTree}
-use Rattle.ext_tree.specs.Paths.{children_of}
+use Rattle.ext_tree.specs.Trees.{IsTree, children_of}
 use Rattle.ext_engine.specs.declared.node.closers.Item.{Item}
 use Rattle.ext_engine.proofs.Items.{left-first, left-item, left-more, items-first, items-in, items-out, items-few}
 use Rattle.ext_engine.proofs.node.closers.items_of_children.Goals as goal
@@ -19,7 +18,7 @@ pub loop-child-preserved-in_ok-push : goal.loop-child-preserved-in_ok-push
 loop-child-preserved-in_ok-push g c =
     let I = c.loop-child.invariant in let e = c.in_ok-closers.ensures in
     let store = c.args.store.now in let node = c.args.node in let child = c.in-Some.child.now in
-    let p = (g.S.Suite.nodes c.args.suite.now).is_concurrent in
+    let p = (g.S.Suite.suite_view c.args.suite.now).is_concurrent in
     let is : c.loop-child.rest.now ≡ child ∷ c.in-Some.more.now = search rules in
     let passes : p child ≡ true = search rules in
     let tree = subst (λ t. IsTree t) c.tree.ensures c.len-count.ensures.tree in
@@ -35,7 +34,7 @@ pub loop-child-preserved : goal.loop-child-preserved
 loop-child-preserved g c =
     let I = c.loop-child.invariant in let e = c.in_ok-closers.ensures in
     let store = c.args.store.now in let node = c.args.node in let child = c.in-Some.child.now in
-    let p = (g.S.Suite.nodes c.args.suite.now).is_concurrent in
+    let p = (g.S.Suite.suite_view c.args.suite.now).is_concurrent in
     let is : c.loop-child.rest.now ≡ child ∷ c.in-Some.more.now = search rules in
     let fails : p child ≡ false = search rules in
     let tree = subst (λ t. IsTree t) c.tree.ensures c.len-count.ensures.tree in
@@ -49,6 +48,6 @@ loop-child-preserved g c =
 
 pub returns-clause-few : goal.returns-clause-few
 returns-clause-few g c =
-    let few = items-few c.args.store.now c.args.node (g.S.Suite.nodes c.args.suite.now).is_concurrent _ c.loop-child.beside.items c.loop-child.invariant.beside in
+    let few = items-few c.args.store.now c.args.node (g.S.Suite.suite_view c.args.suite.now).is_concurrent _ c.loop-child.beside.items c.loop-child.invariant.beside in
     let e = ap length c.tree.ensures in let f = c.len-count.ensures.count in let m = c.len-count.ensures.few in
     omega (arith, few, e, f, m)

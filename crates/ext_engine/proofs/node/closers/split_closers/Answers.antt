@@ -1,7 +1,7 @@
 use Rattle.std.proofs.Common.{rules, ◌≡◌, ◌++◌, ◌∷◌, [], ◌∙◌, refl, sym, subst, append_assoc, true, false}
 use Rattle.std.proofs.lemmas.List.Elements.{All-push, All-same}
 use Rattle.ext_store.specs.Stores.{IsCloserOf}
-use Rattle.ext_engine.specs.Closers.{IsWithin}
+use Rattle.ext_engine.specs.InnerClosers.{IsWithin}
 use Rattle.ext_engine.proofs.Contexts.{all-mid, keeps-in, keeps-out}
 use Rattle.ext_engine.proofs.node.closers.split_closers.Goals as goal
 

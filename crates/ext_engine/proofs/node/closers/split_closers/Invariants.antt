@@ -1,5 +1,5 @@
 use Rattle.std.proofs.Common.{◌≡◌, ◌++◌}
-use Rattle.ext_engine.specs.Closers.{IsWithin, OfStore}
+use Rattle.ext_engine.specs.InnerClosers.{IsWithin, OfStore}
 use Rattle.ext_engine.proofs.Contexts.{KeepsAll}
 use Rattle.ext_engine.proofs.node.closers.split_closers.Given as goal
 

@@ -1,7 +1,7 @@
 use Rattle.std.proofs.Common.{◌≡◌, ◌≢◌, ◌<◌, length, sym, subst}
 use Rattle.std.specs.Prelude.{All, Contains, slice_index_or}
 use Rattle.ext_store.specs.Stores.{CloserView}
-use Rattle.ext_engine.specs.Closers.{contexts}
+use Rattle.ext_engine.specs.InnerClosers.{contexts}
 use Rattle.ext_engine.proofs.Contexts.{not-among, kept-but}
 use Rattle.ext_engine.proofs.Within.{within-self}
 use Rattle.ext_engine.proofs.node.closers.take_own.Goals as goal

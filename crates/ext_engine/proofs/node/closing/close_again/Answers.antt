@@ -8,7 +8,7 @@ use Rattle.ext_closing.specs.Closing.{NamesUnjoined}
 use Rattle.ext_closing.specs.Lanes.{first_lane}
 use Rattle.ext_closing.specs.Sealing.{numbers_left}
 use Rattle.ext_closing.proofs.Again.{asked_again}
-use Rattle.ext_engine.proofs.Refusals.{same_close, refused_close, count_kept}
+use Rattle.ext_engine.proofs.Refusals.{same_close, refused_close, left_unjoined, count_kept}
 use Rattle.ext_engine.proofs.node.closing.close_again.Goals as goal
 
 pub loop-init : goal.loop-init
@@ -40,8 +40,9 @@ returns-in-Some-unjoined-clause-unjoined g c =
     let e = c.in-Err.ensures in (
       c.loop.lanes,
       inv.own_lanes,
-      subst (λ why. IsRefused g.V.StoreValue.is_closeable g.A.CloseAction.close_gives c.args.store.now c.args.closer c.args.action.now c.loop.lanes why c.close.new.lanes) c.in-Some-unjoined.ensures.number
-          (refused_close g.V.StoreValue.is_closeable g.A.CloseAction.close_gives c.args.store.now c.args.closer c.loop.left c.in-Err.back c.args.action.now c.loop.action c.close.new.action c.loop.lanes c.close.new.lanes c.in-Err.why inv.closer inv.action e.handed_back e.happened.not_called e.happened),
+      left_unjoined g.V.StoreValue.is_closeable g.A.CloseAction.close_gives c.args.store.now c.args.closer c.args.action.now c.loop.lanes c.in-Some-unjoined.number c.close.new.lanes
+          (subst (λ why. IsRefused g.V.StoreValue.is_closeable g.A.CloseAction.close_gives c.args.store.now c.args.closer c.args.action.now c.loop.lanes why c.close.new.lanes) c.in-Some-unjoined.ensures.number
+          (refused_close g.V.StoreValue.is_closeable g.A.CloseAction.close_gives c.args.store.now c.args.closer c.loop.left c.in-Err.back c.args.action.now c.loop.action c.close.new.action c.loop.lanes c.close.new.lanes c.in-Err.why inv.closer inv.action e.handed_back e.happened.not_called e.happened)),
     )
 
 pub loop-preserved : goal.loop-preserved

@@ -1,6 +1,5 @@
 use Rattle.std.proofs.Common.{◌≤◌, ap, arith, length, subst}
-use Rattle.ext_tree.specs.Trees.{id_at}
-use Rattle.ext_tree.specs.Paths.{IsPathOf}
+use Rattle.ext_tree.specs.Trees.{id_at, IsPathOf}
 use Rattle.ext_engine.proofs.Below.{items_below}
 use Rattle.ext_engine.proofs.node.parts.container_parts.Goals as goal
 

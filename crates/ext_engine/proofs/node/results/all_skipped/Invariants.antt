@@ -4,4 +4,4 @@ use Rattle.ext_engine.specs.NodeRun.{all_skipped}
 use Rattle.ext_engine.proofs.node.results.all_skipped.Given as goal
 
 abbrev pub invariant-loop-node : goal.invariant-loop-node
-invariant-loop-node g l = map told l.results.items ≡ all_skipped (g.S.Suite.nodes l.suite) l.node
+invariant-loop-node g l = map told l.results.items ≡ all_skipped (g.S.Suite.suite_view l.suite) l.node

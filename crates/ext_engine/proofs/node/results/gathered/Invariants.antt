@@ -1,7 +1,7 @@
 use Rattle.std.proofs.Common.{◌≡◌, ◌++◌, map}
 use Rattle.std.specs.Prelude.{All, IsOk}
 use Rattle.std.specs.List.{flat_map}
-use Rattle.ext_engine.specs.Helpers.{ran_view, ran_in}
+use Rattle.ext_engine.specs.InnerHelpers.{ran_view, ran_in}
 use Rattle.ext_engine.proofs.node.results.gathered.Given as goal
 
 abbrev pub invariant-loop-ran : goal.invariant-loop-ran

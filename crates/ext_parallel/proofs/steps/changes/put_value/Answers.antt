@@ -1,5 +1,5 @@
 use Rattle.std.proofs.Common.{inl}
-use Rattle.ext_plan.specs.Calls.{call_view}
+use Rattle.ext_plan.specs.StepCalls.{call_view}
 use Rattle.ext_parallel.proofs.Ends.{ends_well}
 use Rattle.ext_parallel.proofs.Framed.{put_framed, then_framed}
 use Rattle.ext_parallel.proofs.Keyed.{step_puts}
@@ -7,7 +7,7 @@ use Rattle.ext_parallel.proofs.Placed.{put_placed}
 use Rattle.ext_parallel.proofs.steps.changes.put_value.Goals as goal
 
 pub end_refused-requires-clause-placed : goal.end_refused-requires-clause-placed
-end_refused-requires-clause-placed g c = put_placed _ _ _ _ _ _ _ _ c.in-Err-put_wait.ensures.answer
+end_refused-requires-clause-placed g c = put_placed c.args.store.now _ _ _ _ _ _ _ c.in-Err-put_wait.ensures.answer
 
 pub returns-in-Ok-put_wait-clause-puts : goal.returns-in-Ok-put_wait-clause-puts
 returns-in-Ok-put_wait-clause-puts g c =

@@ -1,11 +1,11 @@
-use Rattle.ext_plan.specs.Calls.{call_view}
+use Rattle.ext_plan.specs.StepCalls.{call_view}
 use Rattle.ext_parallel.proofs.Ends.{ends_well}
 use Rattle.ext_parallel.proofs.Keyed.{step_removes}
 use Rattle.ext_parallel.proofs.Placed.{remove_placed}
 use Rattle.ext_parallel.proofs.steps.changes.remove_value.Goals as goal
 
 pub end_refused-requires-clause-placed : goal.end_refused-requires-clause-placed
-end_refused-requires-clause-placed g c = remove_placed _ _ _ _ _ _ c.in-Err.ensures.answer
+end_refused-requires-clause-placed g c = remove_placed c.args.store.now _ _ _ _ _ c.in-Err.ensures.answer
 
 pub returns-in-Ok-clause-removes : goal.returns-in-Ok-clause-removes
 returns-in-Ok-clause-removes g c =

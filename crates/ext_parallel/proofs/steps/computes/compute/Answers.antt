@@ -1,6 +1,6 @@
 use Rattle.std.proofs.Common.{refl}
 use Rattle.ext_store.specs.declared.computed.Compute.TheVariants as computes
-use Rattle.ext_plan.specs.Calls.{call_view}
+use Rattle.ext_plan.specs.StepCalls.{call_view}
 use Rattle.ext_parallel.proofs.Ends.{ends_well}
 use Rattle.ext_parallel.proofs.Framed.{then_framed}
 use Rattle.ext_parallel.proofs.Keyed.{step_computes}

@@ -1,6 +1,6 @@
 use Rattle.std.proofs.Common.{List, refl, subst, sym}
 use Rattle.ext_model.specs.declared.look.Look.TheVariants as look
-use Rattle.ext_tree.specs.KeyPlaces.{KnownPlace, IsKeyNumber}
+use Rattle.ext_tree.specs.Keys.{KnownPlace, IsKeyNumber}
 use Rattle.ext_parallel.proofs.Ends.{sees_shown}
 use Rattle.ext_parallel.proofs.Framed.{then_framed}
 use Rattle.ext_parallel.proofs.Keyed.{of_answer}
@@ -28,7 +28,7 @@ returns-in-Ok-Closed-clause-sees g c =
     (n.0, n.1, sees_shown _ _ n.0 c.args.lane.now c.get_wait.new.lane c.get_wait.new.lane _ (look.Closed c.in-Ok-Closed.field-0-0) _ c.in-Ok-Closed.field-0-is n.2 c.in-Ok-Closed.ensures.known c.in-Ok-Closed.ensures.faults refl ((refl, refl), refl))
 
 pub returns-in-Err-clause-refused : goal.returns-in-Err-clause-refused
-returns-in-Err-clause-refused g c = (look_refused _ _ _ _ _ _ c.in-Err.ensures.answer c.in-Err.ensures.decided, (c.in-Err.ensures.known, c.in-Err.ensures.faults))
+returns-in-Err-clause-refused g c = (look_refused c.args.store.now _ _ _ _ _ c.in-Err.ensures.answer c.in-Err.ensures.decided, (c.in-Err.ensures.known, c.in-Err.ensures.faults))
 
 pub returns-in-Ok-Found-clause-frame : goal.returns-in-Ok-Found-clause-frame
 returns-in-Ok-Found-clause-frame g c = then_framed c.args.store.now c.args.lane.now c.get_wait.new.lane c.show.new.lane c.in-Ok-Found.ensures.frame c.show.ensures.frame

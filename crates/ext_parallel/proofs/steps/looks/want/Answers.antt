@@ -1,4 +1,4 @@
-use Rattle.ext_plan.specs.Calls.{call_view}
+use Rattle.ext_plan.specs.StepCalls.{call_view}
 use Rattle.ext_plan.specs.Verdicts.{want_verdict}
 use Rattle.ext_parallel.proofs.Ends.{ends_with}
 use Rattle.ext_parallel.proofs.Keyed.{step_looks, step_refused}

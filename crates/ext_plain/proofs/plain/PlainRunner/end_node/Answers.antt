@@ -1,8 +1,8 @@
 use Rattle.std.proofs.Common.{◌≡◌, ◌∙◌, map, ap}
 use Rattle.ext_lifecycle.specs.FaultTexts.{result_view, results_view}
 use Rattle.ext_plan.specs.Values.{close_fault}
-use Rattle.ext_plain.specs.Closes.{closeables, closes}
-use Rattle.ext_plain.specs.Helpers.{calls_end, state_view}
+use Rattle.ext_plain.specs.ContextEnds.{closeables, faults_of_closes}
+use Rattle.ext_plain.specs.InnerHelpers.{calls_end, state_view}
 use Rattle.ext_plain.specs.ValueStates.{key_limit, with_memory}
 use Rattle.ext_plain.proofs.Memories.{seal_keys-with}
 use Rattle.ext_plain.proofs.Nodes.{end_is, outcome_is}
@@ -18,7 +18,7 @@ returns-clause-end g c = record {
       let sealed = state_view c.seal_keys.new.self in
       let numbers = c.as_slice.ensures.numbers ∙ c.in_ok-numbers.ensures.numbers in
       let closed = map close_fault (closeables sealed.values c.as_slice.result.now) in
-      let told : closed ≡ closes key_limit at sealed = ap (λ ns. map close_fault (closeables sealed.values ns)) numbers in
+      let told : closed ≡ faults_of_closes key_limit at sealed = ap (λ ns. map close_fault (closeables sealed.values ns)) numbers in
       let counted = c.in_ok-closes.ensures in
       let shown = outcome_is at c.args.is_test s closed outcomes counted.faults c.result.result (c.result.ensures outcomes counted.faults tallied counted.counted) counted.texts in
       let results = results_view old.results.items in

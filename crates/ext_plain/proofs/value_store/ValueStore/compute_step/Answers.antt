@@ -1,10 +1,10 @@
 use Rattle.std.proofs.Common.{ℕ, List, ◌∙◌, ap}
-use Rattle.ext_plain.specs.Helpers.{keyed_view, memory_of, state_view}
-use Rattle.ext_plain.specs.Steps.{StepEnd, compute_numbered}
+use Rattle.ext_plain.specs.InnerHelpers.{keyed_view, memory_of, state_view}
+use Rattle.ext_plain.specs.StepRuns.{StepEnd, compute_numbered}
 use Rattle.ext_plain.specs.ValueStates.{Memory, ValueState}
 use Rattle.ext_plain.proofs.KeyedSteps.{full-says, numbered-goes}
 use Rattle.ext_plain.proofs.value_store.ValueStore.compute_step.Goals as goal
-use Rattle.ext_plan.specs.Calls.{CallText, call_view}
+use Rattle.ext_plan.specs.StepCalls.{CallText, call_view}
 use Rattle.ext_plan.specs.Values.{value_view}
 
 pub returns-in-Err : goal.returns-in-Err

@@ -3,11 +3,11 @@ use Rattle.ext_model.specs.declared.event.Act.TheVariants.{Claim}
 use Rattle.ext_model.specs.declared.look.Look.TheVariants as look
 use Rattle.ext_plain.specs.declared.lack.Lack.TheVariants as lacks
 use Rattle.ext_plain.specs.ValueStates.{after_act, reply_to, why_refused}
-use Rattle.ext_plain.specs.Steps.{computefail_by, factory_failed}
-use Rattle.ext_plain.specs.Helpers.{place_of_call, state_view}
+use Rattle.ext_plain.specs.StepRuns.{computefail_by, factory_failed}
+use Rattle.ext_plain.specs.InnerHelpers.{place_of_call, state_view}
 use Rattle.ext_plain.proofs.Lacks.{at_lack, failed-by, refusal-says, refused-same, unplaced}
 use Rattle.ext_plain.proofs.value_store.ValueStore.fail_claimed.Goals as goal
-use Rattle.ext_plan.specs.Calls.{call_view}
+use Rattle.ext_plan.specs.StepCalls.{call_view}
 
 pub returns-in_err-why : goal.returns-in_err-why
 returns-in_err-why c =

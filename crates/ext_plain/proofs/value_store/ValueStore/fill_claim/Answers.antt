@@ -1,10 +1,10 @@
 use Rattle.std.proofs.Common.{◌∙◌, ap, sym, subst}
 use Rattle.ext_model.specs.declared.event.Act.TheVariants.{Abandon}
 use Rattle.ext_plain.specs.ValueStates.{after_act}
-use Rattle.ext_plain.specs.Helpers.{Keeps, IsNotKept, LacksGiven, place_of_call, state_view}
+use Rattle.ext_plain.specs.InnerHelpers.{Keeps, IsNotKept, LacksGiven, place_of_call, state_view}
 use Rattle.ext_plain.proofs.Lacks.{refusal-gives}
 use Rattle.ext_plain.proofs.value_store.ValueStore.fill_claim.Goals as goal
-use Rattle.ext_plan.specs.Calls.{call_view}
+use Rattle.ext_plan.specs.StepCalls.{call_view}
 use Rattle.ext_plan.specs.Values.{value_view}
 
 pub abandon-requires : goal.abandon-requires

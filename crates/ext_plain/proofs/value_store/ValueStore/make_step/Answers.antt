@@ -3,11 +3,11 @@ use Rattle.ext_lifecycle.specs.declared.outcome.Outcome.{Outcome}
 use Rattle.ext_lifecycle.specs.Endings.{is_successful}
 use Rattle.ext_lifecycle.specs.Lifecycle.{ending_of}
 use Rattle.ext_plan.specs.Plans.{step_view}
-use Rattle.ext_plain.specs.Helpers.{memory_of_step, state_view, step_end}
+use Rattle.ext_plain.specs.InnerHelpers.{memory_of_step, state_view, step_end}
 use Rattle.ext_plain.specs.ValueStates.{enough}
 use Rattle.ext_plain.proofs.Few.{IsFew, step-few}
 use Rattle.ext_plain.proofs.value_store.ValueStore.make_step.Goals as goal
-use Rattle.ext_plan.specs.Calls.{keys_in}
+use Rattle.ext_plan.specs.StepCalls.{keys_in}
 
 pub returns-in-Ok : goal.returns-in-Ok
 returns-in-Ok c =

@@ -5,13 +5,13 @@ use Rattle.ext_lifecycle.specs.Lifecycle.{ending_of}
 use Rattle.ext_lifecycle.proofs.OtherFaults.{is_successful-to}
 use Rattle.ext_lifecycle.specs.FaultTexts.{fault_text}
 use Rattle.ext_plan.proofs.Lists.{map-drop}
-use Rattle.ext_plain.specs.Steps.{steps_run}
+use Rattle.ext_plain.specs.StepRuns.{steps_run}
 use Rattle.ext_plain.specs.ValueStates.{with_memory}
-use Rattle.ext_plain.specs.Helpers.{state_view, step_end}
+use Rattle.ext_plain.specs.InnerHelpers.{state_view, step_end}
 use Rattle.ext_plain.proofs.Memories.{first_found, first_found-nothing, next_step-is}
 use Rattle.ext_plain.proofs.Stepping.{after_steps, no_steps, steps-go, steps-stop, steps-end}
 use Rattle.ext_plain.proofs.value_store.ValueStore.run_steps.Goals as goal
-use Rattle.ext_plan.specs.Calls.{keys_in}
+use Rattle.ext_plan.specs.StepCalls.{keys_in}
 
 pub loop-step-init : goal.loop-step-init
 loop-step-init c = record { rest = λ later. (later, sym (no_steps (steps_run (keys_in c.args.keys.now) c.args.path.now (map step_view c.args.steps.now) (with_memory later (state_view c.args.self.now)))), λ none. none); computed = omega arith; found = omega arith }

@@ -1,11 +1,11 @@
 use Rattle.std.proofs.Common.{◌≡◌, ◌≤◌, List, [], drop, map}
 use Rattle.ext_plan.specs.Plans.{step_view}
-use Rattle.ext_plain.specs.Steps.{steps_run}
+use Rattle.ext_plain.specs.StepRuns.{steps_run}
 use Rattle.ext_plain.specs.ValueStates.{Memory, with_memory}
-use Rattle.ext_plain.specs.Helpers.{state_view}
+use Rattle.ext_plain.specs.InnerHelpers.{state_view}
 use Rattle.ext_plain.proofs.Stepping.{after_steps}
 use Rattle.ext_plain.proofs.value_store.ValueStore.run_steps.Given as goal
-use Rattle.ext_plan.specs.Calls.{keys_in}
+use Rattle.ext_plan.specs.StepCalls.{keys_in}
 
 abbrev pub invariant-loop-step : goal.invariant-loop-step
 invariant-loop-step l = record {

@@ -1,7 +1,7 @@
 use Rattle.std.proofs.Common.{◌≡◌, drop}
 use Rattle.std.specs.Prelude.{fold, map}
 use Rattle.ext_plan.specs.Plans.{nodes_view}
-use Rattle.ext_plan.specs.Locks.{lock_names, named_locks, with_name}
+use Rattle.ext_plan.specs.LockNames.{lock_names, named_locks, with_name}
 use Rattle.ext_plan.proofs.plan.Plan.lock_names.Given as goal
 
 abbrev pub invariant-loop-node : goal.invariant-loop-node

@@ -1,133 +1,26 @@
-use Rattle.std.proofs.Common.{◌≡◌, [], sym, refl, ap, ◌∙◌, subst}
+use Rattle.std.proofs.Common.{[], sym, ◌∙◌, subst}
 use Rattle.std.specs.Prelude.{Ok, Err}
 use Rattle.std.specs.Fn.{FnOnceReturnsAt}
-use Rattle.ext_cells.specs.Lanes.{Lane}
 use Rattle.ext_values.specs.Known.{Learns}
-use Rattle.ext_store.specs.Stores.{StoreLane, StoreView}
-use Rattle.ext_store.specs.Computing.{ComputesFrom, Computes, Uses, without_factory}
-use Rattle.ext_shared.specs.Claiming.{ClaimsMissing}
+use Rattle.ext_store.specs.Computing.{ClaimsMissing, ComputesFrom, Computes, without_factory}
 use Rattle.ext_store.proofs.Frames.{frame_keeps, frame_known, frame_lane, frames_compose}
-use Rattle.ext_store.proofs.Composing.{unused_computes, for_path, ends_failed, failed_uses, failed_back, failed_apart, failed_faultless, computes, keeps_not, claim_frame}
-use Rattle.ext_store.proofs.Faulting.{unused_faultless}
-use Rattle.ext_store.proofs.Unused.{unused_apart, unused_back, unused_uses}
+use Rattle.ext_store.proofs.Composing.{unused_computes, for_path, ends_failed, failed_uses, failed_back, failed_apart, failed_faultless, computes, keeps_not}
+use Rattle.ext_store.proofs.Faulting.{handed_faultless}
+use Rattle.ext_store.proofs.Numbered.{uses_later}
+use Rattle.ext_store.proofs.Uncalled.{unused_apart, unused_back, unused_uses}
 use Rattle.ext_store.proofs.store.Store.compute_named.Goals as goal
 
 pub returns-in-Err-clause-answer : goal.returns-in-Err-clause-answer
 returns-in-Err-clause-answer g c =
     let s = c.args.self.now in
-    let lane : c.lane.inside.cells ≡ c.args.lane.now.cells = ap (λ (l : StoreLane g.row.V.Denot). l.cells) c.lane.view_is in
     let a = c.args.lane.now.cells in
-    let b = c.claim_missing.new.lane in
-    let m : ClaimsMissing s c.args.context c.args.key a.view b.view (Err c.in-Err.why) =
-    subst (λ (z : StoreView × Lane). ClaimsMissing z.0 c.args.context c.args.key z.1.view b.view (Err c.in-Err.why)) (λ i. (c.self.view_is i, lane i)) c.in-Err.ensures.claim in
+    let b = c.begin_numbered.new.lane.cells in
+    let m : ClaimsMissing s c.args.context c.args.key a.view b.view (Err c.in-Err.why) = c.in-Err.ensures.answer in
     subst (λ r. Computes s c.args.context c.args.key a b (without_factory r)) (sym c.hand_back.ensures)
     (for_path s c.args.context m.0 c.args.key a b _ c.requires.lane.cells m.1 (unused_computes g.row.V.Denot s c.args.context m.0 c.args.key a.view b.view c.args.factory c.in-Err.why m.2))
 
-pub returns-in-Err-clause-frame : goal.returns-in-Err-clause-frame
-returns-in-Err-clause-frame g c =
-    claim_frame c.args.self.now.id (record { cells = c.lane.inside.cells; known = c.lane.inside.notes; faults = c.lane.inside.faults; keys = c.lane.inside.keys }) c.args.lane.now (record { cells = c.claim_missing.new.lane; known = c.lane.inside.notes; faults = c.lane.inside.faults; keys = c.lane.inside.keys }) c.lane.view_is c.requires.lane c.claim_missing.ensures.lane refl
-    c.self.inside.shared (ap (λ (s : StoreView). s.id) c.self.view_is) c.args.context c.args.key (Err c.in-Err.why) c.in-Err.ensures.claim
-
-pub returns-in-Err-clause-kept : goal.returns-in-Err-clause-kept
-returns-in-Err-clause-kept g c = frame_keeps c.args.self.now.id c.args.lane.now (record { cells = c.claim_missing.new.lane; known = c.lane.inside.notes; faults = c.lane.inside.faults; keys = c.lane.inside.keys }) (returns-in-Err-clause-frame g c)
-
-pub returns-in-Ok-keep_and_fill-clause-answer : goal.returns-in-Ok-keep_and_fill-clause-answer
-unfolding ComputesFrom
-returns-in-Ok-keep_and_fill-clause-answer g c =
-    let s = c.args.self.now in
-    let lane : c.lane.inside.cells ≡ c.args.lane.now.cells = ap (λ (l : StoreLane g.row.V.Denot). l.cells) c.lane.view_is in
-    let a = c.args.lane.now.cells in
-    let b = c.claim_missing.new.lane in
-    let m : ClaimsMissing s c.args.context c.args.key a.view b.view (Ok c.in-Ok.claim) =
-    subst (λ (z : StoreView × Lane). ClaimsMissing z.0 c.args.context c.args.key z.1.view b.view (Ok c.in-Ok.claim)) (λ i. (c.self.view_is i, lane i)) c.in-Ok.ensures.claim in
-    for_path s c.args.context m.0 c.args.key a c.keep_and_fill.new.lane.cells _ c.requires.lane.cells m.1
-    (computes s c.args.context m.0 c.args.key c.in-Ok.claim a.view b.view c.keep_and_fill.new.lane.cells.view m.2 c.in-Ok-keep_and_fill.number c.in-Ok-keep_and_fill.ensures.events)
-
-pub returns-in-Err-keep_and_fill-clause-answer : goal.returns-in-Err-keep_and_fill-clause-answer
-unfolding ComputesFrom
-returns-in-Err-keep_and_fill-clause-answer g c =
-    let s = c.args.self.now in
-    let lane : c.lane.inside.cells ≡ c.args.lane.now.cells = ap (λ (l : StoreLane g.row.V.Denot). l.cells) c.lane.view_is in
-    let a = c.args.lane.now.cells in
-    let b = c.claim_missing.new.lane in
-    let m : ClaimsMissing s c.args.context c.args.key a.view b.view (Ok c.in-Ok.claim) =
-    subst (λ (z : StoreView × Lane). ClaimsMissing z.0 c.args.context c.args.key z.1.view b.view (Ok c.in-Ok.claim)) (λ i. (c.self.view_is i, lane i)) c.in-Ok.ensures.claim in
-    for_path s c.args.context m.0 c.args.key a c.keep_and_fill.new.lane.cells _ c.requires.lane.cells m.1
-    (keeps_not s c.args.context m.0 c.args.key c.in-Ok.claim a.view b.view c.keep_and_fill.new.lane.cells.view m.2 c.in-Err-keep_and_fill.cause c.in-Err-keep_and_fill.ensures.events)
-
-pub returns-in-Ok-keep_and_fill-clause-frame : goal.returns-in-Ok-keep_and_fill-clause-frame
-returns-in-Ok-keep_and_fill-clause-frame g c =
-    let s = c.args.self.now in
-    let inside : StoreLane g.row.V.Denot = record { cells = c.lane.inside.cells; known = c.lane.inside.notes; faults = c.lane.inside.faults; keys = c.lane.inside.keys } in
-    let claimed : StoreLane g.row.V.Denot = record { cells = c.claim_missing.new.lane; known = c.lane.inside.notes; faults = c.lane.inside.faults; keys = c.lane.inside.keys } in
-    frames_compose s.id [] [] c.args.lane.now claimed c.keep_and_fill.new.lane
-    (claim_frame s.id inside c.args.lane.now claimed c.lane.view_is c.requires.lane c.claim_missing.ensures.lane refl c.self.inside.shared (ap (λ (s : StoreView). s.id) c.self.view_is) c.args.context c.args.key (Ok c.in-Ok.claim) c.in-Ok.ensures.claim) c.keep_and_fill.ensures.frame
-
-pub returns-in-Ok-keep_and_fill-clause-kept : goal.returns-in-Ok-keep_and_fill-clause-kept
-returns-in-Ok-keep_and_fill-clause-kept g c = frame_keeps c.args.self.now.id c.args.lane.now c.keep_and_fill.new.lane (returns-in-Ok-keep_and_fill-clause-frame g c)
-
-pub returns-in-Err-keep_and_fill-clause-frame : goal.returns-in-Err-keep_and_fill-clause-frame
-returns-in-Err-keep_and_fill-clause-frame g c =
-    let s = c.args.self.now in
-    let inside : StoreLane g.row.V.Denot = record { cells = c.lane.inside.cells; known = c.lane.inside.notes; faults = c.lane.inside.faults; keys = c.lane.inside.keys } in
-    let claimed : StoreLane g.row.V.Denot = record { cells = c.claim_missing.new.lane; known = c.lane.inside.notes; faults = c.lane.inside.faults; keys = c.lane.inside.keys } in
-    frames_compose s.id [] [] c.args.lane.now claimed c.keep_and_fill.new.lane
-    (claim_frame s.id inside c.args.lane.now claimed c.lane.view_is c.requires.lane c.claim_missing.ensures.lane refl c.self.inside.shared (ap (λ (s : StoreView). s.id) c.self.view_is) c.args.context c.args.key (Ok c.in-Ok.claim) c.in-Ok.ensures.claim) c.keep_and_fill.ensures.frame
-
-pub returns-in-Err-keep_and_fill-clause-kept : goal.returns-in-Err-keep_and_fill-clause-kept
-returns-in-Err-keep_and_fill-clause-kept g c = frame_keeps c.args.self.now.id c.args.lane.now c.keep_and_fill.new.lane (returns-in-Err-keep_and_fill-clause-frame g c)
-
--- what was kept before is kept while the cell is claimed, and then it is none that is drawn
-pub returns-in-Ok-keep_and_fill-clause-apart : goal.returns-in-Ok-keep_and_fill-clause-apart
-returns-in-Ok-keep_and_fill-clause-apart g c m kept =
-    let s = c.args.self.now in
-    let inside : StoreLane g.row.V.Denot = record { cells = c.lane.inside.cells; known = c.lane.inside.notes; faults = c.lane.inside.faults; keys = c.lane.inside.keys } in
-    let claimed : StoreLane g.row.V.Denot = record { cells = c.claim_missing.new.lane; known = c.lane.inside.notes; faults = c.lane.inside.faults; keys = c.lane.inside.keys } in
-    c.in-Ok-keep_and_fill.ensures.apart m
-    (frame_keeps s.id c.args.lane.now claimed
-    (claim_frame s.id inside c.args.lane.now claimed c.lane.view_is c.requires.lane c.claim_missing.ensures.lane refl c.self.inside.shared (ap (λ (s : StoreView). s.id) c.self.view_is) c.args.context c.args.key (Ok c.in-Ok.claim) c.in-Ok.ensures.claim) m kept)
-
--- what the factory answered it answered for the key of the number
-
-pub returns-in-Ok-keep_and_fill-clause-factory : goal.returns-in-Ok-keep_and_fill-clause-factory
-returns-in-Ok-keep_and_fill-clause-factory g c =
-    let learnt = subst (λ (l : StoreLane g.row.V.Denot). Learns l.known c.keep_and_fill.new.lane.known c.in-Ok-keep_and_fill.number c.in-Ok-run_factory.value) c.lane.view_is c.in-Ok-keep_and_fill.ensures.known in
-    (c.in-Ok-run_factory.value, c.in-Ok-run_factory.ensures, learnt, c.keep_and_fill.ensures.faults ∙ ap (λ (l : StoreLane g.row.V.Denot). l.faults) c.lane.view_is)
-
-pub returns-in-Err-keep_and_fill-clause-factory : goal.returns-in-Err-keep_and_fill-clause-factory
-returns-in-Err-keep_and_fill-clause-factory g c =
-    let kept = c.in-Err-keep_and_fill.ensures.known in
-    let returned = subst (λ value. FnOnceReturnsAt g.F.FnOnce c.args.factory c.args.name.now (Ok value)) (sym kept.0) c.in-Ok-run_factory.ensures in
-    (returned, kept.1 ∙ ap (λ (l : StoreLane g.row.V.Denot). l.known) c.lane.view_is, c.keep_and_fill.ensures.faults ∙ ap (λ (l : StoreLane g.row.V.Denot). l.faults) c.lane.view_is)
-
--- ---- what the frames say, and what comes of a factory that is not called
-
-pub returns-in-Err-clause-lane : goal.returns-in-Err-clause-lane
-returns-in-Err-clause-lane g c = frame_lane c.args.self.now.id [] c.args.lane.now (record { cells = c.claim_missing.new.lane; known = c.lane.inside.notes; faults = c.lane.inside.faults; keys = c.lane.inside.keys }) (returns-in-Err-clause-frame g c)
-
 pub returns-in-Err-clause-known : goal.returns-in-Err-clause-known
-returns-in-Err-clause-known g c = frame_known c.args.self.now.id [] c.args.lane.now (record { cells = c.claim_missing.new.lane; known = c.lane.inside.notes; faults = c.lane.inside.faults; keys = c.lane.inside.keys }) (returns-in-Err-clause-frame g c)
-
-pub returns-in-Ok-keep_and_fill-clause-lane : goal.returns-in-Ok-keep_and_fill-clause-lane
-returns-in-Ok-keep_and_fill-clause-lane g c = frame_lane c.args.self.now.id [] c.args.lane.now c.keep_and_fill.new.lane (returns-in-Ok-keep_and_fill-clause-frame g c)
-
-pub returns-in-Ok-keep_and_fill-clause-known : goal.returns-in-Ok-keep_and_fill-clause-known
-returns-in-Ok-keep_and_fill-clause-known g c = frame_known c.args.self.now.id [] c.args.lane.now c.keep_and_fill.new.lane (returns-in-Ok-keep_and_fill-clause-frame g c)
-
-pub returns-in-Ok-keep_and_fill-clause-handed_back : goal.returns-in-Ok-keep_and_fill-clause-handed_back
-returns-in-Ok-keep_and_fill-clause-handed_back g c = tt
-
-pub returns-in-Err-keep_and_fill-clause-lane : goal.returns-in-Err-keep_and_fill-clause-lane
-returns-in-Err-keep_and_fill-clause-lane g c = frame_lane c.args.self.now.id [] c.args.lane.now c.keep_and_fill.new.lane (returns-in-Err-keep_and_fill-clause-frame g c)
-
-pub returns-in-Err-keep_and_fill-clause-known : goal.returns-in-Err-keep_and_fill-clause-known
-returns-in-Err-keep_and_fill-clause-known g c = frame_known c.args.self.now.id [] c.args.lane.now c.keep_and_fill.new.lane (returns-in-Err-keep_and_fill-clause-frame g c)
-
-pub returns-in-Err-keep_and_fill-clause-handed_back : goal.returns-in-Err-keep_and_fill-clause-handed_back
-returns-in-Err-keep_and_fill-clause-handed_back g c = tt
-
-pub returns-in-Err-keep_and_fill-clause-apart : goal.returns-in-Err-keep_and_fill-clause-apart
-returns-in-Err-keep_and_fill-clause-apart g c = tt
+returns-in-Err-clause-known g c = frame_known c.args.self.now.id [] c.args.lane.now c.begin_numbered.new.lane c.begin_numbered.ensures.frame
 
 pub returns-in-Err-clause-handed_back : goal.returns-in-Err-clause-handed_back
 returns-in-Err-clause-handed_back g c = unused_back c.args.factory c.in-Err.why c.hand_back.result c.hand_back.ensures
@@ -136,29 +29,90 @@ pub returns-in-Err-clause-apart : goal.returns-in-Err-clause-apart
 returns-in-Err-clause-apart g c = unused_apart c.args.factory c.in-Err.why c.hand_back.result c.hand_back.ensures _
 
 pub returns-in-Err-clause-factory : goal.returns-in-Err-clause-factory
-returns-in-Err-clause-factory g c = unused_uses c.args.factory c.in-Err.why c.hand_back.result c.hand_back.ensures (λ answer. FnOnceReturnsAt g.F.FnOnce c.args.factory c.args.name.now answer) c.args.lane.now (record { cells = c.claim_missing.new.lane; known = c.lane.inside.notes; faults = c.lane.inside.faults; keys = c.lane.inside.keys }) (ap (λ (l : StoreLane g.row.V.Denot). l.known) c.lane.view_is) (ap (λ (l : StoreLane g.row.V.Denot). l.faults) c.lane.view_is)
+returns-in-Err-clause-factory g c =
+    unused_uses c.args.factory c.in-Err.why c.hand_back.result c.hand_back.ensures (λ answer. FnOnceReturnsAt g.F.FnOnce c.args.factory c.args.name.now answer) c.args.lane.now c.begin_numbered.new.lane c.begin_numbered.ensures.known c.begin_numbered.ensures.faults
+
+pub returns-in-Err-clause-no_faults : goal.returns-in-Err-clause-no_faults
+returns-in-Err-clause-no_faults g c off = handed_faultless c.args.factory c.in-Err.why c.hand_back.result c.hand_back.ensures (c.in-Err.ensures.no_faults off)
+
+-- ---- where the factory answered a value
+
+pub returns-in-Ok-fill-clause-answer : goal.returns-in-Ok-fill-clause-answer
+unfolding ComputesFrom
+returns-in-Ok-fill-clause-answer g c =
+    let s = c.args.self.now in
+    let a = c.args.lane.now.cells in
+    let b = c.begin_numbered.new.lane.cells in
+    let m : ClaimsMissing s c.args.context c.args.key a.view b.view (Ok c.in-Ok.claim) = c.in-Ok.ensures.answer in
+    for_path s c.args.context m.0 c.args.key a c.fill.new.lane.cells _ c.requires.lane.cells m.1
+    (computes s c.args.context m.0 c.args.key c.in-Ok.claim a.view b.view c.fill.new.lane.cells.view m.2 c.in-Ok-fill.number c.in-Ok-fill.ensures.events)
+
+pub returns-in-Err-fill-clause-answer : goal.returns-in-Err-fill-clause-answer
+unfolding ComputesFrom
+returns-in-Err-fill-clause-answer g c =
+    let s = c.args.self.now in
+    let a = c.args.lane.now.cells in
+    let b = c.begin_numbered.new.lane.cells in
+    let m : ClaimsMissing s c.args.context c.args.key a.view b.view (Ok c.in-Ok.claim) = c.in-Ok.ensures.answer in
+    for_path s c.args.context m.0 c.args.key a c.fill.new.lane.cells _ c.requires.lane.cells m.1
+    (keeps_not s c.args.context m.0 c.args.key c.in-Ok.claim a.view b.view c.fill.new.lane.cells.view m.2 c.in-Err-fill.cause c.in-Err-fill.ensures.events)
+
+pub returns-in-Ok-fill-clause-frame : goal.returns-in-Ok-fill-clause-frame
+returns-in-Ok-fill-clause-frame g c = frames_compose c.args.self.now.id [] [] c.args.lane.now c.begin_numbered.new.lane c.fill.new.lane c.begin_numbered.ensures.frame c.fill.ensures.frame
+
+pub returns-in-Ok-fill-clause-kept : goal.returns-in-Ok-fill-clause-kept
+returns-in-Ok-fill-clause-kept g c = frame_keeps c.args.self.now.id c.args.lane.now c.fill.new.lane (returns-in-Ok-fill-clause-frame g c)
+
+pub returns-in-Ok-fill-clause-known : goal.returns-in-Ok-fill-clause-known
+returns-in-Ok-fill-clause-known g c = frame_known c.args.self.now.id [] c.args.lane.now c.fill.new.lane (returns-in-Ok-fill-clause-frame g c)
+
+pub returns-in-Err-fill-clause-frame : goal.returns-in-Err-fill-clause-frame
+returns-in-Err-fill-clause-frame g c = frames_compose c.args.self.now.id [] [] c.args.lane.now c.begin_numbered.new.lane c.fill.new.lane c.begin_numbered.ensures.frame c.fill.ensures.frame
+
+pub returns-in-Err-fill-clause-kept : goal.returns-in-Err-fill-clause-kept
+returns-in-Err-fill-clause-kept g c = frame_keeps c.args.self.now.id c.args.lane.now c.fill.new.lane (returns-in-Err-fill-clause-frame g c)
+
+pub returns-in-Err-fill-clause-known : goal.returns-in-Err-fill-clause-known
+returns-in-Err-fill-clause-known g c = frame_known c.args.self.now.id [] c.args.lane.now c.fill.new.lane (returns-in-Err-fill-clause-frame g c)
+
+-- what was kept before is kept while the cell is claimed, and then it is none that is drawn
+pub returns-in-Ok-fill-clause-apart : goal.returns-in-Ok-fill-clause-apart
+returns-in-Ok-fill-clause-apart g c m kept = c.in-Ok-fill.ensures.apart m (c.begin_numbered.ensures.kept m kept)
+
+pub returns-in-Err-fill-clause-apart : goal.returns-in-Err-fill-clause-apart
+returns-in-Err-fill-clause-apart g c = tt
+
+pub returns-in-Ok-fill-clause-handed_back : goal.returns-in-Ok-fill-clause-handed_back
+returns-in-Ok-fill-clause-handed_back g c = tt
+
+pub returns-in-Err-fill-clause-handed_back : goal.returns-in-Err-fill-clause-handed_back
+returns-in-Err-fill-clause-handed_back g c = tt
+
+-- what the factory answered it answered for the key of the number
+pub returns-in-Ok-fill-clause-factory : goal.returns-in-Ok-fill-clause-factory
+returns-in-Ok-fill-clause-factory g c =
+    let learnt = subst (λ l. Learns l c.fill.new.lane.known c.in-Ok-fill.number c.in-Ok-run_factory.value) c.begin_numbered.ensures.known c.in-Ok-fill.ensures.known in
+    (c.in-Ok-run_factory.value, c.in-Ok-run_factory.ensures, learnt, c.fill.ensures.faults ∙ c.begin_numbered.ensures.faults)
+
+pub returns-in-Err-fill-clause-factory : goal.returns-in-Err-fill-clause-factory
+returns-in-Err-fill-clause-factory g c =
+    let kept = c.in-Err-fill.ensures.known in
+    let returned = subst (λ value. FnOnceReturnsAt g.F.FnOnce c.args.factory c.args.name.now (Ok value)) (sym kept.0) c.in-Ok-run_factory.ensures in
+    (returned, kept.1 ∙ c.begin_numbered.ensures.known, c.fill.ensures.faults ∙ c.begin_numbered.ensures.faults)
 
 -- ---- where the factory failed
 
 pub returns-in-Err-run_factory-clause-answer : goal.returns-in-Err-run_factory-clause-answer
 returns-in-Err-run_factory-clause-answer g c =
     let s = c.args.self.now in
-    let lane : c.lane.inside.cells ≡ c.args.lane.now.cells = ap (λ (l : StoreLane g.row.V.Denot). l.cells) c.lane.view_is in
     let a = c.args.lane.now.cells in
-    let b = c.claim_missing.new.lane in
-    let claimed : StoreLane g.row.V.Denot = (record { cells = c.claim_missing.new.lane; known = c.lane.inside.notes; faults = c.lane.inside.faults; keys = c.lane.inside.keys }) in
-    let m : ClaimsMissing s c.args.context c.args.key a.view b.view (Ok c.in-Ok.claim) =
-    subst (λ (z : StoreView × Lane). ClaimsMissing z.0 c.args.context c.args.key z.1.view b.view (Ok c.in-Ok.claim)) (λ i. (c.self.view_is i, lane i)) c.in-Ok.ensures.claim in
+    let b = c.begin_numbered.new.lane in
+    let m : ClaimsMissing s c.args.context c.args.key a.view b.cells.view (Ok c.in-Ok.claim) = c.in-Ok.ensures.answer in
     for_path s c.args.context m.0 c.args.key a c.end_failed.new.lane.cells _ c.requires.lane.cells m.1
-    (ends_failed s c.in-Err-run_factory.fault c.in-Ok.claim claimed c.end_failed.new.lane c.args.context m.0 c.args.key a.view m.2 (without_factory c.end_failed.result) c.end_failed.ensures.ends)
+    (ends_failed s c.in-Err-run_factory.fault c.in-Ok.claim b c.end_failed.new.lane c.args.context m.0 c.args.key a.view m.2 (without_factory c.end_failed.result) c.end_failed.ensures.ends)
 
 pub returns-in-Err-run_factory-clause-frame : goal.returns-in-Err-run_factory-clause-frame
-returns-in-Err-run_factory-clause-frame g c =
-    let s = c.args.self.now in
-    let inside : StoreLane g.row.V.Denot = record { cells = c.lane.inside.cells; known = c.lane.inside.notes; faults = c.lane.inside.faults; keys = c.lane.inside.keys } in
-    let claimed : StoreLane g.row.V.Denot = (record { cells = c.claim_missing.new.lane; known = c.lane.inside.notes; faults = c.lane.inside.faults; keys = c.lane.inside.keys }) in
-    frames_compose s.id [] [] c.args.lane.now claimed c.end_failed.new.lane
-    (claim_frame s.id inside c.args.lane.now claimed c.lane.view_is c.requires.lane c.claim_missing.ensures.lane refl c.self.inside.shared (ap (λ (s : StoreView). s.id) c.self.view_is) c.args.context c.args.key (Ok c.in-Ok.claim) c.in-Ok.ensures.claim) c.end_failed.ensures.frame
+returns-in-Err-run_factory-clause-frame g c = frames_compose c.args.self.now.id [] [] c.args.lane.now c.begin_numbered.new.lane c.end_failed.new.lane c.begin_numbered.ensures.frame c.end_failed.ensures.frame
 
 pub returns-in-Err-run_factory-clause-kept : goal.returns-in-Err-run_factory-clause-kept
 returns-in-Err-run_factory-clause-kept g c = frame_keeps c.args.self.now.id c.args.lane.now c.end_failed.new.lane (returns-in-Err-run_factory-clause-frame g c)
@@ -171,26 +125,14 @@ returns-in-Err-run_factory-clause-known g c = frame_known c.args.self.now.id [] 
 
 pub returns-in-Err-run_factory-clause-factory : goal.returns-in-Err-run_factory-clause-factory
 returns-in-Err-run_factory-clause-factory g c =
-    let s = c.args.self.now in
-    let claimed : StoreLane g.row.V.Denot = (record { cells = c.claim_missing.new.lane; known = c.lane.inside.notes; faults = c.lane.inside.faults; keys = c.lane.inside.keys }) in
-    let used = failed_uses s c.in-Err-run_factory.fault c.in-Ok.claim claimed c.end_failed.new.lane (λ answer. FnOnceReturnsAt g.F.FnOnce c.args.factory c.args.name.now answer) c.in-Err-run_factory.ensures (without_factory c.end_failed.result) c.end_failed.ensures.ends in
-    subst (λ (z : StoreLane g.row.V.Denot). Uses (λ answer. FnOnceReturnsAt g.F.FnOnce c.args.factory c.args.name.now answer) (record { cells = claimed.cells; known = z.known; faults = z.faults; keys = z.keys }) c.end_failed.new.lane (without_factory c.end_failed.result)) c.lane.view_is used
+    uses_later (λ answer. FnOnceReturnsAt g.F.FnOnce c.args.factory c.args.name.now answer) c.args.lane.now c.begin_numbered.new.lane c.end_failed.new.lane c.begin_numbered.ensures.known c.begin_numbered.ensures.faults (without_factory c.end_failed.result)
+    (failed_uses c.args.self.now c.in-Err-run_factory.fault c.in-Ok.claim c.begin_numbered.new.lane c.end_failed.new.lane (λ answer. FnOnceReturnsAt g.F.FnOnce c.args.factory c.args.name.now answer) c.in-Err-run_factory.ensures (without_factory c.end_failed.result) c.end_failed.ensures.ends)
 
 pub returns-in-Err-run_factory-clause-handed_back : goal.returns-in-Err-run_factory-clause-handed_back
-returns-in-Err-run_factory-clause-handed_back g c = failed_back c.args.self.now c.in-Err-run_factory.fault c.in-Ok.claim (record { cells = c.claim_missing.new.lane; known = c.lane.inside.notes; faults = c.lane.inside.faults; keys = c.lane.inside.keys }) c.end_failed.new.lane c.args.factory c.end_failed.result c.end_failed.ensures.ends
+returns-in-Err-run_factory-clause-handed_back g c = failed_back c.args.self.now c.in-Err-run_factory.fault c.in-Ok.claim c.begin_numbered.new.lane c.end_failed.new.lane c.args.factory c.end_failed.result c.end_failed.ensures.ends
 
 pub returns-in-Err-run_factory-clause-apart : goal.returns-in-Err-run_factory-clause-apart
-returns-in-Err-run_factory-clause-apart g c = failed_apart c.args.self.now c.in-Err-run_factory.fault c.in-Ok.claim (record { cells = c.claim_missing.new.lane; known = c.lane.inside.notes; faults = c.lane.inside.faults; keys = c.lane.inside.keys }) c.end_failed.new.lane _ c.end_failed.result c.end_failed.ensures.ends
+returns-in-Err-run_factory-clause-apart g c = failed_apart c.args.self.now c.in-Err-run_factory.fault c.in-Ok.claim c.begin_numbered.new.lane c.end_failed.new.lane _ c.end_failed.result c.end_failed.ensures.ends
 
 pub returns-in-Err-run_factory-clause-no_faults : goal.returns-in-Err-run_factory-clause-no_faults
-returns-in-Err-run_factory-clause-no_faults g c off = failed_faultless c.args.self.now c.in-Err-run_factory.fault c.in-Ok.claim (record { cells = c.claim_missing.new.lane; known = c.lane.inside.notes; faults = c.lane.inside.faults; keys = c.lane.inside.keys }) c.end_failed.new.lane off c.end_failed.result c.end_failed.ensures.ends
-
-pub returns-in-Err-clause-no_faults : goal.returns-in-Err-clause-no_faults
-returns-in-Err-clause-no_faults g c off =
-    let s = c.args.self.now in
-    let lane : c.lane.inside.cells ≡ c.args.lane.now.cells = ap (λ (l : StoreLane g.row.V.Denot). l.cells) c.lane.view_is in
-    let a = c.args.lane.now.cells in
-    let b = c.claim_missing.new.lane in
-    let m : ClaimsMissing s c.args.context c.args.key a.view b.view (Err c.in-Err.why) =
-    subst (λ (z : StoreView × Lane). ClaimsMissing z.0 c.args.context c.args.key z.1.view b.view (Err c.in-Err.why)) (λ i. (c.self.view_is i, lane i)) c.in-Err.ensures.claim in
-    unused_faultless s c.args.context m.0 c.args.key a.view b.view c.args.factory c.in-Err.why c.hand_back.result c.hand_back.ensures m.2 off
+returns-in-Err-run_factory-clause-no_faults g c off = failed_faultless c.args.self.now c.in-Err-run_factory.fault c.in-Ok.claim c.begin_numbered.new.lane c.end_failed.new.lane off c.end_failed.result c.end_failed.ensures.ends

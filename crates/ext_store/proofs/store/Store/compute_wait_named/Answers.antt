@@ -10,7 +10,7 @@ use Rattle.ext_store.proofs.Frames.{frame_keeps, frame_known, frame_lane, frames
 use Rattle.ext_store.proofs.Composing.{unused_computes, ends_failed, failed_uses, failed_back, failed_apart, failed_faultless, computes, keeps_not}
 use Rattle.ext_store.proofs.Waited.{computes_later, waits_frame}
 use Rattle.ext_store.proofs.Faulting.{unused_faultless}
-use Rattle.ext_store.proofs.Unused.{unused_apart, unused_back, unused_decided, unused_uses}
+use Rattle.ext_store.proofs.Uncalled.{unused_apart, unused_back, unused_decided, unused_uses}
 use Rattle.ext_store.proofs.store.Store.compute_wait_named.Goals as goal
 
 pub returns-in-Err-clause-answer : goal.returns-in-Err-clause-answer
@@ -27,7 +27,7 @@ returns-in-Err-clause-answer g c =
 pub returns-in-Err-clause-frame : goal.returns-in-Err-clause-frame
 returns-in-Err-clause-frame g c =
     waits_frame c.args.self.now.id (record { cells = c.lane.inside.cells; known = c.lane.inside.notes; faults = c.lane.inside.faults; keys = c.lane.inside.keys }) c.args.lane.now (record { cells = c.wait_to_claim.new.lane; known = c.lane.inside.notes; faults = c.lane.inside.faults; keys = c.lane.inside.keys }) c.lane.view_is c.requires.lane c.wait_to_claim.ensures.lane refl
-    c.self.inside.shared (ap (λ (s : StoreView). s.id) c.self.view_is) c.args.context c.args.key (Err c.in-Err.why) c.in-Err.ensures.claim
+    c.self.inside.shared (ap (λ (s : StoreView). s.id.cells) c.self.view_is) c.args.context c.args.key (Err c.in-Err.why) c.in-Err.ensures.claim
 
 pub returns-in-Err-clause-kept : goal.returns-in-Err-clause-kept
 returns-in-Err-clause-kept g c = frame_keeps c.args.self.now.id c.args.lane.now (record { cells = c.wait_to_claim.new.lane; known = c.lane.inside.notes; faults = c.lane.inside.faults; keys = c.lane.inside.keys }) (returns-in-Err-clause-frame g c)
@@ -62,7 +62,7 @@ returns-in-Ok-wait_to_fill-clause-frame g c =
     let inside : StoreLane g.row.V.Denot = record { cells = c.lane.inside.cells; known = c.lane.inside.notes; faults = c.lane.inside.faults; keys = c.lane.inside.keys } in
     let claimed : StoreLane g.row.V.Denot = record { cells = c.wait_to_claim.new.lane; known = c.lane.inside.notes; faults = c.lane.inside.faults; keys = c.lane.inside.keys } in
     frames_compose s.id [] [] c.args.lane.now claimed c.wait_to_fill.new.lane
-    (waits_frame s.id inside c.args.lane.now claimed c.lane.view_is c.requires.lane c.wait_to_claim.ensures.lane refl c.self.inside.shared (ap (λ (s : StoreView). s.id) c.self.view_is) c.args.context c.args.key (Ok c.in-Ok.claim) c.in-Ok.ensures.claim) c.wait_to_fill.ensures.frame
+    (waits_frame s.id inside c.args.lane.now claimed c.lane.view_is c.requires.lane c.wait_to_claim.ensures.lane refl c.self.inside.shared (ap (λ (s : StoreView). s.id.cells) c.self.view_is) c.args.context c.args.key (Ok c.in-Ok.claim) c.in-Ok.ensures.claim) c.wait_to_fill.ensures.frame
 
 pub returns-in-Ok-wait_to_fill-clause-kept : goal.returns-in-Ok-wait_to_fill-clause-kept
 returns-in-Ok-wait_to_fill-clause-kept g c = frame_keeps c.args.self.now.id c.args.lane.now c.wait_to_fill.new.lane (returns-in-Ok-wait_to_fill-clause-frame g c)
@@ -73,7 +73,7 @@ returns-in-Err-wait_to_fill-clause-frame g c =
     let inside : StoreLane g.row.V.Denot = record { cells = c.lane.inside.cells; known = c.lane.inside.notes; faults = c.lane.inside.faults; keys = c.lane.inside.keys } in
     let claimed : StoreLane g.row.V.Denot = record { cells = c.wait_to_claim.new.lane; known = c.lane.inside.notes; faults = c.lane.inside.faults; keys = c.lane.inside.keys } in
     frames_compose s.id [] [] c.args.lane.now claimed c.wait_to_fill.new.lane
-    (waits_frame s.id inside c.args.lane.now claimed c.lane.view_is c.requires.lane c.wait_to_claim.ensures.lane refl c.self.inside.shared (ap (λ (s : StoreView). s.id) c.self.view_is) c.args.context c.args.key (Ok c.in-Ok.claim) c.in-Ok.ensures.claim) c.wait_to_fill.ensures.frame
+    (waits_frame s.id inside c.args.lane.now claimed c.lane.view_is c.requires.lane c.wait_to_claim.ensures.lane refl c.self.inside.shared (ap (λ (s : StoreView). s.id.cells) c.self.view_is) c.args.context c.args.key (Ok c.in-Ok.claim) c.in-Ok.ensures.claim) c.wait_to_fill.ensures.frame
 
 pub returns-in-Err-wait_to_fill-clause-kept : goal.returns-in-Err-wait_to_fill-clause-kept
 returns-in-Err-wait_to_fill-clause-kept g c = frame_keeps c.args.self.now.id c.args.lane.now c.wait_to_fill.new.lane (returns-in-Err-wait_to_fill-clause-frame g c)
@@ -86,7 +86,7 @@ returns-in-Ok-wait_to_fill-clause-apart g c m kept =
     let claimed : StoreLane g.row.V.Denot = record { cells = c.wait_to_claim.new.lane; known = c.lane.inside.notes; faults = c.lane.inside.faults; keys = c.lane.inside.keys } in
     c.in-Ok-wait_to_fill.ensures.apart m
     (frame_keeps s.id c.args.lane.now claimed
-    (waits_frame s.id inside c.args.lane.now claimed c.lane.view_is c.requires.lane c.wait_to_claim.ensures.lane refl c.self.inside.shared (ap (λ (s : StoreView). s.id) c.self.view_is) c.args.context c.args.key (Ok c.in-Ok.claim) c.in-Ok.ensures.claim) m kept)
+    (waits_frame s.id inside c.args.lane.now claimed c.lane.view_is c.requires.lane c.wait_to_claim.ensures.lane refl c.self.inside.shared (ap (λ (s : StoreView). s.id.cells) c.self.view_is) c.args.context c.args.key (Ok c.in-Ok.claim) c.in-Ok.ensures.claim) m kept)
 
 -- what the factory answered it answered for the key of the number
 
@@ -168,7 +168,7 @@ returns-in-Err-run_factory-clause-frame g c =
     let inside : StoreLane g.row.V.Denot = record { cells = c.lane.inside.cells; known = c.lane.inside.notes; faults = c.lane.inside.faults; keys = c.lane.inside.keys } in
     let claimed : StoreLane g.row.V.Denot = (record { cells = c.wait_to_claim.new.lane; known = c.lane.inside.notes; faults = c.lane.inside.faults; keys = c.lane.inside.keys }) in
     frames_compose s.id [] [] c.args.lane.now claimed c.wait_to_end_failed.new.lane
-    (waits_frame s.id inside c.args.lane.now claimed c.lane.view_is c.requires.lane c.wait_to_claim.ensures.lane refl c.self.inside.shared (ap (λ (s : StoreView). s.id) c.self.view_is) c.args.context c.args.key (Ok c.in-Ok.claim) c.in-Ok.ensures.claim) c.wait_to_end_failed.ensures.frame
+    (waits_frame s.id inside c.args.lane.now claimed c.lane.view_is c.requires.lane c.wait_to_claim.ensures.lane refl c.self.inside.shared (ap (λ (s : StoreView). s.id.cells) c.self.view_is) c.args.context c.args.key (Ok c.in-Ok.claim) c.in-Ok.ensures.claim) c.wait_to_end_failed.ensures.frame
 
 pub returns-in-Err-run_factory-clause-kept : goal.returns-in-Err-run_factory-clause-kept
 returns-in-Err-run_factory-clause-kept g c = frame_keeps c.args.self.now.id c.args.lane.now c.wait_to_end_failed.new.lane (returns-in-Err-run_factory-clause-frame g c)

@@ -1,6 +1,6 @@
 use Rattle.std.proofs.Common.{◌≡◌, ◌∙◌, ◌+◌, ◌*◌, refl, []}
 use Rattle.std.specs.Prelude.{Err}
-use Rattle.ext_store.specs.Calls.{Gets}
+use Rattle.ext_store.specs.LaneCalls.{Gets}
 use Rattle.ext_store.proofs.Frames.{frames_compose}
 use Rattle.ext_store.proofs.Numbered.{of_number, of_refusal, refused_steps, steps_later}
 use Rattle.ext_store.proofs.store.Store.get.Goals as goal

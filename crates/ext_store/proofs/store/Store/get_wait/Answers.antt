@@ -1,6 +1,6 @@
 use Rattle.std.proofs.Common.{◌≡◌, ◌∙◌, refl, []}
 use Rattle.std.specs.Prelude.{Ok, Err}
-use Rattle.ext_store.specs.Calls.{Gets}
+use Rattle.ext_store.specs.LaneCalls.{Gets}
 use Rattle.ext_store.proofs.Frames.{frames_compose}
 use Rattle.ext_store.proofs.Numbered.{of_number, of_refusal, refused_decided}
 use Rattle.ext_store.proofs.store.Store.get_wait.Goals as goal

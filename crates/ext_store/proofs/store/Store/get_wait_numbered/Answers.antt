@@ -2,8 +2,8 @@ use Rattle.std.proofs.Common.{[], refl, ap, subst}
 use Rattle.std.specs.Prelude.{Ok}
 use Rattle.ext_cells.specs.Lanes.{Lane}
 use Rattle.ext_store.specs.Stores.{StoreView, StoreLane}
-use Rattle.ext_store.specs.Calls.{Gets}
-use Rattle.ext_shared.proofs.Events.{gets_quiet}
+use Rattle.ext_store.specs.LaneCalls.{Gets}
+use Rattle.ext_store_cells.proofs.Events.{gets_quiet}
 use Rattle.ext_store.proofs.Frames.{frame_keeps, frame_lane, quiet_frame}
 use Rattle.ext_store.proofs.store.Store.get_wait_numbered.Goals as goal
 

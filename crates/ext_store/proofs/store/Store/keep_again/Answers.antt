@@ -1,14 +1,14 @@
-use Rattle.std.proofs.Common.{◌≡◌, ◌∙◌, length, ap, subst}
+use Rattle.std.proofs.Common.{◌∙◌, ap, subst}
 use Rattle.ext_cells.specs.Lanes.{CellsId}
 use Rattle.ext_store.specs.Stores.{StoreView, StoreLane}
-use Rattle.ext_store.specs.Keeping.{PlacesDrawn}
+use Rattle.ext_store.specs.InnerKeeping.{PlacesDrawn}
 use Rattle.ext_store.proofs.Placing.{kept_by_drawn, drawn_fits, no_memory}
 use Rattle.ext_store.proofs.store.Store.keep_again.Goals as goal
 
 pub place_drawn-requires-clause-drawn : goal.place_drawn-requires-clause-drawn
 place_drawn-requires-clause-drawn g c =
     drawn_fits c.args.self.now c.self.inside.shared.tries (ap (λ (s : StoreView). s.tries) c.self.view_is) c.lane.inside.cells c.wait_to_draw-drawn.new.lane c.wait_to_draw-drawn.result c.wait_to_draw-drawn.ensures.reply _
-    (ap (λ (l : StoreLane g.row.V.Denot). l.cells.cells.limits.numbers) c.lane.view_is ∙ (ap (λ (i : CellsId). i.limits.numbers) c.requires.lane.cells ∙ subst (λ (s : StoreView). s.id.cells.limits.numbers ≡ length s.id.places) c.self.view_is c.recall.ensures.numbers))
+    (ap (λ (l : StoreLane g.row.V.Denot). l.cells.cells.limits.numbers) c.lane.view_is ∙ (ap (λ (i : CellsId). i.limits.numbers) c.requires.lane.cells ∙ c.recall.ensures.numbers))
 
 pub returns-clause-answer : goal.returns-clause-answer
 returns-clause-answer g c =

@@ -1,8 +1,7 @@
-use Rattle.std.proofs.Common.{◌≡◌, ◌∙◌, length, ap, subst}
-use Rattle.std.specs.Prelude.{IsTrue}
+use Rattle.std.proofs.Common.{◌∙◌, ap, subst}
 use Rattle.ext_cells.specs.Lanes.{CellsId}
 use Rattle.ext_store.specs.Stores.{StoreView, StoreLane}
-use Rattle.ext_store.specs.Keeping.{PlacesDrawn}
+use Rattle.ext_store.specs.InnerKeeping.{PlacesDrawn}
 use Rattle.ext_store.proofs.Placing.{drawn_fits}
 use Rattle.ext_store.proofs.Faulting.{fault_by_drawn, no_fault_memory}
 use Rattle.ext_store.proofs.store.Store.keep_fault_wait.Goals as goal
@@ -10,7 +9,7 @@ use Rattle.ext_store.proofs.store.Store.keep_fault_wait.Goals as goal
 pub place_drawn_fault-requires-clause-drawn : goal.place_drawn_fault-requires-clause-drawn
 place_drawn_fault-requires-clause-drawn g c =
     drawn_fits c.args.self.now c.self.inside.shared.tries (ap (λ (s : StoreView). s.tries) c.self.view_is) c.lane.inside.cells c.wait_to_draw-drawn.new.lane c.wait_to_draw-drawn.result c.wait_to_draw-drawn.ensures.reply _
-    (ap (λ (l : StoreLane g.row.V.Denot). l.cells.cells.limits.numbers) c.lane.view_is ∙ (ap (λ (i : CellsId). i.limits.numbers) c.requires.lane.cells ∙ subst (λ (s : StoreView). IsTrue s.id.cells.limits.keep_faults → s.id.cells.limits.numbers ≡ length s.id.fault_places) c.self.view_is c.recall.ensures.faults c.requires.faults))
+    (ap (λ (l : StoreLane g.row.V.Denot). l.cells.cells.limits.numbers) c.lane.view_is ∙ (ap (λ (i : CellsId). i.limits.numbers) c.requires.lane.cells ∙ c.recall.ensures.faults c.requires.faults))
 
 pub returns-clause-answer : goal.returns-clause-answer
 returns-clause-answer g c =

@@ -1,12 +1,11 @@
 use Rattle.std.proofs.Common.{◌≡◌, ◌∙◌, ◌+◌, refl, []}
 use Rattle.std.specs.Prelude.{Err}
-use Rattle.ext_store.specs.Calls.{Puts}
-use Rattle.ext_store.specs.Frames.{stored_by}
+use Rattle.ext_store.specs.LaneCalls.{Puts, stored_by}
 use Rattle.ext_store.proofs.Frames.{frames_compose}
 use Rattle.ext_store.proofs.Numbered.{kept_later, of_number, of_refusal, refused_steps, steps_later}
 use Rattle.ext_model.specs.declared.event.Act.TheVariants.{Put}
-use Rattle.ext_cells.specs.Calls.{ComesLast}
-use Rattle.ext_shared.specs.declared.fault.Refusal.TheVariants as refusal
+use Rattle.ext_cells.specs.CellCalls.{ComesLast}
+use Rattle.ext_store_cells.specs.declared.fault.Refusal.TheVariants as refusal
 use Rattle.ext_store.specs.Stores.{cell_in}
 use Rattle.ext_store.proofs.store.Store.put.Goals as goal
 

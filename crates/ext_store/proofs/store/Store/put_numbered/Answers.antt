@@ -1,18 +1,16 @@
 use Rattle.std.proofs.Common.{ℕ, refl, sym, ap, subst}
-use Rattle.std.specs.Prelude.{MatchResult}
+use Rattle.std.specs.Prelude.{MatchResult, Option, Result}
 use Rattle.ext_cells.specs.Lanes.{Lane}
-use Rattle.ext_store.specs.Stores.{StoreView, StoreLane, StillKeeps, StillKeepsBut}
-use Rattle.ext_store.specs.Calls.{Puts, with_kept}
-use Rattle.ext_store.specs.Frames.{Frame, stored_by}
-use Rattle.ext_shared.proofs.Events.{put_calls}
+use Rattle.ext_store.specs.Stores.{StoreView, StoreLane, StillKeeps, StillKeepsBut, cell_in}
+use Rattle.ext_store.specs.LaneCalls.{Puts, with_kept, Frame, stored_by}
+use Rattle.ext_store_cells.proofs.Events.{put_calls}
 use Rattle.ext_store.proofs.Keeping.{handed_back, put_keeps}
 use Rattle.ext_store.proofs.Frames.{frame_lane, put_frame}
-use Rattle.std.specs.Prelude.{Option, Result}
 use Rattle.ext_model.specs.declared.event.Act.TheVariants.{Put}
-use Rattle.ext_cells.specs.Calls.{ComesLast}
-use Rattle.ext_shared.specs.declared.fault.Refusal.{Refusal}
-use Rattle.ext_shared.specs.declared.fault.Refusal.TheVariants as refusal
-use Rattle.ext_store.specs.Stores.{cell_in}
+use Rattle.ext_cells.specs.CellCalls.{ComesLast}
+use Rattle.ext_store_cells.specs.ContextCalls as cells
+use Rattle.ext_store_cells.specs.declared.fault.Refusal.{Refusal}
+use Rattle.ext_store_cells.specs.declared.fault.Refusal.TheVariants as refusal
 use Rattle.ext_store.proofs.Contended.{back_last}
 use Rattle.ext_store.proofs.store.Store.put_numbered.Goals as goal
 
@@ -52,4 +50,4 @@ pub returns-clause-contended : goal.returns-clause-contended
 returns-clause-contended g c =
     subst (λ (r : Result (Option ℕ) (ℕ × Refusal)). ComesLast (c.args.kept, refusal.Contended) c.args.self.now.tries c.args.lane.now.cells c.put_at-stored.new.lane (Put (cell_in c.args.self.now c.args.key c.args.context) c.args.kept) r) (sym c.unless_stored.ensures)
     (subst (λ (z : StoreView × Lane × ℕ). ComesLast (z.2, refusal.Contended) z.0.tries z.1 c.put_at-stored.new.lane (Put (cell_in z.0 c.args.key c.args.context) z.2) (with_kept z.2 c.put_at-stored.result)) (λ i. (c.self.view_is i, (c.lane.view_is i).cells, c.kept.view_is i))
-    (back_last c.self.inside.shared.tries c.lane.inside.cells c.put_at-stored.new.lane (Put (cell_in c.self.inside.shared c.args.key c.args.context) c.kept.inside.number) c.kept.inside.number c.put_at-stored.result c.put_at-stored.ensures.contended))
+    (back_last c.self.inside.shared.tries c.lane.inside.cells c.put_at-stored.new.lane (Put (cells.cell_in c.self.inside.shared c.args.key c.args.context) c.kept.inside.number) c.kept.inside.number c.put_at-stored.result c.put_at-stored.ensures.contended))

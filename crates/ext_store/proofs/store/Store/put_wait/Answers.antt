@@ -1,7 +1,6 @@
 use Rattle.std.proofs.Common.{◌≡◌, ◌∙◌, refl, []}
 use Rattle.std.specs.Prelude.{Err}
-use Rattle.ext_store.specs.Calls.{Puts}
-use Rattle.ext_store.specs.Frames.{stored_by}
+use Rattle.ext_store.specs.LaneCalls.{Puts, stored_by}
 use Rattle.ext_store.proofs.Frames.{frames_compose}
 use Rattle.ext_store.proofs.Numbered.{kept_later, of_number, of_refusal, refused_decided}
 use Rattle.ext_store.proofs.store.Store.put_wait.Goals as goal

@@ -2,9 +2,8 @@ use Rattle.std.proofs.Common.{ℕ, refl, sym, ap, subst}
 use Rattle.std.specs.Prelude.{MatchResult}
 use Rattle.ext_cells.specs.Lanes.{Lane}
 use Rattle.ext_store.specs.Stores.{StoreView, StoreLane, StillKeeps, StillKeepsBut}
-use Rattle.ext_store.specs.Calls.{Puts, with_kept}
-use Rattle.ext_store.specs.Frames.{Frame, stored_by}
-use Rattle.ext_shared.proofs.Events.{put_calls}
+use Rattle.ext_store.specs.LaneCalls.{Puts, with_kept, Frame, stored_by}
+use Rattle.ext_store_cells.proofs.Events.{put_calls}
 use Rattle.ext_store.proofs.Keeping.{handed_back, decided_back, put_keeps}
 use Rattle.ext_store.proofs.Frames.{frame_lane, put_frame}
 use Rattle.ext_store.proofs.store.Store.put_wait_numbered.Goals as goal

@@ -1,13 +1,12 @@
 use Rattle.std.proofs.Common.{[], refl, ap, subst}
 use Rattle.ext_cells.specs.Lanes.{Lane}
-use Rattle.ext_store.specs.Stores.{StoreView, StoreLane}
-use Rattle.ext_store.specs.Calls.{Removes}
-use Rattle.ext_shared.proofs.Events.{remove_calls}
+use Rattle.ext_store.specs.Stores.{StoreView, StoreLane, cell_in}
+use Rattle.ext_store.specs.LaneCalls.{Removes}
+use Rattle.ext_store_cells.proofs.Events.{remove_calls}
 use Rattle.ext_store.proofs.Frames.{frame_keeps, frame_lane, remove_frame}
 use Rattle.ext_model.specs.declared.event.Act.TheVariants.{Remove}
-use Rattle.ext_cells.specs.Calls.{ComesLast}
-use Rattle.ext_shared.specs.declared.fault.Refusal.TheVariants as refusal
-use Rattle.ext_store.specs.Stores.{cell_in}
+use Rattle.ext_cells.specs.CellCalls.{ComesLast}
+use Rattle.ext_store_cells.specs.declared.fault.Refusal.TheVariants as refusal
 use Rattle.ext_store.proofs.store.Store.remove_numbered.Goals as goal
 
 pub returns-clause-answer : goal.returns-clause-answer

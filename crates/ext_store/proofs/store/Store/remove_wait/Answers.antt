@@ -1,6 +1,6 @@
 use Rattle.std.proofs.Common.{◌≡◌, ◌∙◌, refl, []}
 use Rattle.std.specs.Prelude.{Err}
-use Rattle.ext_store.specs.Calls.{Removes}
+use Rattle.ext_store.specs.LaneCalls.{Removes}
 use Rattle.ext_store.proofs.Frames.{frames_compose}
 use Rattle.ext_store.proofs.Numbered.{of_number, of_refusal, refused_decided}
 use Rattle.ext_store.proofs.store.Store.remove_wait.Goals as goal

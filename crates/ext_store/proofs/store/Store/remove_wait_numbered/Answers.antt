@@ -1,8 +1,8 @@
 use Rattle.std.proofs.Common.{[], refl, ap, subst}
 use Rattle.ext_cells.specs.Lanes.{Lane}
 use Rattle.ext_store.specs.Stores.{StoreView, StoreLane}
-use Rattle.ext_store.specs.Calls.{Removes}
-use Rattle.ext_shared.proofs.Events.{remove_calls}
+use Rattle.ext_store.specs.LaneCalls.{Removes}
+use Rattle.ext_store_cells.proofs.Events.{remove_calls}
 use Rattle.ext_store.proofs.Frames.{frame_keeps, frame_lane, remove_frame}
 use Rattle.ext_store.proofs.store.Store.remove_wait_numbered.Goals as goal
 

@@ -1,13 +1,12 @@
 use Rattle.std.proofs.Common.{[], refl, ap, subst}
 use Rattle.ext_cells.specs.Lanes.{Lane}
-use Rattle.ext_store.specs.Stores.{StoreView, StoreLane, CloserView}
-use Rattle.ext_shared.specs.Sealing.{SealsKey}
+use Rattle.ext_store.specs.Stores.{StoreView, StoreLane, CloserView, cell_in}
+use Rattle.ext_store.specs.ContextCalls.{SealsKey}
 use Rattle.ext_store.proofs.Frames.{frame_keeps, frame_lane}
 use Rattle.ext_store.proofs.SealsKeep.{seal_frame}
 use Rattle.ext_model.specs.declared.event.Act.TheVariants.{Seal}
-use Rattle.ext_cells.specs.Calls.{ComesLast}
-use Rattle.ext_shared.specs.declared.fault.Refusal.TheVariants as refusal
-use Rattle.ext_store.specs.Stores.{cell_in}
+use Rattle.ext_cells.specs.CellCalls.{ComesLast}
+use Rattle.ext_store_cells.specs.declared.fault.Refusal.TheVariants as refusal
 use Rattle.ext_store.proofs.store.Store.seal.Goals as goal
 
 pub returns-clause-answer : goal.returns-clause-answer

@@ -1,6 +1,6 @@
 use Rattle.std.proofs.Common.{rules, ◌≡◌, ℕ, List, inl, length, refl, subst, sym}
 use Rattle.std.proofs.lemmas.List.Elements.{All-replicate}
-use Rattle.ext_tree.specs.KeyPlaces.{AreHints, IsHint}
+use Rattle.ext_tree.specs.Keys.{AreHints, IsHint}
 use Rattle.ext_tree.proofs.key_notes.KeyNotes.of.Goals as goal
 
 pub invariant_of-result : goal.invariant_of-result

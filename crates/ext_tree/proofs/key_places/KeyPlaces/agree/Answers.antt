@@ -1,5 +1,5 @@
 use Rattle.std.proofs.Common.{◌∙◌, subst}
-use Rattle.ext_tree.specs.KeyPlaces.{OneKey}
+use Rattle.ext_tree.specs.Keys.{OneKey}
 use Rattle.ext_tree.proofs.KeyAgreeing.{agree_everywhere}
 use Rattle.ext_tree.proofs.KeyPlacing.{hints_stay, one_number, same_length}
 use Rattle.ext_tree.proofs.key_places.KeyPlaces.agree.Goals as goal

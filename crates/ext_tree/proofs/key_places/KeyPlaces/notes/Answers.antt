@@ -1,6 +1,6 @@
 use Rattle.std.proofs.Common.{◌∙◌, ap, map}
 use Rattle.once_cell.specs.Once.{cell_name}
-use Rattle.ext_tree.specs.KeyPlaces.{key_places_of}
+use Rattle.ext_tree.specs.Keys.{key_places_of}
 use Rattle.ext_tree.proofs.KeyPlacing.{key_places_of-nothing}
 use Rattle.ext_tree.proofs.key_places.KeyPlaces.notes.Goals as goal
 

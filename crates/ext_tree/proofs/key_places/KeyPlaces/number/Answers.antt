@@ -1,5 +1,5 @@
 use Rattle.std.proofs.Common.{◌∙◌, Ok, ap, subst, sym}
-use Rattle.ext_tree.specs.KeyPlaces.{IsKeyNumber, KeepsKeys}
+use Rattle.ext_tree.specs.Keys.{IsKeyNumber, KeepsKeys}
 use Rattle.ext_tree.proofs.KeyPlacing.{answered_again, hinted_more, hints_stay, one_key, one_number, same_length}
 use Rattle.ext_tree.proofs.key_places.KeyPlaces.number.Goals as goal
 

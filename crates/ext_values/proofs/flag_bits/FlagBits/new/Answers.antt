@@ -1,5 +1,5 @@
 use Rattle.std.proofs.Common.{◌∙◌, ap}
-use Rattle.ext_values.specs.Flags.{flags_of}
+use Rattle.ext_values.specs.InnerFlags.{flags_of}
 use Rattle.ext_values.proofs.FlagBits.{none_set}
 use Rattle.ext_values.proofs.flag_bits.FlagBits.new.Goals as goal
 

@@ -1,7 +1,7 @@
 use Rattle.std.proofs.Common.{◌∙◌}
 use Rattle.ext_plan.specs.Plans.{step_key_view}
-use Rattle.ext_plan.specs.Calls.{call_view}
-use Rattle.ext_parallel.specs.PlanKeys.{plan_keys}
+use Rattle.ext_plan.specs.StepCalls.{call_view}
+use Rattle.ext_parallel.specs.InnerKeys.{plan_keys}
 use Rattle.ext_parallel.proofs.Framed.{no_call_framed}
 use Rattle.ext_parallel.proofs.Keyed.{fails_for}
 use Rattle.ext_parallel.proofs.steps.store_steps.StoreSteps.compute_fail.Goals as goal

@@ -2,7 +2,7 @@ use Rattle.std.proofs.Common.{◌+◌, List, drop, map, refl, ap, sym, subst, ar
 use Rattle.std.proofs.lemmas.List.{drop_all}
 use Rattle.ext_plan.specs.Plans.{StepText, step_view}
 use Rattle.ext_plan.proofs.Lists.{map-drop}
-use Rattle.ext_parallel.specs.PlanKeys.{plan_keys}
+use Rattle.ext_parallel.specs.InnerKeys.{plan_keys}
 use Rattle.ext_parallel.proofs.StepLists.{IsLeft, nothing_made, one_more, stops, all_made}
 use Rattle.ext_parallel.proofs.Framed.{no_call_framed, then_framed}
 use Rattle.ext_parallel.proofs.steps.store_steps.StoreSteps.run.Goals as goal

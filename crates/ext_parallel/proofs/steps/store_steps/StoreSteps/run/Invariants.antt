@@ -1,7 +1,7 @@
 use Rattle.std.proofs.Common.{◌≤◌, drop, map}
 use Rattle.ext_plan.specs.Plans.{step_view}
 use Rattle.ext_store.specs.Stores.{IsLaneOf}
-use Rattle.ext_parallel.specs.PlanKeys.{plan_keys}
+use Rattle.ext_parallel.specs.InnerKeys.{plan_keys}
 use Rattle.ext_parallel.specs.StoreCalls.{HasFrame}
 use Rattle.ext_parallel.proofs.StepLists.{IsLeft}
 use Rattle.ext_parallel.proofs.steps.store_steps.StoreSteps.run.Given as goal

@@ -1,0 +1,658 @@
+/* Tests of the store by its C calls: each code, each misuse, and 4 and 16 threads. Prints a line for each test that fails; the last
+   line is 'N passed, M failed', and the exit status 1 where one failed.
+
+   usage: test [ROUNDS]    how many puts each thread makes; 2000 unless told
+
+   It is linked with -Wl,--wrap=malloc,--wrap=realloc, so that it can refuse memory to the library. */
+#define _POSIX_C_SOURCE 200809L
+#include "ext_lanes.h"
+
+#include <pthread.h>
+#include <sched.h>
+#include <stdio.h>
+#include <stdlib.h>
+#include <string.h>
+
+static int passed, failed, wrong_here;
+
+#define WANT(condition)                                              \
+    do {                                                             \
+        if (!(condition)) {                                          \
+            printf("test.c:%d: not so: %s\n", __LINE__, #condition); \
+            wrong_here++;                                            \
+        }                                                            \
+    } while (0)
+
+/* That a call answers a code. */
+#define CODE(call, wanted)                                                                                             \
+    do {                                                                                                               \
+        ext_code code_ = (call);                                                                                       \
+        if (code_ != (wanted)) {                                                                                       \
+            printf("test.c:%d: %s, wanted is %s: %s\n", __LINE__, ext_code_name(code_), ext_code_name(wanted), #call); \
+            wrong_here++;                                                                                              \
+        }                                                                                                              \
+    } while (0)
+
+static void ran(const char *name) {
+    if (wrong_here) printf("%s: failed\n", name);
+    wrong_here ? failed++ : passed++;
+    wrong_here = 0;
+}
+
+/* Texts one behind the other, with their lengths. */
+typedef struct texts {
+    uint8_t bytes[16384];
+    uint32_t lengths[300];
+    size_t byte_count, length_count;
+} texts;
+
+static void add(texts *list, const char *text) {
+    size_t length = strlen(text);
+    memcpy(list->bytes + list->byte_count, text, length);
+    list->byte_count += length;
+    list->lengths[list->length_count++] = (uint32_t)length;
+}
+
+static texts texts_of(const char *const *all, size_t count) {
+    texts list = {.byte_count = 0, .length_count = 0};
+    for (size_t at = 0; at < count; at++) add(&list, all[at]);
+    return list;
+}
+
+#define TEXTS(...) texts_of((const char *const[]){__VA_ARGS__}, sizeof((const char *const[]){__VA_ARGS__}) / sizeof(char *))
+
+/* An engine with a class with two methods. */
+enum { ENGINE, CLASS, FIRST, SECOND, CONTEXTS };
+static texts ids(void) {
+    return TEXTS("[engine:x]", "[engine:x]/[class:A]", "[engine:x]/[class:A]/[method:a()]", "[engine:x]/[class:A]/[method:b()]");
+}
+
+typedef struct limits {
+    uint32_t tries, numbers;
+    bool keep_faults;
+} limits;
+
+static const limits USUAL = {64, 1000, false}, KEEPING = {64, 1000, true};
+
+static ext_code open_slots(const texts *list, limits given, ext_slot *slots, size_t lanes) {
+    return ext_open(list->bytes, list->byte_count, list->lengths, list->length_count, given.tries, given.numbers, given.keep_faults, slots,
+                    lanes);
+}
+
+/* A store of the four contexts. */
+static void opened(ext_slot *slots, size_t lanes, limits given) {
+    texts list = ids();
+    CODE(open_slots(&list, given, slots, lanes), EXT_DONE);
+}
+
+static void left(ext_slot *slots, size_t lanes) {
+    for (size_t at = 0; at < lanes; at++) CODE(ext_leave(&slots[at]), EXT_DONE);
+}
+
+static ext_code key_of(ext_slot *slot, texts list, size_t *key) {
+    return ext_key(slot, list.bytes, list.byte_count, list.lengths, list.length_count, key);
+}
+
+static size_t key(ext_slot *slot, const char *name) {
+    size_t number = 1000;
+    CODE(key_of(slot, TEXTS(name), &number), EXT_DONE);
+    return number;
+}
+
+static bool is(ext_value value, uint64_t handle, uint32_t number, size_t context, bool closeable, bool fault) {
+    return value.handle == handle && value.number == number && value.context == context && value.closeable == closeable &&
+           value.fault == fault;
+}
+
+static void refused_openings(void) {
+    ext_slot slots[17] = {{0, NULL}};
+    texts good = ids();
+    CODE(open_slots(&good, USUAL, slots, 0), EXT_BAD_LIMIT);
+    CODE(open_slots(&good, USUAL, slots, 17), EXT_BAD_LIMIT);
+    CODE(open_slots(&good, (limits){0, 10, false}, slots, 1), EXT_BAD_LIMIT);
+    CODE(open_slots(&good, (limits){65, 10, false}, slots, 1), EXT_BAD_LIMIT);
+    CODE(open_slots(&good, (limits){64, 0, false}, slots, 1), EXT_BAD_LIMIT);
+    CODE(open_slots(&good, (limits){64, 65536, false}, slots, 1), EXT_BAD_LIMIT);
+    texts none = {.byte_count = 0, .length_count = 0};
+    CODE(open_slots(&none, USUAL, slots, 1), EXT_BAD_TREE);
+    texts long_one = TEXTS("[engine:x]");
+    long_one.lengths[0]++;
+    CODE(open_slots(&long_one, USUAL, slots, 1), EXT_BAD_LENGTHS);
+    texts no_text = TEXTS("[engine:\xff]"), no_id = TEXTS("engine"), no_root = TEXTS("[engine:x]/[class:A]"),
+          two_roots = TEXTS("[engine:x]", "[engine:y]"), twice = TEXTS("[engine:x]", "[engine:x]/[class:A]", "[engine:x]/[class:A]"),
+          no_parent = TEXTS("[engine:x]", "[engine:x]/[class:A]/[method:a()]");
+    CODE(open_slots(&no_text, USUAL, slots, 1), EXT_BAD_TEXT);
+    CODE(open_slots(&no_id, USUAL, slots, 1), EXT_BAD_ID);
+    CODE(open_slots(&no_root, USUAL, slots, 1), EXT_BAD_TREE);
+    CODE(open_slots(&two_roots, USUAL, slots, 1), EXT_BAD_TREE);
+    CODE(open_slots(&twice, USUAL, slots, 1), EXT_BAD_TREE);
+    CODE(open_slots(&no_parent, USUAL, slots, 1), EXT_BAD_TREE);
+    texts many = TEXTS("[engine:x]");
+    char id[32];
+    for (int at = 1; at <= 256; at++) {
+        snprintf(id, sizeof id, "[engine:x]/[class:%d]", at);
+        add(&many, id);
+    }
+    CODE(open_slots(&many, USUAL, slots, 1), EXT_TOO_MANY);
+    for (size_t at = 0; at < 17; at++) WANT(slots[at].state == 0);
+    opened(slots, 1, USUAL);
+    CODE(open_slots(&good, USUAL, slots, 2), EXT_NOT_EMPTY);
+    WANT(slots[1].state == 0);
+    left(slots, 1);
+}
+
+static void empty_slots(void) {
+    ext_slot empty = {0, NULL};
+    ext_value value = {0}, values[64] = {{0}};
+    uint32_t number = 0;
+    size_t key = 0, count = 9;
+    CODE(key_of(&empty, TEXTS("k"), &key), EXT_NO_LANE);
+    CODE(ext_put(&empty, 0, 0, 1, true, &value), EXT_NO_LANE);
+    CODE(ext_get(&empty, 0, 0, &value), EXT_NO_LANE);
+    CODE(ext_remove(&empty, 0, 0, &value), EXT_NO_LANE);
+    CODE(ext_begin(&empty, 0, 0, &value), EXT_NO_LANE);
+    CODE(ext_fill(&empty, 1, true, &number), EXT_NO_LANE);
+    CODE(ext_fail(&empty, 1, &number), EXT_NO_LANE);
+    CODE(ext_abandon(&empty), EXT_NO_LANE);
+    CODE(ext_close(&empty, 0, values, 64, &count), EXT_NO_LANE);
+    WANT(count == 0);
+    CODE(ext_leave(&empty), EXT_NO_LANE);
+}
+
+static void keys_have_one_number(void) {
+    ext_slot slots[2] = {{0, NULL}};
+    opened(slots, 2, USUAL);
+    size_t numbers[6], number = 0;
+    CODE(key_of(&slots[0], TEXTS("name"), &numbers[0]), EXT_DONE);
+    CODE(key_of(&slots[1], TEXTS("a", "b", "name"), &numbers[1]), EXT_DONE);
+    CODE(key_of(&slots[0], TEXTS("b", "a", "name"), &numbers[2]), EXT_DONE);
+    CODE(key_of(&slots[1], TEXTS("ab", "name"), &numbers[3]), EXT_DONE);
+    CODE(key_of(&slots[0], TEXTS("", ""), &numbers[4]), EXT_DONE);
+    CODE(key_of(&slots[1], TEXTS(""), &numbers[5]), EXT_DONE);
+    for (size_t at = 0; at < 6; at++) WANT(numbers[at] == at);
+    CODE(key_of(&slots[1], TEXTS("name"), &number), EXT_DONE);
+    WANT(number == 0);
+    CODE(key_of(&slots[0], TEXTS("a", "b", "name"), &number), EXT_DONE);
+    WANT(number == 1);
+    char name[16];
+    for (size_t at = 6; at < 64; at++) {
+        snprintf(name, sizeof name, "key %zu", at);
+        WANT(key(&slots[at % 2], name) == at);
+    }
+    CODE(key_of(&slots[0], TEXTS("one more"), &number), EXT_DIRECTORY_FULL);
+    WANT(key(&slots[0], "key 63") == 63);
+    CODE(key_of(&slots[0], TEXTS("\xc3"), &number), EXT_BAD_TEXT);
+    texts none = {.byte_count = 0, .length_count = 0}, long_one = TEXTS("a", "b");
+    long_one.lengths[1] = UINT32_MAX;
+    CODE(key_of(&slots[0], none, &number), EXT_BAD_LENGTHS);
+    CODE(key_of(&slots[0], long_one, &number), EXT_BAD_LENGTHS);
+    left(slots, 2);
+}
+
+static void nearest_value_wins(void) {
+    ext_slot slots[2] = {{0, NULL}}, *one = &slots[0], *other = &slots[1];
+    opened(slots, 2, USUAL);
+    size_t server = key(one, "server");
+    ext_value value = {0};
+    CODE(ext_get(one, FIRST, server, &value), EXT_ABSENT);
+    CODE(ext_remove(one, FIRST, server, &value), EXT_ABSENT);
+    CODE(ext_put(one, ENGINE, server, 70, true, &value), EXT_DONE);
+    WANT(value.number == 0);
+    CODE(ext_get(other, FIRST, server, &value), EXT_DONE);
+    WANT(is(value, 70, 1, ENGINE, true, false));
+    CODE(ext_put(other, CLASS, server, 71, false, &value), EXT_DONE);
+    WANT(value.number == 0);
+    CODE(ext_get(one, FIRST, server, &value), EXT_DONE);
+    WANT(is(value, 71, 2, CLASS, false, false));
+    CODE(ext_get(one, ENGINE, server, &value), EXT_DONE);
+    WANT(is(value, 70, 1, ENGINE, true, false));
+    CODE(ext_remove(one, FIRST, server, &value), EXT_ABSENT);
+    CODE(ext_put(one, CLASS, server, 72, true, &value), EXT_DONE);
+    WANT(is(value, 71, 2, CLASS, false, false));
+    CODE(ext_remove(other, CLASS, server, &value), EXT_DONE);
+    WANT(is(value, 72, 3, CLASS, true, false));
+    CODE(ext_get(one, FIRST, server, &value), EXT_DONE);
+    WANT(is(value, 70, 1, ENGINE, true, false));
+    CODE(ext_get(one, FIRST, 63, &value), EXT_ABSENT);
+    left(slots, 2);
+}
+
+static void numbers_out_of_range(void) {
+    ext_slot slot = {0, NULL};
+    opened(&slot, 1, USUAL);
+    ext_value value = {0}, values[64] = {{0}};
+    size_t count = 9;
+    static const size_t far[] = {CONTEXTS, 256, UINT32_MAX, SIZE_MAX};
+    for (size_t at = 0; at < 4; at++) {
+        CODE(ext_put(&slot, far[at], 0, 1, true, &value), EXT_BAD_CONTEXT);
+        CODE(ext_get(&slot, far[at], 0, &value), EXT_BAD_CONTEXT);
+        CODE(ext_remove(&slot, far[at], 0, &value), EXT_BAD_CONTEXT);
+        CODE(ext_begin(&slot, far[at], 0, &value), EXT_BAD_CONTEXT);
+        CODE(ext_close(&slot, far[at], values, 64, &count), EXT_BAD_CONTEXT);
+        size_t no_key = at ? far[at] : 64;
+        CODE(ext_put(&slot, 0, no_key, 1, true, &value), EXT_BAD_KEY);
+        CODE(ext_get(&slot, 0, no_key, &value), EXT_BAD_KEY);
+        CODE(ext_remove(&slot, 0, no_key, &value), EXT_BAD_KEY);
+        CODE(ext_begin(&slot, 0, no_key, &value), EXT_BAD_KEY);
+    }
+    left(&slot, 1);
+}
+
+static void compute_in_two_calls(void) {
+    ext_slot slots[3] = {{0, NULL}}, *one = &slots[0], *other = &slots[1];
+    opened(slots, 3, USUAL);
+    size_t server = key(one, "server"), count = 9;
+    uint32_t number = 0;
+    ext_value value = {0}, values[64] = {{0}};
+    CODE(ext_fill(one, 1, true, &number), EXT_NO_CLAIM);
+    CODE(ext_fail(one, 1, &number), EXT_NO_CLAIM);
+    CODE(ext_abandon(one), EXT_NO_CLAIM);
+    CODE(ext_begin(one, CLASS, server, &value), EXT_RUN);
+    /* the lane that claims */
+    CODE(ext_begin(one, CLASS, server, &value), EXT_CLAIMING);
+    CODE(ext_get(one, ENGINE, server, &value), EXT_CLAIMING);
+    CODE(ext_put(one, ENGINE, server, 1, true, &value), EXT_CLAIMING);
+    CODE(ext_remove(one, ENGINE, server, &value), EXT_CLAIMING);
+    WANT(key(one, "server") == server);
+    /* the others */
+    CODE(ext_get(other, FIRST, server, &value), EXT_BUSY);
+    WANT(value.context == CLASS);
+    CODE(ext_begin(other, FIRST, server, &value), EXT_BUSY);
+    WANT(value.context == CLASS);
+    CODE(ext_put(other, CLASS, server, 1, true, &value), EXT_BUSY);
+    CODE(ext_remove(other, CLASS, server, &value), EXT_BUSY);
+    CODE(ext_get(other, ENGINE, server, &value), EXT_ABSENT);
+    CODE(ext_put(other, FIRST, server, 73, true, &value), EXT_DONE);
+    /* each end */
+    CODE(ext_abandon(one), EXT_DONE);
+    CODE(ext_abandon(one), EXT_NO_CLAIM);
+    CODE(ext_get(other, CLASS, server, &value), EXT_ABSENT);
+    CODE(ext_begin(other, CLASS, server, &value), EXT_RUN);
+    CODE(ext_fail(other, 5, &number), EXT_GIVEN_UP);
+    CODE(ext_get(one, CLASS, server, &value), EXT_ABSENT);
+    CODE(ext_begin(one, CLASS, server, &value), EXT_RUN);
+    CODE(ext_fill(one, 74, true, &number), EXT_DONE);
+    CODE(ext_begin(other, SECOND, server, &value), EXT_DONE);
+    WANT(is(value, 74, number, CLASS, true, false));
+    /* a lane that leaves gives its claim up, and the closer's lane claims, too */
+    CODE(ext_begin(one, CLASS, 1, &value), EXT_RUN);
+    CODE(ext_leave(one), EXT_DONE);
+    CODE(ext_begin(&slots[2], CLASS, 1, &value), EXT_RUN);
+    CODE(ext_close(&slots[2], CLASS, values, 64, &count), EXT_CLAIMING);
+    WANT(count == 0);
+    CODE(ext_leave(&slots[2]), EXT_DONE);
+    CODE(ext_begin(other, CLASS, 1, &value), EXT_RUN);
+    CODE(ext_leave(other), EXT_DONE);
+}
+
+static void fault_is_kept(void) {
+    ext_slot slots[2] = {{0, NULL}}, *one = &slots[0], *last = &slots[1];
+    opened(slots, 2, KEEPING);
+    size_t server = key(one, "server"), count = 9;
+    uint32_t number = 0;
+    ext_value value = {0}, values[64] = {{0}};
+    CODE(ext_begin(one, CLASS, server, &value), EXT_RUN);
+    CODE(ext_fail(one, 500, &number), EXT_DONE);
+    WANT(number == 1);
+    CODE(ext_get(last, FIRST, server, &value), EXT_FAULT);
+    WANT(is(value, 500, 1, CLASS, false, true));
+    CODE(ext_begin(last, FIRST, server, &value), EXT_FAULT);
+    WANT(is(value, 500, 1, CLASS, false, true));
+    CODE(ext_put(last, CLASS, server, 75, true, &value), EXT_DONE);
+    WANT(is(value, 500, 1, CLASS, false, true));
+    CODE(ext_remove(one, CLASS, server, &value), EXT_DONE);
+    WANT(is(value, 75, 2, CLASS, true, false));
+    CODE(ext_begin(one, CLASS, server, &value), EXT_RUN);
+    CODE(ext_fail(one, 501, &number), EXT_DONE);
+    CODE(ext_remove(last, CLASS, server, &value), EXT_DONE);
+    WANT(is(value, 501, 3, CLASS, false, true));
+    CODE(ext_begin(one, CLASS, server, &value), EXT_RUN);
+    CODE(ext_fail(one, 502, &number), EXT_DONE);
+    CODE(ext_close_joined(last, CLASS, values, 64, &count), EXT_DONE);
+    WANT(count == 0);
+    CODE(ext_get(one, CLASS, server, &value), EXT_CLOSED);
+    WANT(value.context == CLASS);
+    left(slots, 2);
+}
+
+static void closes_latest_first(void) {
+    ext_slot slots[3] = {{0, NULL}}, *one = &slots[0], *last = &slots[2];
+    opened(slots, 3, USUAL);
+    size_t count = 9;
+    uint32_t number = 0;
+    ext_value value = {0}, values[70] = {{0}};
+    static const char *const names[] = {"a", "b", "c", "d", "e"};
+    size_t keys[5];
+    for (int at = 0; at < 5; at++) keys[at] = key(one, names[at]);
+    CODE(ext_put(one, CLASS, keys[3], 600, true, &value), EXT_DONE); /* replaced below */
+    CODE(ext_put(one, CLASS, keys[2], 601, true, &value), EXT_DONE);
+    CODE(ext_put(&slots[1], CLASS, keys[0], 602, false, &value), EXT_DONE); /* not closeable */
+    CODE(ext_put(&slots[1], CLASS, keys[3], 603, true, &value), EXT_DONE);
+    CODE(ext_put(last, CLASS, keys[1], 604, true, &value), EXT_DONE);
+    CODE(ext_put(one, CLASS, keys[4], 605, true, &value), EXT_DONE);  /* removed below */
+    CODE(ext_put(one, ENGINE, keys[0], 606, true, &value), EXT_DONE); /* another context's */
+    CODE(ext_remove(one, CLASS, keys[4], &value), EXT_DONE);
+    CODE(ext_close(one, CLASS, values, 64, &count), EXT_NO_CLOSER);
+    WANT(count == 0);
+    CODE(ext_close(last, CLASS, values, 63, &count), EXT_TOO_FEW_PLACES);
+    CODE(ext_begin(one, CLASS, keys[4], &value), EXT_RUN);
+    CODE(ext_close_joined(last, CLASS, values, 64, &count), EXT_BUSY);
+    WANT(count == 0);
+    CODE(ext_fill(one, 607, true, &number), EXT_DONE);
+    CODE(ext_close(last, CLASS, values, 70, &count), EXT_UNJOINED);
+    WANT(count == 0);
+    CODE(ext_close_joined(last, CLASS, values, 70, &count), EXT_DONE);
+    WANT(count == 4 && is(values[0], 607, number, CLASS, true, false) && is(values[1], 604, 5, CLASS, true, false) &&
+         is(values[2], 603, 4, CLASS, true, false) && is(values[3], 601, 2, CLASS, true, false));
+    CODE(ext_close(last, CLASS, values, 64, &count), EXT_CLOSED);
+    WANT(count == 0);
+    for (int at = 0; at < 5; at++) {
+        CODE(ext_put(one, CLASS, keys[at], 1, true, &value), EXT_CLOSED);
+        CODE(ext_remove(one, CLASS, keys[at], &value), EXT_CLOSED);
+        CODE(ext_get(one, FIRST, keys[at], &value), EXT_CLOSED);
+        WANT(value.context == CLASS);
+        CODE(ext_begin(one, CLASS, keys[at], &value), EXT_CLOSED);
+    }
+    CODE(ext_put(one, CLASS, key(one, "named later"), 1, true, &value), EXT_CLOSED);
+    CODE(ext_close_joined(last, ENGINE, values, 64, &count), EXT_DONE);
+    WANT(count == 1 && values[0].handle == 606);
+    left(slots, 3);
+}
+
+static void context_of_64_values(void) {
+    ext_slot slots[2] = {{0, NULL}};
+    opened(slots, 2, USUAL);
+    size_t count = 9;
+    ext_value value = {0}, values[64] = {{0}};
+    for (size_t at = 0; at < 64; at++) CODE(ext_put(&slots[0], FIRST, (at * 5) % 64, 100 + at, true, &value), EXT_DONE);
+    CODE(ext_close_joined(&slots[1], FIRST, values, 64, &count), EXT_DONE);
+    WANT(count == 64);
+    for (size_t at = 0; at < 64; at++) WANT(values[at].handle == 163 - at && values[at].number == 64 - at);
+    left(slots, 2);
+}
+
+static void numbers_run_out(void) {
+    ext_slot slots[2] = {{0, NULL}}, *one = &slots[0];
+    opened(slots, 2, (limits){1, 2, true});
+    ext_value value = {0};
+    uint32_t number = 0;
+    CODE(ext_put(one, ENGINE, 0, 1, false, &value), EXT_DONE);
+    CODE(ext_put(one, ENGINE, 0, 2, false, &value), EXT_DONE);
+    CODE(ext_put(one, ENGINE, 0, 3, false, &value), EXT_NUMBERS_FULL);
+    CODE(ext_get(one, ENGINE, 0, &value), EXT_DONE);
+    WANT(value.handle == 2);
+    CODE(ext_begin(one, ENGINE, 1, &value), EXT_RUN);
+    CODE(ext_fill(one, 4, false, &number), EXT_NUMBERS_FULL);
+    CODE(ext_abandon(one), EXT_NO_CLAIM);
+    CODE(ext_begin(one, ENGINE, 1, &value), EXT_RUN);
+    CODE(ext_fail(one, 5, &number), EXT_NUMBERS_FULL);
+    CODE(ext_fail(one, 5, &number), EXT_NO_CLAIM);
+    CODE(ext_get(&slots[1], ENGINE, 1, &value), EXT_ABSENT);
+    left(slots, 2);
+}
+
+static void slot_moves(void) {
+    ext_slot slots[1] = {{0, NULL}}, moved;
+    opened(slots, 1, USUAL);
+    ext_value value = {0};
+    CODE(ext_put(&slots[0], ENGINE, 0, 1, false, &value), EXT_DONE);
+    memcpy(&moved, &slots[0], sizeof moved);
+    memset(&slots[0], 0, sizeof slots[0]);
+    CODE(ext_get(&moved, ENGINE, 0, &value), EXT_DONE);
+    WANT(value.handle == 1);
+    CODE(ext_leave(&moved), EXT_DONE);
+    CODE(ext_leave(&moved), EXT_NO_LANE);
+}
+
+/* Want of memory: the library allocates by the malloc and the realloc of this program. */
+
+static int allocations_left = -1; /* before all are refused; below 0 none is */
+void *__real_malloc(size_t size);
+void *__real_realloc(void *old, size_t size);
+
+static bool refuses(void) {
+    if (allocations_left > 0) allocations_left--;
+    return allocations_left == 0;
+}
+
+void *__wrap_malloc(size_t size) { return refuses() ? NULL : __real_malloc(size); }
+
+void *__wrap_realloc(void *old, size_t size) { return refuses() ? NULL : __real_realloc(old, size); }
+
+/* Makes the call with fewer allocations than it takes, none at first and then one more each time, until it succeeds. */
+#define WITH_LITTLE_MEMORY(call, check)                             \
+    do {                                                            \
+        ext_code code_ = EXT_NO_MEMORY;                             \
+        int given_ = 0;                                             \
+        for (; code_ == EXT_NO_MEMORY && given_ < 1000; given_++) { \
+            allocations_left = given_ + 1;                          \
+            code_ = (call);                                         \
+            allocations_left = -1;                                  \
+            if (code_ == EXT_NO_MEMORY) WANT(check);                \
+        }                                                           \
+        CODE(code_, EXT_DONE);                                      \
+        WANT(given_ > 1);                                           \
+    } while (0)
+
+static ext_code begun_and_filled(ext_slot *slot, uint32_t *number) {
+    ext_value value = {0};
+    CODE(ext_begin(slot, CLASS, 1, &value), EXT_RUN);
+    return ext_fill(slot, 80, true, number);
+}
+
+static ext_code begun_and_failed(ext_slot *slot, uint32_t *number) {
+    ext_value value = {0};
+    CODE(ext_begin(slot, CLASS, 2, &value), EXT_RUN);
+    return ext_fail(slot, 81, number);
+}
+
+static void want_of_memory_is_a_code(void) {
+    ext_slot slots[2] = {{0, NULL}}, *one = &slots[0];
+    texts list = ids();
+    ext_value value = {0};
+    uint32_t number = 0;
+    size_t key = 0;
+    WITH_LITTLE_MEMORY(open_slots(&list, KEEPING, slots, 2), slots[0].state == 0 && slots[1].state == 0);
+    WITH_LITTLE_MEMORY(key_of(one, TEXTS("a", "b", "name"), &key), true);
+    WANT(key == 0);
+    WITH_LITTLE_MEMORY(ext_put(one, CLASS, 0, 79, true, &value), ext_get(one, CLASS, 0, &value) == EXT_ABSENT);
+    WITH_LITTLE_MEMORY(begun_and_filled(one, &number), ext_get(one, CLASS, 1, &value) == EXT_ABSENT);
+    WITH_LITTLE_MEMORY(begun_and_failed(one, &number), ext_get(one, CLASS, 2, &value) == EXT_ABSENT);
+    left(slots, 2);
+}
+
+static void calls_that_take_no_memory(void) {
+    ext_slot slots[2] = {{0, NULL}}, *one = &slots[0], *last = &slots[1];
+    opened(slots, 2, KEEPING);
+    ext_value value = {0}, values[64] = {{0}};
+    size_t count = 9;
+    uint32_t number = 0;
+    CODE(ext_put(one, CLASS, 0, 82, true, &value), EXT_DONE);
+    CODE(ext_put(one, CLASS, 1, 83, true, &value), EXT_DONE);
+    CODE(ext_begin(one, CLASS, 2, &value), EXT_RUN);
+    CODE(ext_fail(one, 84, &number), EXT_DONE);
+    allocations_left = 0;
+    CODE(ext_get(last, FIRST, 0, &value), EXT_DONE);
+    CODE(ext_get(last, FIRST, 2, &value), EXT_FAULT);
+    CODE(ext_remove(last, CLASS, 0, &value), EXT_DONE);
+    CODE(ext_begin(last, CLASS, 0, &value), EXT_RUN);
+    CODE(ext_abandon(last), EXT_DONE);
+    CODE(ext_close_joined(last, CLASS, values, 64, &count), EXT_DONE);
+    WANT(count == 1 && values[0].handle == 83);
+    left(slots, 2);
+    allocations_left = -1;
+}
+
+/* Several threads. */
+
+enum { METHODS = 100 };
+static ext_lanes lanes;
+static uint32_t rounds = 2000;
+static pthread_barrier_t gate;
+static atomic_uint factories, computed, found, stored, in_use, answered, wrong;
+static atomic_uchar replaced[65536];
+
+static texts many_methods(void) {
+    texts list = TEXTS("[engine:x]", "[engine:x]/[class:A]");
+    char id[64];
+    for (int at = 0; at < METHODS; at++) {
+        snprintf(id, sizeof id, "[engine:x]/[class:A]/[method:m%d()]", at);
+        add(&list, id);
+    }
+    return list;
+}
+
+static void unwanted(ext_code code, const char *where) {
+    printf("%s: %s\n", where, ext_code_name(code));
+    wrong++;
+}
+
+/* All compute the same values, and each factory's is the only one of its method. */
+static void compute_one(uint32_t lane, size_t key, size_t method) {
+    for (;;) {
+        ext_value value = {0};
+        uint32_t number = 0;
+        ext_code code = ext_lanes_begin(&lanes, lane, 2 + method, key, &value);
+        if (code == EXT_DONE) {
+            found++;
+            if (value.handle != 1000 + method || value.context != 2 + method) unwanted(code, "another's value");
+            return;
+        }
+        if (code == EXT_RUN) {
+            factories++;
+            code = ext_lanes_get(&lanes, lane, 0, key, &value);
+            if (code != EXT_CLAIMING) unwanted(code, "a lane that claims");
+            code = ext_lanes_fill(&lanes, lane, 1000 + method, true, &number);
+            if (code == EXT_DONE) {
+                computed++;
+                return;
+            }
+        }
+        if (code != EXT_BUSY && code != EXT_CONTENDED) return unwanted(code, "compute");
+        sched_yield();
+    }
+}
+
+static void *computes(void *at) {
+    uint32_t lane = (uint32_t)(size_t)at;
+    size_t key = 99;
+    pthread_barrier_wait(&gate);
+    texts name = TEXTS("thing");
+    ext_code code = ext_lanes_key(&lanes, lane, name.bytes, name.byte_count, name.lengths, name.length_count, &key);
+    if (code != EXT_DONE || key != 0) unwanted(code, "key");
+    for (size_t method = 0; method < METHODS; method++) compute_one(lane, key, method);
+    return NULL;
+}
+
+/* All put to one place: no number is replaced twice. */
+static void *puts_over(void *at) {
+    uint32_t lane = (uint32_t)(size_t)at;
+    pthread_barrier_wait(&gate);
+    for (uint32_t round = 0; round < rounds; round++) {
+        ext_value stood = {0};
+        ext_code code;
+        do code = ext_lanes_put(&lanes, lane, 1, 1, round, false, &stood);
+        while (code == EXT_CONTENDED);
+        if (code != EXT_DONE) unwanted(code, "put");
+        stored++;
+        if (stood.number && atomic_fetch_add(&replaced[stood.number], 1)) unwanted(code, "a number replaced twice");
+    }
+    return NULL;
+}
+
+/* All use one lane: each call is told that another has it, or is answered. */
+static void *one_lane(void *at) {
+    (void)at;
+    pthread_barrier_wait(&gate);
+    for (uint32_t round = 0; round < rounds; round++) {
+        ext_value value = {0};
+        ext_code code = ext_lanes_get(&lanes, 0, 2, 0, &value);
+        if (code == EXT_LANE_IN_USE) {
+            in_use++;
+        } else {
+            answered++;
+            if (code != EXT_DONE || value.handle != 1000) unwanted(code, "one lane");
+        }
+    }
+    return NULL;
+}
+
+static void together(void *(*body)(void *), size_t threads) {
+    pthread_t all[EXT_MOST_LANES];
+    pthread_barrier_init(&gate, NULL, (unsigned)threads);
+    for (size_t at = 0; at < threads; at++) pthread_create(&all[at], NULL, body, (void *)at);
+    for (size_t at = 0; at < threads; at++) pthread_join(all[at], NULL);
+    pthread_barrier_destroy(&gate);
+}
+
+static void threads_compute_put_and_close(uint32_t threads) {
+    texts list = many_methods();
+    factories = computed = found = stored = in_use = answered = wrong = 0;
+    memset((void *)replaced, 0, sizeof replaced);
+    CODE(ext_lanes_open(&lanes, list.bytes, list.byte_count, list.lengths, list.length_count, 64, 65535, false, threads), EXT_DONE);
+    together(computes, threads);
+    WANT(computed == METHODS && computed + found == threads * METHODS && factories >= computed);
+    together(puts_over, threads);
+    WANT(stored == threads * rounds);
+    together(one_lane, threads);
+    WANT(in_use + answered == threads * rounds && answered > 0);
+    ext_value values[64] = {{0}}, value = {0};
+    size_t count = 9, all = 0, last = 0;
+    for (size_t context = METHODS + 2; context-- > 0;) {
+        CODE(ext_lanes_close(&lanes, context, values, 64, &count), EXT_DONE);
+        WANT(count == (context < 2 ? 0 : 1) && (count == 0 || values[0].handle == 998 + context));
+        all += count;
+        CODE(ext_lanes_get(&lanes, 0, context, 0, &value), EXT_CLOSED);
+        last = context;
+    }
+    WANT(all == METHODS && last == 0 && wrong == 0);
+    CODE(ext_lanes_get(&lanes, threads, 0, 0, &value), EXT_BAD_LANE);
+    for (uint32_t lane = 0; lane < threads; lane++) CODE(ext_lanes_leave(&lanes, lane), EXT_DONE);
+    CODE(ext_lanes_leave(&lanes, 0), EXT_NO_LANE);
+}
+
+/* The lanes leave at the same moment: the last one frees the store. */
+static void *leaves(void *at) {
+    pthread_barrier_wait(&gate);
+    ext_code code = ext_lanes_leave(&lanes, (uint32_t)(size_t)at);
+    if (code != EXT_DONE) unwanted(code, "leave");
+    return NULL;
+}
+
+static void threads_leave_at_once(void) {
+    texts list = many_methods();
+    ext_value value = {0};
+    wrong = 0;
+    for (int round = 0; round < 20; round++) {
+        CODE(ext_lanes_open(&lanes, list.bytes, list.byte_count, list.lengths, list.length_count, 64, 10, false, 16), EXT_DONE);
+        for (uint32_t lane = 0; lane < 16; lane++) CODE(ext_lanes_begin(&lanes, lane, 2 + lane, lane, &value), EXT_RUN);
+        together(leaves, 16);
+    }
+    WANT(wrong == 0);
+}
+
+int main(int count, char **words) {
+    if (count > 1) rounds = (uint32_t)atoi(words[1]);
+    if (count > 2 || rounds == 0 || rounds > 4000) {
+        fputs("usage: test [ROUNDS]    1 to 4000 puts for each thread\n", stderr);
+        return 2;
+    }
+    refused_openings(), ran("refused_openings");
+    empty_slots(), ran("empty_slots");
+    keys_have_one_number(), ran("keys_have_one_number");
+    nearest_value_wins(), ran("nearest_value_wins");
+    numbers_out_of_range(), ran("numbers_out_of_range");
+    compute_in_two_calls(), ran("compute_in_two_calls");
+    fault_is_kept(), ran("fault_is_kept");
+    closes_latest_first(), ran("closes_latest_first");
+    context_of_64_values(), ran("context_of_64_values");
+    numbers_run_out(), ran("numbers_run_out");
+    slot_moves(), ran("slot_moves");
+    want_of_memory_is_a_code(), ran("want_of_memory_is_a_code");
+    calls_that_take_no_memory(), ran("calls_that_take_no_memory");
+    threads_compute_put_and_close(4), ran("threads_compute_put_and_close, 4 threads");
+    threads_compute_put_and_close(16), ran("threads_compute_put_and_close, 16 threads");
+    threads_leave_at_once(), ran("threads_leave_at_once");
+    printf("%d passed, %d failed\n", passed, failed);
+    return failed != 0;
+}

@@ -1,0 +1,5 @@
+mod Closers
+mod Cut
+mod Faults
+mod Said
+mod Steps

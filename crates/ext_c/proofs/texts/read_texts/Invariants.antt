@@ -1,0 +1,7 @@
+use Rattle.std.proofs.Common.{◌≡◌, ◌++◌, drop}
+use Rattle.ext_tree.specs.Keys as keys
+use Rattle.ext_c.specs.Texts.{texts_in}
+use Rattle.ext_c.proofs.texts.read_texts.Given as goal
+
+abbrev pub invariant-loop-length : goal.invariant-loop-length
+invariant-loop-length l = texts_in l.bytes l.lengths ≡ keys.texts_of l.texts.items ++ texts_in l.rest (drop l.length-index l.lengths)

@@ -1,0 +1,179 @@
+-- What each call says of its seat, by its code and by what it writes out: what the store's calls say of the lane that sits there.
+-- `before` and `after` are the seat, or the lane, before and after the call. The words of the store are those of `LaneCalls` and `Computing` of ext_store.
+use Rattle.std.specs.Prelude.{ℕ, ◌≡◌, ◌<◌, ◌≤◌, ◌^◌, ◌⊎◌, IsFalse, true, false, List, [], length, Option, None, Some, Result, Ok, Err}
+use Rattle.std.specs.Arc.{arc_value}
+use Rattle.ext_model.specs.declared.look.Fault.{Fault}
+use Rattle.ext_model.specs.declared.look.Look.{Look}
+use Rattle.ext_model.specs.declared.look.Look.TheVariants as look
+use Rattle.ext_model.specs.declared.event.Act.TheVariants as act_is
+use Rattle.ext_tree.specs.Keys.{KeyValue, IsKeyNumber}
+use Rattle.ext_values.specs.Known.{Learns}
+use Rattle.ext_cells.specs.CellCalls.{EndsClaim}
+use Rattle.ext_store_cells.specs.declared.fault.Refusal.{Refusal}
+use Rattle.ext_store_cells.specs.declared.claim.Unused.{Unused}
+use Rattle.ext_store_cells.specs.declared.claim.Unused.TheVariants as unused
+use Rattle.ext_store.specs.Computing.{ClaimsMissing}
+use Rattle.ext_store.specs.declared.fault.KeepFault.{KeepFault}
+use Rattle.ext_store.specs.Stores.{StoreView, StoreLane}
+use Rattle.ext_store.specs.LaneCalls.{Gets, IsKeyRefused, KeepsAs, KeepsNothing, Puts, Removes}
+use Rattle.ext_store.specs.Computing.{Fails, Fills, IsUnkept}
+use Rattle.ext_c.specs.declared.code.Code.{Code}
+use Rattle.ext_c.specs.declared.code.Code.TheVariants as code
+use Rattle.ext_c.specs.declared.handle.Handle.{Handle}
+use Rattle.ext_c.specs.declared.value.ExtValue.{ExtValue}
+use Rattle.ext_c.specs.declared.seat.Seat.{Seat}
+use Rattle.ext_c.specs.Codes.{keep_code, refusal_code}
+use Rattle.ext_c.specs.Faults.{IsFaultOf}
+use Rattle.ext_c.specs.Texts.{IsNamed, IsTextFault}
+
+-- the store of a seat
+abbrev pub store_of : Seat → StoreView
+store_of seat = arc_value seat.store
+
+-- ---- handles
+
+-- the value of this number is told, and the lane knows it from now on
+pub record TellsValue (context number : ℕ) (before after : StoreLane Handle) (told : ExtValue) : Type 0 where
+  pub at : told.context ≡ context
+  pub named : told.number ≡ number
+  pub value : told.fault ≡ false
+  pub learnt : Learns before.known after.known number (record { raw = told.handle; closeable = told.closeable })
+
+-- the kept fault of this number is told, and the lane knows it from now on
+pub record TellsFault (context number : ℕ) (before after : StoreLane Handle) (told : ExtValue) : Type 0 where
+  pub at : told.context ≡ context
+  pub named : told.number ≡ number
+  pub fault : told.fault ≡ true
+  pub why : Fault
+  pub learnt : Learns before.faults after.faults number why
+  pub handle : (own : ℕ) → own < 2 ^ 64 → IsFaultOf own why → told.handle ≡ own
+
+-- the number is told, of which the thread found no handle
+pub record TellsNumber (context number : ℕ) (told : ExtValue) : Type 0 where
+  pub at : told.context ≡ context
+  pub named : told.number ≡ number
+
+-- a value that was found
+abbrev pub TellsFound : ℕ → ℕ → StoreLane Handle → StoreLane Handle → ExtValue → Code → Type 0
+TellsFound context number before after told said =
+    ((said ≡ code.Done) × TellsValue context number before after told) ⊎ ((said ≡ code.Unshown) × TellsNumber context number told)
+
+-- a kept fault that was found
+abbrev pub TellsStanding : ℕ → ℕ → StoreLane Handle → StoreLane Handle → ExtValue → Code → Type 0
+TellsStanding context number before after told said =
+    ((said ≡ code.FaultStands) × TellsFault context number before after told) ⊎ ((said ≡ code.Unshown) × TellsNumber context number told)
+
+-- what stood, a value or a kept fault
+abbrev pub TellsStood : ℕ → ℕ → StoreLane Handle → StoreLane Handle → ExtValue → Code → Type 0
+TellsStood context number before after told said =
+    ((said ≡ code.Done) × (TellsValue context number before after told ⊎ TellsFault context number before after told))
+    ⊎ ((said ≡ code.Unshown) × TellsNumber context number told)
+
+-- ---- calls on the store that are not made
+
+-- the lane has a claim, or there is no such context, or no such key
+pub data NotAsked (context key : ℕ) (seat : Seat) : Code → Type 0 where
+  claiming : (claim : ℕ) → seat.claim ≡ Some claim → NotAsked context key seat code.Claiming
+  no_context : length (store_of seat).tree ≤ context → NotAsked context key seat code.BadContext
+  no_key : 64 ≤ key → NotAsked context key seat code.BadKey
+
+-- ---- get
+
+-- what is told of a look-up
+abbrev pub TellsLook : Result Look Refusal → StoreLane Handle → StoreLane Handle → ExtValue → Code → Type 0
+TellsLook (Ok (look.Found at number)) before after found said = TellsFound at number before after found said
+TellsLook (Ok (look.Fault at number)) before after found said = TellsStanding at number before after found said
+TellsLook (Ok look.Absent) before after found said = said ≡ code.Absent
+TellsLook (Ok (look.Busy at)) before after found said = (said ≡ code.Busy) × (found.context ≡ at)
+TellsLook (Ok (look.Closed at)) before after found said = (said ≡ code.Closed) × (found.context ≡ at)
+TellsLook (Err why) before after found said = said ≡ refusal_code why
+
+-- the store looked, and this is told of what it found
+pub data GetSays (context key : ℕ) (before after : Seat) (found : ExtValue) (said : Code) : Type 0 where
+  not_asked : NotAsked context key before said → after ≡ before → GetSays context key before after found said
+  asked : (looked : Result Look Refusal) → Gets (store_of before) context key before.lane.cells after.lane.cells looked
+      → TellsLook looked before.lane after.lane found said → GetSays context key before after found said
+
+-- ---- put and remove
+
+-- what is told of a put
+abbrev pub TellsPut : ℕ → Result (Option ℕ) (ℕ × Refusal) → StoreLane Handle → StoreLane Handle → ExtValue → Code → Type 0
+TellsPut context (Ok None) before after stood said = (said ≡ code.Done) × (stood.number ≡ 0)
+TellsPut context (Ok (Some number)) before after stood said = TellsStood context number before after stood said
+TellsPut context (Err refused) before after stood said = said ≡ refusal_code refused.1
+
+-- the handle was kept under a number, and that number was put; or it was not kept
+pub data PutSays (context key : ℕ) (handle : Handle) (before after : Seat) (stood : ExtValue) (said : Code) : Type 0 where
+  not_asked : NotAsked context key before said → after ≡ before → PutSays context key handle before after stood said
+  unkept : (why : KeepFault) → KeepsNothing (store_of before) handle before.lane after.lane handle why → said ≡ keep_code why
+      → PutSays context key handle before after stood said
+  put : (number : ℕ) (kept : StoreLane Handle) (result : Result (Option ℕ) (ℕ × Refusal)) → KeepsAs handle before.lane kept number
+      → Puts (store_of before) context key number kept.cells after.lane.cells result → TellsPut context result kept after.lane stood said
+      → PutSays context key handle before after stood said
+
+-- what is told of a remove
+abbrev pub TellsRemove : ℕ → Result (Option ℕ) Refusal → StoreLane Handle → StoreLane Handle → ExtValue → Code → Type 0
+TellsRemove context (Ok None) before after taken said = said ≡ code.Absent
+TellsRemove context (Ok (Some number)) before after taken said = TellsStood context number before after taken said
+TellsRemove context (Err why) before after taken said = said ≡ refusal_code why
+
+-- the store took what stood, and this is told of it
+pub data RemoveSays (context key : ℕ) (before after : Seat) (taken : ExtValue) (said : Code) : Type 0 where
+  not_asked : NotAsked context key before said → after ≡ before → RemoveSays context key before after taken said
+  asked : (result : Result (Option ℕ) Refusal) → Removes (store_of before) context key before.lane.cells after.lane.cells result
+      → TellsRemove context result before.lane after.lane taken said → RemoveSays context key before after taken said
+
+-- ---- a compute
+
+-- what is told where there is no claim
+abbrev pub TellsUnused : Unused → StoreLane Handle → StoreLane Handle → ExtValue → Code → Type 0
+TellsUnused (unused.Found at number) before after found said = TellsFound at number before after found said
+TellsUnused (unused.FaultStands at number) before after found said = TellsStanding at number before after found said
+TellsUnused (unused.Refused why) before after found said = said ≡ refusal_code why
+
+-- the lane has claimed the place, or this is told of why not
+pub data BeginSays (context key : ℕ) (before after : Seat) (found : ExtValue) (said : Code) : Type 0 where
+  not_asked : NotAsked context key before said → after ≡ before → BeginSays context key before after found said
+  claimed : (claim : ℕ) → ClaimsMissing (store_of before) context key before.lane.cells.view after.lane.cells.view (Ok claim)
+      → after.claim ≡ Some claim → said ≡ code.Run → BeginSays context key before after found said
+  unclaimed : (why : Unused) → ClaimsMissing (store_of before) context key before.lane.cells.view after.lane.cells.view (Err why)
+      → TellsUnused why before.lane after.lane found said → BeginSays context key before after found said
+
+-- the handle is kept, and its number stands in the claimed cell; or it is not kept, and the claim is given up
+pub data FillSays (handle : Handle) (before after : Seat) (number : ℕ) (said : Code) : Type 0 where
+  no_claim : before.claim ≡ None → after ≡ before → said ≡ code.NoClaim → FillSays handle before after number said
+  filled : (claim : ℕ) → before.claim ≡ Some claim → Fills (store_of before).id.cells.limits [] claim before.lane.cells.view after.lane.cells.view number
+      → Learns before.lane.known after.lane.known number handle → said ≡ code.Done → FillSays handle before after number said
+  unkept : (claim : ℕ) (why : KeepFault) → before.claim ≡ Some claim
+      → IsUnkept (store_of before).id.cells.limits (store_of before).tries [] claim before.lane.cells.view after.lane.cells.view why
+      → said ≡ keep_code why → FillSays handle before after number said
+
+-- The fault of the handle is kept, and its number in the claimed cell; or it is not kept, and the claim is given up; or the store keeps no faults
+pub data FailSays (handle : ℕ) (before after : Seat) (number : ℕ) (said : Code) : Type 0 where
+  no_claim : before.claim ≡ None → after ≡ before → said ≡ code.NoClaim → FailSays handle before after number said
+  failed : (claim : ℕ) (why : Fault) → before.claim ≡ Some claim → IsFaultOf handle why
+      → Fails (store_of before).id.cells.limits [] claim before.lane.cells.view after.lane.cells.view number
+      → Learns before.lane.faults after.lane.faults number why → said ≡ code.Done → FailSays handle before after number said
+  unkept : (claim : ℕ) (why : KeepFault) → before.claim ≡ Some claim
+      → IsUnkept (store_of before).id.cells.limits (store_of before).tries [] claim before.lane.cells.view after.lane.cells.view why
+      → said ≡ keep_code why → FailSays handle before after number said
+  given_up : (claim : ℕ) → before.claim ≡ Some claim → IsFalse (store_of before).id.cells.limits.keep_faults
+      → EndsClaim before.lane.cells after.lane.cells (act_is.Abandon claim) → said ≡ code.GivenUp → FailSays handle before after number said
+
+-- the claim is given up
+pub data AbandonSays (before after : Seat) (said : Code) : Type 0 where
+  no_claim : before.claim ≡ None → after ≡ before → said ≡ code.NoClaim → AbandonSays before after said
+  given_up : (claim : ℕ) → before.claim ≡ Some claim → EndsClaim before.lane.cells after.lane.cells (act_is.Abandon claim)
+      → said ≡ code.Done → AbandonSays before after said
+
+-- ---- the number of a key
+
+-- the key that was named has this number for the lane, which makes no step on the cells; or why it has none
+pub data KeySays (key : KeyValue) (before after : Seat) (number : ℕ) (said : Code) : Type 0 where
+  numbered : IsKeyNumber after.lane.keys key number → after.lane.cells ≡ before.lane.cells → said ≡ code.Done → KeySays key before after number said
+  refused : (why : Refusal) → IsKeyRefused before.lane after.lane key why → said ≡ refusal_code why → KeySays key before after number said
+
+-- the texts name a key, and this is said of it; or they name none, or memory for it was wanted
+pub data NamesKey (texts : List (List ℕ)) (before after : Seat) (number : ℕ) (said : Code) : Type 0 where
+  unread : IsTextFault said → after ≡ before → NamesKey texts before after number said
+  read : (key : KeyValue) → IsNamed texts key → KeySays key before after number said → NamesKey texts before after number said

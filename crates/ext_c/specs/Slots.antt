@@ -1,0 +1,18 @@
+-- What the exports say: what became of the seat to which a slot leads. `before` and `after` are the slot, and `said` is the number that C gets.
+use Rattle.std.specs.Prelude.{ℕ, ◌≡◌, ◌≢◌, Some}
+use Rattle.ext_c.specs.declared.code.Code.{Code}
+use Rattle.ext_c.specs.declared.code.Code.TheVariants as code
+use Rattle.ext_c.specs.declared.seat.Seat.{Seat}
+use Rattle.ext_c.specs.declared.slot.ExtSlot.{ExtSlot}
+use Rattle.ext_c.specs.Codes.{code_number}
+
+-- the seat is of the same store, and closes the same contexts
+pub record StaysSo (old now : Seat) : Type 0 where
+  pub store : now.store ≡ old.store
+  pub closers : now.closers ≡ old.closers
+
+-- The slot had no lane, and is as it was; or it had one, has it still, this holds of its seat whatever is said, and the call says this of it
+pub data OnSlot (Keeps : Seat → Seat → Type 0) (Says : Seat → Seat → Code → Type 0) (before after : ExtSlot) (said : ℕ) : Type 0 where
+  no_lane : before.state ≢ 1 → after ≡ before → said ≡ code_number code.NoLane → OnSlot Keeps Says before after said
+  on_lane : (old now : Seat) (own : Code) → before.lane.seat ≡ Some old → after.state ≡ 1 → after.lane.seat ≡ Some now → Keeps old now → said ≡ code_number own → Says old now own
+      → OnSlot Keeps Says before after said

@@ -1,0 +1,144 @@
+//! The close of a context, by the lane that has its closer.
+ghost use Rattle.std.specs.Prelude.{ℕ, ◌≡◌, ◌≢◌, ◌≤◌, ◌<◌, ◌∷◌, [], IfErr, IfOk, None, Some, Ok, Err, length, slice_index_or, take};
+ghost use Rattle.ext_store.specs.Stores.{IsCloserOf};
+ghost use Rattle.ext_closing.specs.Closes as closing;
+ghost use Rattle.ext_c.specs.Answers.{store_of};
+ghost use Rattle.ext_c.specs.Closing.{CloseSays, NotClosing};
+ghost use Rattle.ext_c.specs.Codes.{close_code};
+ghost use Rattle.ext_c.specs.Writing.{WritesNext};
+
+use crate::code::Code;
+use crate::handle::Handle;
+use crate::seat::Seat;
+use crate::value::ExtValue;
+use crate::written::Written;
+use ext_closing::{CloseAction, CloseFault, Closed, close};
+use ext_model::Fault;
+use ext_store::{Closer, Store};
+use std::{mem, slice};
+
+impl CloseAction<Handle> for Written {
+    ghost close_gives = { WritesNext };
+
+    fn close(&mut self, number: u32, value: &Handle) -> Result<(), Fault> {
+        let own = ExtValue {
+            handle: value.raw,
+            context: self.context,
+            number,
+            closeable: value.closeable,
+            fault: false,
+        };
+        let _pushed = self.values.try_push(own);
+        Ok(())
+    }
+}
+
+impl Seat {
+    // Closes the context: writes out the values that are to be closed, and counts them. A value that the lane does not know it is
+    // shown; then the close is to be asked again.
+    pub(crate) fn close(
+        &mut self,
+        context: usize,
+        values: &mut [ExtValue],
+        count: &mut usize,
+    ) -> Code
+        ensures store { self.new.store ≡ self.old.store }
+        ensures says { CloseSays context (length values.old) self.old self.new (take count.new values.new) result }
+    {
+        *count = 0;
+        if self.claim.is_some() {
+            return Code::Claiming;
+        }
+        if values.len() < 64 {
+            return Code::TooFewPlaces;
+        }
+        let closer = match self.take_closer(context) {
+            Ok(closer) => closer,
+            Err(code) => return code,
+        };
+        let mut written = Written::none(context);
+        match self.ask(closer, &mut written) {
+            Ok(_) => {
+                *count = written.copy_to(values);
+                Code::Done
+            }
+            Err((closer, why)) => {
+                self.give_closer(context, closer);
+                self.mend(why)
+            }
+        }
+    }
+
+    // `close` of ext_closing, with this lane alone in hand.
+    fn ask(&mut self, closer: Closer, written: &mut Written) -> Result<Closed, (Closer, CloseFault)>
+        requires idle { self.old.claim ≡ None }
+        requires closer { IsCloserOf (store_of self.old) closer }
+        ensures store { self.new.store ≡ self.old.store }
+        ensures claim { self.new.claim ≡ None }
+        ensures closers { self.new.closers ≡ self.old.closers }
+        ensures happened { closing.Closes (λ h. h.closeable) WritesNext (store_of self.old) closer (self.old.lane ∷ []) written.old result (self.new.lane ∷ []) written.new }
+    {
+        let shared: &Store<Handle> = &self.store;
+        close(shared, closer, slice::from_mut(&mut self.lane), written)
+    }
+
+    // Why the close is refused. A value that the lane does not know it is shown, so that the close may be asked again.
+    fn mend(&mut self, why: CloseFault) -> Code
+        requires idle { self.old.claim ≡ None }
+        ensures store { self.new.store ≡ self.old.store }
+        ensures claim { self.new.claim ≡ None }
+        ensures closers { self.new.closers ≡ self.old.closers }
+        ensures still { self.new.lane.cells ≡ self.old.lane.cells }
+        ensures code { result ≡ close_code why }
+    {
+        if let CloseFault::Unjoined(number) = why {
+            let mut shown = ExtValue::unshown(0, number);
+            self.tell_value(0, number, &mut shown);
+        }
+        Code::of_close(why)
+    }
+
+    // The closer of the context, which the seat then has no more.
+    fn take_closer(&mut self, context: usize) -> Result<Closer, Code>
+        ensures store { self.new.store ≡ self.old.store }
+        ensures lane { self.new.lane ≡ self.old.lane }
+        ensures claim { self.new.claim ≡ self.old.claim }
+        ensures own { IfOk result (IsCloserOf (store_of self.old)) }
+        ensures context { IfOk result (λ c. c.context ≡ context) }
+        ensures refused { IfErr result (λ code. (places : ℕ) → NotClosing context places self.old code) }
+        ensures unchanged { IfErr result (λ _. self.new ≡ self.old) }
+        ensures within { IfOk result (λ _. context < length self.new.closers.items) }
+    {
+        let shared: &Store<Handle> = &self.store;
+        if context >= shared.tree().len() {
+            return Err(Code::BadContext);
+        }
+        if context >= self.closers.len() {
+            return Err(Code::NoCloser);
+        }
+        match &self.closers[context] {
+            None => return Err(Code::Closed),
+            Some(closer) => {
+                if closer.context() != context {
+                    return Err(Code::NoCloser);
+                }
+            }
+        }
+        match mem::replace(&mut self.closers[context], None) {
+            Some(closer) => Ok(closer),
+            None => unreachable!(),
+        }
+    }
+
+    // Gives the closer back.
+    fn give_closer(&mut self, context: usize, closer: Closer)
+        requires own { IsCloserOf (store_of self.old) closer }
+        requires within { context < length self.old.closers.items }
+        ensures store { self.new.store ≡ self.old.store }
+        ensures lane { self.new.lane ≡ self.old.lane }
+        ensures claim { self.new.claim ≡ self.old.claim }
+        ensures there { slice_index_or self.new.closers.items context None ≡ Some closer }
+    {
+        self.closers[context] = Some(closer);
+    }
+}

@@ -1,0 +1,184 @@
+//! What a call answers.
+ghost use Rattle.std.specs.Prelude.{◌≡◌};
+ghost use Rattle.ext_c.specs.Codes.{close_code, code_number, id_code, keep_code, open_code, refusal_code, tree_code};
+
+use ext_closing::CloseFault;
+use ext_ids::IdFault;
+use ext_store::{KeepFault, Refusal, StoreFault};
+use ext_tree::TreeFault;
+
+/// What a call says. C sees its number, which `specs/Codes` has.
+#[derive(Clone, Copy, Debug, PartialEq, Eq)]
+pub enum Code {
+    /// What the call is for has happened.
+    Done,
+    /// Nothing stands there.
+    Absent,
+    /// A kept fault stands there.
+    FaultStands,
+    /// The lane has claimed the place: the factory is to run.
+    Run,
+    /// The claim was given up, since the store keeps no faults.
+    GivenUp,
+    /// A factory runs for the context that decides.
+    Busy,
+    /// The context that decides is closed.
+    Closed,
+    /// Other lanes were in the way.
+    Contended,
+    /// There were too many events in this context under this key.
+    Exhausted,
+    /// All 64 places hold other keys.
+    DirectoryFull,
+    /// All numbers of the store were drawn.
+    NumbersFull,
+    /// An allocation failed.
+    NoMemory,
+    /// A place did not take the value or the key. Tests show that it never comes.
+    Unplaced,
+    /// What the call is for has happened, but the thread does not find the handle of the number that was met. Tests show
+    /// that it never comes.
+    Unshown,
+    /// The lane did not know a value that remains. It has been shown it now: the close is to be asked again.
+    Unjoined,
+    /// The lane has a claim, which is to be ended first.
+    Claiming,
+    /// The lane has no claim.
+    NoClaim,
+    /// The slot is empty.
+    NoLane,
+    /// This lane closes no context.
+    NoCloser,
+    /// A slot that was to be filled has a lane.
+    NotEmpty,
+    /// There is no such context.
+    BadContext,
+    /// A key's number is 64 or more.
+    BadKey,
+    /// A limit is out of its range.
+    BadLimit,
+    /// The lengths go beyond the bytes, or there is no text where one is wanted.
+    BadLengths,
+    /// A text is no UTF-8.
+    BadText,
+    /// A text is no unique id.
+    BadId,
+    /// The ids are no tree.
+    BadTree,
+    /// There are more than 256 contexts.
+    TooMany,
+    /// There is room for fewer than 64 values.
+    TooFewPlaces,
+}
+
+impl Code {
+    /// The number of the code, which C sees.
+    pub(crate) fn number(self) -> u32
+        ensures { result ≡ code_number self }
+    {
+        match self {
+            Code::Done => 0,
+            Code::Absent => 1,
+            Code::FaultStands => 2,
+            Code::Run => 3,
+            Code::GivenUp => 4,
+            Code::Busy => 5,
+            Code::Closed => 6,
+            Code::Contended => 7,
+            Code::Exhausted => 8,
+            Code::DirectoryFull => 9,
+            Code::NumbersFull => 10,
+            Code::NoMemory => 11,
+            Code::Unplaced => 12,
+            Code::Unshown => 13,
+            Code::Unjoined => 14,
+            Code::Claiming => 15,
+            Code::NoClaim => 16,
+            Code::NoLane => 17,
+            Code::NoCloser => 18,
+            Code::NotEmpty => 19,
+            Code::BadContext => 20,
+            Code::BadKey => 21,
+            Code::BadLimit => 22,
+            Code::BadLengths => 23,
+            Code::BadText => 24,
+            Code::BadId => 25,
+            Code::BadTree => 26,
+            Code::TooMany => 27,
+            Code::TooFewPlaces => 28,
+        }
+    }
+
+    pub(crate) fn of_refusal(why: Refusal) -> Code
+        ensures { result ≡ refusal_code why }
+    {
+        match why {
+            Refusal::Busy(_) => Code::Busy,
+            Refusal::Closed(_) => Code::Closed,
+            Refusal::Contended => Code::Contended,
+            Refusal::Exhausted => Code::Exhausted,
+            Refusal::DirectoryFull => Code::DirectoryFull,
+            Refusal::Unplaced => Code::Unplaced,
+            Refusal::Memory => Code::NoMemory,
+        }
+    }
+
+    pub(crate) fn of_keep(why: KeepFault) -> Code
+        ensures { result ≡ keep_code why }
+    {
+        match why {
+            KeepFault::Memory => Code::NoMemory,
+            KeepFault::NumbersFull => Code::NumbersFull,
+            KeepFault::Contended => Code::Contended,
+            KeepFault::Unplaced => Code::Unplaced,
+        }
+    }
+
+    pub(crate) fn of_close(why: CloseFault) -> Code
+        ensures { result ≡ close_code why }
+    {
+        match why {
+            CloseFault::Busy(_) => Code::Busy,
+            CloseFault::Contended(_) => Code::Contended,
+            CloseFault::Unjoined(_) => Code::Unjoined,
+        }
+    }
+
+    pub(crate) fn of_store(why: StoreFault) -> Code
+        ensures { result ≡ open_code why }
+    {
+        match why {
+            StoreFault::BadLimit => Code::BadLimit,
+            StoreFault::Memory => Code::NoMemory,
+        }
+    }
+
+    pub(crate) fn of_tree(why: TreeFault) -> Code
+        ensures { result ≡ tree_code why }
+    {
+        match why {
+            TreeFault::NoRoot
+            | TreeFault::TwoRoots(_)
+            | TreeFault::NoParent(_)
+            | TreeFault::Twice(_) => Code::BadTree,
+            TreeFault::TooMany => Code::TooMany,
+            TreeFault::Memory => Code::NoMemory,
+        }
+    }
+
+    pub(crate) fn of_id(why: IdFault) -> Code
+        ensures { result ≡ id_code why }
+    {
+        match why {
+            IdFault::Empty
+            | IdFault::NoOpen(_)
+            | IdFault::NoSeparator(_)
+            | IdFault::NoClose(_)
+            | IdFault::BadEscape(_)
+            | IdFault::RawCharacter(_)
+            | IdFault::EmptyPart(_)
+            | IdFault::TooDeep => Code::BadId,
+            IdFault::Memory => Code::NoMemory,
+        }
+    }
+}

@@ -1,0 +1,252 @@
+//! What C calls. `bindings/c` has the header.
+ghost use Rattle.std.specs.Prelude.{◌≡◌, ◌≢◌, length, take};
+ghost use Rattle.ext_c.specs.declared.code.Code.TheVariants as code;
+ghost use Rattle.ext_c.specs.Answers.{AbandonSays, BeginSays, FailSays, FillSays, GetSays, NamesKey, PutSays, RemoveSays};
+ghost use Rattle.ext_c.specs.Closing.{CloseSays};
+ghost use Rattle.ext_c.specs.Slots.{OnSlot, StaysSo};
+ghost use Rattle.ext_c.specs.Texts.{texts_in};
+
+use crate::code::Code;
+use crate::handle::Handle;
+use crate::names::tree_of;
+use crate::opening::open_seats;
+use crate::slot::ExtSlot;
+use crate::value::ExtValue;
+use ext_store::Limits;
+use std::alloc::Global;
+
+/// Opens a store of the contexts whose ids are the texts, with as many lanes as there are slots, all of which are to be empty. The lane
+/// of the last slot closes contexts. Takes memory.
+///
+/// Refused, in this order, as `NotEmpty`; for the first text that is none or no id as `BadLengths`, `BadText`, `BadId` or
+/// `NoMemory`; for the ids as `TooMany`, `BadTree` or `NoMemory`; and as `BadLimit` or `NoMemory`. The slots are empty then.
+#[unsafe(no_mangle)]
+pub extern "C" fn ext_open(
+    alloc: Global,
+    bytes: &[u8],
+    lengths: &[u32],
+    tries: u32,
+    numbers: u32,
+    keep_faults: bool,
+    slots: &mut [ExtSlot],
+) -> u32
+    ensures refused { result ≢ 0 → slots.new ≡ slots.old }
+{
+    open(alloc, bytes, lengths, tries, numbers, keep_faults, slots).number()
+}
+
+fn open(
+    alloc: Global,
+    bytes: &[u8],
+    lengths: &[u32],
+    tries: u32,
+    numbers: u32,
+    keep_faults: bool,
+    slots: &mut [ExtSlot],
+) -> Code
+    ensures refused { result ≢ code.Done → slots.new ≡ slots.old }
+{
+    if slots.iter().any(|slot| slot.state != 0) {
+        return Code::NotEmpty;
+    }
+    let tree = match tree_of(alloc, bytes, lengths) {
+        Ok(tree) => tree,
+        Err(code) => return code,
+    };
+    let limits = Limits {
+        lanes: slots.len(),
+        tries,
+        numbers,
+        keep_faults,
+    };
+    match open_seats(alloc, tree, limits) {
+        Ok(seats) => {
+            for (slot, seat) in slots.iter_mut().zip(seats) {
+                slot.give(seat);
+            }
+            Code::Done
+        }
+        Err(code) => code,
+    }
+}
+
+/// Gives the lane up, and its claim, and leaves the slot empty. The store's memory is freed with its last lane.
+#[unsafe(no_mangle)]
+pub extern "C" fn ext_leave(alloc: Global, slot: &mut ExtSlot) -> u32 {
+    match slot.take(alloc) {
+        Some(_) => Code::Done.number(),
+        None => Code::NoLane.number(),
+    }
+}
+
+/// The number of the key: the texts are the parts of its namespace, and then its name; one text alone is a name in the global namespace.
+/// May be called while the lane has a claim. Takes memory for a key that is new to the lane.
+#[unsafe(no_mangle)]
+pub extern "C" fn ext_key(
+    alloc: Global,
+    slot: &mut ExtSlot,
+    bytes: &[u8],
+    lengths: &[u32],
+    key: &mut usize,
+) -> u32
+    ensures says { OnSlot StaysSo (λ before after. NamesKey (texts_in bytes.now lengths.now) before after key.new) slot.old slot.new result }
+{
+    let Some(mut seat) = slot.take(alloc) else {
+        return Code::NoLane.number();
+    };
+    let code = seat.number_named(alloc, bytes, lengths, key);
+    slot.give(seat);
+    code.number()
+}
+
+/// Keeps the handle and stores it under the key in the context itself. `stood` is what it replaced, of number 0 where nothing stood.
+#[unsafe(no_mangle)]
+pub extern "C" fn ext_put(
+    alloc: Global,
+    slot: &mut ExtSlot,
+    context: usize,
+    key: usize,
+    handle: u64,
+    closeable: bool,
+    stood: &mut ExtValue,
+) -> u32
+    ensures says { OnSlot StaysSo (λ before after. PutSays context key (record { raw = handle; closeable = closeable }) before after stood.new) slot.old slot.new result }
+{
+    let Some(mut seat) = slot.take(alloc) else {
+        return Code::NoLane.number();
+    };
+    let handle = Handle {
+        raw: handle,
+        closeable,
+    };
+    let code = seat.put(context, key, handle, stood);
+    slot.give(seat);
+    code.number()
+}
+
+/// Looks for the key in the context and its ancestors, the nearest first.
+#[unsafe(no_mangle)]
+pub extern "C" fn ext_get(
+    alloc: Global,
+    slot: &mut ExtSlot,
+    context: usize,
+    key: usize,
+    found: &mut ExtValue,
+) -> u32
+    ensures says { OnSlot StaysSo (λ before after. GetSays context key before after found.new) slot.old slot.new result }
+{
+    let Some(mut seat) = slot.take(alloc) else {
+        return Code::NoLane.number();
+    };
+    let code = seat.get(context, key, found);
+    slot.give(seat);
+    code.number()
+}
+
+/// Takes what stands under the key in the context itself. It is not closed.
+#[unsafe(no_mangle)]
+pub extern "C" fn ext_remove(
+    alloc: Global,
+    slot: &mut ExtSlot,
+    context: usize,
+    key: usize,
+    taken: &mut ExtValue,
+) -> u32
+    ensures says { OnSlot StaysSo (λ before after. RemoveSays context key before after taken.new) slot.old slot.new result }
+{
+    let Some(mut seat) = slot.take(alloc) else {
+        return Code::NoLane.number();
+    };
+    let code = seat.remove(context, key, taken);
+    slot.give(seat);
+    code.number()
+}
+
+/// Begins a compute: where nothing is found the lane claims the place, until `ext_fill`, `ext_fail` or `ext_abandon` ends the claim.
+#[unsafe(no_mangle)]
+pub extern "C" fn ext_begin(
+    alloc: Global,
+    slot: &mut ExtSlot,
+    context: usize,
+    key: usize,
+    found: &mut ExtValue,
+) -> u32
+    ensures says { OnSlot StaysSo (λ before after. BeginSays context key before after found.new) slot.old slot.new result }
+{
+    let Some(mut seat) = slot.take(alloc) else {
+        return Code::NoLane.number();
+    };
+    let code = seat.begin(context, key, found);
+    slot.give(seat);
+    code.number()
+}
+
+/// Ends a compute by a value. Where it is not kept the claim is given up.
+#[unsafe(no_mangle)]
+pub extern "C" fn ext_fill(
+    alloc: Global,
+    slot: &mut ExtSlot,
+    handle: u64,
+    closeable: bool,
+    number: &mut u32,
+) -> u32
+    ensures says { OnSlot StaysSo (λ before after. FillSays (record { raw = handle; closeable = closeable }) before after number.new) slot.old slot.new result }
+{
+    let Some(mut seat) = slot.take(alloc) else {
+        return Code::NoLane.number();
+    };
+    let handle = Handle {
+        raw: handle,
+        closeable,
+    };
+    let code = seat.fill(handle, number);
+    slot.give(seat);
+    code.number()
+}
+
+/// Ends a compute whose factory failed: where the store keeps faults this one's handle is kept at the place; else the claim is given up.
+#[unsafe(no_mangle)]
+pub extern "C" fn ext_fail(alloc: Global, slot: &mut ExtSlot, handle: u64, number: &mut u32) -> u32
+    ensures says { OnSlot StaysSo (λ before after. FailSays handle before after number.new) slot.old slot.new result }
+{
+    let Some(mut seat) = slot.take(alloc) else {
+        return Code::NoLane.number();
+    };
+    let code = seat.fail(alloc, handle, number);
+    slot.give(seat);
+    code.number()
+}
+
+/// Ends a compute without a value.
+#[unsafe(no_mangle)]
+pub extern "C" fn ext_abandon(alloc: Global, slot: &mut ExtSlot) -> u32
+    ensures says { OnSlot StaysSo AbandonSays slot.old slot.new result }
+{
+    let Some(mut seat) = slot.take(alloc) else {
+        return Code::NoLane.number();
+    };
+    let code = seat.abandon();
+    slot.give(seat);
+    code.number()
+}
+
+/// Closes the context: seals its places for keys, and writes out the closeable values that remain, the latest first, for the caller to close.
+/// There is to be room for 64. Asked again where it is refused as `Unjoined`.
+#[unsafe(no_mangle)]
+pub extern "C" fn ext_close(
+    alloc: Global,
+    slot: &mut ExtSlot,
+    context: usize,
+    values: &mut [ExtValue],
+    count: &mut usize,
+) -> u32
+    ensures says { OnSlot (λ old now. now.store ≡ old.store) (λ before after. CloseSays context (length values.old) before after (take count.new values.new)) slot.old slot.new result }
+{
+    *count = 0;
+    let Some(mut seat) = slot.take(alloc) else {
+        return Code::NoLane.number();
+    };
+    let code = seat.close(context, values, count);
+    slot.give(seat);
+    code.number()
+}

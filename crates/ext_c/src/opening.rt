@@ -1,0 +1,129 @@
+//! The seats of a store that is opened.
+ghost use Rattle.std.specs.Prelude.{◌≡◌, All, IfSome, Some, map};
+ghost use Rattle.std.specs.Arc.{arc_value};
+ghost use Rattle.ext_store.specs.Stores.{CloserView, IsCloserOf, IsLaneOf};
+
+use crate::code::Code;
+use crate::crossing::parts_cross;
+use crate::handle::Handle;
+use crate::seat::Seat;
+use ext_store::{Closer, Lane, Limits, Store};
+use ext_tree::Tree;
+use std::alloc::Global;
+use std::sync::Arc;
+
+fn sit(
+    alloc: Global,
+    store: Arc<Store<Handle>, Global>,
+    lane: Lane<Handle>,
+    closers: Vec<Option<Closer>>,
+) -> Option<Box<Seat>>
+    requires lane { IsLaneOf (arc_value store).id lane }
+    requires closers { All (λ c. (x : CloserView) → c ≡ Some x → IsCloserOf (arc_value store) x) closers.items }
+{
+    let seat = Seat {
+        store,
+        lane,
+        claim: None,
+        closers,
+    };
+    let Ok(boxed) = Box::new(alloc, seat) else {
+        return None;
+    };
+    Some(boxed)
+}
+
+// The closers, each of which can be taken.
+fn all_of(alloc: Global, closers: Vec<Closer>) -> Option<Vec<Option<Closer>>>
+    ensures { IfSome result (λ cs. cs.items ≡ map Some closers.items) }
+{
+    let mut all = Vec::new(alloc);
+    for closer in closers {
+        let Ok(()) = all.push(Some(closer)) else {
+            return None;
+        };
+    }
+    Some(all)
+}
+
+// A seat with these closers.
+#[tactic(auto, using(crate::proofs::Closers::all_some))]
+fn closing_seat(
+    alloc: Global,
+    store: &Arc<Store<Handle>, Global>,
+    lane: Lane<Handle>,
+    closers: Vec<Closer>,
+) -> Option<Box<Seat>>
+    requires lane { IsLaneOf (arc_value store.now).id lane }
+    requires closers { All (IsCloserOf (arc_value store.now)) closers.items }
+{
+    let own = all_of(alloc, closers)?;
+    let Ok(shared) = Arc::try_clone(store) else {
+        return None;
+    };
+    sit(alloc, shared, lane, own)
+}
+
+// A seat without closers for each lane.
+fn plain_seats(
+    alloc: Global,
+    store: &Arc<Store<Handle>, Global>,
+    lanes: Vec<Lane<Handle>>,
+) -> Option<Vec<Box<Seat>>>
+    requires lanes { All (λ l. IsLaneOf (arc_value store.now).id l) lanes.items }
+{
+    let mut seats = Vec::new(alloc);
+    for lane in lanes {
+        let Ok(shared) = Arc::try_clone(store) else {
+            return None;
+        };
+        let seat = sit(alloc, shared, lane, Vec::new(alloc))?;
+        let Ok(()) = seats.push(seat) else {
+            return None;
+        };
+    }
+    Some(seats)
+}
+
+// A seat for each lane. The last has the closers.
+fn seats(
+    alloc: Global,
+    store: &Arc<Store<Handle>, Global>,
+    lanes: Vec<Lane<Handle>>,
+    closers: Vec<Closer>,
+) -> Option<Vec<Box<Seat>>>
+    requires lanes { All (λ l. IsLaneOf (arc_value store.now).id l) lanes.items }
+    requires closers { All (IsCloserOf (arc_value store.now)) closers.items }
+{
+    let mut lanes = lanes;
+    let Some(last) = lanes.pop() else {
+        return None;
+    };
+    let closing = closing_seat(alloc, store, last, closers)?;
+    let mut seats = plain_seats(alloc, store, lanes)?;
+    let Ok(()) = seats.push(closing) else {
+        return None;
+    };
+    Some(seats)
+}
+
+// The seats of a new store.
+pub(crate) fn open_seats(
+    alloc: Global,
+    tree: Tree,
+    limits: Limits,
+) -> Result<Vec<Box<Seat>>, Code> {
+    parts_cross();
+    match Store::<Handle>::open(alloc, tree, limits) {
+        Ok((store, lanes, closers)) => {
+            let Ok(shared) = Arc::new(alloc, store) else {
+                return Err(Code::NoMemory);
+            };
+            match seats(alloc, &shared, lanes, closers) {
+                Some(seats) => Ok(seats),
+                None => Err(Code::NoMemory),
+            }
+        }
+        Err(fault) => Err(Code::of_store(fault)),
+    }
+}

@@ -1,0 +1,48 @@
+//! A lane in the caller's memory.
+ghost use Rattle.std.specs.Prelude.{◌≡◌, ◌≢◌, IsSome, IfSome, IfNone, Some, None};
+
+use crate::lane::ExtLane;
+use crate::seat::Seat;
+use ext_pointer::BoxPointer;
+use std::alloc::Global;
+use std::mem;
+
+/// All zero, or a lane.
+#[repr(C)]
+#[derive(Drop)]
+pub struct ExtSlot {
+    pub state: u64,
+    pub lane: ExtLane,
+    ghost told: { state ≡ 1 → IsSome lane.seat },
+}
+
+impl ExtSlot {
+    /// The lane's seat, which leaves the slot empty until it is given back. Takes no memory.
+    pub(crate) fn take(&mut self, alloc: Global) -> Option<Box<Seat>>
+        ensures taken { IfSome result (λ b. self.old.lane.seat ≡ Some b.value) }
+        ensures empty { IfSome result (λ _. self.new.lane.seat ≡ None) }
+        ensures none { IfNone result (self.new ≡ self.old) }
+        ensures missing { IfNone result (self.old.state ≢ 1) }
+    {
+        if self.state != 1 {
+            return None;
+        }
+        let empty = ExtSlot {
+            state: 0,
+            lane: ExtLane::gone(),
+        };
+        let ExtSlot { state: _, lane } = mem::replace(self, empty);
+        Some(lane.into_pointer(alloc).into_box())
+    }
+
+    /// Gives the seat to the slot. Takes no memory.
+    pub(crate) fn give(&mut self, seat: Box<Seat>)
+        ensures state { self.new.state ≡ 1 }
+        ensures seat { self.new.lane.seat ≡ Some seat.value }
+    {
+        *self = ExtSlot {
+            state: 1,
+            lane: ExtLane::of(BoxPointer::of(seat)),
+        };
+    }
+}

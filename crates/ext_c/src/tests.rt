@@ -1,0 +1,138 @@
+//! The exports, as C calls them.
+use crate::code::Code;
+use crate::exports::{
+    ext_abandon, ext_begin, ext_close, ext_fail, ext_fill, ext_get, ext_key, ext_leave, ext_open,
+    ext_put, ext_remove,
+};
+use crate::lane::ExtLane;
+use crate::slot::ExtSlot;
+use crate::value::ExtValue;
+use std::alloc::Global;
+use std::process::Abort;
+use std::rt::HostRuntime;
+
+const IDS: &[u8] = b"[engine:x][engine:x]/[class:a]";
+
+const LENGTHS: [u32; 2] = [10, 20];
+
+fn empty_slot() -> ExtSlot {
+    ExtSlot {
+        state: 0,
+        lane: ExtLane::gone(),
+    }
+}
+
+fn no_value() -> ExtValue {
+    ExtValue::unshown(0, 0)
+}
+
+// Opens two contexts with one lane.
+fn open_one(rt: &impl Abort, alloc: Global, keep_faults: bool) -> [ExtSlot; 1] {
+    let mut slots = [empty_slot()];
+    assert_eq!(rt;
+        ext_open(alloc, IDS, &LENGTHS, 8, 100, keep_faults, &mut slots),
+        Code::Done.number()
+    );
+    slots
+}
+
+#[test]
+fn a_value_is_put_and_found_from_below(rt: HostRuntime) {
+    let alloc = rt.alloc();
+    let mut slots = open_one(&rt, alloc, true);
+    let slot = &mut slots[0];
+    let mut key = 7;
+    assert_eq!(rt; ext_key(alloc, slot, b"spacename", &[5, 4], &mut key), 0);
+    assert_eq!(rt; key, 0);
+    let mut value = no_value();
+    assert_eq!(rt;
+        ext_get(alloc, slot, 1, key, &mut value),
+        Code::Absent.number()
+    );
+    assert_eq!(rt; ext_put(alloc, slot, 0, key, 77, true, &mut value), 0);
+    assert_eq!(rt; value.number, 0);
+    assert_eq!(rt; ext_get(alloc, slot, 1, key, &mut value), 0);
+    assert_eq!(rt;
+        (
+            value.handle,
+            value.number,
+            value.context,
+            value.closeable,
+            value.fault
+        ),
+        (77, 1, 0, true, false)
+    );
+    assert_eq!(rt; ext_put(alloc, slot, 0, key, 78, false, &mut value), 0);
+    assert_eq!(rt; (value.handle, value.number), (77, 1));
+    assert_eq!(rt; ext_remove(alloc, slot, 0, key, &mut value), 0);
+    assert_eq!(rt; (value.handle, value.number), (78, 2));
+    assert_eq!(rt;
+        ext_remove(alloc, slot, 0, key, &mut value),
+        Code::Absent.number()
+    );
+    assert_eq!(rt; ext_leave(alloc, slot), 0);
+    assert_eq!(rt; ext_leave(alloc, slot), Code::NoLane.number());
+}
+
+#[test]
+fn a_compute_is_two_calls(rt: HostRuntime) {
+    let alloc = rt.alloc();
+    let mut slots = open_one(&rt, alloc, true);
+    let slot = &mut slots[0];
+    let mut value = no_value();
+    let mut number = 0;
+    assert_eq!(rt;
+        ext_fill(alloc, slot, 5, true, &mut number),
+        Code::NoClaim.number()
+    );
+    assert_eq!(rt;
+        ext_begin(alloc, slot, 1, 3, &mut value),
+        Code::Run.number()
+    );
+    assert_eq!(rt;
+        ext_get(alloc, slot, 1, 3, &mut value),
+        Code::Claiming.number()
+    );
+    assert_eq!(rt; ext_fill(alloc, slot, 5, true, &mut number), 0);
+    assert_eq!(rt; number, 1);
+    assert_eq!(rt; ext_begin(alloc, slot, 1, 3, &mut value), 0);
+    assert_eq!(rt; (value.handle, value.number, value.context), (5, 1, 1));
+    assert_eq!(rt;
+        ext_begin(alloc, slot, 1, 4, &mut value),
+        Code::Run.number()
+    );
+    assert_eq!(rt;
+        ext_fail(alloc, slot, 18_446_744_073_709_551_615, &mut number),
+        0
+    );
+    assert_eq!(rt;
+        ext_get(alloc, slot, 1, 4, &mut value),
+        Code::FaultStands.number()
+    );
+    assert_eq!(rt;
+        (value.handle, value.number, value.fault),
+        (18_446_744_073_709_551_615, 2, true)
+    );
+    assert_eq!(rt;
+        ext_begin(alloc, slot, 1, 5, &mut value),
+        Code::Run.number()
+    );
+    assert_eq!(rt; ext_abandon(alloc, slot), 0);
+    assert_eq!(rt;
+        ext_get(alloc, slot, 1, 5, &mut value),
+        Code::Absent.number()
+    );
+    let mut values = [no_value(); 64];
+    let mut count = 9;
+    assert_eq!(rt; ext_close(alloc, slot, 1, &mut values, &mut count), 0);
+    assert_eq!(rt; (count, values[0].handle, values[0].number), (1, 5, 1));
+    assert_eq!(rt;
+        ext_close(alloc, slot, 1, &mut values, &mut count),
+        Code::Closed.number()
+    );
+    assert_eq!(rt;
+        ext_get(alloc, slot, 1, 5, &mut value),
+        Code::Closed.number()
+    );
+    assert_eq!(rt; value.context, 1);
+}

@@ -1,0 +1,68 @@
+-- One pass over some cells, which reads each of them once, in order, and what is kept of the words.
+-- Below the public contracts.
+use Rattle.std.specs.Prelude.{◌≡◌, ℕ, ◌^◌, ◌<◌, List, [], ◌∷◌, All, Option, None, Some, length, slice_index, sum_by, take}
+use Rattle.ext_model.specs.declared.slot.Slot.{Slot}
+use Rattle.ext_model.specs.History.{History, Limits, own, IsLegal}
+use Rattle.ext_model.specs.Words.{number_code, slot_word, word_of}
+use Rattle.ext_history.specs.Histories.{last_after, seen_by, Follow, moved}
+use Rattle.ext_model.specs.CallActs.{LaneView}
+use Rattle.ext_cells.specs.declared.nearest.Nearest.{Nearest}
+use Rattle.ext_cells.specs.declared.nearest.Reading.{Reading}
+use Rattle.ext_cells.specs.declared.standing.Standing.{Standing}
+use Rattle.ext_cells.specs.Words.{version_in, IsEmptyWord}
+use Rattle.ext_cells.specs.CellCalls.{standing_of}
+use Rattle.ext_cells.specs.InnerSteps.{Finds}
+
+-- each word is its cell's at the front with which it was read
+abbrev pub EachRead : List ℕ → List ℕ → List History → Type 0
+EachRead [] [] [] = Unit {0}
+EachRead [] [] (f ∷ fs) = ⊥
+EachRead [] (w ∷ ws) fs = ⊥
+EachRead (c ∷ cs) [] fs = ⊥
+EachRead (c ∷ cs) (w ∷ ws) [] = ⊥
+EachRead (c ∷ cs) (w ∷ ws) (f ∷ fs) = (w ≡ word_of f c) × EachRead cs ws fs
+
+pub record ReadPass (limits : Limits) (before after : LaneView) (cells words : List ℕ) : Type 0 where
+  pub fronts : List History
+  pub is : after ≡ moved before fronts
+  pub follow : Follow (seen_by before) fronts
+  pub legal : IsLegal limits (last_after (seen_by before) fronts)
+  pub own_same : own before.number (last_after (seen_by before) fronts) ≡ own before.number (seen_by before)
+  pub read : EachRead cells words fronts
+
+-- ---- what is kept of the words
+
+-- the word, of whatever stands at whatever version, says that this does
+abbrev pub Says : ℕ → Option Standing → Type 0
+Says word standing = (stands : Option Slot) (version : ℕ) → number_code stands < 2 ^ 20 → word ≡ slot_word stands version → standing_of stands ≡ standing
+
+-- the first of the words that says that anything stands
+pub record SaysFirst (words : List ℕ) (nearest : Nearest) : Type 0 where
+  pub within : nearest.place < length words
+  pub before : All IsEmptyWord (take nearest.place words)
+  pub says : Says (slice_index words nearest.place) (Some nearest.standing)
+
+abbrev pub IsFirstSaid : List ℕ → Option Nearest → Type 0
+IsFirstSaid words None = All IsEmptyWord words
+IsFirstSaid words (Some nearest) = SaysFirst words nearest
+
+pub record IsReading (words : List ℕ) (reading : Reading) : Type 0 where
+  pub count : reading.count ≡ length words
+  pub versions : reading.versions ≡ sum_by version_in words
+  pub nearest : IsFirstSaid words reading.nearest
+
+-- ---- a pass that ends at the first cell where anything stands
+
+-- what came behind the empty cells: nothing, where those were all; or the read of one more, where something stands
+abbrev pub EndsAt : Limits → LaneView → LaneView → List ℕ → ℕ → Option Standing → Type 0
+EndsAt limits before after cells count None = (after ≡ before) × (count ≡ length cells)
+EndsAt limits before after cells count (Some standing) =
+    (count < length cells) × ((word : ℕ) × (h : History) × Says word (Some standing) × Finds limits before (slice_index cells count) word h × (after ≡ moved before (h ∷ [])))
+
+pub record FirstPass (limits : Limits) (before after : LaneView) (cells : List ℕ) (empty : Reading) (stands : Option Standing) : Type 0 where
+  pub between : LaneView
+  pub words : List ℕ
+  pub reading : IsReading words empty
+  pub nothing : All IsEmptyWord words
+  pub read : ReadPass limits before between (take empty.count cells) words
+  pub ends : EndsAt limits between after cells empty.count stands

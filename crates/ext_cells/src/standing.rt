@@ -1,0 +1,14 @@
+//! What the look-up of the nearest cell tells of it.
+
+/// What stands at a cell that is not empty.
+#[derive(Clone, Copy, Debug, Drop, PartialEq, Eq)]
+pub enum Standing {
+    /// The value of this number, from 1 to 65,535.
+    Value(u32),
+    /// The kept fault of this number, from 1 to 65,535.
+    Fault(u32),
+    /// The claim of a lane, which computes a value.
+    Claim,
+    /// A seal.
+    Seal,
+}

@@ -1,0 +1,110 @@
+-- What a run makes of the bytes of its input: the report of a run of the plan that they write (`Reports`), or the fault of a plan that is refused (`RefusedAs`). Texts
+-- are lists of bytes.
+use Rattle.std.specs.Prelude.{◌≡◌, ℕ, Bool, true, false, List, length, map, nat_lt, Result, Ok, Err, IsOk, if◌then◌else◌}
+use Rattle.std.specs.Str.{is_utf8}
+use Rattle.ext_parallel.specs.Fault.{Fault}
+use Rattle.ext_lifecycle.specs.FaultTexts.{NodeOutcome, fault_text}
+use Rattle.ext_lifecycle.specs.Results.{ResultOf, with_fault_told}
+use Rattle.ext_plan_reading.specs.declared.fault.PlanFault.{PlanFault}
+use Rattle.ext_plan_reading.specs.declared.fault.PlanFault.TheVariants as plan
+use Rattle.ext_plan_reading.specs.Plans.{PlanText}
+use Rattle.ext_plan_reading.specs.Reading.{plan_of_text}
+use Rattle.ext_plan_reading.specs.ReadPlans.{ids_of_nodes}
+use Rattle.ext_report.specs.Report.{report_of, any_failed}
+use Rattle.ext_plain.specs.PlainRun.{ArePlain}
+use Rattle.ext_parallel.specs.EngineFault.{EngineFault}
+use Rattle.ext_parallel.specs.ParallelRun.{IsRefusedRun, ParallelRun}
+use Rattle.ext_run.specs.declared.fault.RunFault.{RunFault}
+use Rattle.ext_run.specs.declared.fault.RunFault.TheVariants as faults
+use Rattle.ext_run.specs.declared.options.Options.{Options}
+
+-- how many bytes a plan has at most
+abbrev pub input_limit : ℕ
+input_limit = 1048576
+
+-- ---- the plan that is read
+
+-- what was read of a plan
+abbrev pub plan_or_fault : Result PlanText PlanFault → Result PlanText RunFault
+plan_or_fault (Ok read) = Ok read
+plan_or_fault (Err fault) = Err (faults.Plan fault)
+
+-- the plan that these bytes write
+unfoldable pub plan_of_bytes : List ℕ → Result PlanText RunFault
+plan_of_bytes input = if is_utf8 input then plan_or_fault (plan_of_text input) else Err (faults.Plan plan.NotUtf8)
+
+-- the plan that an input writes: more bytes than a plan may have are too many, whatever they are
+unfoldable pub plan_of_input : List ℕ → Result PlanText RunFault
+plan_of_input input = if nat_lt input_limit (length input) then Err faults.TooLong else plan_of_bytes input
+
+-- ---- its run, and the report
+
+-- what is told of the nodes by some run on so many lanes, with the texts of their faults
+pub record RunsOnLanes (plan : PlanText) (lanes : ℕ) (results : List NodeOutcome) : Type 0 where
+  pub ran : List (ResultOf Fault)
+  pub run : ParallelRun plan lanes ran
+  pub told : results ≡ map (with_fault_told fault_text) ran
+
+-- What is told of the nodes, and whether a step may have lacked memory, by a plain run, or by some run on several lanes, of which that none did isn't told
+abbrev pub IsRunBy : Bool → ℕ → PlanText → List NodeOutcome → Bool → Type 0
+IsRunBy true lanes plan results lacked = ArePlain plan results lacked
+IsRunBy false lanes plan results lacked = RunsOnLanes plan lanes results × (lacked ≡ true)
+
+abbrev pub IsRunAs : Options → PlanText → List NodeOutcome → Bool → Type 0
+IsRunAs options plan results lacked = IsRunBy options.plain options.lanes plan results lacked
+
+-- what a run gives: a report, whether a node failed, and whether a step may have lacked memory
+pub record RunReport : Type 0 where
+  pub report : List ℕ
+  pub failed : Bool
+  pub lacked : Bool
+
+-- of these results
+abbrev pub run_report_of : PlanText → List NodeOutcome → Bool → RunReport
+run_report_of plan results lacked = record {
+  report = report_of (ids_of_nodes plan.nodes) results;
+  failed = any_failed results;
+  lacked = lacked;
+}
+
+-- it is the report of a run of this plan
+pub record IsReportOf (options : Options) (plan : PlanText) (given : RunReport) : Type 0 where
+  pub results : List NodeOutcome
+  pub run : IsRunAs options plan results given.lacked
+  pub report_is : given ≡ run_report_of plan results given.lacked
+
+-- it reports what was read: that is a plan, and it is the report of a run of it
+abbrev pub Reports : Options → Result PlanText RunFault → RunReport → Type 0
+Reports options (Ok plan) given = IsReportOf options plan given
+Reports options (Err fault) given = ⊥
+
+-- ---- what a fault tells
+
+-- why no input is handed out: the other faults come later in a run
+abbrev pub IsReadFault : RunFault → Type 0
+IsReadFault faults.Read = Unit {0}
+IsReadFault faults.Write = ⊥
+IsReadFault faults.TooLong = Unit {0}
+IsReadFault (faults.Plan fault) = ⊥
+IsReadFault (faults.Engine fault) = ⊥
+IsReadFault faults.Memory = Unit {0}
+
+-- the plan is refused with this fault; want of memory tells nothing
+abbrev pub RefusedPlan : PlanFault → Result PlanText RunFault → Type 0
+RefusedPlan plan.Memory read = Unit {0}
+RefusedPlan fault read = read ≡ Err (faults.Plan fault)
+
+-- the plan was read, and its run on several lanes was refused with this fault
+abbrev pub RefusedRun : Options → EngineFault → Result PlanText RunFault → Type 0
+RefusedRun options fault (Ok plan) = (options.plain ≡ false) × IsRefusedRun plan options.lanes fault
+RefusedRun options fault (Err other) = ⊥
+
+-- A plan that is too long or refused is answered so, and a plan whose run was refused. Where a write failed there was a report to write. A failed read and want of
+-- memory tell nothing
+abbrev pub RefusedAs : Options → RunFault → Result PlanText RunFault → Type 0
+RefusedAs options faults.Read read = Unit {0}
+RefusedAs options faults.Write read = IsOk read
+RefusedAs options faults.TooLong read = read ≡ Err faults.TooLong
+RefusedAs options (faults.Plan fault) read = RefusedPlan fault read
+RefusedAs options (faults.Engine fault) read = RefusedRun options fault read
+RefusedAs options faults.Memory read = Unit {0}

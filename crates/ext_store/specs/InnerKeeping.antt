@@ -1,0 +1,39 @@
+-- For what a number is not drawn, and what becomes of a value for which one was: what the last part of `keep` and of `keep_wait` says.
+-- Below the public contracts.
+use Rattle.std.specs.Prelude.{ℕ, ◌≡◌, List, Result, Ok, Err, None, MatchResult}
+use Rattle.ext_values.specs.Known.{Known, KeepsKnown, Learns, known_at}
+use Rattle.ext_cells.specs.declared.refusal.CellRefusal.{CellRefusal}
+use Rattle.ext_cells.specs.declared.refusal.CellRefusal.TheVariants as cell
+use Rattle.ext_store.specs.declared.fault.KeepFault.{KeepFault}
+use Rattle.ext_store.specs.declared.fault.KeepFault.TheVariants as fault
+
+-- the drawing of a number is refused for these alone
+abbrev pub IsOfCount : CellRefusal → Type 0
+IsOfCount cell.NumbersFull = Unit {0}
+IsOfCount cell.Contended = Unit {0}
+IsOfCount cell.Busy = ⊥
+IsOfCount cell.Closed = ⊥
+IsOfCount cell.Exhausted = ⊥
+IsOfCount cell.Memory = ⊥
+IsOfCount cell.BadLimit = ⊥
+
+-- what `keep` says then; the last five do not come
+abbrev pub keep_fault : CellRefusal → KeepFault
+keep_fault cell.NumbersFull = fault.NumbersFull
+keep_fault cell.Contended = fault.Contended
+keep_fault cell.Busy = fault.Contended
+keep_fault cell.Closed = fault.Contended
+keep_fault cell.Exhausted = fault.Contended
+keep_fault cell.Memory = fault.Contended
+keep_fault cell.BadLimit = fault.Contended
+
+-- the number, whose value nothing told before, has this value
+pub record IsPlaced {V : Type 0} (value : V) (before after : List (Known V)) (number : ℕ) : Type 0 where
+  pub learnt : Learns before after number value
+  pub free : known_at before number ≡ None
+  pub known : KeepsKnown before after
+
+-- The drawn number has the value; or the value comes back, as no number was drawn or as the number's place did not take it, and nothing is learnt
+abbrev pub PlacesDrawn : {V : Type 0} → V → Result ℕ CellRefusal → List (Known V) → List (Known V) → Result ℕ (V × KeepFault) → Type 0
+PlacesDrawn value drawn before after (Ok number) = (drawn ≡ Ok number) × IsPlaced value before after number
+PlacesDrawn value drawn before after (Err (back, why)) = (back ≡ value) × (after ≡ before) × MatchResult drawn (λ number. why ≡ fault.Unplaced) (λ refused. why ≡ keep_fault refused)

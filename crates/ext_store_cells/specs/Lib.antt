@@ -1,0 +1,5 @@
+pub mod ContextCalls
+pub mod InnerLooking
+pub mod InnerRefusals
+pub mod Claiming
+pub mod Waiting

@@ -1,0 +1,212 @@
+//! The waiting forms of the calls: what met a running factory is done again once a claim has ended, and what other lanes
+//! were in the way of at once.
+ghost use Rattle.std.specs.Prelude.{◌≡◌, ◌≢◌, ◌<◌, Err, IfErr, IfOk, IsFalse, Ok, length};
+ghost use Rattle.ext_model.specs.CallActs.{MayStoreNow};
+ghost use Rattle.ext_cells.specs.declared.refusal.CellRefusal.TheVariants as cell_refusal;
+ghost use Rattle.ext_cells.specs.CellCalls as cells;
+ghost use Rattle.ext_store_cells.specs.ContextCalls.{Gets, IsFaultlessLook, Puts, Removes, with_kept};
+ghost use Rattle.ext_store_cells.specs.InnerLooking.{IsTrail, LooksAt};
+ghost use Rattle.ext_store_cells.specs.Waiting.{ClaimsAfterWaits, IsDecided, IsDecidedLook, IsDecidedUnused};
+
+use crate::found::unless_busy;
+use crate::{Refusal, StoreCells, Unused};
+use ext_cells::{CellLane, CellRefusal, Claim};
+use ext_model::{ContextNo, KeyNo, Look};
+use ext_waiters::Waiting;
+use std::sync::{Forever, Wait};
+
+// What a lane does before it tries again: where it met a running factory it announces that it waits, or, where it has
+// announced that and has tried once more since, it sleeps; where other lanes were in the way, nothing.
+fn pause<R: Wait>(rt: &R, waiting: &mut Waiting<'_>, met: Refusal) {
+    if matches!(met, Refusal::Busy(_)) {
+        if waiting.is_announced() {
+            waiting.sleep(rt);
+        } else {
+            waiting.announce();
+        }
+    }
+}
+
+impl StoreCells {
+    /// As `look_up`, but where a context that computes a value decides, it waits, parked, until a claim has ended, and
+    /// looks again; and where other lanes were in the way it looks again at once. So it never answers `Look::Busy`, and is
+    /// never refused. It may wait: it promises its clauses if it returns.
+    ///
+    /// Javadoc `ExtensionContext.Store`, `get`, which waits for a running factory too.
+    pub fn wait_to_look<R: Wait>(
+        &self,
+        rt: &R,
+        lane: &mut CellLane,
+        context: ContextNo,
+        key: KeyNo,
+    ) -> Look
+        requires lane { lane.old.cells ≡ self.now.cells }
+        requires context { context < length self.now.tree }
+        requires key { key < length self.now.keys }
+        ensures lane { lane.new.cells ≡ lane.old.cells }
+        ensures answer { Gets self.now context key lane.old lane.new (Ok result) }
+        ensures no_faults { IsFalse self.now.cells.limits.keep_faults → IsFaultlessLook result }
+        ensures decided { IsDecidedLook result }
+    {
+        let path = self.tree.path(context);
+        self.wait_along(rt, lane, path.as_slice(), key)
+    }
+
+    // The look-up of the key along the path, once no factory decides it.
+    fn wait_along<R: Wait>(
+        &self,
+        rt: &R,
+        lane: &mut CellLane,
+        path: &[ContextNo],
+        key: KeyNo,
+    ) -> Look
+        requires lane { lane.old.cells ≡ self.now.cells }
+        requires path { IsTrail self.now path.now }
+        requires key { key < length self.now.keys }
+        ensures lane { lane.new.cells ≡ lane.old.cells }
+        ensures look { LooksAt self.now path.now key lane.old lane.new result }
+        ensures decided { IsDecidedLook result }
+    {
+        let mut waiting = self.waiters.begin();
+        for _ in rt.forever() {
+            match unless_busy(self.look_along(lane, path, key)) {
+                Ok(look) => return look,
+                Err(met) => pause(rt, &mut waiting, met),
+            }
+        }
+        unreachable!()
+    }
+
+    /// As `put_at`, but where a lane computes a value for the context it waits, parked, until a claim has ended, and tries
+    /// again; and where other lanes were in the way it tries again at once. So it is never refused as `Busy` or
+    /// `Contended`, and else as `put_at` is. It may wait: it promises its clauses if it returns.
+    ///
+    /// Javadoc `ExtensionContext.Store`, `put`. That it waits for a running factory is an own rule: JUnit 5 replaces at
+    /// once.
+    pub fn wait_to_put<R: Wait>(
+        &self,
+        rt: &R,
+        lane: &mut CellLane,
+        context: ContextNo,
+        key: KeyNo,
+        number: u32,
+    ) -> Result<Option<u32>, Refusal>
+        requires lane { lane.old.cells ≡ self.now.cells }
+        requires context { context < length self.now.tree }
+        requires key { key < length self.now.keys }
+        requires number { MayStoreNow lane.old.view number }
+        ensures lane { lane.new.cells ≡ lane.old.cells }
+        ensures answer { Puts self.now context key number lane.old lane.new (with_kept number result) }
+        ensures decided { IfErr result IsDecided }
+    {
+        let mut waiting = self.waiters.begin();
+        for _ in rt.forever() {
+            let met = match self.put_at(lane, context, key, number) {
+                Ok(stood) => return Ok(stood),
+                Err(why) => why,
+            };
+            if met.is_decided() {
+                return Err(met);
+            }
+            pause(rt, &mut waiting, met);
+        }
+        unreachable!()
+    }
+
+    /// As `remove_at`, but where a lane computes a value for the context it waits, parked, until a claim has ended, and
+    /// tries again; and where other lanes were in the way it tries again at once. So it is never refused as `Busy` or
+    /// `Contended`, and else as `remove_at` is. It may wait: it promises its clauses if it returns.
+    ///
+    /// Javadoc `ExtensionContext.Store`, `remove`. That it waits for a running factory is an own rule: JUnit 5 takes the
+    /// entry at once.
+    pub fn wait_to_remove<R: Wait>(
+        &self,
+        rt: &R,
+        lane: &mut CellLane,
+        context: ContextNo,
+        key: KeyNo,
+    ) -> Result<Option<u32>, Refusal>
+        requires lane { lane.old.cells ≡ self.now.cells }
+        requires context { context < length self.now.tree }
+        requires key { key < length self.now.keys }
+        ensures lane { lane.new.cells ≡ lane.old.cells }
+        ensures answer { Removes self.now context key lane.old lane.new result }
+        ensures decided { IfErr result IsDecided }
+    {
+        let mut waiting = self.waiters.begin();
+        for _ in rt.forever() {
+            let met = match self.remove_at(lane, context, key) {
+                Ok(stood) => return Ok(stood),
+                Err(why) => why,
+            };
+            if met.is_decided() {
+                return Err(met);
+            }
+            pause(rt, &mut waiting, met);
+        }
+        unreachable!()
+    }
+
+    /// Draws the next number, however often other lanes are in the way. It is handed endless rounds and no runtime, so it
+    /// does not sleep. Refused as `NumbersFull` where all numbers were drawn. It may go on for ever: it promises its
+    /// clauses if it returns.
+    pub fn wait_to_draw<R: Wait>(
+        &self,
+        rounds: Forever<'_, R>,
+        lane: &mut CellLane,
+    ) -> Result<u32, CellRefusal>
+        requires lane { lane.old.cells ≡ self.now.cells }
+        ensures lane { lane.new.cells ≡ lane.old.cells }
+        ensures reply { cells.Answers self.now.tries lane.old lane.new cells.number_acts (cells.number_reply lane.old) result }
+        ensures storable { IfOk result (MayStoreNow lane.new.view) }
+        ensures decided { result ≢ Err cell_refusal.Contended }
+    {
+        for _ in rounds {
+            let why = match self.cells.next_number(lane) {
+                Ok(number) => return Ok(number),
+                Err(why) => why,
+            };
+            if why != CellRefusal::Contended {
+                return Err(why);
+            }
+        }
+        unreachable!()
+    }
+
+    /// As `claim_missing`, but where a running factory decides a look-up or the claim it waits, parked, until a claim has
+    /// ended, and begins anew; and where other lanes were in the way it begins anew at once. So it is never refused as
+    /// `Busy` or `Contended`, and else as `claim_missing` is. What meets a factory in an ancestor has given its own claim
+    /// up before it waits, and before its last attempt no claim is given up but for that or for other lanes in the way.
+    /// It may wait: it promises its clauses if it returns.
+    pub fn wait_to_claim<R: Wait>(
+        &self,
+        rt: &R,
+        lane: &mut CellLane,
+        context: ContextNo,
+        key: KeyNo,
+    ) -> Result<Claim, Unused>
+        requires lane { lane.old.cells ≡ self.now.cells }
+        requires context { context < length self.now.tree }
+        requires key { key < length self.now.keys }
+        ensures lane { lane.new.cells ≡ lane.old.cells }
+        ensures claim { ClaimsAfterWaits self.now context key lane.old.view lane.new.view result }
+        ensures decided { IfErr result IsDecidedUnused }
+    {
+        let mut waiting = self.waiters.begin();
+        for _ in rt.forever() {
+            let met = match self.claim_missing(lane, context, key) {
+                Ok(claim) => return Ok(claim),
+                Err(Unused::Found { at, number }) => return Err(Unused::Found { at, number }),
+                Err(Unused::FaultStands { at, number }) => {
+                    return Err(Unused::FaultStands { at, number });
+                }
+                Err(Unused::Refused(why)) => why,
+            };
+            if met.is_decided() {
+                return Err(Unused::Refused(met));
+            }
+            pause(rt, &mut waiting, met);
+        }
+        unreachable!()
+    }
+}

@@ -1,5 +1,0 @@
-use Rattle.ext_store.specs.Stores.{IsLaneOf}
-use Rattle.test_threads.proofs.waits.keys.name_all.Given as goal
-
-abbrev pub invariant-loop-number : goal.invariant-loop-number
-invariant-loop-number g l = IsLaneOf l.store.id l.lane

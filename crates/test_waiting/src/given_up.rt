@@ -1,0 +1,176 @@
+//! Claims that are given up since an ancestor got a value meanwhile: a lane that sleeps for one goes on.
+ghost use Rattle.std.specs.Prelude.{◌<◌, All, length};
+ghost use Rattle.ext_store.specs.Stores.{IsLaneOf};
+
+use crate::held::{same, watch_more};
+use crate::opening::{Letter, with_store};
+use ext_model::Fault;
+use ext_store::{Closer, Compute, Lane, Store};
+use ext_tree::Key;
+use std::process::Abort;
+use std::sync::Wait;
+use std::sync::atomic::{AtomicU64, Ordering};
+use std::test::Fail;
+use std::thread::{Threads, join};
+use std::time::Clock;
+
+// How often a value is put at the root and taken out again.
+const PUTS: u64 = 60_000;
+
+/// How far the three lanes are.
+#[derive(Drop)]
+struct Progress {
+    /// Removes that were answered, of the lane that sleeps.
+    removes: AtomicU64,
+    /// Computes that found a value or were in the way of a put: some of them have given their claim up.
+    unused: AtomicU64,
+    /// How many lanes have ended: first the one that puts, and then the one that computes.
+    ended: AtomicU64,
+}
+
+/// Puts a value at the root and takes it out again; says whether it was kept.
+fn put_and_remove(store: &Store<Letter>, lane: &mut Lane<Letter>, key: &Key) -> bool
+    requires lane { IsLaneOf store.now.id lane.old }
+    requires context { 0 < length store.now.tree }
+    ensures { IsLaneOf store.now.id lane.new }
+{
+    let Ok(kept) = store.keep(lane, Letter { letter: 'x' }) else {
+        return false;
+    };
+    let put = store.put(lane, 0, key, kept);
+    let removed = store.remove(lane, 0, key);
+    put.is_ok() && removed.is_ok()
+}
+
+/// Does so again and again.
+fn put_above(store: &Store<Letter>, lane: &mut Lane<Letter>, key: &Key, progress: &Progress)
+    requires lane { IsLaneOf store.now.id lane.old }
+    requires context { 0 < length store.now.tree }
+{
+    for _ in 0..PUTS {
+        put_and_remove(store, lane, key);
+    }
+    progress.ended.store(1, Ordering::SeqCst);
+}
+
+/// Removes in the method until the two others have ended: it sleeps where it meets a claim twice.
+fn remove_below<R: Wait>(
+    rt: &R,
+    store: &Store<Letter>,
+    lane: &mut Lane<Letter>,
+    key: &Key,
+    progress: &Progress,
+)
+    requires lane { IsLaneOf store.now.id lane.old }
+    requires context { 2 < length store.now.tree }
+{
+    for _ in rt.forever() {
+        if progress.ended.load(Ordering::SeqCst) == 2 {
+            break;
+        }
+        let _removed = store.remove_wait(rt, lane, 2, key);
+        progress.removes.fetch_add(1, Ordering::SeqCst);
+    }
+}
+
+/// Computes in the method; says whether the factory ran.
+fn compute_below(store: &Store<Letter>, lane: &mut Lane<Letter>, key: &Key) -> bool
+    requires lane { IsLaneOf store.now.id lane.old }
+    requires context { 2 < length store.now.tree }
+    ensures { IsLaneOf store.now.id lane.new }
+{
+    let factory = |_key: &Key| -> Result<Letter, Fault> { Err(Fault::Memory) };
+    matches!(store.compute(lane, 2, key, factory), Compute::Failed(_))
+}
+
+/// Computes until the lane that puts has ended. Where no factory ran the claim was given up, or there was none: the lane that
+/// removes goes on, or the test fails.
+fn compute_beside<R: Abort + Clock>(
+    rt: &R,
+    store: &Store<Letter>,
+    lane: &mut Lane<Letter>,
+    key: &Key,
+    progress: &Progress,
+)
+    requires lane { IsLaneOf store.now.id lane.old }
+    requires context { 2 < length store.now.tree }
+{
+    for _ in 0..u64::MAX {
+        if progress.ended.load(Ordering::SeqCst) == 1 {
+            break;
+        }
+        if !compute_below(store, lane, key) {
+            progress.unused.fetch_add(1, Ordering::SeqCst);
+            watch_more(rt, &progress.removes);
+        }
+    }
+    progress.ended.store(2, Ordering::SeqCst);
+}
+
+/// The three lanes at once, each in a thread of its own.
+fn run<R: Abort + Clock + Threads + Wait + Sync>(
+    rt: &R,
+    store: &Store<Letter>,
+    key: &Key,
+    lanes: &mut [Lane<Letter>],
+    progress: &Progress,
+)
+    requires lanes { All (IsLaneOf store.now.id) lanes.old }
+    requires contexts { 2 < length store.now.tree }
+{
+    let [first, second, third] = lanes else {
+        panic!(rt; "there are three lanes");
+    };
+    join(
+        rt,
+        ||
+            requires { IsLaneOf store.now.id first.now × IsLaneOf store.now.id second.now × (2 < length store.now.tree) }
+        {
+            join(
+                rt,
+                ||
+                    requires { IsLaneOf store.now.id first.now × (2 < length store.now.tree) }
+                { put_above(store, first, key, progress) },
+                ||
+                    requires { IsLaneOf store.now.id second.now × (2 < length store.now.tree) }
+                { compute_beside(rt, store, second, key, progress) },
+            );
+        },
+        ||
+            requires { IsLaneOf store.now.id third.now × (2 < length store.now.tree) }
+        { remove_below(rt, store, third, key, progress) },
+    );
+}
+
+/// Asserts that some computes found a value, or were in the way of a put.
+fn settle<R: Abort + Clock + Threads + Wait + Sync>(
+    rt: &R,
+    store: &Store<Letter>,
+    key: &Key,
+    lanes: &mut [Lane<Letter>],
+)
+    requires lanes { All (IsLaneOf store.now.id) lanes.old }
+    requires contexts { 2 < length store.now.tree }
+{
+    let progress = Progress {
+        removes: AtomicU64::new(0),
+        unused: AtomicU64::new(0),
+        ended: AtomicU64::new(0),
+    };
+    run(rt, store, key, lanes, &progress);
+    let unused = progress.unused.load(Ordering::SeqCst);
+    same(rt, unused > 0, true, "whether a factory did not run");
+}
+
+#[test]
+fn remove_waits_for_a_claim_that_is_given_up(rt: HostRuntime) -> Result<(), Fail> {
+    with_store(
+        rt.alloc(),
+        3,
+        false,
+        |store: &Store<Letter>, key: &Key, lanes: &mut [Lane<Letter>], _closers: &mut Vec<Closer>|
+            requires lanes { All (IsLaneOf store.now.id) lanes.old }
+            requires contexts { 2 < length store.now.tree }
+        { settle(&rt, store, key, lanes) },
+    )
+}

@@ -1,0 +1,21 @@
+//! Tests of the store's waiting forms: alone, beside a factory that is held, beside a claim that is given up, by keys that come late, and of sixteen lanes at once.
+//!
+//! `scripts/wait-stress` runs them over many more rounds.
+#![tactic(auto)]
+
+#[cfg(test)]
+mod alone;
+#[cfg(test)]
+mod beside;
+#[cfg(test)]
+mod closing;
+#[cfg(test)]
+mod crowd;
+#[cfg(test)]
+mod given_up;
+#[cfg(test)]
+mod held;
+#[cfg(test)]
+mod keys;
+#[cfg(test)]
+mod opening;
