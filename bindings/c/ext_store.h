@@ -16,7 +16,7 @@
      a sequentially consistent atomic.
    - None may be made in a signal handler, nor in the forked child of a process with several threads.
    - No pointer may be null, also where a length is 0, and what pointers lead to is initialised and does not overlap.
-   - What is written through found, stood, taken, number and key is said with each code; after any other code it has some value.
+   - What is written through found, stood, taken, number, key and values is said with each code; all else stays as it was.
    - EXT_NO_LANE, EXT_CLAIMING, EXT_NO_CLAIM, EXT_BAD_CONTEXT and EXT_BAD_KEY: nothing was done.
 
    The calls are proved; this file, and that the caller keeps to it, are not. */
@@ -94,8 +94,9 @@ typedef struct ext_value {
    The lane of the last slot closes contexts, and no other lane does.
 
    EXT_DONE
-   Else all slots are as they were, and nothing is left: EXT_NOT_EMPTY, EXT_BAD_LIMIT, EXT_BAD_LENGTHS, EXT_BAD_TEXT, EXT_BAD_ID,
-   EXT_BAD_TREE, EXT_TOO_MANY, EXT_NO_MEMORY */
+   Else all slots are as they were, and nothing is left. Refused in this order: EXT_NOT_EMPTY; EXT_BAD_LENGTHS or EXT_BAD_TEXT, for
+   the first text that is none; EXT_BAD_ID; EXT_TOO_MANY or EXT_BAD_TREE; EXT_BAD_LIMIT. EXT_NO_MEMORY may come at any of these
+   but the first */
 ext_code ext_open(const uint8_t *bytes, size_t byte_count, const uint32_t *lengths, size_t length_count, uint32_t tries, uint32_t numbers,
                   bool keep_faults, ext_slot *slots, size_t lanes);
 
@@ -121,7 +122,7 @@ ext_code ext_put(ext_slot *slot, size_t context, size_t key, uint64_t handle, bo
    EXT_DONE: *found is the nearest value
    EXT_FAULT: *found is the kept fault that stands nearest, and its handle that of ext_fail
    EXT_ABSENT
-   EXT_BUSY, EXT_CLOSED: found->context is the one that decides
+   EXT_BUSY, EXT_CLOSED: found->context is the one that decides, and nothing else of *found is written
    EXT_UNSHOWN: of *found number and context alone are true
    Else: EXT_CONTENDED, EXT_CLAIMING, EXT_BAD_CONTEXT, EXT_BAD_KEY, EXT_NO_LANE */
 ext_code ext_get(ext_slot *slot, size_t context, size_t key, ext_value *found);
@@ -142,7 +143,7 @@ ext_code ext_remove(ext_slot *slot, size_t context, size_t key, ext_value *taken
    (ext_leave gives the claim up).
    EXT_DONE: *found is the nearest value; run no factory
    EXT_FAULT: *found is the kept fault that stands nearest; run no factory
-   EXT_BUSY, EXT_CLOSED: found->context is the one that decides
+   EXT_BUSY, EXT_CLOSED: found->context is the one that decides, and nothing else of *found is written
    EXT_UNSHOWN: as EXT_DONE, but of *found number and context alone are true
    Else nothing is claimed: EXT_CONTENDED, EXT_EXHAUSTED, EXT_CLAIMING, EXT_BAD_CONTEXT, EXT_BAD_KEY, EXT_NO_LANE */
 ext_code ext_begin(ext_slot *slot, size_t context, size_t key, ext_value *found);

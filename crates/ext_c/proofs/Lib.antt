@@ -1,5 +1,6 @@
 mod Closers
 mod Cut
 mod Faults
+mod Opened
 mod Said
 mod Steps

@@ -27,7 +27,7 @@ use Rattle.ext_c.specs.declared.value.ExtValue.{ExtValue}
 use Rattle.ext_c.specs.declared.seat.Seat.{Seat}
 use Rattle.ext_c.specs.declared.slot.ExtSlot.{ExtSlot}
 use Rattle.ext_c.specs.declared.written.Written.{Written}
-use Rattle.ext_c.specs.Closing.{CloseSays, NotClosing}
+use Rattle.ext_c.specs.Closing.{CloseSays, NotClosing, WritesOut}
 use Rattle.ext_c.specs.Codes.{close_code, code_number}
 use Rattle.ext_c.specs.Slots.{OnSlot}
 use Rattle.ext_c.specs.Writing.{WritesNext}
@@ -49,6 +49,7 @@ module _ (before mid after : StoreLane Handle) (known : mid.known ≡ before.kno
     at = t.at;
     named = t.named;
     fault = t.fault;
+    uncloseable = t.uncloseable;
     why = t.why;
     learnt = subst (λ (k : List (Known Fault)). Learns k after.faults number t.why) faults t.learnt;
     handle = t.handle;
@@ -71,28 +72,29 @@ module _ (before mid after : StoreLane Handle) (known : mid.known ≡ before.kno
   stood_as context number said (inl t) = inl (t.0, value_or_fault_as context number t.1)
   stood_as context number said (inr t) = inr t
 
-  look_as : (looked : Result Look Refusal) (said : Code) → TellsLook looked mid after told said → TellsLook looked before after told said
-  look_as (Ok (look.Found at number)) said t = found_as at number said t
-  look_as (Ok (look.Fault at number)) said t = standing_as at number said t
-  look_as (Ok look.Absent) said t = t
-  look_as (Ok (look.Busy at)) said t = t
-  look_as (Ok (look.Closed at)) said t = t
-  look_as (Err why) said t = t
+  module _ (was : ExtValue) where
+    look_as : (looked : Result Look Refusal) (said : Code) → TellsLook looked mid after was told said → TellsLook looked before after was told said
+    look_as (Ok (look.Found at number)) said t = found_as at number said t
+    look_as (Ok (look.Fault at number)) said t = standing_as at number said t
+    look_as (Ok look.Absent) said t = t
+    look_as (Ok (look.Busy at)) said t = t
+    look_as (Ok (look.Closed at)) said t = t
+    look_as (Err why) said t = t
 
-  put_as : (context : ℕ) (result : Result (Option ℕ) (ℕ × Refusal)) (said : Code) → TellsPut context result mid after told said → TellsPut context result before after told said
-  put_as context (Ok None) said t = t
-  put_as context (Ok (Some number)) said t = stood_as context number said t
-  put_as context (Err refused) said t = t
+    put_as : (context : ℕ) (result : Result (Option ℕ) (ℕ × Refusal)) (said : Code) → TellsPut context result mid after was told said → TellsPut context result before after was told said
+    put_as context (Ok None) said t = t
+    put_as context (Ok (Some number)) said t = stood_as context number said t
+    put_as context (Err refused) said t = t
 
-  remove_as : (context : ℕ) (result : Result (Option ℕ) Refusal) (said : Code) → TellsRemove context result mid after told said → TellsRemove context result before after told said
-  remove_as context (Ok None) said t = t
-  remove_as context (Ok (Some number)) said t = stood_as context number said t
-  remove_as context (Err why) said t = t
+    remove_as : (context : ℕ) (result : Result (Option ℕ) Refusal) (said : Code) → TellsRemove context result mid after was told said → TellsRemove context result before after was told said
+    remove_as context (Ok None) said t = t
+    remove_as context (Ok (Some number)) said t = stood_as context number said t
+    remove_as context (Err why) said t = t
 
-  unused_as : (why : Unused) (said : Code) → TellsUnused why mid after told said → TellsUnused why before after told said
-  unused_as (unused.Found at number) said t = found_as at number said t
-  unused_as (unused.FaultStands at number) said t = standing_as at number said t
-  unused_as (unused.Refused why) said t = t
+    unused_as : (why : Unused) (said : Code) → TellsUnused why mid after was told said → TellsUnused why before after was told said
+    unused_as (unused.Found at number) said t = found_as at number said t
+    unused_as (unused.FaultStands at number) said t = standing_as at number said t
+    unused_as (unused.Refused why) said t = t
 
 -- ---- claims
 
@@ -105,49 +107,49 @@ pub has_claim : (context key : ℕ) (seat : Seat) → is_some seat.claim ≡ tru
 has_claim context key seat e = let own = of_some seat.claim e in NotAsked.claiming own.0 own.1
 
 -- a lane that has just got one
-pub begin_run : (context key : ℕ) (before after : Seat) (told : ExtValue) (m : Option ℕ) → after.claim ≡ m → IsSome m
-    → IfSome m (λ claim. ClaimsMissing (store_of before) context key before.lane.cells.view after.lane.cells.view (Ok claim)) → BeginSays context key before after told code.Run
-begin_run context key before after told None e some claims = absurd (cc)
-begin_run context key before after told (Some claim) e some claims = BeginSays.claimed claim claims e refl
+pub begin_run : (context key : ℕ) (before after : Seat) (was : ExtValue) (m : Option ℕ) → after.claim ≡ m → IsSome m
+    → IfSome m (λ claim. ClaimsMissing (store_of before) context key before.lane.cells.view after.lane.cells.view (Ok claim)) → BeginSays context key before after was was code.Run
+begin_run context key before after was None e some claims = absurd (cc)
+begin_run context key before after was (Some claim) e some claims = BeginSays.claimed claim claims e refl refl
 
 -- ---- the calls
 
 module _ (context key : ℕ) (before mid after : Seat) (known : mid.lane.known ≡ before.lane.known) (faults : mid.lane.faults ≡ before.lane.faults)
-    (still : after.lane.cells ≡ mid.lane.cells) (told : ExtValue) (said : Code) where
-  pub get_said : (looked : Result Look Refusal) → Gets (store_of before) context key before.lane.cells mid.lane.cells looked → TellsLook looked mid.lane after.lane told said
-      → GetSays context key before after told said
+    (still : after.lane.cells ≡ mid.lane.cells) (was told : ExtValue) (said : Code) where
+  pub get_said : (looked : Result Look Refusal) → Gets (store_of before) context key before.lane.cells mid.lane.cells looked → TellsLook looked mid.lane after.lane was told said
+      → GetSays context key before after was told said
   get_said looked gets tells =
       GetSays.asked looked (subst (λ (l : Lane). Gets (store_of before) context key before.lane.cells l looked) (sym still) gets)
-      (look_as before.lane mid.lane after.lane known faults told looked said tells)
+      (look_as before.lane mid.lane after.lane known faults told was looked said tells)
 
   pub remove_said : (result : Result (Option ℕ) Refusal) → Removes (store_of before) context key before.lane.cells mid.lane.cells result
-      → TellsRemove context result mid.lane after.lane told said → RemoveSays context key before after told said
+      → TellsRemove context result mid.lane after.lane was told said → RemoveSays context key before after was told said
   remove_said result removes tells =
       RemoveSays.asked result (subst (λ (l : Lane). Removes (store_of before) context key before.lane.cells l result) (sym still) removes)
-      (remove_as before.lane mid.lane after.lane known faults told context result said tells)
+      (remove_as before.lane mid.lane after.lane known faults told was context result said tells)
 
   pub begin_said : (why : Unused) → ClaimsMissing (store_of before) context key before.lane.cells.view mid.lane.cells.view (Err why)
-      → TellsUnused why mid.lane after.lane told said → BeginSays context key before after told said
+      → TellsUnused why mid.lane after.lane was told said → BeginSays context key before after was told said
   begin_said why claims tells =
       BeginSays.unclaimed why (subst (λ (l : Lane). ClaimsMissing (store_of before) context key before.lane.cells.view l.view (Err why)) (sym still) claims)
-      (unused_as before.lane mid.lane after.lane known faults told why said tells)
+      (unused_as before.lane mid.lane after.lane known faults told was why said tells)
 
-pub put_said : (context key : ℕ) (handle : Handle) (before kept put after : Seat) (told : ExtValue) (said : Code) (number : ℕ) (result : Result (Option ℕ) (ℕ × Refusal))
+pub put_said : (context key : ℕ) (handle : Handle) (before kept put after : Seat) (was told : ExtValue) (said : Code) (number : ℕ) (result : Result (Option ℕ) (ℕ × Refusal))
     → kept.store ≡ before.store → KeepsAs handle before.lane kept.lane number → Puts (store_of kept) context key number kept.lane.cells put.lane.cells result
     → put.lane.known ≡ kept.lane.known → put.lane.faults ≡ kept.lane.faults → after.lane.cells ≡ put.lane.cells
-    → TellsPut context result put.lane after.lane told said → PutSays context key handle before after told said
-put_said context key handle before kept put after told said number result same keeps puts known faults still tells =
+    → TellsPut context result put.lane after.lane was told said → PutSays context key handle before after was told said
+put_said context key handle before kept put after was told said number result same keeps puts known faults still tells =
     PutSays.put number kept.lane result keeps
     (subst (λ (l : Lane). Puts (store_of before) context key number kept.lane.cells l result) (sym still)
     (subst (λ s. Puts (arc_value s) context key number kept.lane.cells put.lane.cells result) same puts))
-    (put_as kept.lane put.lane after.lane known faults told context result said tells)
+    (put_as kept.lane put.lane after.lane known faults told was context result said tells)
 
 -- a fault for whose text there was no memory: its claim was given up
-pub fail_without_memory : (handle : ℕ) (before after : Seat) (number claim : ℕ) (said : Code) → before.claim ≡ Some claim → before.lane.cells.cells ≡ (store_of before).id.cells
-    → EndsClaim before.lane.cells after.lane.cells (Abandon claim) → said ≡ code.NoMemory → FailSays handle before after number said
+pub fail_without_memory : (handle : ℕ) (before after : Seat) (was claim : ℕ) (said : Code) → before.claim ≡ Some claim → before.lane.cells.cells ≡ (store_of before).id.cells
+    → EndsClaim before.lane.cells after.lane.cells (Abandon claim) → said ≡ code.NoMemory → FailSays handle before after was was said
 unfolding IsUnkept
-fail_without_memory handle before after number claim said is fits ends e =
-    FailSays.unkept claim keep.Memory is (subst (λ (id : CellsId). Calls id.limits before.lane.cells.view after.lane.cells.view (Abandon claim ∷ [])) fits ends.calls) e
+fail_without_memory handle before after was claim said is fits ends e =
+    FailSays.unkept claim keep.Memory is (subst (λ (id : CellsId). Calls id.limits before.lane.cells.view after.lane.cells.view (Abandon claim ∷ [])) fits ends.calls) refl e
 
 -- ---- closing
 
@@ -155,7 +157,7 @@ fail_without_memory handle before after number claim said is fits ends e =
 pub claim_bars : (context places : ℕ) (seat : Seat) → is_some seat.claim ≡ true → NotClosing context places seat code.Claiming
 claim_bars context places seat e = let own = of_some seat.claim e in NotClosing.claiming own.0 own.1
 
-module _ (context places : ℕ) (before mid : Seat) (closer : CloserView) (own : closer.context ≡ context) (same : mid.store ≡ before.store) (lane : mid.lane ≡ before.lane)
+module _ (context : ℕ) (before mid : Seat) (closer : CloserView) (own : closer.context ≡ context) (same : mid.store ≡ before.store) (lane : mid.lane ≡ before.lane)
     (first last : Written) where
   -- of the seat as it was before the closer was taken from it
   from_before : (result : Result Closed (CloserView × CloseFault)) (after : List (StoreLane Handle))
@@ -165,25 +167,25 @@ module _ (context places : ℕ) (before mid : Seat) (closer : CloserView) (own :
       subst (λ s. closing.Closes (λ (h : Handle). h.closeable) WritesNext (arc_value s) closer (before.lane ∷ []) first result after last) same
       (subst (λ (l : StoreLane Handle). closing.Closes (λ (h : Handle). h.closeable) WritesNext (store_of mid) closer (l ∷ []) first result after last) lane happened)
 
-  pub close_done : (after : Seat) (done : Closed) (written : List ExtValue) → first.values.items ≡ [] → first.context ≡ context
-      → closing.Closes (λ (h : Handle). h.closeable) WritesNext (store_of mid) closer (mid.lane ∷ []) first (Ok done) (after.lane ∷ []) last → written ≡ last.values.items
-      → CloseSays context places before after written code.Done
-  close_done after done written empty place happened is =
-      CloseSays.closed closer first last done own empty place (from_before (Ok done) (after.lane ∷ []) happened) is refl
+  pub close_done : (after : Seat) (done : Closed) (was values : List ExtValue) (count : ℕ) → first.values.items ≡ [] → first.context ≡ context
+      → closing.Closes (λ (h : Handle). h.closeable) WritesNext (store_of mid) closer (mid.lane ∷ []) first (Ok done) (after.lane ∷ []) last → WritesOut was values count last.values.items
+      → CloseSays context before after was values count code.Done
+  close_done after done was values count empty place happened writes =
+      CloseSays.closed closer first last done own empty place (from_before (Ok done) (after.lane ∷ []) happened) writes refl
 
-  pub close_refused : (after : Seat) (asked : StoreLane Handle) (back : CloserView) (why : CloseFault) (said : Code)
+  pub close_refused : (after : Seat) (asked : StoreLane Handle) (back : CloserView) (why : CloseFault) (said : Code) (was : List ExtValue)
       → closing.Closes (λ (h : Handle). h.closeable) WritesNext (store_of mid) closer (mid.lane ∷ []) first (Err (back, why)) (asked ∷ []) last
-      → after.lane.cells ≡ asked.cells → slice_index_or after.closers.items context None ≡ Some back → said ≡ close_code why → CloseSays context places before after [] said
-  close_refused after asked back why said happened still there is =
+      → after.lane.cells ≡ asked.cells → slice_index_or after.closers.items context None ≡ Some back → said ≡ close_code why → CloseSays context before after was was 0 said
+  close_refused after asked back why said was happened still there is =
       let told = from_before (Err (back, why)) (asked ∷ []) happened in
       CloseSays.refused closer first why asked own
       (subst (λ (w : Written). closing.Closes (λ (h : Handle). h.closeable) WritesNext (store_of before) closer (before.lane ∷ []) first (Err (closer, why)) (asked ∷ []) w) told.not_called
       (subst (λ (b : CloserView). closing.Closes (λ (h : Handle). h.closeable) WritesNext (store_of before) closer (before.lane ∷ []) first (Err (b, why)) (asked ∷ []) last) told.handed_back told))
-      still (there ∙ ap Some told.handed_back) refl is
+      still (there ∙ ap Some told.handed_back) refl refl is
 
 -- ---- through a slot
 
 -- what a call says of the seat that was taken from the slot and given back to it
-pub on_slot : (Keeps : Seat → Seat → Type 0) (Says : Seat → Seat → Code → Type 0) (before after : ExtSlot) (said : ℕ) (taken used now : Seat) (own : Code) → before.lane.seat ≡ Some taken
-    → after.state ≡ 1 → after.lane.seat ≡ Some now → Keeps used now → used ≡ taken → said ≡ code_number own → Says used now own → OnSlot Keeps Says before after said
-on_slot Keeps Says before after said taken used now own was lane is keeps e number says = OnSlot.on_lane used now own (was ∙ ap (λ (s : Seat). Some s) (sym e)) lane is keeps number says
+pub on_slot : (Keeps : Seat → Seat → Type 0) (Untold : Type 0) (Says : Seat → Seat → Code → Type 0) (before after : ExtSlot) (said : ℕ) (taken used now : Seat) (own : Code) → before.lane.seat ≡ Some taken
+    → after.state ≡ 1 → after.lane.seat ≡ Some now → Keeps used now → used ≡ taken → said ≡ code_number own → Says used now own → OnSlot Keeps Untold Says before after said
+on_slot Keeps Untold Says before after said taken used now own was lane is keeps e number says = OnSlot.on_lane used now own (was ∙ ap (λ (s : Seat). Some s) (sym e)) lane is keeps number says

@@ -1,5 +1,5 @@
 -- What each call says of its seat, by its code and by what it writes out: what the store's calls say of the lane that sits there.
--- `before` and `after` are the seat, or the lane, before and after the call. The words of the store are those of `LaneCalls` and `Computing` of ext_store.
+-- `before` and `after` are the seat, or the lane, before and after the call; `was` is what stood where the call writes out, and is there still where nothing is said of it. The words of the store are those of `LaneCalls` and `Computing` of ext_store.
 use Rattle.std.specs.Prelude.{ℕ, ◌≡◌, ◌<◌, ◌≤◌, ◌^◌, ◌⊎◌, IsFalse, true, false, List, [], length, Option, None, Some, Result, Ok, Err}
 use Rattle.std.specs.Arc.{arc_value}
 use Rattle.ext_model.specs.declared.look.Fault.{Fault}
@@ -10,6 +10,7 @@ use Rattle.ext_tree.specs.Keys.{KeyValue, IsKeyNumber}
 use Rattle.ext_values.specs.Known.{Learns}
 use Rattle.ext_cells.specs.CellCalls.{EndsClaim}
 use Rattle.ext_store_cells.specs.declared.fault.Refusal.{Refusal}
+use Rattle.ext_store_cells.specs.declared.fault.Refusal.TheVariants as refusal
 use Rattle.ext_store_cells.specs.declared.claim.Unused.{Unused}
 use Rattle.ext_store_cells.specs.declared.claim.Unused.TheVariants as unused
 use Rattle.ext_store.specs.Computing.{ClaimsMissing}
@@ -24,7 +25,7 @@ use Rattle.ext_c.specs.declared.value.ExtValue.{ExtValue}
 use Rattle.ext_c.specs.declared.seat.Seat.{Seat}
 use Rattle.ext_c.specs.Codes.{keep_code, refusal_code}
 use Rattle.ext_c.specs.Faults.{IsFaultOf}
-use Rattle.ext_c.specs.Texts.{IsNamed, IsTextFault}
+use Rattle.ext_c.specs.Texts.{AreTexts, IsNamed, NamesNoKey, texts_in}
 
 -- the store of a seat
 abbrev pub store_of : Seat → StoreView
@@ -44,14 +45,22 @@ pub record TellsFault (context number : ℕ) (before after : StoreLane Handle) (
   pub at : told.context ≡ context
   pub named : told.number ≡ number
   pub fault : told.fault ≡ true
+  pub uncloseable : told.closeable ≡ false
   pub why : Fault
   pub learnt : Learns before.faults after.faults number why
   pub handle : (own : ℕ) → own < 2 ^ 64 → IsFaultOf own why → told.handle ≡ own
 
+-- the number and the context alone
+abbrev pub number_alone : ℕ → ℕ → ExtValue
+number_alone context number = record { handle = 0; context = context; number = number; closeable = false; fault = false }
+
 -- the number is told, of which the thread found no handle
-pub record TellsNumber (context number : ℕ) (told : ExtValue) : Type 0 where
-  pub at : told.context ≡ context
-  pub named : told.number ≡ number
+abbrev pub TellsNumber : ℕ → ℕ → ExtValue → Type 0
+TellsNumber context number told = told ≡ number_alone context number
+
+-- the context alone is written
+abbrev pub at_context : ℕ → ExtValue → ExtValue
+at_context at was = record { handle = was.handle; context = at; number = was.number; closeable = was.closeable; fault = was.fault }
 
 -- a value that was found
 abbrev pub TellsFound : ℕ → ℕ → StoreLane Handle → StoreLane Handle → ExtValue → Code → Type 0
@@ -80,85 +89,95 @@ pub data NotAsked (context key : ℕ) (seat : Seat) : Code → Type 0 where
 -- ---- get
 
 -- what is told of a look-up
-abbrev pub TellsLook : Result Look Refusal → StoreLane Handle → StoreLane Handle → ExtValue → Code → Type 0
-TellsLook (Ok (look.Found at number)) before after found said = TellsFound at number before after found said
-TellsLook (Ok (look.Fault at number)) before after found said = TellsStanding at number before after found said
-TellsLook (Ok look.Absent) before after found said = said ≡ code.Absent
-TellsLook (Ok (look.Busy at)) before after found said = (said ≡ code.Busy) × (found.context ≡ at)
-TellsLook (Ok (look.Closed at)) before after found said = (said ≡ code.Closed) × (found.context ≡ at)
-TellsLook (Err why) before after found said = said ≡ refusal_code why
+abbrev pub TellsLook : Result Look Refusal → StoreLane Handle → StoreLane Handle → ExtValue → ExtValue → Code → Type 0
+TellsLook (Ok (look.Found at number)) before after was found said = TellsFound at number before after found said
+TellsLook (Ok (look.Fault at number)) before after was found said = TellsStanding at number before after found said
+TellsLook (Ok look.Absent) before after was found said = (said ≡ code.Absent) × (found ≡ was)
+TellsLook (Ok (look.Busy at)) before after was found said = (said ≡ code.Busy) × (found ≡ at_context at was)
+TellsLook (Ok (look.Closed at)) before after was found said = (said ≡ code.Closed) × (found ≡ at_context at was)
+TellsLook (Err why) before after was found said = (said ≡ refusal_code why) × (found ≡ was)
 
 -- the store looked, and this is told of what it found
-pub data GetSays (context key : ℕ) (before after : Seat) (found : ExtValue) (said : Code) : Type 0 where
-  not_asked : NotAsked context key before said → after ≡ before → GetSays context key before after found said
+pub data GetSays (context key : ℕ) (before after : Seat) (was found : ExtValue) (said : Code) : Type 0 where
+  not_asked : NotAsked context key before said → after ≡ before → found ≡ was → GetSays context key before after was found said
   asked : (looked : Result Look Refusal) → Gets (store_of before) context key before.lane.cells after.lane.cells looked
-      → TellsLook looked before.lane after.lane found said → GetSays context key before after found said
+      → TellsLook looked before.lane after.lane was found said → GetSays context key before after was found said
 
 -- ---- put and remove
 
 -- what is told of a put
-abbrev pub TellsPut : ℕ → Result (Option ℕ) (ℕ × Refusal) → StoreLane Handle → StoreLane Handle → ExtValue → Code → Type 0
-TellsPut context (Ok None) before after stood said = (said ≡ code.Done) × (stood.number ≡ 0)
-TellsPut context (Ok (Some number)) before after stood said = TellsStood context number before after stood said
-TellsPut context (Err refused) before after stood said = said ≡ refusal_code refused.1
+abbrev pub TellsPut : ℕ → Result (Option ℕ) (ℕ × Refusal) → StoreLane Handle → StoreLane Handle → ExtValue → ExtValue → Code → Type 0
+TellsPut context (Ok None) before after was stood said = (said ≡ code.Done) × TellsNumber context 0 stood
+TellsPut context (Ok (Some number)) before after was stood said = TellsStood context number before after stood said
+TellsPut context (Err refused) before after was stood said = (said ≡ refusal_code refused.1) × (stood ≡ was)
 
 -- the handle was kept under a number, and that number was put; or it was not kept
-pub data PutSays (context key : ℕ) (handle : Handle) (before after : Seat) (stood : ExtValue) (said : Code) : Type 0 where
-  not_asked : NotAsked context key before said → after ≡ before → PutSays context key handle before after stood said
-  unkept : (why : KeepFault) → KeepsNothing (store_of before) handle before.lane after.lane handle why → said ≡ keep_code why
-      → PutSays context key handle before after stood said
+pub data PutSays (context key : ℕ) (handle : Handle) (before after : Seat) (was stood : ExtValue) (said : Code) : Type 0 where
+  not_asked : NotAsked context key before said → after ≡ before → stood ≡ was → PutSays context key handle before after was stood said
+  unkept : (why : KeepFault) → KeepsNothing (store_of before) handle before.lane after.lane handle why → said ≡ keep_code why → stood ≡ was
+      → PutSays context key handle before after was stood said
   put : (number : ℕ) (kept : StoreLane Handle) (result : Result (Option ℕ) (ℕ × Refusal)) → KeepsAs handle before.lane kept number
-      → Puts (store_of before) context key number kept.cells after.lane.cells result → TellsPut context result kept after.lane stood said
-      → PutSays context key handle before after stood said
+      → Puts (store_of before) context key number kept.cells after.lane.cells result → TellsPut context result kept after.lane was stood said
+      → PutSays context key handle before after was stood said
 
 -- what is told of a remove
-abbrev pub TellsRemove : ℕ → Result (Option ℕ) Refusal → StoreLane Handle → StoreLane Handle → ExtValue → Code → Type 0
-TellsRemove context (Ok None) before after taken said = said ≡ code.Absent
-TellsRemove context (Ok (Some number)) before after taken said = TellsStood context number before after taken said
-TellsRemove context (Err why) before after taken said = said ≡ refusal_code why
+abbrev pub TellsRemove : ℕ → Result (Option ℕ) Refusal → StoreLane Handle → StoreLane Handle → ExtValue → ExtValue → Code → Type 0
+TellsRemove context (Ok None) before after was taken said = (said ≡ code.Absent) × (taken ≡ was)
+TellsRemove context (Ok (Some number)) before after was taken said = TellsStood context number before after taken said
+TellsRemove context (Err why) before after was taken said = (said ≡ refusal_code why) × (taken ≡ was)
 
 -- the store took what stood, and this is told of it
-pub data RemoveSays (context key : ℕ) (before after : Seat) (taken : ExtValue) (said : Code) : Type 0 where
-  not_asked : NotAsked context key before said → after ≡ before → RemoveSays context key before after taken said
+pub data RemoveSays (context key : ℕ) (before after : Seat) (was taken : ExtValue) (said : Code) : Type 0 where
+  not_asked : NotAsked context key before said → after ≡ before → taken ≡ was → RemoveSays context key before after was taken said
   asked : (result : Result (Option ℕ) Refusal) → Removes (store_of before) context key before.lane.cells after.lane.cells result
-      → TellsRemove context result before.lane after.lane taken said → RemoveSays context key before after taken said
+      → TellsRemove context result before.lane after.lane was taken said → RemoveSays context key before after was taken said
 
 -- ---- a compute
 
+-- what is written out where a claim is refused: the context that decides, where one does
+abbrev pub at_decided : Refusal → ExtValue → ExtValue
+at_decided (refusal.Busy at) was = at_context at was
+at_decided (refusal.Closed at) was = at_context at was
+at_decided refusal.Contended was = was
+at_decided refusal.Exhausted was = was
+at_decided refusal.DirectoryFull was = was
+at_decided refusal.Unplaced was = was
+at_decided refusal.Memory was = was
+
 -- what is told where there is no claim
-abbrev pub TellsUnused : Unused → StoreLane Handle → StoreLane Handle → ExtValue → Code → Type 0
-TellsUnused (unused.Found at number) before after found said = TellsFound at number before after found said
-TellsUnused (unused.FaultStands at number) before after found said = TellsStanding at number before after found said
-TellsUnused (unused.Refused why) before after found said = said ≡ refusal_code why
+abbrev pub TellsUnused : Unused → StoreLane Handle → StoreLane Handle → ExtValue → ExtValue → Code → Type 0
+TellsUnused (unused.Found at number) before after was found said = TellsFound at number before after found said
+TellsUnused (unused.FaultStands at number) before after was found said = TellsStanding at number before after found said
+TellsUnused (unused.Refused why) before after was found said = (said ≡ refusal_code why) × (found ≡ at_decided why was)
 
 -- the lane has claimed the place, or this is told of why not
-pub data BeginSays (context key : ℕ) (before after : Seat) (found : ExtValue) (said : Code) : Type 0 where
-  not_asked : NotAsked context key before said → after ≡ before → BeginSays context key before after found said
+pub data BeginSays (context key : ℕ) (before after : Seat) (was found : ExtValue) (said : Code) : Type 0 where
+  not_asked : NotAsked context key before said → after ≡ before → found ≡ was → BeginSays context key before after was found said
   claimed : (claim : ℕ) → ClaimsMissing (store_of before) context key before.lane.cells.view after.lane.cells.view (Ok claim)
-      → after.claim ≡ Some claim → said ≡ code.Run → BeginSays context key before after found said
+      → after.claim ≡ Some claim → found ≡ was → said ≡ code.Run → BeginSays context key before after was found said
   unclaimed : (why : Unused) → ClaimsMissing (store_of before) context key before.lane.cells.view after.lane.cells.view (Err why)
-      → TellsUnused why before.lane after.lane found said → BeginSays context key before after found said
+      → TellsUnused why before.lane after.lane was found said → BeginSays context key before after was found said
 
 -- the handle is kept, and its number stands in the claimed cell; or it is not kept, and the claim is given up
-pub data FillSays (handle : Handle) (before after : Seat) (number : ℕ) (said : Code) : Type 0 where
-  no_claim : before.claim ≡ None → after ≡ before → said ≡ code.NoClaim → FillSays handle before after number said
+pub data FillSays (handle : Handle) (before after : Seat) (was number : ℕ) (said : Code) : Type 0 where
+  no_claim : before.claim ≡ None → after ≡ before → number ≡ was → said ≡ code.NoClaim → FillSays handle before after was number said
   filled : (claim : ℕ) → before.claim ≡ Some claim → Fills (store_of before).id.cells.limits [] claim before.lane.cells.view after.lane.cells.view number
-      → Learns before.lane.known after.lane.known number handle → said ≡ code.Done → FillSays handle before after number said
+      → Learns before.lane.known after.lane.known number handle → said ≡ code.Done → FillSays handle before after was number said
   unkept : (claim : ℕ) (why : KeepFault) → before.claim ≡ Some claim
       → IsUnkept (store_of before).id.cells.limits (store_of before).tries [] claim before.lane.cells.view after.lane.cells.view why
-      → said ≡ keep_code why → FillSays handle before after number said
+      → number ≡ was → said ≡ keep_code why → FillSays handle before after was number said
 
 -- The fault of the handle is kept, and its number in the claimed cell; or it is not kept, and the claim is given up; or the store keeps no faults
-pub data FailSays (handle : ℕ) (before after : Seat) (number : ℕ) (said : Code) : Type 0 where
-  no_claim : before.claim ≡ None → after ≡ before → said ≡ code.NoClaim → FailSays handle before after number said
+pub data FailSays (handle : ℕ) (before after : Seat) (was number : ℕ) (said : Code) : Type 0 where
+  no_claim : before.claim ≡ None → after ≡ before → number ≡ was → said ≡ code.NoClaim → FailSays handle before after was number said
   failed : (claim : ℕ) (why : Fault) → before.claim ≡ Some claim → IsFaultOf handle why
       → Fails (store_of before).id.cells.limits [] claim before.lane.cells.view after.lane.cells.view number
-      → Learns before.lane.faults after.lane.faults number why → said ≡ code.Done → FailSays handle before after number said
+      → Learns before.lane.faults after.lane.faults number why → said ≡ code.Done → FailSays handle before after was number said
   unkept : (claim : ℕ) (why : KeepFault) → before.claim ≡ Some claim
       → IsUnkept (store_of before).id.cells.limits (store_of before).tries [] claim before.lane.cells.view after.lane.cells.view why
-      → said ≡ keep_code why → FailSays handle before after number said
+      → number ≡ was → said ≡ keep_code why → FailSays handle before after was number said
   given_up : (claim : ℕ) → before.claim ≡ Some claim → IsFalse (store_of before).id.cells.limits.keep_faults
-      → EndsClaim before.lane.cells after.lane.cells (act_is.Abandon claim) → said ≡ code.GivenUp → FailSays handle before after number said
+      → EndsClaim before.lane.cells after.lane.cells (act_is.Abandon claim) → number ≡ was → said ≡ code.GivenUp → FailSays handle before after was number said
 
 -- the claim is given up
 pub data AbandonSays (before after : Seat) (said : Code) : Type 0 where
@@ -169,11 +188,12 @@ pub data AbandonSays (before after : Seat) (said : Code) : Type 0 where
 -- ---- the number of a key
 
 -- the key that was named has this number for the lane, which makes no step on the cells; or why it has none
-pub data KeySays (key : KeyValue) (before after : Seat) (number : ℕ) (said : Code) : Type 0 where
-  numbered : IsKeyNumber after.lane.keys key number → after.lane.cells ≡ before.lane.cells → said ≡ code.Done → KeySays key before after number said
-  refused : (why : Refusal) → IsKeyRefused before.lane after.lane key why → said ≡ refusal_code why → KeySays key before after number said
+pub data KeySays (key : KeyValue) (before after : Seat) (was number : ℕ) (said : Code) : Type 0 where
+  numbered : IsKeyNumber after.lane.keys key number → after.lane.cells ≡ before.lane.cells → said ≡ code.Done → KeySays key before after was number said
+  refused : (why : Refusal) → IsKeyRefused before.lane after.lane key why → number ≡ was → said ≡ refusal_code why → KeySays key before after was number said
 
--- the texts name a key, and this is said of it; or they name none, or memory for it was wanted
-pub data NamesKey (texts : List (List ℕ)) (before after : Seat) (number : ℕ) (said : Code) : Type 0 where
-  unread : IsTextFault said → after ≡ before → NamesKey texts before after number said
-  read : (key : KeyValue) → IsNamed texts key → KeySays key before after number said → NamesKey texts before after number said
+-- the texts name a key, and this is said of it; or why they name none
+pub data NamesKey (bytes lengths : List ℕ) (before after : Seat) (was number : ℕ) (said : Code) : Type 0 where
+  unnamed : NamesNoKey bytes lengths said → after ≡ before → number ≡ was → NamesKey bytes lengths before after was number said
+  named : AreTexts bytes lengths → (key : KeyValue) → IsNamed (texts_in bytes lengths) key → KeySays key before after was number said
+      → NamesKey bytes lengths before after was number said

@@ -1,5 +1,5 @@
--- What a close says of its seat. `before` and `after` are the seat, and `written` is what the caller's list has afterwards, up to the count.
-use Rattle.std.specs.Prelude.{ℕ, ◌≡◌, ◌≢◌, ◌<◌, ◌≤◌, List, [], ◌∷◌, length, slice_index_or, None, Some, Ok, Err}
+-- What a close says of its seat. `before` and `after` are the seat, `was` and `values` the caller's list, and `count` is how many of it are written.
+use Rattle.std.specs.Prelude.{ℕ, ◌≡◌, ◌≢◌, ◌<◌, ◌≤◌, List, [], ◌∷◌, drop, length, slice_index_or, take, None, Some, Ok, Err}
 use Rattle.ext_store.specs.Stores.{CloserView, StoreLane}
 use Rattle.ext_model.specs.declared.closed.Closed.{Closed}
 use Rattle.ext_closing.specs.declared.fault.CloseFault.{CloseFault}
@@ -24,12 +24,19 @@ pub data NotClosing (context places : ℕ) (seat : Seat) : Code → Type 0 where
       → NotClosing context places seat code.NoCloser
   was_closed : context < length seat.closers.items → slice_index_or seat.closers.items context None ≡ None → NotClosing context places seat code.Closed
 
+-- what is written out: so many values at the front of the list, which is otherwise as it was
+pub record WritesOut (was values : List ExtValue) (count : ℕ) (written : List ExtValue) : Type 0 where
+  pub counted : count ≡ length written
+  pub front : take count values ≡ written
+  pub rest : drop count values ≡ drop count was
+
 -- One close of the store with this lane alone in hand, which writes out what remains and is closeable, the latest first, or why it is refused; then the closer is there for the next one
-pub data CloseSays (context places : ℕ) (before after : Seat) (written : List ExtValue) (said : Code) : Type 0 where
-  not_asked : NotClosing context places before said → after ≡ before → written ≡ [] → CloseSays context places before after written said
+pub data CloseSays (context : ℕ) (before after : Seat) (was values : List ExtValue) (count : ℕ) (said : Code) : Type 0 where
+  not_asked : NotClosing context (length was) before said → after ≡ before → values ≡ was → count ≡ 0 → CloseSays context before after was values count said
   closed : (closer : CloserView) (first last : Written) (closed : Closed) → closer.context ≡ context → first.values.items ≡ [] → first.context ≡ context
       → closing.Closes (λ h. h.closeable) WritesNext (store_of before) closer (before.lane ∷ []) first (Ok closed) (after.lane ∷ []) last
-      → written ≡ last.values.items → said ≡ code.Done → CloseSays context places before after written said
+      → WritesOut was values count last.values.items → said ≡ code.Done → CloseSays context before after was values count said
   refused : (closer : CloserView) (first : Written) (why : CloseFault) (asked : StoreLane Handle) → closer.context ≡ context
       → closing.Closes (λ h. h.closeable) WritesNext (store_of before) closer (before.lane ∷ []) first (Err (closer, why)) (asked ∷ []) first
-      → after.lane.cells ≡ asked.cells → slice_index_or after.closers.items context None ≡ Some closer → written ≡ [] → said ≡ close_code why → CloseSays context places before after written said
+      → after.lane.cells ≡ asked.cells → slice_index_or after.closers.items context None ≡ Some closer → values ≡ was → count ≡ 0 → said ≡ close_code why
+      → CloseSays context before after was values count said

@@ -11,8 +11,14 @@ pub record StaysSo (old now : Seat) : Type 0 where
   pub store : now.store ≡ old.store
   pub closers : now.closers ≡ old.closers
 
--- The slot had no lane, and is as it was; or it had one, has it still, this holds of its seat whatever is said, and the call says this of it
-pub data OnSlot (Keeps : Seat → Seat → Type 0) (Says : Seat → Seat → Code → Type 0) (before after : ExtSlot) (said : ℕ) : Type 0 where
-  no_lane : before.state ≢ 1 → after ≡ before → said ≡ code_number code.NoLane → OnSlot Keeps Says before after said
+-- The slot had no lane, it and what the call writes out are as they were; or it had one, has it still, this holds of its seat whatever is said, and the call says this of it
+pub data OnSlot (Keeps : Seat → Seat → Type 0) (Untold : Type 0) (Says : Seat → Seat → Code → Type 0) (before after : ExtSlot) (said : ℕ) : Type 0 where
+  no_lane : before.state ≢ 1 → after ≡ before → Untold → said ≡ code_number code.NoLane → OnSlot Keeps Untold Says before after said
   on_lane : (old now : Seat) (own : Code) → before.lane.seat ≡ Some old → after.state ≡ 1 → after.lane.seat ≡ Some now → Keeps old now → said ≡ code_number own → Says old now own
-      → OnSlot Keeps Says before after said
+      → OnSlot Keeps Untold Says before after said
+
+-- the number is that of a code, which says this
+pub record ByCode (Says : Code → Type 0) (said : ℕ) : Type 0 where
+  pub own : Code
+  pub is : said ≡ code_number own
+  pub says : Says own

@@ -43,7 +43,7 @@ impl Seat {
         count: &mut usize,
     ) -> Code
         ensures store { self.new.store ≡ self.old.store }
-        ensures says { CloseSays context (length values.old) self.old self.new (take count.new values.new) result }
+        ensures says { CloseSays context self.old self.new values.old values.new count.new result }
     {
         *count = 0;
         if self.claim.is_some() {

@@ -1,12 +1,13 @@
 //! What C calls. `bindings/c` has the header.
-ghost use Rattle.std.specs.Prelude.{◌≡◌, ◌≢◌, length, take};
+ghost use Rattle.std.specs.Prelude.{◌≡◌, ◌≢◌};
 ghost use Rattle.ext_c.specs.declared.code.Code.TheVariants as code;
 ghost use Rattle.ext_c.specs.Answers.{AbandonSays, BeginSays, FailSays, FillSays, GetSays, NamesKey, PutSays, RemoveSays};
 ghost use Rattle.ext_c.specs.Closing.{CloseSays};
-ghost use Rattle.ext_c.specs.Slots.{OnSlot, StaysSo};
-ghost use Rattle.ext_c.specs.Texts.{texts_in};
+ghost use Rattle.ext_c.specs.Opening.{LeaveSays, OpenSays};
+ghost use Rattle.ext_c.specs.Slots.{ByCode, OnSlot, StaysSo};
 
 use crate::code::Code;
+use crate::filling::{are_empty, take_seats};
 use crate::handle::Handle;
 use crate::names::tree_of;
 use crate::opening::open_seats;
@@ -18,8 +19,9 @@ use std::alloc::Global;
 /// Opens a store of the contexts whose ids are the texts, with as many lanes as there are slots, all of which are to be empty. The lane
 /// of the last slot closes contexts. Takes memory.
 ///
-/// Refused, in this order, as `NotEmpty`; for the first text that is none or no id as `BadLengths`, `BadText`, `BadId` or
-/// `NoMemory`; for the ids as `TooMany`, `BadTree` or `NoMemory`; and as `BadLimit` or `NoMemory`. The slots are empty then.
+/// Refused, in this order, as `NotEmpty`; for the first text that is none as `BadLengths` or `BadText`; as `BadId` where one of them is no
+/// id; for the ids as `TooMany` or `BadTree`; and as `BadLimit`. `NoMemory` may come at any of these but the first. The slots are as they
+/// were then.
 #[unsafe(no_mangle)]
 pub extern "C" fn ext_open(
     alloc: Global,
@@ -30,6 +32,7 @@ pub extern "C" fn ext_open(
     keep_faults: bool,
     slots: &mut [ExtSlot],
 ) -> u32
+    ensures says { ByCode (OpenSays bytes.now lengths.now tries numbers keep_faults slots.old slots.new) result }
     ensures refused { result ≢ 0 → slots.new ≡ slots.old }
 {
     open(alloc, bytes, lengths, tries, numbers, keep_faults, slots).number()
@@ -44,9 +47,10 @@ fn open(
     keep_faults: bool,
     slots: &mut [ExtSlot],
 ) -> Code
+    ensures says { OpenSays bytes.now lengths.now tries numbers keep_faults slots.old slots.new result }
     ensures refused { result ≢ code.Done → slots.new ≡ slots.old }
 {
-    if slots.iter().any(|slot| slot.state != 0) {
+    if !are_empty(slots) {
         return Code::NotEmpty;
     }
     let tree = match tree_of(alloc, bytes, lengths) {
@@ -61,9 +65,7 @@ fn open(
     };
     match open_seats(alloc, tree, limits) {
         Ok(seats) => {
-            for (slot, seat) in slots.iter_mut().zip(seats) {
-                slot.give(seat);
-            }
+            take_seats(slots, seats);
             Code::Done
         }
         Err(code) => code,
@@ -72,11 +74,20 @@ fn open(
 
 /// Gives the lane up, and its claim, and leaves the slot empty. The store's memory is freed with its last lane.
 #[unsafe(no_mangle)]
-pub extern "C" fn ext_leave(alloc: Global, slot: &mut ExtSlot) -> u32 {
-    match slot.take(alloc) {
-        Some(_) => Code::Done.number(),
-        None => Code::NoLane.number(),
-    }
+pub extern "C" fn ext_leave(alloc: Global, slot: &mut ExtSlot) -> u32
+    ensures says { ByCode (LeaveSays slot.old slot.new) result }
+{
+    leave(alloc, slot).number()
+}
+
+fn leave(alloc: Global, slot: &mut ExtSlot) -> Code
+    ensures { LeaveSays slot.old slot.new result }
+{
+    let Some(seat) = slot.take(alloc) else {
+        return Code::NoLane;
+    };
+    drop(seat);
+    Code::Done
 }
 
 /// The number of the key: the texts are the parts of its namespace, and then its name; one text alone is a name in the global namespace.
@@ -89,7 +100,7 @@ pub extern "C" fn ext_key(
     lengths: &[u32],
     key: &mut usize,
 ) -> u32
-    ensures says { OnSlot StaysSo (λ before after. NamesKey (texts_in bytes.now lengths.now) before after key.new) slot.old slot.new result }
+    ensures says { OnSlot StaysSo (key.new ≡ key.old) (λ before after. NamesKey bytes.now lengths.now before after key.old key.new) slot.old slot.new result }
 {
     let Some(mut seat) = slot.take(alloc) else {
         return Code::NoLane.number();
@@ -110,7 +121,7 @@ pub extern "C" fn ext_put(
     closeable: bool,
     stood: &mut ExtValue,
 ) -> u32
-    ensures says { OnSlot StaysSo (λ before after. PutSays context key (record { raw = handle; closeable = closeable }) before after stood.new) slot.old slot.new result }
+    ensures says { OnSlot StaysSo (stood.new ≡ stood.old) (λ before after. PutSays context key (record { raw = handle; closeable = closeable }) before after stood.old stood.new) slot.old slot.new result }
 {
     let Some(mut seat) = slot.take(alloc) else {
         return Code::NoLane.number();
@@ -133,7 +144,7 @@ pub extern "C" fn ext_get(
     key: usize,
     found: &mut ExtValue,
 ) -> u32
-    ensures says { OnSlot StaysSo (λ before after. GetSays context key before after found.new) slot.old slot.new result }
+    ensures says { OnSlot StaysSo (found.new ≡ found.old) (λ before after. GetSays context key before after found.old found.new) slot.old slot.new result }
 {
     let Some(mut seat) = slot.take(alloc) else {
         return Code::NoLane.number();
@@ -152,7 +163,7 @@ pub extern "C" fn ext_remove(
     key: usize,
     taken: &mut ExtValue,
 ) -> u32
-    ensures says { OnSlot StaysSo (λ before after. RemoveSays context key before after taken.new) slot.old slot.new result }
+    ensures says { OnSlot StaysSo (taken.new ≡ taken.old) (λ before after. RemoveSays context key before after taken.old taken.new) slot.old slot.new result }
 {
     let Some(mut seat) = slot.take(alloc) else {
         return Code::NoLane.number();
@@ -171,7 +182,7 @@ pub extern "C" fn ext_begin(
     key: usize,
     found: &mut ExtValue,
 ) -> u32
-    ensures says { OnSlot StaysSo (λ before after. BeginSays context key before after found.new) slot.old slot.new result }
+    ensures says { OnSlot StaysSo (found.new ≡ found.old) (λ before after. BeginSays context key before after found.old found.new) slot.old slot.new result }
 {
     let Some(mut seat) = slot.take(alloc) else {
         return Code::NoLane.number();
@@ -190,7 +201,7 @@ pub extern "C" fn ext_fill(
     closeable: bool,
     number: &mut u32,
 ) -> u32
-    ensures says { OnSlot StaysSo (λ before after. FillSays (record { raw = handle; closeable = closeable }) before after number.new) slot.old slot.new result }
+    ensures says { OnSlot StaysSo (number.new ≡ number.old) (λ before after. FillSays (record { raw = handle; closeable = closeable }) before after number.old number.new) slot.old slot.new result }
 {
     let Some(mut seat) = slot.take(alloc) else {
         return Code::NoLane.number();
@@ -207,7 +218,7 @@ pub extern "C" fn ext_fill(
 /// Ends a compute whose factory failed: where the store keeps faults this one's handle is kept at the place; else the claim is given up.
 #[unsafe(no_mangle)]
 pub extern "C" fn ext_fail(alloc: Global, slot: &mut ExtSlot, handle: u64, number: &mut u32) -> u32
-    ensures says { OnSlot StaysSo (λ before after. FailSays handle before after number.new) slot.old slot.new result }
+    ensures says { OnSlot StaysSo (number.new ≡ number.old) (λ before after. FailSays handle before after number.old number.new) slot.old slot.new result }
 {
     let Some(mut seat) = slot.take(alloc) else {
         return Code::NoLane.number();
@@ -220,7 +231,7 @@ pub extern "C" fn ext_fail(alloc: Global, slot: &mut ExtSlot, handle: u64, numbe
 /// Ends a compute without a value.
 #[unsafe(no_mangle)]
 pub extern "C" fn ext_abandon(alloc: Global, slot: &mut ExtSlot) -> u32
-    ensures says { OnSlot StaysSo AbandonSays slot.old slot.new result }
+    ensures says { OnSlot StaysSo (Unit {0}) AbandonSays slot.old slot.new result }
 {
     let Some(mut seat) = slot.take(alloc) else {
         return Code::NoLane.number();
@@ -240,7 +251,7 @@ pub extern "C" fn ext_close(
     values: &mut [ExtValue],
     count: &mut usize,
 ) -> u32
-    ensures says { OnSlot (λ old now. now.store ≡ old.store) (λ before after. CloseSays context (length values.old) before after (take count.new values.new)) slot.old slot.new result }
+    ensures says { OnSlot (λ old now. now.store ≡ old.store) ((count.new ≡ 0) × (values.new ≡ values.old)) (λ before after. CloseSays context before after values.old values.new count.new) slot.old slot.new result }
 {
     *count = 0;
     let Some(mut seat) = slot.take(alloc) else {

@@ -16,6 +16,7 @@ mod code;
 mod crossing;
 mod exports;
 mod fault;
+mod filling;
 mod handle;
 mod lane;
 mod names;

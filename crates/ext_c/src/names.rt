@@ -1,9 +1,11 @@
 //! The contexts and keys that a caller names.
-ghost use Rattle.std.specs.Prelude.{◌≡◌, IfErr, IfOk};
+ghost use Rattle.std.specs.Prelude.{◌≡◌, ◌⊎◌, IfErr, IfOk};
 ghost use Rattle.std.specs.List.{AllZip};
 ghost use Rattle.ext_ids.specs.Grammar.{IsIdText};
 ghost use Rattle.ext_tree.specs.Keys as keys;
-ghost use Rattle.ext_c.specs.Texts.{IsNamed, IsTextFault, namespace_named, texts_in};
+ghost use Rattle.ext_tree.specs.Trees.{IsTree};
+ghost use Rattle.ext_c.specs.declared.code.Code.TheVariants as code;
+ghost use Rattle.ext_c.specs.Texts.{AreTexts, IsNamed, IsNoId, NamesNoKey, NamesNoTree, namespace_named, texts_in};
 
 use crate::code::Code;
 use crate::texts::read_texts;
@@ -13,7 +15,10 @@ use std::alloc::Global;
 
 // The tree of the ids that the texts spell. Takes memory.
 pub(crate) fn tree_of(alloc: Global, bytes: &[u8], lengths: &[u32]) -> Result<Tree, Code>
-    ensures { IfOk result (λ tree. AllZip IsIdText (texts_in bytes.now lengths.now) tree) }
+    ensures texts { IfOk result (λ _. AreTexts bytes.now lengths.now) }
+    ensures ids { IfOk result (λ tree. AllZip IsIdText (texts_in bytes.now lengths.now) tree) }
+    ensures tree { IfOk result IsTree }
+    ensures refused { IfErr result (λ said. NamesNoTree bytes.now lengths.now said ⊎ (said ≡ code.NoMemory)) }
 {
     let texts = read_texts(alloc, bytes, lengths)?;
     let ids = ids_of(alloc, texts.as_slice())?;
@@ -25,7 +30,8 @@ pub(crate) fn tree_of(alloc: Global, bytes: &[u8], lengths: &[u32]) -> Result<Tr
 
 // The ids that the texts spell. Takes memory.
 fn ids_of(alloc: Global, texts: &[&str]) -> Result<Vec<UniqueId>, Code>
-    ensures { IfOk result (λ ids. AllZip IsIdText (keys.texts_of texts.now) ids.items) }
+    ensures ids { IfOk result (λ ids. AllZip IsIdText (keys.texts_of texts.now) ids.items) }
+    ensures refused { IfErr result (λ said. (IsNoId (keys.texts_of texts.now) × (said ≡ code.BadId)) ⊎ (said ≡ code.NoMemory)) }
 {
     let mut ids = Vec::new(alloc);
     for text in texts {
@@ -43,7 +49,8 @@ fn ids_of(alloc: Global, texts: &[&str]) -> Result<Vec<UniqueId>, Code>
 // The key that the texts name: by the parts of its namespace, and its name. Takes memory.
 pub(crate) fn key_of(alloc: Global, bytes: &[u8], lengths: &[u32]) -> Result<Key, Code>
     ensures named { IfOk result (IsNamed (texts_in bytes.now lengths.now)) }
-    ensures refused { IfErr result IsTextFault }
+    ensures texts { IfOk result (λ _. AreTexts bytes.now lengths.now) }
+    ensures refused { IfErr result (NamesNoKey bytes.now lengths.now) }
 {
     let texts = read_texts(alloc, bytes, lengths)?;
     let Some((name, parts)) = texts.split_last() else {

@@ -1,7 +1,10 @@
 //! The seats of a store that is opened.
-ghost use Rattle.std.specs.Prelude.{◌≡◌, All, IfSome, Some, map};
+ghost use Rattle.std.specs.Prelude.{◌≡◌, ◌⊎◌, [], All, IfErr, IfOk, IfSome, Some, map};
 ghost use Rattle.std.specs.Arc.{arc_value};
-ghost use Rattle.ext_store.specs.Stores.{CloserView, IsCloserOf, IsLaneOf};
+ghost use Rattle.std.specs.List.{AllZip};
+ghost use Rattle.ext_store.specs.Stores.{AreStoreLimits, CloserView, IsCloserOf, IsLaneOf};
+ghost use Rattle.ext_c.specs.declared.code.Code.TheVariants as code;
+ghost use Rattle.ext_c.specs.Opening.{AreOpened, AreSeats, IsSeatOf};
 
 use crate::code::Code;
 use crate::crossing::parts_cross;
@@ -20,6 +23,7 @@ fn sit(
 ) -> Option<Box<Seat>>
     requires lane { IsLaneOf (arc_value store).id lane }
     requires closers { All (λ c. (x : CloserView) → c ≡ Some x → IsCloserOf (arc_value store) x) closers.items }
+    ensures { IfSome result (λ seat. IsSeatOf (arc_value store) closers.items lane seat.value) }
 {
     let seat = Seat {
         store,
@@ -56,6 +60,7 @@ fn closing_seat(
 ) -> Option<Box<Seat>>
     requires lane { IsLaneOf (arc_value store.now).id lane }
     requires closers { All (IsCloserOf (arc_value store.now)) closers.items }
+    ensures { IfSome result (λ seat. IsSeatOf (arc_value store.now) (map Some closers.items) lane seat.value) }
 {
     let own = all_of(alloc, closers)?;
     let Ok(shared) = Arc::try_clone(store) else {
@@ -71,6 +76,7 @@ fn plain_seats(
     lanes: Vec<Lane<Handle>>,
 ) -> Option<Vec<Box<Seat>>>
     requires lanes { All (λ l. IsLaneOf (arc_value store.now).id l) lanes.items }
+    ensures { IfSome result (λ seats. AllZip (λ lane seat. IsSeatOf (arc_value store.now) [] lane seat.value) lanes.items seats.items) }
 {
     let mut seats = Vec::new(alloc);
     for lane in lanes {
@@ -94,6 +100,7 @@ fn seats(
 ) -> Option<Vec<Box<Seat>>>
     requires lanes { All (λ l. IsLaneOf (arc_value store.now).id l) lanes.items }
     requires closers { All (IsCloserOf (arc_value store.now)) closers.items }
+    ensures { IfSome result (λ seats. AreSeats (arc_value store.now) lanes.items closers.items seats.items) }
 {
     let mut lanes = lanes;
     let Some(last) = lanes.pop() else {
@@ -108,11 +115,10 @@ fn seats(
 }
 
 // The seats of a new store.
-pub(crate) fn open_seats(
-    alloc: Global,
-    tree: Tree,
-    limits: Limits,
-) -> Result<Vec<Box<Seat>>, Code> {
+pub(crate) fn open_seats(alloc: Global, tree: Tree, limits: Limits) -> Result<Vec<Box<Seat>>, Code>
+    ensures opened { IfOk result (λ seats. AreOpened tree limits.lanes limits.tries limits.numbers limits.keep_faults seats.items) }
+    ensures refused { IfErr result (λ said. ((¬ AreStoreLimits limits.lanes limits.tries limits.numbers) × (said ≡ code.BadLimit)) ⊎ (said ≡ code.NoMemory)) }
+{
     parts_cross();
     match Store::<Handle>::open(alloc, tree, limits) {
         Ok((store, lanes, closers)) => {

@@ -1,7 +1,6 @@
 //! The calls of a seat, which are made whatever they are handed, and say by a code what came of them.
 ghost use Rattle.std.specs.Prelude.{◌≡◌, None};
 ghost use Rattle.ext_c.specs.Answers.{AbandonSays, BeginSays, FailSays, FillSays, GetSays, KeySays, NamesKey, PutSays, RemoveSays};
-ghost use Rattle.ext_c.specs.Texts.{texts_in};
 
 use crate::code::Code;
 use crate::fault::fault_of;
@@ -19,7 +18,7 @@ impl Seat {
     pub(crate) fn get(&mut self, context: usize, key: usize, found: &mut ExtValue) -> Code
         ensures store { self.new.store ≡ self.old.store }
         ensures closers { self.new.closers ≡ self.old.closers }
-        ensures says { GetSays context key self.old self.new found.new result }
+        ensures says { GetSays context key self.old self.new found.old found.new result }
     {
         if let Some(code) = self.bar(context, key) {
             return code;
@@ -38,7 +37,7 @@ impl Seat {
     ) -> Code
         ensures store { self.new.store ≡ self.old.store }
         ensures closers { self.new.closers ≡ self.old.closers }
-        ensures says { PutSays context key handle self.old self.new stood.new result }
+        ensures says { PutSays context key handle self.old self.new stood.old stood.new result }
     {
         if let Some(code) = self.bar(context, key) {
             return code;
@@ -55,7 +54,7 @@ impl Seat {
     pub(crate) fn remove(&mut self, context: usize, key: usize, taken: &mut ExtValue) -> Code
         ensures store { self.new.store ≡ self.old.store }
         ensures closers { self.new.closers ≡ self.old.closers }
-        ensures says { RemoveSays context key self.old self.new taken.new result }
+        ensures says { RemoveSays context key self.old self.new taken.old taken.new result }
     {
         if let Some(code) = self.bar(context, key) {
             return code;
@@ -68,7 +67,7 @@ impl Seat {
     pub(crate) fn begin(&mut self, context: usize, key: usize, found: &mut ExtValue) -> Code
         ensures store { self.new.store ≡ self.old.store }
         ensures closers { self.new.closers ≡ self.old.closers }
-        ensures says { BeginSays context key self.old self.new found.new result }
+        ensures says { BeginSays context key self.old self.new found.old found.new result }
     {
         if let Some(code) = self.bar(context, key) {
             return code;
@@ -83,7 +82,7 @@ impl Seat {
     pub(crate) fn fill(&mut self, handle: Handle, number: &mut u32) -> Code
         ensures store { self.new.store ≡ self.old.store }
         ensures closers { self.new.closers ≡ self.old.closers }
-        ensures says { FillSays handle self.old self.new number.new result }
+        ensures says { FillSays handle self.old self.new number.old number.new result }
     {
         let Some(claim) = mem::replace(&mut self.claim, None) else {
             return Code::NoClaim;
@@ -102,7 +101,7 @@ impl Seat {
     pub(crate) fn fail(&mut self, alloc: Global, handle: u64, number: &mut u32) -> Code
         ensures store { self.new.store ≡ self.old.store }
         ensures closers { self.new.closers ≡ self.old.closers }
-        ensures says { FailSays handle self.old self.new number.new result }
+        ensures says { FailSays handle self.old self.new number.old number.new result }
     {
         let Some(claim) = mem::replace(&mut self.claim, None) else {
             return Code::NoClaim;
@@ -149,7 +148,7 @@ impl Seat {
     ) -> Code
         ensures store { self.new.store ≡ self.old.store }
         ensures closers { self.new.closers ≡ self.old.closers }
-        ensures says { NamesKey (texts_in bytes.now lengths.now) self.old self.new number.new result }
+        ensures says { NamesKey bytes.now lengths.now self.old self.new number.old number.new result }
     {
         match key_of(alloc, bytes, lengths) {
             Ok(key) => self.number_of(&key, number),
@@ -162,7 +161,7 @@ impl Seat {
         ensures store { self.new.store ≡ self.old.store }
         ensures closers { self.new.closers ≡ self.old.closers }
         ensures claim { self.new.claim ≡ self.old.claim }
-        ensures says { KeySays key.now self.old self.new number.new result }
+        ensures says { KeySays key.now self.old self.new number.old number.new result }
     {
         let shared: &Store<Handle> = &self.store;
         match shared.number(&mut self.lane, key) {

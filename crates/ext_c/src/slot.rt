@@ -21,6 +21,7 @@ impl ExtSlot {
     pub(crate) fn take(&mut self, alloc: Global) -> Option<Box<Seat>>
         ensures taken { IfSome result (λ b. self.old.lane.seat ≡ Some b.value) }
         ensures empty { IfSome result (λ _. self.new.lane.seat ≡ None) }
+        ensures emptied { IfSome result (λ _. self.new.state ≡ 0) }
         ensures none { IfNone result (self.new ≡ self.old) }
         ensures missing { IfNone result (self.old.state ≢ 1) }
     {

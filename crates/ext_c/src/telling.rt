@@ -67,7 +67,7 @@ impl Seat {
         ensures closers { self.new.closers ≡ self.old.closers }
         ensures claim { self.new.claim ≡ None }
         ensures still { self.new.lane.cells ≡ self.old.lane.cells }
-        ensures told { TellsLook looked self.old.lane self.new.lane found.new result }
+        ensures told { TellsLook looked self.old.lane self.new.lane found.old found.new result }
     {
         match looked {
             Ok(Look::Found { at, number }) => self.tell_found(at, number, found),
@@ -97,7 +97,7 @@ impl Seat {
         ensures closers { self.new.closers ≡ self.old.closers }
         ensures claim { self.new.claim ≡ None }
         ensures still { self.new.lane.cells ≡ self.old.lane.cells }
-        ensures told { TellsPut context put self.old.lane self.new.lane stood.new result }
+        ensures told { TellsPut context put self.old.lane self.new.lane stood.old stood.new result }
     {
         match put {
             Ok(Some(number)) => self.tell_stood(context, number, stood),
@@ -121,7 +121,7 @@ impl Seat {
         ensures closers { self.new.closers ≡ self.old.closers }
         ensures claim { self.new.claim ≡ None }
         ensures still { self.new.lane.cells ≡ self.old.lane.cells }
-        ensures told { TellsRemove context removed self.old.lane self.new.lane taken.new result }
+        ensures told { TellsRemove context removed self.old.lane self.new.lane taken.old taken.new result }
     {
         match removed {
             Ok(Some(number)) => self.tell_stood(context, number, taken),
@@ -137,7 +137,7 @@ impl Seat {
         ensures closers { self.new.closers ≡ self.old.closers }
         ensures claim { self.new.claim ≡ None }
         ensures still { self.new.lane.cells ≡ self.old.lane.cells }
-        ensures told { TellsUnused why self.old.lane self.new.lane found.new result }
+        ensures told { TellsUnused why self.old.lane self.new.lane found.old found.new result }
     {
         match why {
             Unused::Found { at, number } => self.tell_found(at, number, found),

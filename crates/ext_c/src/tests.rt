@@ -136,3 +136,103 @@ fn a_compute_is_two_calls(rt: HostRuntime) {
     );
     assert_eq!(rt; value.context, 1);
 }
+
+// What an opening of one slot answers. It leaves the slot empty.
+fn refused(
+    rt: &impl Abort,
+    alloc: Global,
+    bytes: &[u8],
+    lengths: &[u32],
+    tries: u32,
+    numbers: u32,
+) -> u32 {
+    let mut slots = [empty_slot()];
+    let code = ext_open(alloc, bytes, lengths, tries, numbers, true, &mut slots);
+    assert_eq!(rt; slots[0].state, 0);
+    code
+}
+
+#[test]
+fn a_refused_opening_tells_why(rt: HostRuntime) {
+    let alloc = rt.alloc();
+    assert_eq!(rt;
+        refused(&rt, alloc, IDS, &[10, 21], 8, 100),
+        Code::BadLengths.number()
+    );
+    assert_eq!(rt;
+        refused(&rt, alloc, b"[engine:\xff][x]", &[10, 3], 8, 100),
+        Code::BadText.number()
+    );
+    assert_eq!(rt;
+        refused(&rt, alloc, b"[x][engine:\xff]", &[3, 200], 8, 100),
+        Code::BadLengths.number()
+    );
+    assert_eq!(rt;
+        refused(&rt, alloc, b"[engine:x][x]", &[10, 3], 8, 100),
+        Code::BadId.number()
+    );
+    assert_eq!(rt;
+        refused(&rt, alloc, b"[engine:x][engine:x]", &[10, 10], 0, 100),
+        Code::BadTree.number()
+    );
+    assert_eq!(rt;
+        refused(&rt, alloc, b"", &[], 8, 100),
+        Code::BadTree.number()
+    );
+    assert_eq!(rt;
+        refused(&rt, alloc, IDS, &LENGTHS, 65, 100),
+        Code::BadLimit.number()
+    );
+    assert_eq!(rt;
+        refused(&rt, alloc, IDS, &LENGTHS, 8, 0),
+        Code::BadLimit.number()
+    );
+    let mut slots = open_one(&rt, alloc, true);
+    assert_eq!(rt;
+        ext_open(alloc, b"", &[], 8, 100, true, &mut slots),
+        Code::NotEmpty.number()
+    );
+    assert_eq!(rt; slots[0].state, 1);
+    let mut key = 9;
+    assert_eq!(rt;
+        ext_key(alloc, &mut slots[0], b"name", &[], &mut key),
+        Code::BadLengths.number()
+    );
+    assert_eq!(rt;
+        ext_key(alloc, &mut slots[0], b"name\xff", &[4, 1], &mut key),
+        Code::BadText.number()
+    );
+    assert_eq!(rt; key, 9);
+}
+
+#[test]
+fn a_lane_that_leaves_gives_its_claim_up(rt: HostRuntime) {
+    let alloc = rt.alloc();
+    let mut slots = [empty_slot(), empty_slot()];
+    assert_eq!(rt;
+        ext_open(alloc, IDS, &LENGTHS, 8, 100, false, &mut slots),
+        0
+    );
+    let mut found = ExtValue::unshown(7, 8);
+    assert_eq!(rt;
+        ext_begin(alloc, &mut slots[0], 0, 3, &mut found),
+        Code::Run.number()
+    );
+    assert_eq!(rt; (found.context, found.number), (7, 8));
+    assert_eq!(rt;
+        ext_begin(alloc, &mut slots[1], 1, 3, &mut found),
+        Code::Busy.number()
+    );
+    assert_eq!(rt; (found.context, found.number), (0, 8));
+    assert_eq!(rt; ext_leave(alloc, &mut slots[0]), 0);
+    assert_eq!(rt; slots[0].state, 0);
+    assert_eq!(rt;
+        ext_get(alloc, &mut slots[1], 1, 3, &mut found),
+        Code::Absent.number()
+    );
+    assert_eq!(rt; (found.context, found.number), (0, 8));
+    assert_eq!(rt;
+        ext_begin(alloc, &mut slots[1], 0, 3, &mut found),
+        Code::Run.number()
+    );
+}

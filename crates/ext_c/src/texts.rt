@@ -1,7 +1,8 @@
 //! Texts that stand one behind the other.
-ghost use Rattle.std.specs.Prelude.{◌≡◌, IfErr, IfOk};
+ghost use Rattle.std.specs.Prelude.{◌≡◌, ◌⊎◌, IfErr, IfOk};
 ghost use Rattle.ext_tree.specs.Keys as keys;
-ghost use Rattle.ext_c.specs.Texts.{IsTextFault, texts_in};
+ghost use Rattle.ext_c.specs.declared.code.Code.TheVariants as code;
+ghost use Rattle.ext_c.specs.Texts.{AreTexts, IsTextFault, texts_in};
 
 use crate::code::Code;
 use std::alloc::Global;
@@ -13,7 +14,8 @@ pub(crate) fn read_texts<'a>(
     lengths: &[u32],
 ) -> Result<Vec<&'a str>, Code>
     ensures texts { IfOk result (λ texts. keys.texts_of texts.items ≡ texts_in bytes.now lengths.now) }
-    ensures refused { IfErr result IsTextFault }
+    ensures well { IfOk result (λ _. AreTexts bytes.now lengths.now) }
+    ensures refused { IfErr result (λ said. IsTextFault bytes.now lengths.now said ⊎ (said ≡ code.NoMemory)) }
 {
     let mut rest = bytes;
     let mut texts = Vec::new(alloc);

@@ -28,6 +28,7 @@ impl Written {
         requires room { 64 ≤ length values.old }
         ensures count { result ≡ length self.now.values.items }
         ensures copied { take result values.new ≡ self.now.values.items }
+        ensures rest { drop result values.new ≡ drop result values.old }
     {
         let own = self.values.as_slice();
         let (front, _) = values.split_at_mut(own.len());

@@ -1,5 +1,5 @@
 -- Where a run of a tree ends that does not come to its end, from where the runs of its parts end.
-use Rattle.std.proofs.Common.{◌≡◌, ◌≢◌, ◌⊎◌, inl, inr, ℕ, zero, suc, ◌-◌, ◌≤◌, Bool, false, cond, List, [], ◌++◌, ◌∷◌, length, map, min, refl, sym, ap, ◌∙◌, subst, arith}
+use Rattle.std.proofs.Common.{◌≡◌, ◌≢◌, inl, inr, ℕ, zero, suc, ◌-◌, ◌≤◌, Bool, false, cond, List, [], ◌++◌, ◌∷◌, length, map, min, refl, sym, ap, ◌∙◌, subst, arith}
 use Rattle.std.specs.Prelude.{All, Contains, filter, Result, Ok, Err, Vec, IfOk, IfErr, IsErr, IsErrAnd, slice_index_or}
 use Rattle.std.specs.declared.alloc.Global.{Global}
 use Rattle.std.proofs.lemmas.List.{nil_from_length}

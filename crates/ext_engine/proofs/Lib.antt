@@ -2,6 +2,7 @@
 pub mod Above
 pub mod Acts
 pub mod Below
+pub mod Between
 pub mod Contexts
 pub mod Failures
 pub mod Finer
@@ -10,15 +11,18 @@ pub mod Fresh
 pub mod Gathering
 pub mod Going
 pub mod Grown
+pub mod InTree
 pub mod Items
 pub mod Lanes
 pub mod Meets
+pub mod Named
 pub mod NodeCalls
 pub mod NodesSeen
 pub mod OneEach
 pub mod Order
 pub mod Ordered
 pub mod Placing
+pub mod Read
 pub mod Refusals
 pub mod Relates
 pub mod Requests

@@ -5,8 +5,10 @@ pub mod Failing
 pub mod InnerHelpers
 pub mod InnerRuns
 pub mod Laws
+pub mod Leaves
 pub mod Meeting
 pub mod NodeRun
+pub mod Opening
 pub mod Order
 pub mod Suites
 pub mod Taking

@@ -15,11 +15,14 @@
 #![tactic(auto)]
 
 mod laws;
+mod leaves;
 mod locks;
 mod meeting;
 mod node;
+mod opening;
 mod runner;
 mod suite;
+mod taken;
 mod tree_run;
 
 pub use ext_crew::{Gate, OpenGate};
@@ -28,7 +31,10 @@ pub use ext_lifecycle::{
     run_befores, run_body,
 };
 pub use laws::{engine_laws, order_laws};
+pub use leaves::{is_leaf, leaf_laws};
 pub(crate) use locks::{give_locks, take_locks, test_set};
 pub use node::EngineFault;
+pub use opening::{OpenFault, Opened, open_run, read_ids};
 pub use suite::Suite;
+pub use taken::{take_closer, take_lane};
 pub use tree_run::run_tree;

@@ -15,7 +15,7 @@ mod node_runner;
 mod parts;
 mod results;
 
-pub(crate) use closers::{Item, items_of_children, take_own};
+pub(crate) use closers::{Item, items_of_children, place_of, take_own};
 pub(crate) use container::{OpenContainer, close_container, open_container};
 pub use fault::EngineFault;
 pub(crate) use node_calls::{call_afters, call_befores};

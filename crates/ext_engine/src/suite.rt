@@ -3,7 +3,7 @@
 use ext_closing::CloseAction;
 use ext_lifecycle::{Call, Callbacks, Mode, Outcome};
 use ext_locks::{Held, LockRequest};
-use ext_model::ContextNo;
+use ext_model::{ContextNo, LaneNo};
 use ext_store::{Lane, Store, StoreValue};
 use std::sync::Wait;
 
@@ -60,6 +60,12 @@ pub trait Suite<V: StoreValue + Drop>: Callbacks {
     /// Guide, section "Keeping State in Extensions"; that the suite gives it is an own rule.
     fn action(&self, node: ContextNo) -> Self::Action
         ensures { action_gives self.now node result };
+
+    /// The node starts. Told once for each node that is not skipped, by the thread that runs it, before the first of its calls and before a test
+    /// waits for its locks; not where memory for the lists of its calls or for its locks is refused. `lane` is the number of the first lane of its
+    /// share, on which its calls are made. Does nothing, unless the suite says otherwise. JUnit Platform, Javadoc `EngineExecutionListener`,
+    /// `executionStarted`; that lanes are told is an own rule.
+    fn started(&self, _node: ContextNo, _lane: LaneNo) {}
 
     /// The node has ended: its calls were made and its context was closed. Told once for each node of which that is so, by the thread that ran
     /// it, and not for those that were skipped, nor where the run is refused before that. Does nothing, unless the suite says otherwise.

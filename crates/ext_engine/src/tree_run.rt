@@ -1,5 +1,5 @@
 //! The run of a tree.
-ghost use Rattle.std.specs.Prelude.{◌≡◌, ◌+◌, ◌-◌, ◌≤◌, List, length, map, IfOk, IfErr, All, vec_len};
+ghost use Rattle.std.specs.Prelude.{◌≡◌, ◌+◌, ◌-◌, ◌<◌, ◌≤◌, List, length, map, IfOk, IfErr, All, vec_len};
 ghost use denote.Param.Send.{IsSync, IsSend};
 ghost use Rattle.ext_lifecycle.specs.Results.{told};
 ghost use Rattle.ext_store.specs.Stores.{closers_below};
@@ -80,6 +80,7 @@ pub fn run_tree<
         × TreeRun (setting_of V.is_closeable S.suite_view S.registered S.call_gives S.action_gives S.Action.close_gives suite.now store.now locks.now)
         16 0 (record { first = lanes.old; second = lock_lanes.old }) ran (record { first = lanes.new; second = lock_lanes.new })
         × (map told results.items ≡ all_results (S.suite_view suite.now) (length store.now.tree) ran)) }
+    ensures nodes { IfOk result (λ results. All (λ r. r.node < length store.now.tree) results.items) }
     ensures fault { IfErr result (IsFault (setting_of V.is_closeable S.suite_view S.registered S.call_gives S.action_gives S.Action.close_gives suite.now store.now locks.now)) }
     ensures unjoined { IfErr result (OnUnjoined (λ context number.
         NamesUnknown (setting_of V.is_closeable S.suite_view S.registered S.call_gives S.action_gives S.Action.close_gives suite.now store.now locks.now)

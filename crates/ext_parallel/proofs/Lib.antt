@@ -1,7 +1,7 @@
 -- Lemmas of this crate.
 mod Found
-mod InTree
 mod Locks
+mod Mapped
 mod Moves
 mod Names
 mod Refusals

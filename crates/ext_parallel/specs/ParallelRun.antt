@@ -22,7 +22,6 @@ use Rattle.ext_parallel.specs.declared.steps.stored_value.StoredValue.{StoredVal
 use Rattle.ext_parallel.specs.Opened.{IsStoreOf, IsLocksOf, ShareHistory, ShareKeys}
 use Rattle.ext_plan.specs.Values.{close_fault}
 use Rattle.ext_parallel.specs.StoreCalls.{PlanLane, stored_view}
-use Rattle.ext_parallel.specs.declared.plan_action.PlanAction.{PlanAction}
 use Rattle.ext_parallel.specs.PlanActions.{AnswersClose}
 use Rattle.ext_parallel.specs.PlanSuites.{suite_of, RunsCall}
 
@@ -30,16 +29,16 @@ use Rattle.ext_parallel.specs.PlanSuites.{suite_of, RunsCall}
 abbrev pub MakesCall : PlanText → StoreView → ℕ → Call → Option HeldView → PlanLane → Outcome → PlanLane → Type 0
 MakesCall plan store node call held before outcome after = RunsCall plan store node call before outcome after
 
--- any close action may be a node's
-abbrev pub IsAction : ℕ → PlanAction → Type 0
-IsAction node action = Unit {0}
+-- a close action is seen as its node, and a node gets its own
+abbrev pub IsAction : ℕ → ℕ → Type 0
+IsAction node action = action ≡ node
 
 -- what a close action does with a value
-abbrev pub ClosesValue : PlanAction → ℕ → StoredValue → Result (Unit {0}) Fault → PlanAction → Type 0
+abbrev pub ClosesValue : ℕ → ℕ → StoredValue → Result (Unit {0}) Fault → ℕ → Type 0
 ClosesValue action number value answer left = AnswersClose (close_fault (stored_view value)) answer × (left ≡ action)
 
 -- what the run of a plan's nodes goes over
-abbrev pub setting_of_plan : PlanText → StoreView → LocksView → TreeSetting StoredValue PlanAction
+abbrev pub setting_of_plan : PlanText → StoreView → LocksView → TreeSetting StoredValue ℕ
 setting_of_plan plan store locks = record {
   store = store;
   locks = locks;

@@ -12,6 +12,7 @@
 //! names no source in JUnit is an own rule.
 #![tactic(auto)]
 
+mod faults;
 mod laws;
 mod meeting;
 mod opening;

@@ -22,7 +22,8 @@ use std::thread::Threads;
 /// Runs a plan on so many lanes, 1 to 16, each at most by one thread, and gives one result a node, in the order of the plan.
 ///
 /// A store with the plan's contexts and locks with its names are opened for this run, and the tree of the nodes is run over them by
-/// `ext_engine::run_tree`. A key gets its number where a lane first names it, the same in all lanes. The listener is told of each node that has ended. Steps make the calls of the store that wait. Each plan that `ext_plan_reading::read_plan` gives is runnable.
+/// `ext_engine::run_tree`. A key gets its number where a lane first names it, the same in all lanes. The listener is told when a node starts, with its lane, of each fault of its calls
+/// and of its closes as they come, and that it has ended. Steps make the calls of the store that wait. Each plan that `ext_plan_reading::read_plan` gives is runnable.
 ///
 /// Refused as `Memory`, where memory that the run itself needs is refused, and as `Unjoined`, where a context can't be closed, as no lane in
 /// hand knows a value that remains in it; no plan is known for which it comes. `NoThread` is never answered. Want of memory in a step is the step's own fault. Takes memory, and may wait: it promises its clauses if it returns.

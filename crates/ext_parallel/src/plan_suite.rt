@@ -6,11 +6,12 @@ ghost use Rattle.ext_engine.specs.Suites.{asks};
 ghost use Rattle.ext_parallel.specs.PlanSuites.{asked};
 
 use crate::PlanAction;
+use crate::faults::{fault_of, tell_fault};
 use crate::steps::{StoreSteps, StoredValue};
 use ext_engine::{Call, Callbacks, Kind, Mode, Outcome, Suite};
 use ext_lifecycle::RunListener;
 use ext_locks::{Held, LockMode, LockRequest, Resource};
-use ext_model::ContextNo;
+use ext_model::{ContextNo, LaneNo};
 use ext_plan::{Plan, PlanLock, StepKeys};
 use ext_store::{Lane, Store};
 use ext_tree::Key;
@@ -19,7 +20,7 @@ use std::marker::Model;
 use std::sync::Wait;
 
 /// The suite of a plan: its nodes are those of the plan, in the order of the plan, and their calls make the plan's steps. It is seen as
-/// the plan. A listener is told of each node that has ended.
+/// the plan. A listener is told when a node starts, of each fault of its calls and of its closes, and that it has ended.
 #[derive(Drop)]
 pub struct PlanSuite<'a, L> {
     alloc: Global,
@@ -41,7 +42,7 @@ impl<'a, L> Model for PlanSuite<'a, L> {
 }
 
 impl<'a, L> PlanSuite<'a, L> {
-    /// The suite of a plan, and who is told of the nodes that have ended. It takes memory for the keys of the plan's labels, which it makes, and for what the steps of a run take:
+    /// The suite of a plan, and who is told of its nodes. It takes memory for the keys of the plan's labels, which it makes, and for what the steps of a run take:
     /// among it for the key of a step that names no label, which is made where the step runs.
     ///
     /// A namespace that is given has a part; lists of steps and of callbacks are not longer than a plan's. All this holds of each plan that was read. `AllocError` comes only where
@@ -76,10 +77,10 @@ impl<L> Callbacks for PlanSuite<'_, L> {
     }
 }
 
-impl<'a, L: RunListener> Suite<StoredValue<'a>> for PlanSuite<'a, L> {
+impl<'a, L: RunListener + Sync> Suite<StoredValue<'a>> for PlanSuite<'a, L> {
     ghost use Rattle.ext_parallel.specs.PlanSuites.{suite_of, RunsCall};
 
-    type Action = PlanAction;
+    type Action = PlanAction<'a, L>;
 
     ghost suite_view = { suite_of };
 
@@ -87,7 +88,7 @@ impl<'a, L: RunListener> Suite<StoredValue<'a>> for PlanSuite<'a, L> {
 
     ghost call_gives = { λ plan store node call held before outcome after. RunsCall plan store node call before outcome after };
 
-    ghost action_gives = { λ plan node action. Unit {0} };
+    ghost action_gives = { λ plan node action. action ≡ node };
 
     fn mode(&self, node: ContextNo) -> Mode {
         self.plan.mode(node)
@@ -110,9 +111,14 @@ impl<'a, L: RunListener> Suite<StoredValue<'a>> for PlanSuite<'a, L> {
         Some(request(lock))
     }
 
-    /// An action that closes the node's values, as it does those of each node.
-    fn action(&self, _node: ContextNo) -> PlanAction {
-        PlanAction::new(self.alloc)
+    /// An action that closes the node's values, as it does those of each node, and tells the listener of its faults.
+    fn action(&self, node: ContextNo) -> PlanAction<'a, L> {
+        PlanAction::new(self.alloc, node, self.listener)
+    }
+
+    /// Tells the listener.
+    fn started(&self, node: ContextNo, lane: LaneNo) {
+        self.listener.started(node, lane);
     }
 
     /// Tells the listener.
@@ -120,7 +126,7 @@ impl<'a, L: RunListener> Suite<StoredValue<'a>> for PlanSuite<'a, L> {
         self.listener.ended(node, self.plan.nodes.len());
     }
 
-    /// Makes the steps of the call, in the node's context, up to the first that isn't successful.
+    /// Makes the steps of the call, in the node's context, up to the first that isn't successful, and tells the listener of that one's fault.
     fn call<R: Wait>(
         &self,
         rt: &R,
@@ -134,7 +140,9 @@ impl<'a, L: RunListener> Suite<StoredValue<'a>> for PlanSuite<'a, L> {
         let names = StepKeys::of(plan.keys.as_slice(), self.keys.as_slice());
         let steps = StoreSteps::of(self.alloc, names);
         let path = store.tree().path(node);
-        steps.run(rt, store, lane, path.as_slice(), plan.steps_of(call))
+        let outcome = steps.run(rt, store, lane, path.as_slice(), plan.steps_of(call));
+        tell_fault(self.listener, node, fault_of(&outcome.verdict));
+        outcome
     }
 }
 

@@ -12,7 +12,7 @@ use Rattle.ext_plain.specs.NodeCalls.{call_run}
 use Rattle.ext_plain.specs.StepRuns.{steps_run}
 use Rattle.ext_plain.specs.ValueStates.{Memory, with_memory}
 
-pub does : (before after : NodeCaller) (call : Call) (outcome : Outcome) (keys : List KeyText) (path slice : List ℕ) (steps : List StepText) (lacked : Bool)
+pub does : {L : Type 0} (before after : NodeCaller L) (call : Call) (outcome : Outcome) (keys : List KeyText) (path slice : List ℕ) (steps : List StepText) (lacked : Bool)
     → ((later : List Memory) → (memory : List Memory) × (step_end (with_memory later (state_view after.store)) outcome ≡ steps_run keys slice steps (with_memory memory (state_view before.store))) × (lacked ≡ false → later ≡ [] → memory ≡ []))
     → (after.lacked ≡ false → before.lacked ≡ false) → (after.lacked ≡ false → lacked ≡ false)
     → IsTree before.setting.tree.now → IsPathOf before.setting.tree.now before.node path → slice ≡ path → keys ≡ (plan_in before.setting).keys → steps ≡ steps_of_call (plan_in before.setting) call

@@ -37,20 +37,20 @@ abbrev pub chosen_of : Setting → Bool → List ℕ → List ℕ
 chosen_of setting concurrent children = filter (chosen concurrent (concurrent_of (plan_in setting))) children
 
 -- the caller makes calls of this node
-pub record IsAt (setting : Setting) (at : ℕ) (c : NodeCaller) : Type 0 where
+pub record IsAt {L : Type 0} (setting : Setting) (at : ℕ) (c : NodeCaller L) : Type 0 where
   pub setting_is : c.setting ≡ setting
   pub node_is : c.node ≡ at
 
-abbrev pub store_of : List Memory → NodeCaller → ValueState
+abbrev pub store_of : {L : Type 0} → List Memory → NodeCaller L → ValueState
 store_of memory c = with_memory memory (state_view c.store)
 
-abbrev pub lacked_of : NodeCaller → Bool
+abbrev pub lacked_of : {L : Type 0} → NodeCaller L → Bool
 lacked_of c = c.lacked
 
-abbrev pub between : NodeCaller → List NodeOutcome → RunSoFar
+abbrev pub between : {L : Type 0} → NodeCaller L → List NodeOutcome → RunSoFar
 between c results = record { state = state_view c.store; results = results; lacked = c.lacked }
 
-pub does-calls : (setting : Setting) (at : ℕ) (path : List ℕ) → IsPathOf setting.tree.now at path → Does DoesCall (IsAt setting at) store_of lacked_of (call_run (plan_in setting) path)
+pub does-calls : {L : Type 0} (setting : Setting) (at : ℕ) (path : List ℕ) → IsPathOf setting.tree.now at path → Does (DoesCall {L = L}) (IsAt setting at) store_of lacked_of (call_run (plan_in setting) path)
 does-calls setting at path is = record {
   keeps = λ c call o d made here. record { setting_is = made.setting ∙ here.setting_is; node_is = made.node ∙ here.node_is };
   exact = λ c call o d made here later.
@@ -59,7 +59,7 @@ does-calls setting at path is = record {
       (one.0, one.1 ∙ ap (λ (s : Setting). call_run (plan_in s) path call (store_of one.0 c)) here.setting_is, one.2);
 }
 
-pub test-runs : (setting : Setting) (at : ℕ) (p one two : List ℕ) (befores afters : List Call) (c d : NodeCaller) (os : List Outcome) (tally : Tally) (results : List NodeOutcome) (new : RunSoFar)
+pub test-runs : {L : Type 0} (setting : Setting) (at : ℕ) (p one two : List ℕ) (befores afters : List Call) (c d : NodeCaller L) (os : List Outcome) (tally : Tally) (results : List NodeOutcome) (new : RunSoFar)
     → IsTree setting.tree.now → IsPathOf setting.tree.now at p → one ≡ p → two ≡ p → befores ≡ befores_of (registered (plan_in setting)) true at one → afters ≡ afters_of (registered (plan_in setting)) true at two
     → IsAt setting at c → MakesCalls DoesCall befores (test_call at) afters c os d → tally ≡ tally_of os → EndsNode d.setting at true tally (between d results) new
     → RunsAs setting at (test_node_run (plan_in setting) at) (between c results) new
@@ -84,7 +84,7 @@ test-runs setting at p one two befores afters c d os tally results new tree is_p
       );
 }
 
-pub container-runs : (setting : Setting) (at : ℕ) (p one two : List ℕ) (befores afters : List Call) (c d e f g : NodeCaller) (first third : List Outcome) (tally : Tally) (results left : List NodeOutcome) (go : Bool)
+pub container-runs : {L : Type 0} (setting : Setting) (at : ℕ) (p one two : List ℕ) (befores afters : List Call) (c d e f g : NodeCaller L) (first third : List Outcome) (tally : Tally) (results left : List NodeOutcome) (go : Bool)
     (path_run : Setting → List ℕ → RunState → RunState) (new : RunSoFar)
     → IsTree setting.tree.now → IsPathOf setting.tree.now at p → one ≡ p → two ≡ p → befores ≡ befores_of (registered (plan_in setting)) false at one → afters ≡ afters_of (registered (plan_in setting)) false at two
     → IsAt setting at c → MakesBefores DoesCall befores c first d
@@ -131,16 +131,16 @@ container-runs setting at p one two befores afters c d e f g first third tally r
 
 -- ---- calls keep the setting
 
-pub calls-setting : (setting : Setting) (at : ℕ) (p : List ℕ) (befores : List Call) (body : Call) (afters : List Call) (c d : NodeCaller) (os : List Outcome) → IsPathOf setting.tree.now at p → IsAt setting at c
+pub calls-setting : {L : Type 0} (setting : Setting) (at : ℕ) (p : List ℕ) (befores : List Call) (body : Call) (afters : List Call) (c d : NodeCaller L) (os : List Outcome) → IsPathOf setting.tree.now at p → IsAt setting at c
     → MakesCalls DoesCall befores body afters c os d → d.setting ≡ setting
 calls-setting setting at p befores body afters c d os is here made =
     (calls-hold DoesCall (IsAt setting at) store_of lacked_of (call_run (plan_in setting) p) (does-calls setting at p is) befores body afters c os d made here).setting_is
 
-pub befores-setting : (setting : Setting) (at : ℕ) (p : List ℕ) (befores : List Call) (c d : NodeCaller) (os : List Outcome) → IsPathOf setting.tree.now at p → IsAt setting at c → MakesBefores DoesCall befores c os d → d.setting ≡ setting
+pub befores-setting : {L : Type 0} (setting : Setting) (at : ℕ) (p : List ℕ) (befores : List Call) (c d : NodeCaller L) (os : List Outcome) → IsPathOf setting.tree.now at p → IsAt setting at c → MakesBefores DoesCall befores c os d → d.setting ≡ setting
 befores-setting setting at p befores c d os is here made =
     (befores-hold DoesCall (IsAt setting at) store_of lacked_of (call_run (plan_in setting) p) (does-calls setting at p is) befores c os d made here).setting_is
 
-pub afters-setting : (setting : Setting) (at : ℕ) (p : List ℕ) (afters : List Call) (c d : NodeCaller) (os : List Outcome) → IsPathOf setting.tree.now at p → IsAt setting at c → MakesAll DoesCall afters c os d → d.setting ≡ setting
+pub afters-setting : {L : Type 0} (setting : Setting) (at : ℕ) (p : List ℕ) (afters : List Call) (c d : NodeCaller L) (os : List Outcome) → IsPathOf setting.tree.now at p → IsAt setting at c → MakesAll DoesCall afters c os d → d.setting ≡ setting
 afters-setting setting at p afters c d os is here made =
     (all-holds DoesCall (IsAt setting at) store_of lacked_of (call_run (plan_in setting) p) (does-calls setting at p is) afters c os d made here).setting_is
 

@@ -224,13 +224,13 @@ abbrev pub plan_in : Setting → PlanText
 plan_in s = plan_view s.plan.now
 
 -- the node is one of the tree
-pub record IsReady (caller : NodeCaller) : Type 0 where
+pub record IsReady {L : Type 0} (caller : NodeCaller L) : Type 0 where
   pub tree : IsTree caller.setting.tree.now
   pub within : caller.node < length caller.setting.tree.now
 
 -- What a call does: its steps in the context of the node. Whatever the steps after it find of memory, there is something that its own steps found; and whether they lacked some
 -- is told
-pub record DoesCall (before : NodeCaller) (call : Call) (outcome : Outcome) (after : NodeCaller) : Type 0 where
+pub record DoesCall {L : Type 0} (before : NodeCaller L) (call : Call) (outcome : Outcome) (after : NodeCaller L) : Type 0 where
   pub setting : after.setting ≡ before.setting
   pub node : after.node ≡ before.node
   pub end : (path : List ℕ) → IsPathOf before.setting.tree.now before.node path → (later : List Memory)

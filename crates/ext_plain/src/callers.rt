@@ -1,14 +1,16 @@
 //! The calls of a node, each on the store of the run.
+use crate::faults::{fault_of, tell_fault};
 use crate::setting::Setting;
 use crate::value_store::ValueStore;
-use ext_lifecycle::{Call, Caller, Outcome};
+use ext_lifecycle::{Call, Caller, Outcome, RunListener};
 use ext_model::ContextNo;
 use std::alloc::Global;
 
-/// Makes the calls of one node after another.
+/// Makes the calls of one node after another, and tells the listener of each of their faults.
 #[derive(Drop)]
-pub struct NodeCaller<'a> {
+pub struct NodeCaller<'a, L> {
     pub alloc: Global,
+    pub listener: &'a L,
     pub setting: Setting<'a>,
     pub store: ValueStore<'a>,
     /// The node whose calls are made.
@@ -17,7 +19,7 @@ pub struct NodeCaller<'a> {
     pub lacked: bool,
 }
 
-impl NodeCaller<'_> {
+impl<L> NodeCaller<'_, L> {
     ghost use Rattle.std.specs.Prelude.{◌≡◌, false};
 
     /// Whether a step has lacked memory, before or now.
@@ -29,7 +31,7 @@ impl NodeCaller<'_> {
     }
 }
 
-impl Caller for NodeCaller<'_> {
+impl<L: RunListener> Caller for NodeCaller<'_, L> {
     ghost use Rattle.ext_plain.specs.InnerHelpers.{DoesCall, IsReady};
 
     ghost ready = { λ c. IsReady c };
@@ -45,6 +47,7 @@ impl Caller for NodeCaller<'_> {
         let alloc = self.alloc;
         let end = self.store.run_steps(alloc, &keys, path.as_slice(), steps);
         self.lacked = self.has_lacked(end.lacked);
+        tell_fault(self.listener, self.node, fault_of(&end.outcome.verdict));
         end.outcome
     }
 }

@@ -5,7 +5,9 @@ ghost use Rattle.ext_plain.specs.ValueStates.{value_of};
 ghost use Rattle.ext_plain.specs.ContextEnds.{seal_keys, numbers_left, closeables};
 ghost use Rattle.ext_plain.specs.InnerHelpers.{state_view, only_closeable, HasClosed};
 
+use crate::faults::tell_fault;
 use crate::value_store::ValueStore;
+use ext_lifecycle::RunListener;
 use ext_model::{Closed, ContextNo, FallingNumbers};
 use ext_plan::{PlanValue, close_fault};
 use std::alloc::{AllocError, Global};
@@ -27,15 +29,23 @@ impl<'a> ValueStore<'a> {
     }
 
     /// Closes the closeable ones among the values of these numbers, in order, each once, and counts them. A close that
-    /// fails does not stop the others.
-    pub fn close_values(&self, alloc: Global, numbers: &[u32]) -> Result<Closed, AllocError>
+    /// fails does not stop the others, and the listener is told of its fault, as one of this node.
+    pub fn close_values<L: RunListener>(
+        &self,
+        alloc: Global,
+        listener: &L,
+        at: ContextNo,
+        numbers: &[u32],
+    ) -> Result<Closed, AllocError>
         requires { length numbers.now ≤ 64 }
         ensures { IfOk result (λ closes. HasClosed closes (map close_fault (closeables (state_view self.now).values numbers.now))) }
     {
         let mut closes = Closed::new();
         for number in numbers {
             if let Some(value) = self.closeable(*number) {
-                closes.add(close_fault(alloc, &value)?);
+                let fault = close_fault(alloc, &value)?;
+                tell_fault(listener, at, fault.as_ref());
+                closes.add(fault);
             }
         }
         Ok(closes)

@@ -13,6 +13,7 @@
 mod callers;
 mod closing;
 mod computes;
+mod faults;
 mod found;
 mod keyed;
 mod keyed_step;

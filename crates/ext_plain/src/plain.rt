@@ -23,8 +23,7 @@ use std::alloc::{AllocError, Global};
 /// A plain run between two nodes.
 #[derive(Drop)]
 pub struct PlainRunner<'a, L> {
-    pub caller: NodeCaller<'a>,
-    pub listener: &'a L,
+    pub caller: NodeCaller<'a, L>,
     /// A result for each node, skipped until it has run.
     pub results: Vec<NodeResult>,
 }
@@ -36,8 +35,8 @@ pub struct PlainRun {
     pub lacked: bool,
 }
 
-/// The results of the plain run of a plan, in the order of its nodes, which are the contexts of the tree. The listener is told of each node that
-/// has ended.
+/// The results of the plain run of a plan, in the order of its nodes, which are the contexts of the tree. The listener is told when a node starts,
+/// on lane 0, of each fault of its calls and of its closes as they come, and that it has ended.
 ///
 /// Where the plan keeps faults, the fault of a factory that failed stands in its place until it is removed or replaced, and
 /// the steps that meet it say so; it is never closed. Where the plan does not, the fault comes back, and the place is empty.
@@ -67,6 +66,7 @@ pub fn run_plain<'x, L: RunListener>(
     let made = plan.store_keys(alloc)?;
     let caller = NodeCaller {
         alloc,
+        listener,
         setting: Setting::of(plan, made.as_slice(), tree),
         store: ValueStore::new(alloc, plan.keep_faults),
         node: 0,
@@ -74,7 +74,6 @@ pub fn run_plain<'x, L: RunListener>(
     };
     let mut runner = PlainRunner {
         caller,
-        listener,
         results: skipped(alloc, plan.nodes.as_slice())?,
     };
     // No tree is deeper than it has nodes, so that as many levels reach all of them.
@@ -123,6 +122,7 @@ impl<'a, L: RunListener> PlainRunner<'a, L> {
             from: at,
             index: 0,
         };
+        self.caller.listener.started(at, 0);
         self.caller.node = at;
         let tally = run_calls(
             befores.as_slice(),
@@ -150,6 +150,7 @@ impl<'a, L: RunListener> PlainRunner<'a, L> {
         let path = self.caller.setting.tree.path(at);
         let befores = befores_of(alloc, &self.caller.setting, false, at, path.as_slice())?;
         let afters = afters_of(alloc, &self.caller.setting, false, at, path.as_slice())?;
+        self.caller.listener.started(at, 0);
         self.caller.node = at;
         let mut tally = run_befores(befores.as_slice(), &mut self.caller);
         self.run_body(alloc, levels, at, tally.is_successful())?;
@@ -221,9 +222,13 @@ impl<'a, L: RunListener> PlainRunner<'a, L> {
         ensures setting { OnOk result (self.new.caller.setting ≡ self.old.caller.setting) }
     {
         let numbers = self.caller.store.seal_keys(KEYS, at)?;
-        let closes = self.caller.store.close_values(alloc, numbers.as_slice())?;
+        let listener = self.caller.listener;
+        let closes = self
+            .caller
+            .store
+            .close_values(alloc, listener, at, numbers.as_slice())?;
         self.set_result(tally.result(at, is_test, closes));
-        self.listener.ended(at, self.results.len());
+        listener.ended(at, self.results.len());
         Ok(())
     }
 

@@ -2,13 +2,17 @@
 ghost use Rattle.std.specs.Prelude.{◌≡◌, ◌++◌, string_bytes, IfOk, OnOk};
 ghost use Rattle.ext_plan_reading.specs.Explaining.{Explains, place_words};
 
+mod ends;
 mod fields;
+mod ids;
 mod nodes;
 mod steps;
 mod words;
 
 use crate::fault::{Place, PlanFault};
+use ends::with_end;
 use fields::{bad_field, bad_label, unknown_field};
+pub use ids::explain_id;
 use nodes::{bad_id, bad_nodes, too_many};
 use std::alloc::{AllocError, Global};
 use steps::bad_step;
@@ -18,7 +22,8 @@ use words::said;
 
 /// What is meant by the fault for which the bytes of a plan are refused, in a line without its line feed: `the plan`, `key 1` or `node 2`, which is what
 /// the fault names, a colon, and then the field, the label, the id with its own fault, the lock or the step that is meant, or the place in the text.
-/// Texts of the plan stand in quotes, with a line feed as `\n`.
+/// Texts of the plan stand in quotes, with a line feed as `\n`. Of a key or a node the line ends with the line of the plan where its table begins, if it has a header of
+/// its own there, and of a node with its id, if it has one.
 ///
 /// The fault is the one that `read_plan` answered to this text, or `NotUtf8` where it is none. Of any other fault the line says that the plan has another
 /// one, or none.
@@ -70,7 +75,7 @@ fn meaning(alloc: Global, input: &[u8], fault: PlanFault) -> Result<Option<Strin
         Err(e) => return no_utf8(alloc, e.valid_up_to()),
     };
     match toml::table_from_str(alloc, text) {
-        Ok(top) => meaning_in(alloc, &top, fault),
+        Ok(top) => meaning_with_end(alloc, text, &top, fault),
         Err(e) => no_toml(alloc, text, &e),
     }
 }
@@ -95,6 +100,19 @@ fn line_at(text: &str, byte: usize) -> usize {
     let before = text.as_bytes().iter().take(byte);
     let feeds = before.filter(|byte| **byte == b'\n').count();
     feeds.saturating_add(1)
+}
+
+/// What is meant by a fault of a document, if it has it, and where the table with the fault stands.
+fn meaning_with_end(
+    alloc: Global,
+    text: &str,
+    top: &Table,
+    fault: PlanFault,
+) -> Result<Option<String>, PlanFault> {
+    match meaning_in(alloc, top, fault)? {
+        None => Ok(None),
+        Some(meaning) => { Ok(Some(with_end(alloc, text, top, fault, meaning.as_str())?)) }
+    }
 }
 
 /// What is meant by a fault of a document, if it has it.

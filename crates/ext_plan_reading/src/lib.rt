@@ -1,7 +1,7 @@
 //! Plans of test runs: the keys and the nodes, with their callbacks and tests, that a TOML document writes, or the first
 //! fault that it has.
 //!
-//! `read_plan` reads, `Plan` is what was read, `PlanFault` is why a text was refused, and `explain` says what is meant by it. What a
+//! `read_plan` reads, `Plan` is what was read, `PlanFault` is why a text was refused, and `explain` says what is meant by it, as `explain_id` does for an id. What a
 //! plan is stands in `ext_plan`, whose public names stand here too.
 //!
 //! Unless its comment says otherwise, a public call takes no memory and waits for nobody. JUnit has
@@ -21,7 +21,7 @@ mod nodes;
 mod read;
 mod steps;
 
-pub use explaining::explain;
+pub use explaining::{explain, explain_id};
 pub use ext_plan::{LabelNo, Plan, PlanKey, PlanLock, PlanNode, Step, StepKey};
 pub use fault::{Place, PlanFault};
 pub(crate) use fields::{TOP_FIELDS, has_only, tables_at, truth_at};

@@ -1,1 +1,3 @@
 pub mod Lines
+mod Orders
+mod Indents

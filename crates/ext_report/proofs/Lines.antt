@@ -1,15 +1,30 @@
 -- The lines of a report, one more at a time.
-use Rattle.std.proofs.Common.{◌≡◌, ℕ, ◌+◌, ◌<◌, List, ◌++◌, length, take, get_or, refl, append-nil}
+use Rattle.std.proofs.Common.{◌≡◌, ℕ, ◌+◌, ◌<◌, List, [], ◌++◌, length, take, get_or, refl, append-nil, append_assoc, ◌∙◌, ap}
+use Rattle.std.specs.List.{flat_map, slice_index_or}
 use Rattle.std.proofs.lemmas.List.{take_more, map-append}
 use Rattle.std.proofs.lemmas.Grind.{flat_map-append}
 use Rattle.ext_ids.specs.Grammar.{Pair}
 use Rattle.ext_tree.specs.Trees.{id_at}
 use Rattle.ext_lifecycle.specs.declared.node_result.NodeResult.{NodeResult}
-use Rattle.ext_lifecycle.specs.FaultTexts.{result_view, results_view}
+use Rattle.ext_lifecycle.specs.FaultTexts.{NodeOutcome, result_view, results_view}
 use Rattle.ext_report.specs.Report.{line_of, lines_of}
 
--- the lines of one result more
+-- the lines of one result more, whatever a line is
+pub lines-more : (line : List Pair → NodeOutcome → List ℕ) (ids : List (List Pair)) (rs : List NodeResult) (i : ℕ) (r : NodeResult) (id : List Pair) → i < length rs → r ≡ get_or rs i r → id ≡ id_at ids r.node
+    → flat_map (λ o. line (slice_index_or ids o.node []) o) (results_view (take (i + 1) rs)) ≡ flat_map (λ o. line (slice_index_or ids o.node []) o) (results_view (take i rs)) ++ line id (result_view r)
+lines-more line ids rs i r id h at is =
+    rw (take_more rs i r h, map-append, flat_map-append, ← at, append-nil, is) refl
+
 pub lines_of-more : (ids : List (List Pair)) (rs : List NodeResult) (i : ℕ) (r : NodeResult) (id : List Pair) → i < length rs → r ≡ get_or rs i r → id ≡ id_at ids r.node
     → lines_of ids (results_view (take (i + 1) rs)) ≡ lines_of ids (results_view (take i rs)) ++ line_of id (result_view r)
-lines_of-more ids rs i r id h at is =
-    rw (take_more rs i r h, map-append, flat_map-append, ← at, append-nil, is) refl
+lines_of-more ids rs i r id h at is = lines-more line_of ids rs i r id h at is
+
+-- the lines of one context more
+pub context-more : (line : ℕ → List ℕ) (contexts : List ℕ) (i : ℕ) (c : ℕ) → i < length contexts → c ≡ get_or contexts i c
+    → flat_map line (take (i + 1) contexts) ≡ flat_map line (take i contexts) ++ line c
+context-more line contexts i c h at =
+    rw (take_more contexts i c h, flat_map-append, ← at, append-nil) refl
+
+-- what two writes in a row leave
+pub joined : {A : Type 0} (w x y a b : List A) → x ≡ w ++ a → y ≡ x ++ b → y ≡ w ++ (a ++ b)
+joined w x y a b first second = second ∙ ap (λ l. l ++ b) first ∙ append_assoc w a b

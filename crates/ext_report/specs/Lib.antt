@@ -1,1 +1,4 @@
 pub mod Report
+pub mod JsonLines
+pub mod TreeLines
+pub mod Forms

@@ -54,11 +54,14 @@ tells_fault statuses.Skipped = false
 abbrev pub fault_part : NodeOutcome → List ℕ
 fault_part r = if tells_fault r.status then fault_and_further r.fault r.more else []
 
+-- how a node ended, and the end of its line
+abbrev pub outcome_part : NodeOutcome → List ℕ
+outcome_part r =
+    codes " " ++ status_text r.status ++ codes " closed " ++ decimal r.closed ++ fault_part r ++ codes "\n"
+
 -- the line of a node with this id
 abbrev pub line_of : List Pair → NodeOutcome → List ℕ
-line_of id r =
-    id_text id ++ codes " " ++ status_text r.status ++ codes " closed " ++ decimal r.closed
-    ++ fault_part r ++ codes "\n"
+line_of id r = id_text id ++ outcome_part r
 
 -- the lines of the nodes, in the order of the list
 abbrev pub lines_of : List (List Pair) → List NodeOutcome → List ℕ

@@ -1,7 +1,7 @@
 //! The line of a node in a report.
 ghost use Rattle.std.specs.Prelude.{◌≡◌, ◌++◌, string_bytes, OnOk, Some};
 ghost use Rattle.ext_lifecycle.specs.FaultTexts.{fault_text, result_view};
-ghost use Rattle.ext_report.specs.Report.{status_text, fault_part, fault_and_further, line_of};
+ghost use Rattle.ext_report.specs.Report.{status_text, fault_part, fault_and_further, line_of, outcome_part};
 
 use ext_ids::UniqueId;
 use ext_lifecycle::{NodeResult, Status};
@@ -18,6 +18,14 @@ pub(crate) fn write_line(
         (string_bytes text.new ≡ string_bytes text.old ++ line_of id.now (result_view node.now)) }
 {
     id.write_to(text)?;
+    write_outcome(text, node)
+}
+
+/// Writes how a node ended, and the end of its line, at the end of a text.
+pub(crate) fn write_outcome(text: &mut String, node: &NodeResult) -> Result<(), AllocError>
+    ensures { OnOk result
+        (string_bytes text.new ≡ string_bytes text.old ++ outcome_part (result_view node.now)) }
+{
     let status = status_text(node.status);
     let closed = node.closed;
     write!(text, " {status} closed {closed}")?;
@@ -54,7 +62,7 @@ fn write_fault_and_further(text: &mut String, fault: &Fault, more: u64) -> Resul
 }
 
 /// The word for a status.
-fn status_text(status: Status) -> &'static str
+pub(crate) fn status_text(status: Status) -> &'static str
     ensures { result.now ≡ status_text status }
 {
     match status {
@@ -66,7 +74,7 @@ fn status_text(status: Status) -> &'static str
 }
 
 /// The text of a fault.
-fn fault_text(fault: &Fault) -> &str
+pub(crate) fn fault_text(fault: &Fault) -> &str
     ensures { result.now ≡ fault_text fault.now }
 {
     match fault {

@@ -2,3 +2,4 @@ pub mod ReadBytes
 pub mod Elements
 pub mod RunReports
 mod CheckCounts
+mod Drawn

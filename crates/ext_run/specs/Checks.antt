@@ -4,6 +4,7 @@ use Rattle.std.specs.Fmt.{decimal}
 use Rattle.std.specs.List.{count_by}
 use Rattle.ext_plan_reading.specs.Plans.{NodeText, PlanText}
 use Rattle.ext_run.specs.declared.fault.RunFault.{RunFault}
+use Rattle.ext_report.specs.declared.form.ReportForm.TheVariants as forms
 use Rattle.ext_run.specs.Reports.{RefusedAs}
 
 -- how many of the nodes are tests
@@ -22,4 +23,4 @@ IsCountsOf (Err fault) line = ⊥
 
 -- it is refused as a plain run of it would be
 abbrev pub RefusedUnrun : RunFault → Result PlanText RunFault → Type 0
-RefusedUnrun fault read = RefusedAs (record { lanes = 1; plain = true }) fault read
+RefusedUnrun fault read = RefusedAs (record { lanes = 1; plain = true; form = forms.Text }) fault read

@@ -1,5 +1,5 @@
 -- What the contracts of private functions cite, and nothing else: no public clause needs it.
-use Rattle.std.specs.Prelude.{◌≡◌, ◌<◌, ◌≤◌, ℕ, ◌+◌, false, List, ◌++◌, length, Option, Result, Ok, Err, string_bytes}
+use Rattle.std.specs.Prelude.{◌≡◌, ◌<◌, ◌≤◌, ℕ, ◌+◌, false, List, ◌++◌, length, Option, Result, Ok, Err}
 use Rattle.std.specs.Io.KnownBytes.{Consumes, IsAtEnd}
 use Rattle.ext_parallel.specs.ParallelRun.{IsRefusedRun}
 use Rattle.ext_plan_reading.specs.Plans.{PlanText}
@@ -47,7 +47,7 @@ IsPlanFault options plan faults.Memory = Unit {0}
 -- ---- the report
 
 abbrev pub output_view : Output → RunReport
-output_view o = record { report = string_bytes o.report; failed = o.failed; lacked = o.lacked }
+output_view o = record { report = o.report.items; failed = o.failed; lacked = o.lacked }
 
 -- what a function returned is the report of what was read, or a fault that goes with it
 abbrev pub ReportsAs : Options → Result Output RunFault → Result PlanText RunFault → Type 0

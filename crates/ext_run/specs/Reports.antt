@@ -10,7 +10,9 @@ use Rattle.ext_plan_reading.specs.declared.fault.PlanFault.TheVariants as plan
 use Rattle.ext_plan_reading.specs.Plans.{PlanText}
 use Rattle.ext_plan_reading.specs.Reading.{plan_of_text}
 use Rattle.ext_plan_reading.specs.ReadPlans.{ids_of_nodes}
-use Rattle.ext_report.specs.Report.{report_of, any_failed}
+use Rattle.ext_report.specs.Report.{any_failed}
+use Rattle.ext_report.specs.Forms.{report_in}
+use Rattle.ext_report.specs.declared.form.ReportForm.{ReportForm}
 use Rattle.ext_plain.specs.PlainRun.{ArePlain}
 use Rattle.ext_parallel.specs.EngineFault.{EngineFault}
 use Rattle.ext_parallel.specs.ParallelRun.{IsRefusedRun, ParallelRun}
@@ -59,10 +61,10 @@ pub record RunReport : Type 0 where
   pub failed : Bool
   pub lacked : Bool
 
--- of these results
-abbrev pub run_report_of : PlanText → List NodeOutcome → Bool → RunReport
-run_report_of plan results lacked = record {
-  report = report_of (ids_of_nodes plan.nodes) results;
+-- of these results, in this form
+abbrev pub run_report_of : ReportForm → PlanText → List NodeOutcome → Bool → RunReport
+run_report_of form plan results lacked = record {
+  report = report_in form (ids_of_nodes plan.nodes) results;
   failed = any_failed results;
   lacked = lacked;
 }
@@ -71,7 +73,7 @@ run_report_of plan results lacked = record {
 pub record IsReportOf (options : Options) (plan : PlanText) (given : RunReport) : Type 0 where
   pub results : List NodeOutcome
   pub run : IsRunAs options plan results given.lacked
-  pub report_is : given ≡ run_report_of plan results given.lacked
+  pub report_is : given ≡ run_report_of options.form plan results given.lacked
 
 -- it reports what was read: that is a plan, and it is the report of a run of it
 abbrev pub Reports : Options → Result PlanText RunFault → RunReport → Type 0

@@ -8,10 +8,15 @@ ghost use Rattle.ext_run.specs.InnerHelpers.{ChecksAs};
 
 use crate::fault::RunFault;
 use crate::input::read_input;
+use crate::options::Summary;
 use crate::runs::write_whole;
 use ext_plan_reading::{Plan, PlanFault, PlanNode, read_plan};
+use ext_races::{Found, races, races_text};
 use std::alloc::{AllocError, Global};
 use std::io::{Read, Write};
+
+/// How many races are looked for: one more than are told in lines.
+const RACES: usize = 21;
 
 /// Reads a plan and writes, in one line, how many nodes, tests and `[[key]]` tables it has, as `ok, 7 nodes, 3 tests, 2 keys`; it is not run. Two labels of one key
 /// are two of its `[[key]]` tables.
@@ -37,6 +42,54 @@ pub fn check<I: Read, W: Write>(
     let input = read_input(alloc, reader)?;
     let line = line_of(alloc, input.as_slice())?;
     write_whole(writer, line.as_bytes())
+}
+
+/// Reads a plan, looks for its races and does not run it. Writes one line for each of the first 20, and `and more` where there are others; `no races` where there is
+/// none; and a line that names the limit where the steps name more than 64 keys or may draw more than 65,535 numbers (`ext_races::races_text`). The summary says whether
+/// there is a race, or a limit is passed, as `failed`.
+///
+/// It reads as `run` does, and is refused as `check` is.
+///
+/// Takes memory for the input, the plan, its steps, what they touch and the lines, and gives all of it back. It waits where the reader and the writer do.
+pub fn check_races<I: Read, W: Write>(
+    alloc: Global,
+    reader: &mut I,
+    writer: &mut W,
+) -> Result<Summary, RunFault>
+    ensures unwritten { IfErr result (λ fault. fault ≢ RunFault.Write → writer.new ≡ writer.old) }
+    ensures taken { (bytes : List ℕ) × (length bytes ≤ input_limit + 1)
+        × Consumes (I.remaining reader.old) (I.remaining reader.new) bytes }
+{
+    let input = read_input(alloc, reader)?;
+    let (text, failed) = races_of(alloc, input.as_slice())?;
+    write_whole(writer, text.as_bytes())?;
+    Ok(Summary {
+        failed,
+        lacked: false,
+    })
+}
+
+/// What is found of the races of the plan that the bytes write, in lines, and whether it is free of them.
+fn races_of(alloc: Global, input: &[u8]) -> Result<(String, bool), RunFault>
+    ensures { IfErr result (λ fault. fault ≢ RunFault.Write) }
+{
+    let Ok(text) = std::str::from_utf8(input) else {
+        return Err(RunFault::Plan(PlanFault::NotUtf8));
+    };
+    let plan = match read_plan(alloc, text) {
+        Ok(plan) => plan,
+        Err(fault) => return Err(RunFault::Plan(fault)),
+    };
+    let found = races(alloc, &plan, RACES)?;
+    Ok((races_text(alloc, &plan, &found)?, !is_free(&found)))
+}
+
+/// Whether no race was found.
+fn is_free(found: &Found<'_>) -> bool {
+    match found {
+        Found::Races { races, .. } => races.is_empty(),
+        Found::TooManyKeys | Found::TooManyNumbers => false,
+    }
 }
 
 /// The line of the plan that the bytes write.

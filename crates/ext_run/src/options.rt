@@ -1,6 +1,8 @@
 //! How a plan is run, and what became of its run.
 ghost use Rattle.std.specs.Prelude.{◌≡◌, false};
 
+use ext_report::ReportForm;
+
 /// How a plan is run.
 #[derive(Clone, Copy, Debug, PartialEq, Eq)]
 pub struct Options {
@@ -8,6 +10,8 @@ pub struct Options {
     pub lanes: usize,
     /// Whether the plan runs on one thread over the one-thread store.
     pub plain: bool,
+    /// How its report is written.
+    pub form: ReportForm,
 }
 
 /// What became of a request that was done: a run whose report was written, or another one, in which no node fails.

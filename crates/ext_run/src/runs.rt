@@ -14,7 +14,7 @@ use crate::options::{Options, Summary};
 use crate::results::results_of;
 use ext_lifecycle::{NoListener, NodeResult, RunListener};
 use ext_plan_reading::{Plan, PlanFault, read_plan};
-use ext_report::any_failed;
+use ext_report::{any_failed, report_in};
 use ext_tree::Tree;
 use std::alloc::Global;
 use std::io::{Read, Write};
@@ -24,12 +24,12 @@ use std::thread::Threads;
 /// A report, whether a node failed, and whether a step may have lacked memory.
 #[derive(Debug, Drop)]
 struct Output {
-    report: String,
+    report: Vec<u8>,
     failed: bool,
     lacked: bool,
 }
 
-/// Reads a plan, runs it and writes the report of its run, and nothing else.
+/// Reads a plan, runs it and writes the report of its run in the form that is asked for, and nothing else.
 ///
 /// With `plain` the plan is run on this thread over the one-thread store: its plain run, which has one report where memory suffices. Else it is run on so
 /// many lanes, 1 to 16, each at most by one thread, over a store for several threads (`ext_parallel::parallel_results`). In either run a step for which memory
@@ -73,7 +73,7 @@ pub fn run<R: Threads + Wait + Sync, I: Read, W: Write>(
     run_with_listener(rt, alloc, reader, writer, options, &NoListener)
 }
 
-/// Does what `run` does, by the same contract, and tells the listener of each node that has ended.
+/// Does what `run` does, by the same contract, and tells the listener when a node starts, of each of its faults, and that it has ended.
 ///
 /// The listener is told from the threads that run the nodes, and has no effect on what is written.
 #[tactic(auto, unfolding(crate::specs::Reports::plan_of_input))]
@@ -97,7 +97,7 @@ pub fn run_with_listener<R: Threads + Wait + Sync, I: Read, W: Write, L: RunList
 {
     let input = read_input(alloc, reader)?;
     let output = output_for(rt, alloc, input.as_slice(), options, listener)?;
-    write_whole(writer, output.report.as_bytes())?;
+    write_whole(writer, output.report.as_slice())?;
     Ok(Summary {
         failed: output.failed,
         lacked: output.lacked,
@@ -165,7 +165,7 @@ fn output_of<R: Threads + Wait + Sync, L: RunListener + Sync>(
         Ok(told) => told,
         Err(fault) => return Err(fault),
     };
-    let report = report_text(alloc, &tree, told.results.as_slice())?;
+    let report = report_in(alloc, options.form, &tree, told.results.as_slice())?;
     Ok(Output {
         report,
         failed: any_failed(told.results.as_slice()),

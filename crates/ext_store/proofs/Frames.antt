@@ -19,7 +19,7 @@ use Rattle.ext_cells.specs.Lanes.{CellsId, Lane}
 use Rattle.ext_store_cells.specs.declared.fault.Refusal.{Refusal}
 use Rattle.ext_store_cells.specs.ContextCalls.{ContextCells, cell_in}
 use Rattle.ext_store.specs.Stores.{StoreId, StoreLane, IsKeptBy, IsLaneOf, IsOnCells, StillKeeps, StillKeepsBut}
-use Rattle.ext_store.specs.LaneCalls.{put_acts, remove_acts, Frame, Makes, stored_by}
+use Rattle.ext_store.specs.LaneCalls.{put_acts, remove_acts, Frame, Grows, KeepsAllBut, Makes, Stays, stored_by}
 use Rattle.ext_store.proofs.Keeping.{quiet_keeps, stored_keeps, remove_keeps, unplaced_keeps, learnt_keeps}
 
 nowhere : (number : ℕ) → Contains [] number → ⊥
@@ -95,6 +95,33 @@ frame_lane id stored a b frame = frame.lane
 pub frame_known : {V : Type 0} (id : StoreId) (stored : List ℕ) (a b : StoreLane V) → Frame id stored a b → KeepsKnown a.known b.known
 unfolding Frame
 frame_known id stored a b frame = frame.known
+
+-- ---- what a call leaves of its lane
+
+module _ {V : Type 0} (id : StoreId) where
+  -- all but what was stored, as a frame says it
+  spares : (stored : List ℕ) (a b : StoreLane V) → Frame id stored a b → KeepsAllBut stored a b
+  unfolding Frame
+  spares [] a b frame = λ number kept. frame.kept number (nowhere number) kept
+  spares (stored ∷ []) a b frame = λ number other kept. frame.kept number (λ at. elim (Contains-push_cases [] stored number at) [ inl none ↦ nowhere number none | inr same ↦ other (sym same) ]) kept
+  spares (stored ∷ other ∷ more) a b frame = λ number apart kept. frame.kept number apart kept
+
+  pub stays : (stored : List ℕ) (a b : StoreLane V) → b.known ≡ a.known → b.faults ≡ a.faults → Frame id stored a b → Stays id stored a b
+  stays stored a b known faults frame = record { lane = frame_lane id stored a b frame; known = known; faults = faults; kept = spares stored a b frame; frame = frame }
+
+  -- where the lane's parts stand in the code
+  pub stays_inside : (stored : List ℕ) (inside a b : StoreLane V) → inside ≡ a → IsOnCells inside b → Frame id stored a b → Stays id stored a b
+  stays_inside stored inside a b is on_cells frame = stays stored a b (ap (λ (l : StoreLane V). l.known) on_cells ∙ ap (λ (l : StoreLane V). l.known) is) (ap (λ (l : StoreLane V). l.faults) on_cells ∙ ap (λ (l : StoreLane V). l.faults) is) frame
+
+  pub grows : (a b : StoreLane V) → Frame id [] a b → Grows id a b
+  grows a b frame = record { lane = frame_lane id [] a b frame; known = frame_known id [] a b frame; kept = frame_keeps id a b frame; frame = frame }
+
+  -- one after the other
+  pub stays_then : (stored : List ℕ) (a b c : StoreLane V) → Stays id [] a b → Stays id stored b c → Stays id stored a c
+  stays_then stored a b c one two = stays stored a c (two.known ∙ one.known) (two.faults ∙ one.faults) (frames_compose id [] stored a b c one.frame two.frame)
+
+  pub grows_then : (a b c : StoreLane V) → Stays id [] a b → Grows id b c → Grows id a c
+  grows_then a b c one two = grows a c (frames_compose id [] [] a b c one.frame two.frame)
 
 -- where only a number was stored that was not kept before, all that was kept still is
 pub frame_spares : {V : Type 0} (id : StoreId) (stored : ℕ) (a b : StoreLane V) → Frame id (stored ∷ []) a b → ((number : ℕ) → IsKeptBy a number → number ≢ stored) → Frame id [] a b

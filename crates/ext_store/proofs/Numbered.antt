@@ -30,10 +30,6 @@ module _ {V : Type 0} (a b c : StoreLane V) (still : b.cells ≡ a.cells) where
   pub steps_later : (most : ℕ) → steps_of b.cells c.cells ≤ most → steps_of a.cells c.cells ≤ most
   steps_later most few = subst (λ l. steps_of l c.cells ≤ most) still few
 
-  pub kept_later : {A B : Type 0} (r : Result A B) (kept : ℕ) → StillKeeps a b → MatchResult r (λ _. StillKeepsBut kept b c) (λ _. StillKeeps b c) → MatchResult r (λ _. StillKeepsBut kept a c) (λ _. StillKeeps a c)
-  kept_later (Ok x) kept keeps m = λ number other k. m number other (keeps number k)
-  kept_later (Err e) kept keeps m = λ number k. m number (keeps number k)
-
   pub apart_later : {F : Type 0} (r : Compute V F) → StillKeeps a b → IfComputed r (λ number. (m : ℕ) → IsKeptBy b m → m ≡ number → ⊥) → IfComputed r (λ number. (m : ℕ) → IsKeptBy a m → m ≡ number → ⊥)
   apart_later (Computed number) keeps apart = λ m k. apart m (keeps m k)
   apart_later (Found at number unused) keeps apart = tt

@@ -8,7 +8,7 @@ use Rattle.ext_tree.specs.declared.key_fault.KeyFault.{KeyFault}
 use Rattle.ext_tree.specs.declared.key_fault.KeyFault.TheVariants as key_fault
 use Rattle.ext_store_cells.specs.declared.fault.Refusal.{Refusal}
 use Rattle.ext_store_cells.specs.declared.fault.Refusal.TheVariants as refusal
-use Rattle.ext_store.specs.Stores.{StoreLane, StoreId, IsLaneOf, IsKeptBy, StoreView}
+use Rattle.ext_store.specs.Stores.{StoreLane, StoreId, IsLaneOf, IsKeptBy, StillKeeps, StillKeepsBut, StoreView}
 use Rattle.ext_model.specs.declared.event.Act.{Act}
 use Rattle.ext_model.specs.History.{Limits}
 use Rattle.ext_model.specs.CallActs.{Calls}
@@ -65,6 +65,36 @@ pub record FrameParts {V : Type 0} (id : StoreId) (stored : List ℕ) (before af
 -- the same, kept whole: a caller opens it where it needs a part
 unfoldable pub Frame : {V : Type 0} → StoreId → List ℕ → StoreLane V → StoreLane V → Type 0
 Frame id stored before after = FrameParts id stored before after
+
+-- what the lane kept before it keeps afterwards, all but what was stored
+abbrev pub KeepsAllBut : {V : Type 0} → List ℕ → StoreLane V → StoreLane V → Type 0
+KeepsAllBut [] before after = StillKeeps before after
+KeepsAllBut (stored ∷ []) before after = StillKeepsBut stored before after
+KeepsAllBut (stored ∷ other ∷ more) before after = (number : ℕ) → ¬ Contains (stored ∷ other ∷ more) number → IsKeptBy before number → IsKeptBy after number
+
+-- What a call leaves of its lane, whatever it answers, that learns no value and no fault: all forms of a look-up, a put, a remove, of the first half of a
+-- compute and of a seal. A put stores a number, the others none
+pub record Stays {V : Type 0} (id : StoreId) (stored : List ℕ) (before after : StoreLane V) : Type 0 where
+  -- it is a lane of the store
+  pub lane : IsLaneOf id after
+  -- it knows the same values and the same faults
+  pub known : after.known ≡ before.known
+  pub faults : after.faults ≡ before.faults
+  -- it keeps what it kept, but for what was stored
+  pub kept : KeepsAllBut stored before after
+  -- and with other calls before and after it has a frame
+  pub frame : Frame id stored before after
+
+-- What all forms of a compute leave of their lane, whatever they answer: it may know a further value or fault
+pub record Grows {V : Type 0} (id : StoreId) (before after : StoreLane V) : Type 0 where
+  -- it is a lane of the store
+  pub lane : IsLaneOf id after
+  -- it knows what it knew
+  pub known : KeepsKnown before.known after.known
+  -- it keeps what it kept
+  pub kept : StillKeeps before after
+  -- and with other calls before and after it has a frame
+  pub frame : Frame id [] before after
 
 -- a put that is not refused stores the kept number
 abbrev pub stored_by : {A B : Type 0} → ℕ → Result A B → List ℕ

@@ -7,7 +7,7 @@ ghost use Rattle.ext_values.specs.Known.{Learns};
 ghost use Rattle.ext_cells.specs.CellCalls.{EndsClaim};
 ghost use Rattle.ext_store_cells.specs.declared.claim.Unused.TheVariants as unused;
 ghost use Rattle.ext_store.specs.Stores.{IsKeptBy, IsLaneOf, StillKeeps};
-ghost use Rattle.ext_store.specs.LaneCalls.{OfKey, Frame, steps_of};
+ghost use Rattle.ext_store.specs.LaneCalls.{OfKey, Frame, steps_of, Stays};
 ghost use Rattle.ext_store.specs.Computing.{ClaimsMissing, Fails, Fills, IsFaultlessUnused, IsUnkept};
 
 use crate::{KeepFault, Lane, Store, StoreValue};
@@ -36,11 +36,7 @@ impl<V: StoreValue + Drop> Store<V> {
         ensures answer { OfKey lane.old lane.new key.now (λ why. result ≡ Err (unused.Refused why)) (λ number. ClaimsMissing self.now context number lane.old.cells.view lane.new.cells.view result) }
         ensures held { IfOk result (IsHeld lane.new.cells.view) }
         ensures no_faults { IsFalse self.now.id.cells.limits.keep_faults → IfErr result IsFaultlessUnused }
-        ensures known { lane.new.known ≡ lane.old.known }
-        ensures faults { lane.new.faults ≡ lane.old.faults }
-        ensures lane { IsLaneOf self.now.id lane.new }
-        ensures kept { StillKeeps lane.old lane.new }
-        ensures frame { Frame self.now.id [] lane.old lane.new }
+        ensures stays { Stays self.now.id [] lane.old lane.new }
         ensures steps { steps_of lane.old.cells lane.new.cells ≤ 33 * (self.now.tries + 1) + 2 }
     {
         match self.number(lane, key) {
@@ -64,12 +60,8 @@ impl<V: StoreValue + Drop> Store<V> {
         ensures answer { ClaimsMissing self.now context key lane.old.cells.view lane.new.cells.view result }
         ensures held { IfOk result (IsHeld lane.new.cells.view) }
         ensures no_faults { IsFalse self.now.id.cells.limits.keep_faults → IfErr result IsFaultlessUnused }
-        ensures known { lane.new.known ≡ lane.old.known }
-        ensures faults { lane.new.faults ≡ lane.old.faults }
+        ensures stays { Stays self.now.id [] lane.old lane.new }
         ensures keys { lane.new.keys ≡ lane.old.keys }
-        ensures lane { IsLaneOf self.now.id lane.new }
-        ensures kept { StillKeeps lane.old lane.new }
-        ensures frame { Frame self.now.id [] lane.old lane.new }
         ensures steps { MatchResult result (λ _. steps_of lane.old.cells lane.new.cells ≤ 33 * (self.now.tries + 1)) (λ _. steps_of lane.old.cells lane.new.cells ≤ 33 * (self.now.tries + 1) + 2) }
     {
         let begun = self.begin_numbered_quietly(lane, context, key);
@@ -94,12 +86,8 @@ impl<V: StoreValue + Drop> Store<V> {
         ensures answer { ClaimsMissing self.now context key lane.old.cells.view lane.new.cells.view result }
         ensures held { IfOk result (IsHeld lane.new.cells.view) }
         ensures no_faults { IsFalse self.now.id.cells.limits.keep_faults → IfErr result IsFaultlessUnused }
-        ensures known { lane.new.known ≡ lane.old.known }
-        ensures faults { lane.new.faults ≡ lane.old.faults }
+        ensures stays { Stays self.now.id [] lane.old lane.new }
         ensures keys { lane.new.keys ≡ lane.old.keys }
-        ensures lane { IsLaneOf self.now.id lane.new }
-        ensures kept { StillKeeps lane.old lane.new }
-        ensures frame { Frame self.now.id [] lane.old lane.new }
         ensures steps { MatchResult result (λ _. steps_of lane.old.cells lane.new.cells ≤ 33 * (self.now.tries + 1)) (λ _. steps_of lane.old.cells lane.new.cells ≤ 33 * (self.now.tries + 1) + 2) }
     {
         self.shared.recall();
@@ -238,12 +226,8 @@ impl<V: StoreValue + Drop> Store<V> {
         requires lane { IsLaneOf self.now.id lane.old }
         requires held { IsHeld lane.old.cells.view claim }
         ensures abandoned { EndsClaim lane.old.cells lane.new.cells (act_is.Abandon claim) }
-        ensures known { lane.new.known ≡ lane.old.known }
-        ensures faults { lane.new.faults ≡ lane.old.faults }
+        ensures stays { Stays self.now.id [] lane.old lane.new }
         ensures keys { lane.new.keys ≡ lane.old.keys }
-        ensures lane { IsLaneOf self.now.id lane.new }
-        ensures kept { StillKeeps lane.old lane.new }
-        ensures frame { Frame self.now.id [] lane.old lane.new }
         ensures steps { steps_of lane.old.cells lane.new.cells ≡ 2 }
     {
         self.give_up_quietly(lane, claim);
@@ -257,12 +241,8 @@ impl<V: StoreValue + Drop> Store<V> {
         requires lane { IsLaneOf self.now.id lane.old }
         requires held { IsHeld lane.old.cells.view claim }
         ensures abandoned { EndsClaim lane.old.cells lane.new.cells (act_is.Abandon claim) }
-        ensures known { lane.new.known ≡ lane.old.known }
-        ensures faults { lane.new.faults ≡ lane.old.faults }
+        ensures stays { Stays self.now.id [] lane.old lane.new }
         ensures keys { lane.new.keys ≡ lane.old.keys }
-        ensures lane { IsLaneOf self.now.id lane.new }
-        ensures kept { StillKeeps lane.old lane.new }
-        ensures frame { Frame self.now.id [] lane.old lane.new }
         ensures steps { steps_of lane.old.cells lane.new.cells ≡ 2 }
     {
         self.shared.abandon_quietly(&mut lane.cells, claim);

@@ -6,7 +6,7 @@ ghost use Rattle.ext_tree.specs.Keys.{KeyValue, IsKeyNumber, key_at};
 ghost use Rattle.ext_values.specs.Known.{KeepsKnown, Learns};
 ghost use Rattle.ext_store.specs.declared.computed.Compute.TheVariants.{Refused};
 ghost use Rattle.ext_store.specs.Stores.{IsKeptBy, IsLaneOf, StillKeeps};
-ghost use Rattle.ext_store.specs.LaneCalls.{OfKey, Frame, KeepsFault, KeepsNoFault, steps_of};
+ghost use Rattle.ext_store.specs.LaneCalls.{OfKey, Frame, KeepsFault, KeepsNoFault, steps_of, Grows};
 ghost use Rattle.ext_store.specs.Computing.{Computes, EndsFailed, Fails, Fills, HandsBack, IfComputed, IsFaultless, IsUnkept, Uses, without_factory};
 
 use crate::computed::{hand_back, run_factory};
@@ -55,11 +55,8 @@ impl<V: StoreValue + Drop> Store<V> {
         ensures factory { Uses (λ answer. FnOnceReturnsAt F.FnOnce factory key.now answer) lane.old lane.new (without_factory result) }
         ensures handed_back { HandsBack factory result }
         ensures no_faults { IsFalse self.now.id.cells.limits.keep_faults → IsFaultless result }
-        ensures known { KeepsKnown lane.old.known lane.new.known }
-        ensures lane { IsLaneOf self.now.id lane.new }
-        ensures kept { StillKeeps lane.old lane.new }
+        ensures grows { Grows self.now.id lane.old lane.new }
         ensures apart { IfComputed result (λ number. (m : ℕ) → IsKeptBy lane.old m → m ≢ number) }
-        ensures frame { Frame self.now.id [] lane.old lane.new }
         ensures steps { steps_of lane.old.cells lane.new.cells ≤ 34 * (self.now.tries + 1) + 2 }
     {
         match self.number(lane, key) {
@@ -91,11 +88,8 @@ impl<V: StoreValue + Drop> Store<V> {
         ensures factory { (name : KeyValue) → key_at lane.old.keys key ≡ Some name → Uses (λ answer. FnOnceReturnsAt F.FnOnce factory name answer) lane.old lane.new (without_factory result) }
         ensures handed_back { HandsBack factory result }
         ensures no_faults { IsFalse self.now.id.cells.limits.keep_faults → IsFaultless result }
-        ensures known { KeepsKnown lane.old.known lane.new.known }
-        ensures lane { IsLaneOf self.now.id lane.new }
-        ensures kept { StillKeeps lane.old lane.new }
+        ensures grows { Grows self.now.id lane.old lane.new }
         ensures apart { IfComputed result (λ number. (m : ℕ) → IsKeptBy lane.old m → m ≢ number) }
-        ensures frame { Frame self.now.id [] lane.old lane.new }
         ensures steps { steps_of lane.old.cells lane.new.cells ≤ 34 * (self.now.tries + 1) + 2 }
     {
         let name = self.shared.keys().key(&mut lane.keys, key);
@@ -120,11 +114,8 @@ impl<V: StoreValue + Drop> Store<V> {
         ensures factory { Uses (λ answer. FnOnceReturnsAt F.FnOnce factory name.now answer) lane.old lane.new (without_factory result) }
         ensures handed_back { HandsBack factory result }
         ensures no_faults { IsFalse self.now.id.cells.limits.keep_faults → IsFaultless result }
-        ensures known { KeepsKnown lane.old.known lane.new.known }
-        ensures lane { IsLaneOf self.now.id lane.new }
-        ensures kept { StillKeeps lane.old lane.new }
+        ensures grows { Grows self.now.id lane.old lane.new }
         ensures apart { IfComputed result (λ number. (m : ℕ) → IsKeptBy lane.old m → m ≢ number) }
-        ensures frame { Frame self.now.id [] lane.old lane.new }
         ensures steps { steps_of lane.old.cells lane.new.cells ≤ 34 * (self.now.tries + 1) + 2 }
     {
         let claim = match self.begin_numbered(lane, context, key) {

@@ -4,7 +4,7 @@ ghost use Rattle.ext_model.specs.declared.event.Act.TheVariants as act_is;
 ghost use Rattle.ext_values.specs.Known.{known_at};
 ghost use Rattle.ext_cells.specs.CellCalls.{ComesLast};
 ghost use Rattle.ext_store.specs.Stores.{IsCloserOf, IsLaneOf, StillKeeps, cell_in};
-ghost use Rattle.ext_store.specs.LaneCalls.{Frame, steps_of};
+ghost use Rattle.ext_store.specs.LaneCalls.{Frame, steps_of, Stays};
 ghost use Rattle.ext_store.specs.ContextCalls.{SealsKey};
 
 use crate::{Closer, Lane, Refusal, Store};
@@ -28,12 +28,8 @@ impl<V> Store<V> {
         requires key { key < length self.now.id.keys }
         ensures answer { SealsKey self.now closer.now.context key lane.old.cells lane.new.cells result }
         ensures contended { ComesLast Refusal.Contended self.now.tries lane.old.cells lane.new.cells (act_is.Seal (cell_in self.now key closer.now.context)) result }
-        ensures known { lane.new.known ≡ lane.old.known }
-        ensures faults { lane.new.faults ≡ lane.old.faults }
+        ensures stays { Stays self.now.id [] lane.old lane.new }
         ensures keys { lane.new.keys ≡ lane.old.keys }
-        ensures lane { IsLaneOf self.now.id lane.new }
-        ensures kept { StillKeeps lane.old lane.new }
-        ensures frame { Frame self.now.id [] lane.old lane.new }
         ensures steps { steps_of lane.old.cells lane.new.cells ≤ self.now.tries + 1 }
     {
         self.shared.seal_at(&mut lane.cells, closer.context, key)

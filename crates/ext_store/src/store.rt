@@ -11,7 +11,7 @@ ghost use Rattle.ext_cells.specs.Lanes.{AreLimits, fresh_lanes};
 ghost use Rattle.ext_store.specs.declared.limits.StoreFault.TheVariants as store_fault;
 ghost use Rattle.ext_store.specs.Stores.{AreStoreLimits, IsCloserOf, IsKeptBy, IsLaneOf, StillKeeps, StillKeepsBut, cell_in, closers_below, fresh_store_lane};
 ghost use Rattle.ext_store.specs.Opening.{fault_count};
-ghost use Rattle.ext_store.specs.LaneCalls.{Frame, stored_by, IsKeyRefused, OfKey, key_refusal, Gets, IsFaultlessLook, KeepsAs, KeepsNothing, Puts, Removes, steps_of};
+ghost use Rattle.ext_store.specs.LaneCalls.{Frame, stored_by, IsKeyRefused, OfKey, key_refusal, Gets, IsFaultlessLook, KeepsAs, KeepsNothing, Puts, Removes, steps_of, Stays};
 
 use crate::opening::open_parts;
 use crate::{Closer, KeepFault, Kept, Lane, Limits, Refusal, StoreFault, StoreValue};
@@ -184,11 +184,7 @@ impl<V: StoreValue + Drop> Store<V> {
         ensures again { (number : ℕ) → IsKeyNumber lane.old.keys key.now number → result ≡ Ok number }
         ensures refused { IfErr result (IsKeyRefused lane.old lane.new key.now) }
         ensures still { lane.new.cells ≡ lane.old.cells }
-        ensures known { lane.new.known ≡ lane.old.known }
-        ensures faults { lane.new.faults ≡ lane.old.faults }
-        ensures lane { IsLaneOf self.now.id lane.new }
-        ensures kept { StillKeeps lane.old lane.new }
-        ensures frame { Frame self.now.id [] lane.old lane.new }
+        ensures stays { Stays self.now.id [] lane.old lane.new }
     {
         self.shared.recall();
         match self.shared.keys().number(&mut lane.keys, key) {
@@ -211,11 +207,7 @@ impl<V: StoreValue + Drop> Store<V> {
         requires context { context < length self.now.tree }
         ensures answer { OfKey lane.old lane.new key.now (λ why. result ≡ Err why) (λ number. Gets self.now context number lane.old.cells lane.new.cells result) }
         ensures no_faults { IsFalse self.now.id.cells.limits.keep_faults → IfOk result IsFaultlessLook }
-        ensures known { lane.new.known ≡ lane.old.known }
-        ensures faults { lane.new.faults ≡ lane.old.faults }
-        ensures lane { IsLaneOf self.now.id lane.new }
-        ensures kept { StillKeeps lane.old lane.new }
-        ensures frame { Frame self.now.id [] lane.old lane.new }
+        ensures stays { Stays self.now.id [] lane.old lane.new }
         ensures steps { steps_of lane.old.cells lane.new.cells ≤ 16 * (self.now.tries + 1) }
     {
         match self.number(lane, key) {
@@ -238,12 +230,8 @@ impl<V: StoreValue + Drop> Store<V> {
         requires key { key < 64 }
         ensures answer { Gets self.now context key lane.old.cells lane.new.cells result }
         ensures no_faults { IsFalse self.now.id.cells.limits.keep_faults → IfOk result IsFaultlessLook }
-        ensures known { lane.new.known ≡ lane.old.known }
-        ensures faults { lane.new.faults ≡ lane.old.faults }
+        ensures stays { Stays self.now.id [] lane.old lane.new }
         ensures keys { lane.new.keys ≡ lane.old.keys }
-        ensures lane { IsLaneOf self.now.id lane.new }
-        ensures kept { StillKeeps lane.old lane.new }
-        ensures frame { Frame self.now.id [] lane.old lane.new }
         ensures steps { steps_of lane.old.cells lane.new.cells ≤ 16 * (self.now.tries + 1) }
     {
         self.shared.recall();
@@ -274,11 +262,7 @@ impl<V: StoreValue + Drop> Store<V> {
         ensures answer { OfKey lane.old lane.new key.now (λ why. result ≡ Err (kept, why)) (λ number. Puts self.now context number kept lane.old.cells lane.new.cells result) }
         ensures contended { OfKey lane.old lane.new key.now (λ why. result ≡ Err (kept, why)) (λ number. ComesLast (kept, Refusal.Contended) self.now.tries lane.old.cells lane.new.cells (act_is.Put (cell_in self.now number context) kept) result) }
         ensures handed_back { IfErr result (λ e. e.0 ≡ kept) }
-        ensures known { lane.new.known ≡ lane.old.known }
-        ensures faults { lane.new.faults ≡ lane.old.faults }
-        ensures lane { IsLaneOf self.now.id lane.new }
-        ensures kept { MatchResult result (λ _. StillKeepsBut kept lane.old lane.new) (λ _. StillKeeps lane.old lane.new) }
-        ensures frame { Frame self.now.id (stored_by kept result) lane.old lane.new }
+        ensures stays { Stays self.now.id (stored_by kept result) lane.old lane.new }
         ensures steps { steps_of lane.old.cells lane.new.cells ≤ self.now.tries + 1 }
     {
         match self.number(lane, key) {
@@ -304,12 +288,8 @@ impl<V: StoreValue + Drop> Store<V> {
         ensures answer { Puts self.now context key kept lane.old.cells lane.new.cells result }
         ensures contended { ComesLast (kept, Refusal.Contended) self.now.tries lane.old.cells lane.new.cells (act_is.Put (cell_in self.now key context) kept) result }
         ensures handed_back { IfErr result (λ e. e.0 ≡ kept) }
-        ensures known { lane.new.known ≡ lane.old.known }
-        ensures faults { lane.new.faults ≡ lane.old.faults }
+        ensures stays { Stays self.now.id (stored_by kept result) lane.old lane.new }
         ensures keys { lane.new.keys ≡ lane.old.keys }
-        ensures lane { IsLaneOf self.now.id lane.new }
-        ensures kept { MatchResult result (λ _. StillKeepsBut kept lane.old lane.new) (λ _. StillKeeps lane.old lane.new) }
-        ensures frame { Frame self.now.id (stored_by kept result) lane.old lane.new }
         ensures steps { steps_of lane.old.cells lane.new.cells ≤ self.now.tries + 1 }
     {
         self.shared.recall();
@@ -339,11 +319,7 @@ impl<V: StoreValue + Drop> Store<V> {
         requires context { context < length self.now.tree }
         ensures answer { OfKey lane.old lane.new key.now (λ why. result ≡ Err why) (λ number. Removes self.now context number lane.old.cells lane.new.cells result) }
         ensures contended { OfKey lane.old lane.new key.now (λ why. result ≡ Err why) (λ number. ComesLast Refusal.Contended self.now.tries lane.old.cells lane.new.cells (act_is.Remove (cell_in self.now number context)) result) }
-        ensures known { lane.new.known ≡ lane.old.known }
-        ensures faults { lane.new.faults ≡ lane.old.faults }
-        ensures lane { IsLaneOf self.now.id lane.new }
-        ensures kept { StillKeeps lane.old lane.new }
-        ensures frame { Frame self.now.id [] lane.old lane.new }
+        ensures stays { Stays self.now.id [] lane.old lane.new }
         ensures steps { steps_of lane.old.cells lane.new.cells ≤ self.now.tries + 1 }
     {
         match self.number(lane, key) {
@@ -366,12 +342,8 @@ impl<V: StoreValue + Drop> Store<V> {
         requires key { key < 64 }
         ensures answer { Removes self.now context key lane.old.cells lane.new.cells result }
         ensures contended { ComesLast Refusal.Contended self.now.tries lane.old.cells lane.new.cells (act_is.Remove (cell_in self.now key context)) result }
-        ensures known { lane.new.known ≡ lane.old.known }
-        ensures faults { lane.new.faults ≡ lane.old.faults }
+        ensures stays { Stays self.now.id [] lane.old lane.new }
         ensures keys { lane.new.keys ≡ lane.old.keys }
-        ensures lane { IsLaneOf self.now.id lane.new }
-        ensures kept { StillKeeps lane.old lane.new }
-        ensures frame { Frame self.now.id [] lane.old lane.new }
         ensures steps { steps_of lane.old.cells lane.new.cells ≤ self.now.tries + 1 }
     {
         self.shared.recall();

@@ -7,7 +7,7 @@ ghost use Rattle.ext_tree.specs.Keys.{KeyValue, IsKeyNumber, key_at};
 ghost use Rattle.ext_values.specs.Known.{KeepsKnown, Learns};
 ghost use Rattle.ext_store.specs.declared.computed.Compute.TheVariants.{Refused};
 ghost use Rattle.ext_store.specs.Stores.{IsKeptBy, IsLaneOf, StillKeeps, StillKeepsBut};
-ghost use Rattle.ext_store.specs.LaneCalls.{OfKey, Frame, stored_by, Gets, IsFaultlessLook, KeepsAs, KeepsFault, KeepsNoFault, KeepsNothing, Puts, Removes};
+ghost use Rattle.ext_store.specs.LaneCalls.{OfKey, Frame, stored_by, Gets, IsFaultlessLook, KeepsAs, KeepsFault, KeepsNoFault, KeepsNothing, Puts, Removes, Stays, Grows};
 ghost use Rattle.ext_store.specs.Computing.{EndsFailed, Fails, Fills, HandsBack, IfComputed, IsFaultless, IsUnkept, Uses, without_factory};
 ghost use Rattle.ext_store.specs.Waiting.{ComputesAfterWaits, IsDecided, IsDecidedCompute, IsDecidedFault, IsDecidedLook};
 
@@ -38,11 +38,7 @@ impl<V: StoreValue + Drop> Store<V> {
         ensures answer { OfKey lane.old lane.new key.now (λ why. result ≡ Err why) (λ number. Gets self.now context number lane.old.cells lane.new.cells result) }
         ensures no_faults { IsFalse self.now.id.cells.limits.keep_faults → IfOk result IsFaultlessLook }
         ensures decided { MatchResult result IsDecidedLook IsDecided }
-        ensures known { lane.new.known ≡ lane.old.known }
-        ensures faults { lane.new.faults ≡ lane.old.faults }
-        ensures lane { IsLaneOf self.now.id lane.new }
-        ensures kept { StillKeeps lane.old lane.new }
-        ensures frame { Frame self.now.id [] lane.old lane.new }
+        ensures stays { Stays self.now.id [] lane.old lane.new }
     {
         match self.number(lane, key) {
             Ok(key) => Ok(self.get_wait_numbered(rt, lane, context, key)),
@@ -67,12 +63,8 @@ impl<V: StoreValue + Drop> Store<V> {
         ensures answer { Gets self.now context key lane.old.cells lane.new.cells (Ok result) }
         ensures no_faults { IsFalse self.now.id.cells.limits.keep_faults → IsFaultlessLook result }
         ensures decided { IsDecidedLook result }
-        ensures known { lane.new.known ≡ lane.old.known }
-        ensures faults { lane.new.faults ≡ lane.old.faults }
+        ensures stays { Stays self.now.id [] lane.old lane.new }
         ensures keys { lane.new.keys ≡ lane.old.keys }
-        ensures lane { IsLaneOf self.now.id lane.new }
-        ensures kept { StillKeeps lane.old lane.new }
-        ensures frame { Frame self.now.id [] lane.old lane.new }
     {
         self.shared.recall();
         self.shared.wait_to_look(rt, &mut lane.cells, context, key)
@@ -100,11 +92,7 @@ impl<V: StoreValue + Drop> Store<V> {
         ensures answer { OfKey lane.old lane.new key.now (λ why. result ≡ Err (kept, why)) (λ number. Puts self.now context number kept lane.old.cells lane.new.cells result) }
         ensures decided { IfErr result (λ e. IsDecided e.1) }
         ensures handed_back { IfErr result (λ e. e.0 ≡ kept) }
-        ensures known { lane.new.known ≡ lane.old.known }
-        ensures faults { lane.new.faults ≡ lane.old.faults }
-        ensures lane { IsLaneOf self.now.id lane.new }
-        ensures kept { MatchResult result (λ _. StillKeepsBut kept lane.old lane.new) (λ _. StillKeeps lane.old lane.new) }
-        ensures frame { Frame self.now.id (stored_by kept result) lane.old lane.new }
+        ensures stays { Stays self.now.id (stored_by kept result) lane.old lane.new }
     {
         match self.number(lane, key) {
             Ok(key) => self.put_wait_numbered(rt, lane, context, key, kept),
@@ -130,12 +118,8 @@ impl<V: StoreValue + Drop> Store<V> {
         ensures answer { Puts self.now context key kept lane.old.cells lane.new.cells result }
         ensures decided { IfErr result (λ e. IsDecided e.1) }
         ensures handed_back { IfErr result (λ e. e.0 ≡ kept) }
-        ensures known { lane.new.known ≡ lane.old.known }
-        ensures faults { lane.new.faults ≡ lane.old.faults }
+        ensures stays { Stays self.now.id (stored_by kept result) lane.old lane.new }
         ensures keys { lane.new.keys ≡ lane.old.keys }
-        ensures lane { IsLaneOf self.now.id lane.new }
-        ensures kept { MatchResult result (λ _. StillKeepsBut kept lane.old lane.new) (λ _. StillKeeps lane.old lane.new) }
-        ensures frame { Frame self.now.id (stored_by kept result) lane.old lane.new }
     {
         self.shared.recall();
         let stored = self
@@ -163,11 +147,7 @@ impl<V: StoreValue + Drop> Store<V> {
         requires context { context < length self.now.tree }
         ensures answer { OfKey lane.old lane.new key.now (λ why. result ≡ Err why) (λ number. Removes self.now context number lane.old.cells lane.new.cells result) }
         ensures decided { IfErr result IsDecided }
-        ensures known { lane.new.known ≡ lane.old.known }
-        ensures faults { lane.new.faults ≡ lane.old.faults }
-        ensures lane { IsLaneOf self.now.id lane.new }
-        ensures kept { StillKeeps lane.old lane.new }
-        ensures frame { Frame self.now.id [] lane.old lane.new }
+        ensures stays { Stays self.now.id [] lane.old lane.new }
     {
         match self.number(lane, key) {
             Ok(key) => self.remove_wait_numbered(rt, lane, context, key),
@@ -191,12 +171,8 @@ impl<V: StoreValue + Drop> Store<V> {
         requires key { key < 64 }
         ensures answer { Removes self.now context key lane.old.cells lane.new.cells result }
         ensures decided { IfErr result IsDecided }
-        ensures known { lane.new.known ≡ lane.old.known }
-        ensures faults { lane.new.faults ≡ lane.old.faults }
+        ensures stays { Stays self.now.id [] lane.old lane.new }
         ensures keys { lane.new.keys ≡ lane.old.keys }
-        ensures lane { IsLaneOf self.now.id lane.new }
-        ensures kept { StillKeeps lane.old lane.new }
-        ensures frame { Frame self.now.id [] lane.old lane.new }
     {
         self.shared.recall();
         self.shared
@@ -283,11 +259,8 @@ impl<V: StoreValue + Drop> Store<V> {
         ensures factory { Uses (λ answer. FnOnceReturnsAt F.FnOnce factory key.now answer) lane.old lane.new (without_factory result) }
         ensures handed_back { HandsBack factory result }
         ensures no_faults { IsFalse self.now.id.cells.limits.keep_faults → IsFaultless result }
-        ensures known { KeepsKnown lane.old.known lane.new.known }
-        ensures lane { IsLaneOf self.now.id lane.new }
-        ensures kept { StillKeeps lane.old lane.new }
+        ensures grows { Grows self.now.id lane.old lane.new }
         ensures apart { IfComputed result (λ number. (m : ℕ) → IsKeptBy lane.old m → m ≢ number) }
-        ensures frame { Frame self.now.id [] lane.old lane.new }
     {
         match self.number(lane, key) {
             Ok(number) => self.compute_wait_named(rt, lane, context, number, key, factory),
@@ -321,11 +294,8 @@ impl<V: StoreValue + Drop> Store<V> {
         ensures factory { (name : KeyValue) → key_at lane.old.keys key ≡ Some name → Uses (λ answer. FnOnceReturnsAt F.FnOnce factory name answer) lane.old lane.new (without_factory result) }
         ensures handed_back { HandsBack factory result }
         ensures no_faults { IsFalse self.now.id.cells.limits.keep_faults → IsFaultless result }
-        ensures known { KeepsKnown lane.old.known lane.new.known }
-        ensures lane { IsLaneOf self.now.id lane.new }
-        ensures kept { StillKeeps lane.old lane.new }
+        ensures grows { Grows self.now.id lane.old lane.new }
         ensures apart { IfComputed result (λ number. (m : ℕ) → IsKeptBy lane.old m → m ≢ number) }
-        ensures frame { Frame self.now.id [] lane.old lane.new }
     {
         let name = self.shared.keys().key(&mut lane.keys, key);
         self.compute_wait_named(rt, lane, context, key, name, factory)
@@ -351,11 +321,8 @@ impl<V: StoreValue + Drop> Store<V> {
         ensures factory { Uses (λ answer. FnOnceReturnsAt F.FnOnce factory name.now answer) lane.old lane.new (without_factory result) }
         ensures handed_back { HandsBack factory result }
         ensures no_faults { IsFalse self.now.id.cells.limits.keep_faults → IsFaultless result }
-        ensures known { KeepsKnown lane.old.known lane.new.known }
-        ensures lane { IsLaneOf self.now.id lane.new }
-        ensures kept { StillKeeps lane.old lane.new }
+        ensures grows { Grows self.now.id lane.old lane.new }
         ensures apart { IfComputed result (λ number. (m : ℕ) → IsKeptBy lane.old m → m ≢ number) }
-        ensures frame { Frame self.now.id [] lane.old lane.new }
     {
         self.shared.recall();
         let claim = match self.shared.wait_to_claim(rt, &mut lane.cells, context, key) {

@@ -2,6 +2,7 @@
 use Rattle.std.specs.Prelude.{◌≤◌, ℕ, List}
 use Rattle.ext_run.specs.Reports.{Reports, plan_of_input}
 use Rattle.ext_run.specs.Checks.{IsCountsOf}
+use Rattle.ext_run.specs.Drawings.{IsTextOf, drawing_of}
 use Rattle.ext_run.specs.declared.options.Options.{Options}
 use Rattle.ext_run.specs.declared.options.Summary.{Summary}
 use Rattle.extrun.specs.declared.command.Task.{Task}
@@ -12,8 +13,15 @@ pub record AsksLanes (options : Options) : Type 0 where
   pub some : 1 ≤ options.lanes
   pub few : options.lanes ≤ 16
 
--- The task was done with the plan of this input: its report was written, run with just these options; or the line of its counts
+-- the report of a run of the plan of this input was written, run with just these options
+abbrev pub IsReported : Options → List ℕ → Summary → (List ℕ → Type 0) → Type 0
+IsReported options input summary Written =
+    (report : List ℕ) × Reports options (plan_of_input input) (record { report = report; failed = summary.failed; lacked = summary.lacked }) × Written report
+
+-- The task was done with the plan of this input: its report was written, run with just these options; or the line of its counts; or its drawing; of its races nothing is said
 abbrev pub IsDone : Task → List ℕ → Summary → (List ℕ → Type 0) → Type 0
-IsDone (tasks.Run options progress) input summary Written =
-    AsksLanes options → (report : List ℕ) × Reports options (plan_of_input input) (record { report = report; failed = summary.failed; lacked = summary.lacked }) × Written report
+IsDone (tasks.Run options progress failures) input summary Written =
+    AsksLanes options → IsReported options input summary Written
 IsDone tasks.Check input summary Written = (line : List ℕ) × IsCountsOf (plan_of_input input) line × Written line
+IsDone tasks.Draw input summary Written = (text : List ℕ) × IsTextOf drawing_of (plan_of_input input) text × Written text
+IsDone tasks.CheckRaces input summary Written = Unit {0}

@@ -1,7 +1,9 @@
 -- What the words of a command line ask for, by the rows that clap found: under the name of each option its texts. Texts are lists of bytes. Own rule.
-use Rattle.std.specs.Prelude.{◌≡◌, ◌≢◌, ◌↔◌, ◌<◌, ℕ, Bool, true, false, codes, List, [], Option, Some, None, IsTrue, string_bytes, unwrap_or}
+use Rattle.std.specs.Prelude.{◌≡◌, ◌≢◌, ◌↔◌, ◌<◌, ℕ, Bool, true, false, codes, List, [], Option, Some, None, IsTrue, if◌then◌else◌, option_map, string_bytes, unwrap_or}
 use Rattle.std.specs.Str.Parse.{IsNumeral, digits_value, without_leading_plus}
 use Rattle.clap.specs.Walk.{Row, first_of, one_of}
+use Rattle.ext_report.specs.declared.form.ReportForm.{ReportForm}
+use Rattle.ext_report.specs.declared.form.ReportForm.TheVariants as forms
 use Rattle.ext_run.specs.declared.options.Options.{Options}
 use Rattle.extrun.specs.declared.command.Request.{Request}
 use Rattle.extrun.specs.declared.command.Request.TheVariants as requests
@@ -19,29 +21,57 @@ pub record IsFlag (text : Option (List ℕ)) (flag : Bool) : Type 0 where
   pub set : text ≡ Some (codes "true") → flag ≡ true
   pub unset : text ≡ Some (codes "false") → flag ≡ false
 
--- a run on so many lanes, or a plain run where the text after `--store` is `plain`; told of or not
-pub record AsksRunBy (rows : List Row) (options : Options) (progress : Bool) : Type 0 where
+-- how a report is written
+abbrev pub form_of : Bool → Bool → ReportForm
+form_of tree json = if tree then forms.Tree else if json then forms.Json else forms.Text
+
+-- in this form: as a tree where the flag `--tree` is set, and else in JSON where the text after `--report` is `json`
+pub record IsForm (rows : List Row) (form : ReportForm) : Type 0 where
+  pub tree : Bool
+  pub json : Bool
+  pub drawn : IsFlag (one_of (codes "tree") rows) tree
+  pub by_lines : IsTrue json ↔ (first_of (codes "report") rows ≡ Some (codes "json"))
+  pub form_is : form ≡ form_of tree json
+
+-- a run on so many lanes, or a plain run where the text after `--store` is `plain`; its report in such a form; told of or not, and its faults once more or not
+pub record AsksRunBy (rows : List Row) (options : Options) (progress failures : Bool) : Type 0 where
   pub lanes : IsLaneCount (one_of (codes "lanes") rows) options.lanes
   pub plain : IsTrue options.plain ↔ (first_of (codes "store") rows ≡ Some (codes "plain"))
+  pub form : IsForm rows options.form
   pub told : IsFlag (one_of (codes "progress") rows) progress
+  pub again : IsFlag (one_of (codes "failures") rows) failures
 
 abbrev pub AsksRun : List Row → Task → Type 0
-AsksRun rows (tasks.Run options progress) = AsksRunBy rows options progress
+AsksRun rows (tasks.Run options progress failures) = AsksRunBy rows options progress failures
 AsksRun rows tasks.Check = ⊥
+AsksRun rows tasks.Draw = ⊥
+AsksRun rows tasks.CheckRaces = ⊥
 
--- to do such a thing with a plan, explained or not
+-- to tell a plan's races, or else to draw it, or else to check it
+abbrev pub check_as : Bool → Bool → Task
+check_as races tree = if races then tasks.CheckRaces else if tree then tasks.Draw else tasks.Check
+
+-- to tell the plan's races where the flag `--races` is set, or else to draw it where `--tree` is set, or else to check it
+pub record AsksCheck (rows : List Row) (task : Task) : Type 0 where
+  pub races : Bool
+  pub tree : Bool
+  pub told : IsFlag (one_of (codes "races") rows) races
+  pub drawn : IsFlag (one_of (codes "tree") rows) tree
+  pub task_is : task ≡ check_as races tree
+
+-- to do such a thing with the plan of the file that is named, or of standard input, explained or not
 abbrev pub AsksOfPlan : List Row → (Task → Type 0) → Request → Type 0
-AsksOfPlan rows asks (requests.Plan task explain) = asks task × IsFlag (one_of (codes "explain") rows) explain
-AsksOfPlan rows asks (requests.Id text) = ⊥
+AsksOfPlan rows asks (requests.Plan task file explain) = asks task × (option_map string_bytes file ≡ first_of (codes "FILE") rows) × IsFlag (one_of (codes "explain") rows) explain
+AsksOfPlan rows asks (requests.Id text explain) = ⊥
 AsksOfPlan rows asks requests.Help = ⊥
 AsksOfPlan rows asks requests.Refused = ⊥
 AsksOfPlan rows asks requests.Unwritten = ⊥
 AsksOfPlan rows asks requests.Memory = ⊥
 
--- to read this id
+-- to read this id, explained or not
 abbrev pub AsksId : List Row → Request → Type 0
-AsksId rows (requests.Plan task explain) = ⊥
-AsksId rows (requests.Id text) = string_bytes text ≡ unwrap_or (first_of (codes "TEXT") rows) []
+AsksId rows (requests.Plan task file explain) = ⊥
+AsksId rows (requests.Id text explain) = (string_bytes text ≡ unwrap_or (first_of (codes "TEXT") rows) []) × IsFlag (one_of (codes "explain") rows) explain
 AsksId rows requests.Help = ⊥
 AsksId rows requests.Refused = ⊥
 AsksId rows requests.Unwritten = ⊥
@@ -50,10 +80,10 @@ AsksId rows requests.Memory = ⊥
 -- what a command of this name asks for
 pub record AsksCommand (name : List ℕ) (rows : List Row) (request : Request) : Type 0 where
   pub id : name ≡ codes "id" → AsksId rows request
-  pub check : name ≡ codes "check" → AsksOfPlan rows (λ task. task ≡ tasks.Check) request
+  pub check : name ≡ codes "check" → AsksOfPlan rows (AsksCheck rows) request
   pub run : name ≢ codes "id" → name ≢ codes "check" → AsksOfPlan rows (AsksRun rows) request
 
 -- and no command: a run on four lanes, over the store for several threads
 abbrev pub AsksFor : Option (List ℕ × List Row) → Request → Type 0
-AsksFor None request = request ≡ requests.Plan (tasks.Run (record { lanes = 4; plain = false }) false) false
+AsksFor None request = request ≡ requests.Plan (tasks.Run (record { lanes = 4; plain = false; form = forms.Text }) false false) None false
 AsksFor (Some command) request = AsksCommand command.0 command.1 request

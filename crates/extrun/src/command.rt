@@ -1,14 +1,14 @@
 //! The command line, over clap.
-ghost use Rattle.std.specs.Prelude.{◌≡◌, ◌↔◌, codes, Some, IfOk, IsTrue};
+ghost use Rattle.std.specs.Prelude.{◌≡◌, ◌↔◌, codes, option_map, string_bytes, Some, IfOk, IsTrue};
 ghost use Rattle.clap.specs.Matches.{found_of, first_value, one_text};
 ghost use Rattle.clap.specs.Simple.{subcommand_rows_of};
 ghost use Rattle.clap.specs.Walk.{rows_of};
-ghost use Rattle.extrun.specs.Words.{AsksCommand, AsksFor, AsksId, AsksOfPlan, AsksRun, IsFlag, IsLaneCount};
+ghost use Rattle.extrun.specs.Words.{AsksCheck, AsksCommand, AsksFor, AsksId, AsksOfPlan, AsksRun, IsFlag, IsLaneCount, check_as, form_of};
 
-use crate::help::AFTER_HELP;
+use crate::help::{AFTER_HELP, VERSION};
 use clap::error::ErrorKind;
 use clap::{Arg, ArgAction, ArgMatches, Command, Error, value_parser};
-use ext_run::Options;
+use ext_run::{Options, ReportForm};
 use std::alloc::{AllocError, Global};
 use std::io;
 use std::rt::Env;
@@ -19,11 +19,18 @@ const LANES: u8 = 4;
 /// What a command line asks for.
 #[derive(Debug, Drop)]
 pub(crate) enum Request {
-    /// To do this with the plan from standard input, and to explain its fault where it is refused, if that is asked for.
-    Plan { task: Task, explain: bool },
-    /// To read this id.
-    Id(String),
-    /// Nothing more: the help was printed.
+    /// To do this with the plan from the file of this name, or from standard input, and to explain its fault where it is refused, if that is asked for.
+    Plan {
+        task: Task,
+        file: Option<String>,
+        explain: bool,
+    },
+    /// To read this id, and to explain its fault where it is none, if that is asked for.
+    Id {
+        text: String,
+        explain: bool,
+    },
+    /// Nothing more: the help or the version was printed.
     Help,
     /// Nothing more: the command line is refused, and what is wrong with it was printed.
     Refused,
@@ -36,15 +43,23 @@ pub(crate) enum Request {
 /// What is done with a plan.
 #[derive(Clone, Copy, Debug, PartialEq, Eq)]
 pub(crate) enum Task {
-    /// To run it, to write its report, and to tell how far the run is or not.
-    Run { options: Options, progress: bool },
+    /// To run it, to write its report, to tell how far the run is or not, and its faults once more at the end or not.
+    Run {
+        options: Options,
+        progress: bool,
+        failures: bool,
+    },
     /// To read it, and to write how many nodes, tests and keys it has.
     Check,
+    /// To read it, and to draw its nodes as a tree.
+    Draw,
+    /// To read it, and to write its races.
+    CheckRaces,
 }
 
-/// What the command line asks for: `run`, with `--lanes` of 1 to 16, `--store plain` or `cells`, and `--progress`, or no word at all,
-/// which is `run` on 4 lanes over the store for several threads; `check`; either with `--explain`; or `id`. Prints the help to standard
-/// output, and what is wrong with a command line to standard error. Takes memory for the words and what clap makes of them. Own rule.
+/// What the command line asks for: `run`, with `--lanes` of 1 to 16, `--store plain` or `cells`, `--report text` or `json` or else `--tree`, `--progress`
+/// and `--failures`, or no word at all, which is `run` on 4 lanes over the store for several threads; `check`, with `--races` or else `--tree`; either with a file and
+/// `--explain`; or `id`, with `--explain`. Prints the help and the version to standard output, and what is wrong with a command line to standard error. Takes memory for the words and what clap makes of them. Own rule.
 pub(crate) fn request_of<R: Env + AllocGlobal + Print + Eprint>(rt: &R) -> Request {
     match parsed(rt) {
         Ok(request) => request,
@@ -82,7 +97,8 @@ fn asked_for(alloc: Global, matches: &ArgMatches<'_>) -> Result<Request, AllocEr
     match matches.subcommand() {
         Some((name, words)) => asked_by(alloc, name, words),
         None => Ok(Request::Plan {
-            task: run_on(LANES, false, false),
+            task: run_on(LANES, false, ReportForm::Text, false, false),
+            file: None,
             explain: false,
         }),
     }
@@ -96,9 +112,9 @@ fn asked_by(alloc: Global, name: &str, words: &ArgMatches<'_>) -> Result<Request
         return id_request(alloc, words);
     }
     if name == "check" {
-        return Ok(plan_request(Task::Check, words));
+        return plan_request(alloc, check_of(words), words);
     }
-    Ok(plan_request(run_of(words), words))
+    plan_request(alloc, run_of(words), words)
 }
 
 /// To read the id that these words say.
@@ -106,14 +122,40 @@ fn id_request(alloc: Global, words: &ArgMatches<'_>) -> Result<Request, AllocErr
     ensures { IfOk result (AsksId (rows_of (found_of words.now))) }
 {
     let text = words.get_str("TEXT").unwrap_or("");
-    Ok(Request::Id(String::from_str(alloc, text)?))
+    Ok(Request::Id {
+        text: String::from_str(alloc, text)?,
+        explain: is_set(words, "explain"),
+    })
+}
+
+/// To tell the plan's races where the flag `--races` stands, or else to draw it where `--tree` does, or else to check it.
+fn check_of(words: &ArgMatches<'_>) -> Task
+    ensures { AsksCheck (rows_of (found_of words.now)) result }
+{
+    check_as(is_set(words, "races"), is_set(words, "tree"))
+}
+
+/// To tell the plan's races, or else to draw it, or else to check it.
+fn check_as(races: bool, tree: bool) -> Task
+    ensures { result ≡ check_as races tree }
+{
+    if races {
+        return Task::CheckRaces;
+    }
+    if tree { Task::Draw } else { Task::Check }
 }
 
 /// To run the plan as these words say.
 fn run_of(words: &ArgMatches<'_>) -> Task
     ensures { AsksRun (rows_of (found_of words.now)) result }
 {
-    run_on(lanes_of(words), is_plain(words), is_told(words))
+    run_on(
+        lanes_of(words),
+        is_plain(words),
+        form_of(is_set(words, "tree"), is_json(words)),
+        is_set(words, "progress"),
+        is_set(words, "failures"),
+    )
 }
 
 /// How many lanes there are: as many as the value of `--lanes` says, and 4 where it has none.
@@ -130,31 +172,67 @@ fn is_plain(words: &ArgMatches<'_>) -> bool
     words.get_str("store") == Some("plain")
 }
 
-/// Whether it is told how far the run is: where the flag `--progress` stands.
-fn is_told(words: &ArgMatches<'_>) -> bool
-    ensures { IsFlag (one_text (found_of words.now) (codes "progress")) result }
+/// Whether the report is written in JSON: where the value of `--report` is `json`.
+fn is_json(words: &ArgMatches<'_>) -> bool
+    ensures { IsTrue result ↔ (first_value (found_of words.now) (codes "report") ≡ Some (codes "json")) }
 {
-    words.get_flag("progress")
+    words.get_str("report") == Some("json")
 }
 
-/// To run the plan on so many lanes, or as a plain run, and to tell how far the run is or not.
-fn run_on(lanes: u8, plain: bool, progress: bool) -> Task
-    ensures { result ≡ Task.Run (record { lanes = lanes; plain = plain }) progress }
+/// How a report is written: as a tree, in JSON, or else as a text.
+fn form_of(tree: bool, json: bool) -> ReportForm
+    ensures { result ≡ form_of tree json }
+{
+    if tree {
+        ReportForm::Tree
+    } else if json {
+        ReportForm::Json
+    } else {
+        ReportForm::Text
+    }
+}
+
+/// Whether the flag of this name stands.
+fn is_set(words: &ArgMatches<'_>, name: &str) -> bool
+    ensures { IsFlag (one_text (found_of words.now) name.now) result }
+{
+    words.get_flag(name)
+}
+
+/// To run the plan on so many lanes, or as a plain run, to write its report in this form, and to tell how far the run is or not, and its faults once more or not.
+fn run_on(lanes: u8, plain: bool, form: ReportForm, progress: bool, failures: bool) -> Task
+    ensures { result ≡ Task.Run (record { lanes = lanes; plain = plain; form = form }) progress failures }
 {
     let options = Options {
         lanes: usize::from(lanes),
         plain,
+        form,
     };
-    Task::Run { options, progress }
+    Task::Run {
+        options,
+        progress,
+        failures,
+    }
 }
 
-/// To do this with a plan, explained or not.
-fn plan_request(task: Task, words: &ArgMatches<'_>) -> Request
-    ensures { AsksOfPlan (rows_of (found_of words.now)) (λ asked. asked ≡ task) result }
+/// To do this with the plan of a file or from standard input, explained or not.
+fn plan_request(alloc: Global, task: Task, words: &ArgMatches<'_>) -> Result<Request, AllocError>
+    ensures { IfOk result (AsksOfPlan (rows_of (found_of words.now)) (λ asked. asked ≡ task)) }
 {
-    Request::Plan {
+    Ok(Request::Plan {
         task,
-        explain: words.get_flag("explain"),
+        file: file_of(alloc, words)?,
+        explain: is_set(words, "explain"),
+    })
+}
+
+/// The name of the file that the plan is read from, if one is given.
+fn file_of(alloc: Global, words: &ArgMatches<'_>) -> Result<Option<String>, AllocError>
+    ensures { IfOk result (λ file. option_map string_bytes file ≡ first_value (found_of words.now) (codes "FILE")) }
+{
+    match words.get_str("FILE") {
+        None => Ok(None),
+        Some(name) => Ok(Some(String::from_str(alloc, name)?)),
     }
 }
 
@@ -180,6 +258,7 @@ fn program<'a>(alloc: Global) -> Result<Command<'a>, AllocError> {
         .about(
             "Runs plans of contexts, keys and test steps over the extension store; without a command it does `run`",
         )
+        .version(VERSION)
         .after_help(AFTER_HELP);
     let program = with_command(program, run_command(alloc))?;
     let program = with_command(program, check_command(alloc))?;
@@ -197,19 +276,24 @@ fn with_command<'a>(
 /// The command `run`.
 fn run_command<'a>(alloc: Global) -> Result<Command<'a>, AllocError> {
     Command::new(alloc, "run")
-        .about("Reads a plan from standard input, runs it and prints its report")
+        .about("Reads a plan, runs it and prints its report")
+        .arg(plan_file(alloc))?
         .arg(lanes_option(alloc))?
         .arg(store_option(alloc))?
+        .arg(report_option(alloc))?
+        .arg(report_tree_flag(alloc)?)?
         .arg(progress_flag(alloc))?
+        .arg(failures_flag(alloc))?
         .arg(explain_flag(alloc))
 }
 
 /// The command `check`.
 fn check_command<'a>(alloc: Global) -> Result<Command<'a>, AllocError> {
     Command::new(alloc, "check")
-        .about(
-            "Reads a plan from standard input and says how many nodes, tests and keys it has, without running it",
-        )
+        .about("Reads a plan and says how many nodes, tests and keys it has, without running it")
+        .arg(plan_file(alloc))?
+        .arg(draw_flag(alloc))?
+        .arg(races_flag(alloc))?
         .arg(explain_flag(alloc))
 }
 
@@ -217,7 +301,15 @@ fn check_command<'a>(alloc: Global) -> Result<Command<'a>, AllocError> {
 fn id_command<'a>(alloc: Global) -> Result<Command<'a>, AllocError> {
     Command::new(alloc, "id")
         .about("Prints the segments of a unique id, decoded, and the id written again")
-        .arg(id_text(alloc))
+        .arg(id_text(alloc))?
+        .arg(explain_id_flag(alloc))
+}
+
+/// The file of the commands `run` and `check`.
+fn plan_file<'a>(alloc: Global) -> Arg<'a> {
+    Arg::new(alloc, "FILE")
+        .help("The file of the plan; without it the plan is read from standard input")
+        .action(ArgAction::Set)
 }
 
 /// The option `--lanes`.
@@ -244,11 +336,59 @@ fn store_option<'a>(alloc: Global) -> Arg<'a> {
         .default_value("cells")
 }
 
+/// The option `--report`.
+fn report_option<'a>(alloc: Global) -> Arg<'a> {
+    Arg::new(alloc, "report")
+        .long("report")
+        .value_name("FORM")
+        .help("How the report is written: `text` by lines, `json` as one object a node, by lines")
+        .action(ArgAction::Set)
+        .value_parser(["text", "json"].as_slice())
+        .default_value("text")
+}
+
+/// The flag `--tree` of the command `run`.
+fn report_tree_flag<'a>(alloc: Global) -> Result<Arg<'a>, AllocError> {
+    Arg::new(alloc, "tree")
+        .long("tree")
+        .help("Writes the report as an indented tree of the nodes")
+        .action(ArgAction::SetTrue)
+        .conflicts_with("report")
+}
+
+/// The flag `--tree` of the command `check`.
+fn draw_flag<'a>(alloc: Global) -> Arg<'a> {
+    Arg::new(alloc, "tree")
+        .long("tree")
+        .help("Draws the nodes as an indented tree, with their modes, locks and tests")
+        .action(ArgAction::SetTrue)
+}
+
+/// The flag `--failures`.
+fn failures_flag<'a>(alloc: Global) -> Arg<'a> {
+    Arg::new(alloc, "failures")
+        .long("failures")
+        .help(
+            "Says all faults of the nodes that failed or were aborted once more at the end, on standard error",
+        )
+        .action(ArgAction::SetTrue)
+}
+
 /// The flag `--progress`.
 fn progress_flag<'a>(alloc: Global) -> Arg<'a> {
     Arg::new(alloc, "progress")
         .long("progress")
-        .help("Says on standard error how many nodes have ended, at most once a second")
+        .help(
+            "Says on standard error how many nodes have ended and which run, at most once a second",
+        )
+        .action(ArgAction::SetTrue)
+}
+
+/// The flag `--races`.
+fn races_flag<'a>(alloc: Global) -> Arg<'a> {
+    Arg::new(alloc, "races")
+        .long("races")
+        .help("Says instead which nodes may get into each other's way, where they run at once")
         .action(ArgAction::SetTrue)
 }
 
@@ -257,6 +397,14 @@ fn explain_flag<'a>(alloc: Global) -> Arg<'a> {
     Arg::new(alloc, "explain")
         .long("explain")
         .help("Says in a second line on standard error what is meant, where the plan is refused")
+        .action(ArgAction::SetTrue)
+}
+
+/// The flag `--explain` of the command `id`.
+fn explain_id_flag<'a>(alloc: Global) -> Arg<'a> {
+    Arg::new(alloc, "explain")
+        .long("explain")
+        .help("Says in a second line on standard error what is meant, where the text is no id")
         .action(ArgAction::SetTrue)
 }
 

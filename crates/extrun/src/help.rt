@@ -1,6 +1,9 @@
 //! What `--help` says beyond the commands.
 
-/// A plan with its run, and the exit statuses.
+/// What `--version` says behind the program's name.
+pub(crate) const VERSION: &str = "1.0.0";
+
+/// A plan with its run, the steps, and the exit statuses.
 pub(crate) const AFTER_HELP: &str =
     r#"A plan, and its run: two tests that may run at once need one server. One of them starts it, the other
 one finds it, and it is closed once at the end:
@@ -22,18 +25,30 @@ one finds it, and it is closed once at the end:
   mode = "concurrent"
   test = ["compute! server started up 1", "want server started"]
 
-  $ extrun run --lanes 2 < server.toml
+  $ extrun run --lanes 2 server.toml
   [engine:x] successful closed 1
   [engine:x]/[test:first] successful closed 0
   [engine:x]/[test:second] successful closed 0
   tests 2 successful 2 aborted 0 failed 0 skipped 0
   computed 1 found 1 closed 1 close faults 0
 
+The steps of a test or a callback, which the first one that does not pass ends:
+  put KEY TEXT, put! KEY TEXT          stores a text; with ! it is closed at the end of its context
+  want KEY TEXT                        passes where a look-up finds this text, here or above
+  none KEY                             passes where a look-up finds nothing
+  remove KEY                           removes what stands here
+  compute KEY TEXT, compute! KEY TEXT  looks up, and stores the text here where nothing is found
+  computefail KEY TEXT                 the same with a factory that fails
+  fail TEXT, abort TEXT                fails or aborts
+All but the last two may end with ' up N', 1 to 15: they act on the N-th context above.
+docs/PLANS.md has all fields, steps, faults and reports; examples/ has more plans.
+
 Exit status:
   0  it is done, and no node failed
-  1  a node failed
+  1  a node failed, or a race was found
   2  the command line, the plan or the id is refused
   3  reading, writing or memory failed, or a context could not be closed
 
 Reports go to standard output, and why there is none to standard error, in one line such as 'plan: P8 node 2'.
-With --explain a second line says what that means."#;
+With --explain a second line says what that means.
+--failures says all faults once more at the end, on standard error."#;

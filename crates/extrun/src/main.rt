@@ -6,17 +6,21 @@
 #![tactic(auto)]
 
 mod command;
+mod failing;
 mod help;
+mod ids;
 mod plans;
 mod progress;
+mod running;
 mod telling;
 
 use command::{Request, request_of};
-use ext_run::{RequestFault, RunFault, Summary, read_id, status_of};
-use plans::outcome_of_plan;
+use ext_run::{RequestFault, RunFault, Summary, status_of};
+use ids::outcome_of_id;
+use plans::outcome_of_source;
 use std::io::{self, Input};
 use std::process::ExitCode;
-use std::rt::Env;
+use std::rt::{Env, Files};
 use std::sync::Wait;
 use std::thread::Threads;
 use std::time::Clock;
@@ -29,13 +33,20 @@ fn main(rt: HostRuntime) -> ExitCode {
 }
 
 /// Does what the command line asks, and tells why where it was not done.
-fn outcome_of<R: Threads + Wait + Sync + Clock + Env + AllocGlobal + Input + Print + Eprint>(
-    rt: &R,
-) -> Result<Summary, RequestFault> {
+fn outcome_of<R>(rt: &R) -> Result<Summary, RequestFault>
+where
+    R: Threads + Wait + Sync + Clock + Env + Files + AllocGlobal + Input + Print + Eprint,
+{
     let mut writer = io::writer(rt);
     let outcome = match request_of(rt) {
-        Request::Plan { task, explain } => return outcome_of_plan(rt, &mut writer, task, explain),
-        Request::Id(text) => read_id(rt.alloc(), &mut writer, text.as_str()),
+        Request::Plan {
+            task,
+            file,
+            explain,
+        } => return outcome_of_source(rt, &mut writer, task, &file, explain),
+        Request::Id { text, explain } => {
+            return outcome_of_id(rt, &mut writer, text.as_str(), explain);
+        }
         Request::Help => Ok(Summary::done()),
         Request::Refused => Err(RequestFault::CommandLine),
         Request::Unwritten => Err(RequestFault::Run(RunFault::Write)),

@@ -1,54 +1,85 @@
-//! What is asked of a plan: to run it or to check it, with its fault explained or not.
-ghost use Rattle.std.specs.Prelude.{◌≡◌, ◌≤◌, IfOk, IfSome};
+//! What is asked of a plan: to run it, to check it or to draw it, with its fault explained or not.
+ghost use Rattle.std.specs.Prelude.{◌≡◌, ◌≤◌, IfOk};
 ghost use Rattle.std.specs.Io.KnownBytes.{Appends};
 ghost use Rattle.extrun.specs.Tasks.{IsDone};
 
 use crate::command::Task;
-use crate::progress::Progress;
+use crate::failing::run_plan;
+use crate::progress::run_told;
 use crate::telling::tell;
 use ext_run::{
-    NoListener, Options, RequestFault, RunFault, Summary, check, explain, read_input,
-    run_with_listener,
+    NoListener, Options, RequestFault, RunFault, Summary, check, check_races, draw, explain,
+    read_input,
 };
-use std::io::{Input, Read, Write};
+use std::fs;
+use std::io::{Input, Write};
+use std::rt::Files;
 use std::sync::Wait;
 use std::thread::Threads;
 use std::time::Clock;
 
-/// Does this with the plan from standard input, and tells why where it was not done. Where that is to be explained the plan is read whole before.
-pub(crate) fn outcome_of_plan<R, W>(
+/// Does this with the plan from the file of this name, or from standard input, and tells why where it was not done. The plan is read whole before.
+pub(crate) fn outcome_of_source<R, W>(
     rt: &R,
+    writer: &mut W,
+    task: Task,
+    file: &Option<String>,
+    explained: bool,
+) -> Result<Summary, RequestFault>
+where
+    R: Threads + Wait + Sync + Clock + Files + AllocGlobal + Input + Eprint,
+    W: Write,
+{
+    let input = match file {
+        None => told(rt, read_input(rt.alloc(), &mut rt.reader())),
+        Some(name) => input_of_file(rt, name.as_str()),
+    };
+    match input {
+        Err(fault) => Err(fault),
+        Ok(input) => outcome_of_plan(rt, input.as_slice(), writer, task, explained),
+    }
+}
+
+/// The bytes of the file of this name. Tells why where they can't be had.
+fn input_of_file<R: Files + AllocGlobal + Eprint>(
+    rt: &R,
+    name: &str,
+) -> Result<Vec<u8>, RequestFault> {
+    match fs::open(rt, name) {
+        Ok(mut file) => told(rt, read_input(rt.alloc(), &mut file)),
+        Err(_) => {
+            let _ = eprintln!(rt; "read failed: {name:?} can't be opened");
+            Err(RequestFault::Run(RunFault::Read))
+        }
+    }
+}
+
+/// Does this with the plan of these bytes, and tells why where it was not done.
+fn outcome_of_plan<R, W>(
+    rt: &R,
+    input: &[u8],
     writer: &mut W,
     task: Task,
     explained: bool,
 ) -> Result<Summary, RequestFault>
 where
-    R: Threads + Wait + Sync + Clock + AllocGlobal + Input + Eprint,
+    R: Threads + Wait + Sync + Clock + AllocGlobal + Eprint,
     W: Write,
 {
-    if !explained {
-        let outcome = outcome_of_task(rt, &mut rt.reader(), writer, task);
-        return told(rt, outcome);
+    let outcome = told(rt, outcome_of_task(rt, input, writer, task));
+    if explained
+        && let Err(RequestFault::Run(RunFault::Plan(fault))) = outcome
+        && let Ok(line) = explain(rt.alloc(), input, fault)
+    {
+        let _ = eprintln!(rt; "{}", line.as_str());
     }
-    match read_input(rt.alloc(), &mut rt.reader()) {
-        Err(fault) => told(rt, Err(fault)),
-        Ok(input) => {
-            let mut reader = input.as_slice();
-            let outcome = told(rt, outcome_of_task(rt, &mut reader, writer, task));
-            if let Err(RequestFault::Run(RunFault::Plan(fault))) = outcome
-                && let Ok(line) = explain(rt.alloc(), input.as_slice(), fault)
-            {
-                let _ = eprintln!(rt; "{}", line.as_str());
-            }
-            outcome
-        }
-    }
+    outcome
 }
 
 /// What became of a plan, told on standard error where it is a fault.
-fn told(rt: &impl Eprint, outcome: Result<Summary, RunFault>) -> Result<Summary, RequestFault> {
+fn told<T: Drop>(rt: &impl Eprint, outcome: Result<T, RunFault>) -> Result<T, RequestFault> {
     match outcome {
-        Ok(summary) => Ok(summary),
+        Ok(done) => Ok(done),
         Err(fault) => {
             tell(rt, RequestFault::Run(fault));
             Err(RequestFault::Run(fault))
@@ -56,28 +87,37 @@ fn told(rt: &impl Eprint, outcome: Result<Summary, RunFault>) -> Result<Summary,
     }
 }
 
-/// Does this with the plan that the reader gives.
-fn outcome_of_task<R: Threads + Wait + Sync + Clock + AllocGlobal + Eprint, I: Read, W: Write>(
+/// Does this with the plan of these bytes.
+fn outcome_of_task<R: Threads + Wait + Sync + Clock + AllocGlobal + Eprint, W: Write>(
     rt: &R,
-    reader: &mut I,
+    input: &[u8],
     writer: &mut W,
     task: Task,
 ) -> Result<Summary, RunFault>
-    ensures { IfOk result (λ summary. IfSome (I.remaining reader.old) (λ input. IsDone task input summary (Appends (W.contents writer.old) (W.contents writer.new)))) }
+    ensures { IfOk result (λ summary. IsDone task input.now summary (Appends (W.contents writer.old) (W.contents writer.new))) }
 {
+    let mut reader = input;
     match task {
-        Task::Run { options, progress } => {
+        Task::Run {
+            options,
+            progress,
+            failures,
+        } => {
             let options = in_range(options);
             if progress {
-                let listener = Progress::new(rt);
-                return run_with_listener(rt, rt.alloc(), reader, writer, options, &listener);
+                return run_told(rt, input, writer, options, failures);
             }
-            run_with_listener(rt, rt.alloc(), reader, writer, options, &NoListener)
+            run_plan(rt, input, writer, options, &NoListener, failures)
         }
         Task::Check => {
-            check(rt.alloc(), reader, writer)?;
+            check(rt.alloc(), &mut reader, writer)?;
             Ok(Summary::done())
         }
+        Task::Draw => {
+            draw(rt.alloc(), &mut reader, writer)?;
+            Ok(Summary::done())
+        }
+        Task::CheckRaces => check_races(rt.alloc(), &mut reader, writer),
     }
 }
 
@@ -90,5 +130,6 @@ fn in_range(options: Options) -> Options
     Options {
         lanes: options.lanes.clamp(1, 16),
         plain: options.plain,
+        form: options.form,
     }
 }

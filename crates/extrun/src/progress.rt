@@ -1,62 +1,186 @@
-//! How far a run is, told on standard error.
-use ext_run::RunListener;
-use std::sync::atomic::{AtomicU64, Ordering};
-use std::time::{Clock, Instant};
+//! How far a run is, told on standard error by a thread of its own.
+ghost use Rattle.std.specs.Prelude.{◌≡◌, ◌≤◌, false, IfOk};
+ghost use Rattle.std.specs.Io.KnownBytes.{Appends};
+ghost use Rattle.extrun.specs.Tasks.{IsReported};
+ghost use denote.Param.Send.{IsSync};
 
-/// How many milliseconds lie between two lines at least.
+use crate::failing::run_plan;
+use crate::running::Running;
+use ext_run::{Options, RunFault, RunListener, Summary, read_plan};
+use std::alloc::{AllocError, Global};
+use std::io::Write;
+use std::sync::{Condvar, CondvarTimeouts, Mutex, Wait};
+use std::thread::{Threads, join_mut};
+use std::time::{Clock, Duration, Instant};
+
+/// How many milliseconds lie between two lines at least, and between the start and the first one.
 const INTERVAL: u64 = 1_000;
 
-/// Tells on standard error how many nodes of a run have ended, at most a line a second. Own rule.
+/// Runs the plan of these bytes, by the contract of `ext_run::run`, and tells on standard error how far the run is; and its faults once more at the end
+/// or not. Own rule.
 ///
-/// A run of less than a second tells nothing. Where the clock can't be read or a line can't be written, nothing is told and the run goes on.
+/// Once a second a thread of its own writes a line with the number of nodes that have ended and with those that run, if a node started or ended since
+/// the line before. So the last line of a run that hangs names what hangs, and a run of less than a second has no line. A container is named where no
+/// node below it runs, and a test also while it waits for its locks.
+///
+/// The plan is read once more for the ids of its nodes. Refused as `run` is, and as `Memory` where it is refused for these ids. Where the clock can't be
+/// read or a thread can't be made, nothing is told, and a line for which there is no memory is left out.
+pub(crate) fn run_told<R: Threads + Wait + Sync + Clock + AllocGlobal + Eprint, W: Write>(
+    rt: &R,
+    input: &[u8],
+    writer: &mut W,
+    options: Options,
+    failures: bool,
+) -> Result<Summary, RunFault>
+    requires lanes { options.plain ≡ false → (1 ≤ options.lanes) × (options.lanes ≤ 16) }
+    ensures { IfOk result (λ summary. IsReported options input.now summary (Appends (W.contents writer.old) (W.contents writer.new))) }
+{
+    let progress = Progress::of(rt, input)?;
+    run_beside(rt, input, writer, options, &progress, failures)
+}
+
+/// The same beside a thread that tells of it.
+fn run_beside<R: Threads + Wait + Sync + Clock + AllocGlobal + Eprint, W: Write>(
+    rt: &R,
+    input: &[u8],
+    writer: &mut W,
+    options: Options,
+    progress: &Progress<'_, R>,
+    failures: bool,
+) -> Result<Summary, RunFault>
+    requires lanes { options.plain ≡ false → (1 ≤ options.lanes) × (options.lanes ≤ 16) }
+    ensures { IfOk result (λ summary. IsReported options input.now summary (Appends (W.contents writer.old) (W.contents writer.new))) }
+{
+    let mut tell = || progress.tell_to_the_end();
+    let mut run = || -> Result<Summary, RunFault>
+        requires { IsSync R.row × (options.plain ≡ false → (1 ≤ options.lanes) × (options.lanes ≤ 16)) }
+        ensures { IfOk result (λ summary. IsReported options input.entry.now summary (Appends (W.contents writer.entry.now) (W.contents writer.exit.now))) }
+    { run_to_the_end(rt, input, options, progress, writer, failures) };
+    let ((), outcome) = join_mut(rt, &mut tell, &mut run);
+    outcome
+}
+
+/// Runs the plan, and then says that the run is over.
+fn run_to_the_end<R: Threads + Wait + Sync + Clock + AllocGlobal + Eprint, W: Write>(
+    rt: &R,
+    input: &[u8],
+    options: Options,
+    progress: &Progress<'_, R>,
+    writer: &mut W,
+    failures: bool,
+) -> Result<Summary, RunFault>
+    requires lanes { options.plain ≡ false → (1 ≤ options.lanes) × (options.lanes ≤ 16) }
+    ensures { IfOk result (λ summary. IsReported options input.now summary (Appends (W.contents writer.old) (W.contents writer.new))) }
+{
+    let outcome = run_plan(rt, input, writer, options, progress, failures);
+    progress.end();
+    outcome
+}
+
+/// How far a run is, for the threads that run its nodes and the one that tells of it.
 #[derive(Drop)]
-pub(crate) struct Progress<'a, R> {
+struct Progress<'a, R> {
     rt: &'a R,
-    // When the run began, where the clock told.
-    began: Option<Instant>,
-    ended: AtomicU64,
-    // At how many milliseconds of the run the last line was written.
-    told: AtomicU64,
+    state: Mutex<State>,
+    /// Is notified when the run is over.
+    over: Condvar,
 }
 
-impl<'a, R: Clock + Eprint> Progress<'a, R> {
-    /// Of a run that begins now.
-    pub(crate) fn new(rt: &'a R) -> Progress<'a, R> {
-        Progress {
-            rt,
-            began: Instant::now(rt).ok(),
-            ended: AtomicU64::new(0),
-            told: AtomicU64::new(0),
-        }
-    }
+/// What the threads of a run share.
+#[derive(Drop)]
+struct State {
+    running: Running,
+    /// Whether a node has started or ended since the last line.
+    is_new: bool,
+    is_over: bool,
+}
 
-    /// How many milliseconds the run has lasted.
-    fn lasted(&self) -> Option<u64> {
-        let now = Instant::now(self.rt).ok()?;
-        let millis = now.duration_since(self.began?).as_millis();
-        u64::try_from(millis).ok()
-    }
-
-    /// Whether it is time for a line. Then it is so for one of the threads that ask.
-    fn is_due(&self) -> bool {
-        let Some(lasted) = self.lasted() else {
-            return false;
+impl<'a, R: Wait + Clock + AllocGlobal + Eprint> Progress<'a, R> {
+    /// Of a run of the plan of these bytes, which has not begun.
+    fn of(rt: &'a R, input: &[u8]) -> Result<Progress<'a, R>, AllocError> {
+        let ids = ids_of(rt.alloc(), input)?;
+        let state = State {
+            running: Running::new(rt.alloc(), ids)?,
+            is_new: false,
+            is_over: false,
         };
-        let told = self.told.load(Ordering::SeqCst);
-        lasted.saturating_sub(told) >= INTERVAL
-            && self
-                .told
-                .compare_exchange(told, lasted, Ordering::SeqCst, Ordering::SeqCst)
-                .is_ok()
+        Ok(Progress {
+            rt,
+            state: Mutex::new(state),
+            over: Condvar::new(),
+        })
+    }
+
+    /// Says that the run is over.
+    fn end(&self) {
+        let mut state = self.state.lock(self.rt);
+        state.is_over = true;
+        self.over.notify_all();
+    }
+
+    /// Writes a line once a second, where there is something new, until the run is over.
+    fn tell_to_the_end(&self) {
+        if Instant::now(self.rt).is_err() {
+            return;
+        }
+        for _ in self.rt.forever() {
+            if self.is_over_soon() {
+                return;
+            }
+            if let Some(line) = self.news() {
+                let _ = eprintln!(self.rt; "{}", line.as_str());
+            }
+        }
+    }
+
+    /// Waits for the time between two lines, and answers whether the run was over meanwhile.
+    fn is_over_soon(&self) -> bool {
+        let state = self.state.lock(self.rt);
+        let interval = Duration::from_millis(INTERVAL);
+        let (state, _) = self
+            .over
+            .wait_timeout_while(self.rt, state, interval, |state| !state.is_over);
+        state.is_over
+    }
+
+    /// The next line, where a node has started or ended since the one before.
+    fn news(&self) -> Option<String> {
+        let mut state = self.state.lock(self.rt);
+        if !state.is_new {
+            return None;
+        }
+        state.is_new = false;
+        state.running.line(self.rt.alloc()).ok()
     }
 }
 
-impl<R: Clock + Eprint> RunListener for Progress<'_, R> {
-    fn ended(&self, _node: usize, nodes: usize) {
-        self.ended.fetch_add(1, Ordering::SeqCst);
-        if self.is_due() {
-            let ended = self.ended.load(Ordering::SeqCst);
-            let _ = eprintln!(self.rt; "{ended} of {nodes} nodes");
-        }
+impl<R: Wait> RunListener for Progress<'_, R> {
+    fn started(&self, node: usize, lane: usize) {
+        let mut state = self.state.lock(self.rt);
+        state.running.start(node, lane);
+        state.is_new = true;
     }
+
+    fn ended(&self, node: usize, _nodes: usize) {
+        let mut state = self.state.lock(self.rt);
+        state.running.end(node);
+        state.is_new = true;
+    }
+}
+
+/// The ids of the nodes of the plan that these bytes write. A plan that is refused has none.
+fn ids_of(alloc: Global, input: &[u8]) -> Result<Vec<String>, AllocError> {
+    let mut ids = Vec::new(alloc);
+    let Ok(text) = std::str::from_utf8(input) else {
+        return Ok(ids);
+    };
+    let Ok(plan) = read_plan(alloc, text) else {
+        return Ok(ids);
+    };
+    for node in plan.nodes.as_slice() {
+        let mut id = String::new(alloc);
+        node.id.write_to(&mut id)?;
+        ids.push(id)?;
+    }
+    Ok(ids)
 }

@@ -1,3 +1,2 @@
 -- What the suites of the tests say of their nodes and calls.
 pub mod Leaves
-pub mod Asking

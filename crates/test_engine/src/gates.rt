@@ -1,4 +1,6 @@
 //! Signs that threads give one another, and a gate that holds children at their start.
+use crate::page::{Servers, run_page};
+use crate::server::server_key;
 use ext_engine::Gate;
 use std::sync::atomic::{AtomicU64, Ordering};
 
@@ -48,4 +50,15 @@ impl Gate for MeetingGate {
     }
 
     fn ended(&self, _index: usize) {}
+}
+
+#[test]
+fn two_children_run_at_once(rt: HostRuntime) {
+    let servers = Servers::new();
+    let key = server_key(rt.alloc()).expect(&rt, "a key");
+    let gate = MeetingGate::new();
+    let report = run_page(&rt, rt.alloc(), &key, 2, &servers, &gate);
+    assert!(rt; report.is_ok(), "a report");
+    // Two classes with two tests each, of which the classes meet.
+    assert_eq!(rt; gate.told(), (6, 0), "the gate");
 }

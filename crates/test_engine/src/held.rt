@@ -5,11 +5,16 @@ ghost use Rattle.ext_store.specs.Stores.{closers_below};
 ghost use Rattle.ext_engine.specs.TreeRun.{IsIdle, IsUsable};
 
 use crate::gates::reaches;
-use crate::opening::{Opened, is_leaf, open, report, same, server_key};
+use crate::opening::{OpenedApart, open_apart, same};
+use crate::server::server_key;
 use ext_closing::CloseAction;
-use ext_engine::{Call, Callbacks, Kind, Mode, OpenGate, Outcome, Suite, Verdict, run_tree};
+use ext_engine::{
+    Call, Callbacks, Kind, Mode, OpenGate, Opened, Outcome, Suite, Verdict, is_leaf, leaf_laws,
+    run_tree,
+};
 use ext_locks::{Held, LockLane, LockMode, LockRefusal, LockRequest, LockSet, Locks, Resource};
 use ext_model::{ContextNo, Fault};
+use ext_report::report_text;
 use ext_store::{Closer, Lane, Store, StoreValue};
 use ext_tree::{Key, Tree};
 use std::alloc::Global;
@@ -87,7 +92,8 @@ impl Callbacks for TableSuite<'_> {
 
 impl<'a> Suite<Table> for TableSuite<'a> {
     ghost use Rattle.std.specs.Prelude.{◌≡◌, [], ◌∷◌};
-    ghost use Rattle.test_engine.specs.Leaves.{leaves_with, writes};
+    ghost use Rattle.ext_engine.specs.Leaves.{writes};
+    ghost use Rattle.test_engine.specs.Leaves.{leaves_with};
 
     type Action = LetTry<'a>;
 
@@ -176,11 +182,12 @@ fn run_test<R: Threads + Wait + Sync + Abort>(
         lock: "db",
         signs,
     };
+    leaf_laws(&suite, store, locks);
     let results = run_tree(
         rt, alloc, &suite, store, locks, lanes, lock_lanes, closers, &OpenGate,
     )
     .expect(rt, "a run");
-    report(rt, alloc, store.tree(), results.as_slice())
+    report_text(alloc, store.tree(), results.as_slice()).expect(rt, "a report")
 }
 
 /// Tries to take the set, and gives it back where it is taken. Answers why it can't be, or `None`.
@@ -220,10 +227,11 @@ fn run_and_try<R: Threads + Wait + Sync + Abort>(
     alloc: Global,
     key: &Key,
     opened: Opened<Table>,
+    mut spare: LockLane,
     signs: &Signs,
 ) -> (String, Option<LockRefusal>)
     requires usable { IsUsable opened.store opened.locks (record { first = opened.lanes.items; second = opened.lock_lanes.items }) }
-    requires spare { IsIdle opened.locks opened.spare }
+    requires spare { IsIdle opened.locks spare }
     requires closers { opened.closers.items ≡ closers_below opened.store.id.cells (length opened.store.tree) }
     requires lock { IsPermutation (codes "db" ∷ []) opened.locks.names }
 {
@@ -233,7 +241,6 @@ fn run_and_try<R: Threads + Wait + Sync + Abort>(
         closers,
         locks,
         mut lock_lanes,
-        mut spare,
     } = opened;
     let (shared, all_locks) = (&store, &locks);
     join(
@@ -264,8 +271,13 @@ fn run_and_try<R: Threads + Wait + Sync + Abort>(
 /// Runs the test beside another lane that tries to read by its lock. Asserts what both tell.
 fn lock_is_held<R: Threads + Wait + Sync + Abort>(rt: &R, alloc: Global, key: &Key, signs: &Signs) {
     let contexts = &["[engine:x]", "[engine:x]/[method:m()]"];
-    let opened = open(alloc, contexts, &["db"], 2).expect(rt, "a store");
-    let (text, refused) = run_and_try(rt, alloc, key, opened, signs);
+    let apart = open_apart(alloc, contexts, &["db"], 2).expect(rt, "a store");
+    let OpenedApart {
+        opened,
+        lane: _lane,
+        lock_lane,
+    } = apart;
+    let (text, refused) = run_and_try(rt, alloc, key, opened, lock_lane, signs);
     same(rt, refused, Some(LockRefusal::Taken(1)), "the other lane");
     let wanted =
         "[engine:x] successful closed 0\n[engine:x]/[method:m()] successful closed 1\ntests 1 successful 1 aborted 0 failed 0 skipped 0\ncomputed 0 found 0 closed 1 close faults 0\n";

@@ -12,13 +12,19 @@ mod asking;
 #[cfg(test)]
 mod counting;
 #[cfg(test)]
-mod gates;
+mod ending;
 #[cfg(test)]
-mod guide;
+mod gates;
 #[cfg(test)]
 mod held;
 #[cfg(test)]
+mod hour;
+#[cfg(test)]
 mod lock_opening;
+#[cfg(test)]
+mod locking;
+#[cfg(test)]
+mod noting;
 #[cfg(test)]
 mod opening;
 #[cfg(test)]
@@ -26,7 +32,11 @@ mod outside;
 #[cfg(test)]
 mod page;
 #[cfg(test)]
+mod run_opening;
+#[cfg(test)]
 mod scenario;
+#[cfg(test)]
+mod server;
 #[cfg(test)]
 mod sets;
 #[cfg(test)]

@@ -3,10 +3,12 @@ ghost use Rattle.std.specs.Prelude.{◌≡◌, ◌<◌, length};
 ghost use Rattle.ext_store.specs.Stores.{IsLaneOf, closers_below};
 ghost use Rattle.ext_engine.specs.TreeRun.{IsUsable};
 
-use crate::opening::{Opened, OpenedApart, is_leaf, open_apart, same, server_key};
+use crate::opening::{OpenedApart, open_apart, same};
+use crate::server::server_key;
 use ext_closing::CloseAction;
 use ext_engine::{
-    Call, Callbacks, EngineFault, Kind, Mode, OpenGate, Outcome, Suite, Verdict, run_tree,
+    Call, Callbacks, EngineFault, Kind, Mode, OpenGate, Opened, Outcome, Suite, Verdict, is_leaf,
+    leaf_laws, run_tree,
 };
 use ext_locks::{Held, LockRequest};
 use ext_model::{ContextNo, Fault};
@@ -140,9 +142,9 @@ fn refused<R: Threads + Wait + Sync + Abort>(
         closers,
         locks,
         mut lock_lanes,
-        spare: _spare,
     } = opened;
     let suite = QuietSuite { tree: store.tree() };
+    leaf_laws(&suite, &store, &locks);
     match run_tree(
         rt,
         alloc,
@@ -167,7 +169,12 @@ fn value_is_unknown<R: Threads + Wait + Sync + Abort>(rt: &R, alloc: Global, con
         "[engine:x]/[class:A]",
         "[engine:x]/[class:A]/[method:m()]",
     ];
-    let OpenedApart { opened, mut lane } = open_apart(alloc, contexts, 2).expect(rt, "a store");
+    let apart = open_apart(alloc, contexts, &[], 2).expect(rt, "a store");
+    let OpenedApart {
+        opened,
+        mut lane,
+        lock_lane: _lock_lane,
+    } = apart;
     assert!(rt; context < opened.store.tree().len());
     put(rt, &opened.store, &mut lane, context, &key);
     let why = refused(rt, alloc, opened);

@@ -1,51 +1,42 @@
-//! The code of docs/GUIDE.md, 'An engine in a page': tests that need a server, which is made once and closed with their class.
-ghost use Rattle.std.specs.Prelude.{◌≡◌, ◌<◌, IsFalse, Ok, length};
+//! An engine in a page: tests that need a server, which is made once, found by all of them, and stopped at the end of the run.
+ghost use Rattle.std.specs.Prelude.{◌<◌, IsFalse, length};
 ghost use Rattle.ext_store.specs.Stores.{IsLaneOf};
-ghost use Rattle.test_engine.specs.Asking.{AsksFor, HasFailed};
 
-use crate::gates::MeetingGate;
-use crate::opening::{Opened, is_leaf, open, report, same, server_key};
+use crate::server::{Server, server_key};
 use ext_closing::CloseAction;
-use ext_engine::{Call, Callbacks, Gate, Kind, Mode, OpenGate, Outcome, Suite, Verdict, run_tree};
+use ext_engine::{
+    Call, Callbacks, EngineFault, Gate, Kind, Mode, OpenFault, OpenGate, Opened, Outcome, Suite,
+    Verdict, is_leaf, leaf_laws, open_run, read_ids, run_tree,
+};
 use ext_locks::{Held, LockRequest};
 use ext_model::{ContextNo, Fault};
-use ext_store::{Compute, Lane, Store, StoreValue};
+use ext_report::report_text;
+use ext_store::{Compute, Lane, Limits, Store};
 use ext_tree::{Key, Tree};
 use std::alloc::{AllocError, Global};
-use std::process::Abort;
 use std::sync::Wait;
 use std::sync::atomic::{AtomicU64, Ordering};
 use std::thread::Threads;
-
-/// A value of the store: a server, which is stopped when the context in which it stands has ended.
-#[derive(Debug, Drop, PartialEq, Eq)]
-struct Server {
-    port: u16,
-}
-
-impl StoreValue for Server {
-    ghost use Rattle.std.specs.Prelude.{true};
-
-    ghost is_closeable = { λ _. true };
-
-    fn closeable(&self) -> bool {
-        true
-    }
-}
+use thiserror::Error;
 
 /// How many servers were started, and how many stopped.
 #[derive(Drop)]
-struct Servers {
+pub(crate) struct Servers {
     started: AtomicU64,
     stopped: AtomicU64,
 }
 
 impl Servers {
-    fn new() -> Servers {
+    pub(crate) fn new() -> Servers {
         Servers {
             started: AtomicU64::new(0),
             stopped: AtomicU64::new(0),
         }
+    }
+
+    pub(crate) fn told(&self) -> (u64, u64) {
+        let started = self.started.load(Ordering::SeqCst);
+        (started, self.stopped.load(Ordering::SeqCst))
     }
 }
 
@@ -56,9 +47,7 @@ struct StopServer<'a> {
 }
 
 impl CloseAction<Server> for StopServer<'_> {
-    ghost use Rattle.std.specs.Prelude.{◌≡◌, Ok};
-
-    ghost close_gives = { λ action number server answer left. (answer ≡ Ok tt) × (left ≡ action) };
+    ghost close_gives = { λ action number server answer left. Unit {0} };
 
     fn close(&mut self, _number: u32, _server: &Server) -> Result<(), Fault> {
         self.servers.stopped.fetch_add(1, Ordering::SeqCst);
@@ -66,7 +55,7 @@ impl CloseAction<Server> for StopServer<'_> {
     }
 }
 
-/// The nodes of a run: those with nothing below them are tests, which may run beside one another and need the server of their class.
+/// The nodes of a run: those with nothing below them are tests, and all may run beside one another.
 #[derive(Drop)]
 struct ServerSuite<'a> {
     alloc: Global,
@@ -75,27 +64,24 @@ struct ServerSuite<'a> {
     servers: &'a Servers,
 }
 
-/// The context of the class.
-const CLASS: ContextNo = 1;
+/// The context of the engine.
+const ENGINE: ContextNo = 0;
 
 impl ServerSuite<'_> {
-    /// A call of a test: it finds the server of its class, or starts it.
+    /// A call of a test: it finds the server of the engine, or starts it.
     fn ask<R: Wait>(&self, rt: &R, store: &Store<Server>, lane: &mut Lane<Server>) -> Outcome
         requires lane { IsLaneOf store.now.id lane.old }
-        requires class { CLASS < length store.now.tree }
+        requires engine { 0 < length store.now.tree }
         requires no_faults { IsFalse store.now.id.cells.limits.keep_faults }
-        ensures asks { AsksFor (record { port = 8080 }) store.now CLASS self.now.key.now lane.old result lane.new }
-        ensures lane { IsLaneOf store.now.id lane.new }
+        ensures { IsLaneOf store.now.id lane.new }
     {
         let started = &self.servers.started;
-        let start = |_key: &Key| -> Result<Server, Fault>
-            ensures { result ≡ Ok (record { port = 8080 }) }
-        {
+        let start = |_key: &Key| -> Result<Server, Fault> {
             started.fetch_add(1, Ordering::SeqCst);
             Ok(Server { port: 8080 })
         };
-        match store.compute_wait(rt, lane, CLASS, self.key, start) {
-            Compute::Computed { number: _ } => Outcome {
+        match store.compute_wait(rt, lane, ENGINE, self.key, start) {
+            Compute::Computed { .. } => Outcome {
                 verdict: Verdict::Successful,
                 computed: 1,
                 found: 0,
@@ -116,9 +102,7 @@ impl ServerSuite<'_> {
 }
 
 /// The outcome of a call that failed for this reason.
-fn failed(why: Result<String, AllocError>) -> Outcome
-    ensures { HasFailed result }
-{
+fn failed(why: Result<String, AllocError>) -> Outcome {
     match why {
         Ok(why) => Outcome::of(Verdict::Failed(Fault::Text(why))),
         Err(_) => Outcome::of(Verdict::Failed(Fault::Memory)),
@@ -135,26 +119,21 @@ impl Callbacks for ServerSuite<'_> {
 }
 
 impl<'a> Suite<Server> for ServerSuite<'a> {
-    ghost use Rattle.std.specs.Prelude.{◌≡◌, ◌<◌, [], IsFalse, length};
-    ghost use Rattle.test_engine.specs.Asking.{AsksFor};
-    ghost use Rattle.test_engine.specs.Leaves.{leaves_with};
+    ghost use Rattle.std.specs.Prelude.{◌≡◌, [], true, false, IsFalse};
+    ghost use Rattle.ext_engine.specs.Leaves.{is_leaf};
 
     type Action = StopServer<'a>;
 
-    ghost suite_view = { λ suite. leaves_with suite.tree.now [] };
+    ghost suite_view = { λ suite. record { is_concurrent = λ node. true; is_isolated = λ node. false; is_test = is_leaf suite.tree.now; locks = λ node. [] } };
 
-    ghost fits = { λ suite store. (suite.tree.now ≡ store.tree) × (1 < length store.tree) × IsFalse store.id.cells.limits.keep_faults };
+    ghost fits = { λ suite store. (suite.tree.now ≡ store.tree) × IsFalse store.id.cells.limits.keep_faults };
 
-    ghost call_gives = { λ suite store node call held before outcome after. AsksFor (record { port = 8080 }) store 1 suite.key.now before outcome after };
+    ghost call_gives = { λ suite store node call held before outcome after. Unit {0} };
 
-    ghost action_gives = { λ suite node action. action.servers ≡ suite.servers };
+    ghost action_gives = { λ suite node action. Unit {0} };
 
-    fn mode(&self, node: ContextNo) -> Mode {
-        if self.is_test(node) {
-            Mode::Concurrent
-        } else {
-            Mode::SameThread
-        }
+    fn mode(&self, _node: ContextNo) -> Mode {
+        Mode::Concurrent
     }
 
     fn isolated(&self, _node: ContextNo) -> bool {
@@ -192,38 +171,65 @@ impl<'a> Suite<Server> for ServerSuite<'a> {
     }
 }
 
-/// An engine, a class, and two tests.
-const CONTEXTS: [&str; 4] = [
+/// Why there is no report.
+#[derive(Debug, Drop, Error)]
+pub(crate) enum PageFault {
+    #[error("not opened: {0}")]
+    Open(#[from] OpenFault),
+    #[error("not run: {0}")]
+    Run(#[from] EngineFault),
+    #[error("no memory")]
+    Memory(#[from] AllocError),
+}
+
+/// An engine, two classes, and four tests.
+const CONTEXTS: [&str; 7] = [
     "[engine:x]",
     "[engine:x]/[class:A]",
     "[engine:x]/[class:A]/[method:m1()]",
     "[engine:x]/[class:A]/[method:m2()]",
+    "[engine:x]/[class:B]",
+    "[engine:x]/[class:B]/[method:m1()]",
+    "[engine:x]/[class:B]/[method:m2()]",
 ];
 
-/// Runs the two tests on two lanes. Gives the report.
-fn run_both<R: Threads + Wait + Sync + Abort, G: Gate + Sync>(
+/// The limits of a store for so many lanes, which keeps no faults.
+fn limits_for(lanes: usize) -> Limits
+    ensures { IsFalse result.keep_faults }
+{
+    Limits {
+        lanes,
+        tries: 64,
+        numbers: 1_000,
+        keep_faults: false,
+    }
+}
+
+/// Runs the tests on so many lanes, and gives the report.
+pub(crate) fn run_page<R: Threads + Wait + Sync, G: Gate + Sync>(
     rt: &R,
     alloc: Global,
+    key: &Key,
+    lanes: usize,
     servers: &Servers,
     gate: &G,
-) -> String {
-    let key = server_key(alloc).expect(rt, "a key");
-    let opened = open(alloc, &CONTEXTS, &[], 2).expect(rt, "a store");
+) -> Result<String, PageFault> {
+    let ids = read_ids(alloc, &CONTEXTS)?;
+    let opened = open_run(alloc, ids.as_slice(), &[], limits_for(lanes))?;
     let Opened {
         store,
         mut lanes,
         closers,
         locks,
         mut lock_lanes,
-        spare: _spare,
     } = opened;
-    assert!(rt; 1 < store.tree().len());
     let suite = ServerSuite {
         alloc,
         tree: store.tree(),
-        key: &key,
+        key,
         servers,
     };
+    leaf_laws(&suite, &store, &locks);
     let results = run_tree(
         rt,
         alloc,
@@ -234,37 +240,25 @@ fn run_both<R: Threads + Wait + Sync + Abort, G: Gate + Sync>(
         lock_lanes.as_mut_slice(),
         closers,
         gate,
-    )
-    .expect(rt, "a run");
-    report(rt, alloc, store.tree(), results.as_slice())
-}
-
-/// Asserts what a run of the two tests tells: one of them started the server, the other one found it, and it was stopped once.
-fn server_is_shared<R: Threads + Wait + Sync + Abort, G: Gate + Sync>(
-    rt: &R,
-    alloc: Global,
-    gate: &G,
-) {
-    let servers = Servers::new();
-    let text = run_both(rt, alloc, &servers, gate);
-    let wanted =
-        "[engine:x] successful closed 0\n[engine:x]/[class:A] successful closed 1\n[engine:x]/[class:A]/[method:m1()] successful closed 0\n[engine:x]/[class:A]/[method:m2()] successful closed 0\ntests 2 successful 2 aborted 0 failed 0 skipped 0\ncomputed 1 found 1 closed 1 close faults 0\n";
-    assert_eq!(rt; text.as_str(), wanted, "the report");
-    let counts = (
-        servers.started.load(Ordering::SeqCst),
-        servers.stopped.load(Ordering::SeqCst),
-    );
-    assert_eq!(rt; counts, (1, 1), "the servers");
+    )?;
+    Ok(report_text(alloc, store.tree(), results.as_slice())?)
 }
 
 #[test]
 fn engine_in_a_page(rt: HostRuntime) {
-    server_is_shared(&rt, rt.alloc(), &OpenGate);
-}
-
-#[test]
-fn two_children_run_at_once(rt: HostRuntime) {
-    let gate = MeetingGate::new();
-    server_is_shared(&rt, rt.alloc(), &gate);
-    same(&rt, gate.told(), (2, 0), "the gate");
+    let servers = Servers::new();
+    let key = server_key(rt.alloc()).expect(&rt, "a key");
+    let report = run_page(&rt, rt.alloc(), &key, 2, &servers, &OpenGate).expect(&rt, "a report");
+    let wanted = "[engine:x] successful closed 1
+[engine:x]/[class:A] successful closed 0
+[engine:x]/[class:A]/[method:m1()] successful closed 0
+[engine:x]/[class:A]/[method:m2()] successful closed 0
+[engine:x]/[class:B] successful closed 0
+[engine:x]/[class:B]/[method:m1()] successful closed 0
+[engine:x]/[class:B]/[method:m2()] successful closed 0
+tests 4 successful 4 aborted 0 failed 0 skipped 0
+computed 1 found 3 closed 1 close faults 0
+";
+    assert_eq!(rt; report.as_str(), wanted, "the report");
+    assert_eq!(rt; servers.told(), (1, 1), "the servers");
 }

@@ -1,7 +1,10 @@
 //! What faults and refusals print.
 use crate::scenario::same;
-use ext_engine::EngineFault;
+use ext_engine::{EngineFault, OpenFault};
+use ext_ids::IdFault;
 use ext_locks::{LockFault, LockRefusal};
+use ext_store::StoreFault;
+use ext_tree::TreeFault;
 use std::alloc::Global;
 use std::fmt::Display;
 use std::process::Abort;
@@ -40,4 +43,16 @@ fn faults_of_runs_print_sentences(rt: HostRuntime) {
     let unjoined = EngineFault::Unjoined(5, 6);
     let line = "the value of number 6 in context 5 is not known";
     prints(&rt, alloc, &unjoined, line);
+    let text = OpenFault::Id(2, IdFault::Empty);
+    prints(&rt, alloc, &text, "text 2 is no id: id: I1");
+    let tree = OpenFault::Tree(TreeFault::NoRoot);
+    prints(&rt, alloc, &tree, "the first id is no root");
+    let store = OpenFault::Store(StoreFault::BadLimit);
+    prints(&rt, alloc, &store, "a limit is out of its range");
+    prints(
+        &rt,
+        alloc,
+        &OpenFault::Locks(LockFault::TooMany),
+        "too many names",
+    );
 }

@@ -1,4 +1,4 @@
-//! The code of docs/GUIDE.md, 'The store of one thread'.
+//! The code of docs/PARTS.md, 'The store of one thread'.
 use crate::same::same;
 use ext_model::{Look, PlainStore};
 use std::test::Fail;

@@ -1,9 +1,11 @@
 //! Tests that cross crates: runs from the bytes of a plan to those of its report, hostile devices, the calls of a node,
-//! the suite of a plan with its calls and closes, and the listener.
+//! the suite of a plan with its calls and closes, the listener, and failures told once more.
 #![tactic(auto)]
 
 #[cfg(test)]
 mod devices;
+#[cfg(test)]
+mod failures;
 #[cfg(test)]
 mod hostile;
 #[cfg(test)]
@@ -12,6 +14,8 @@ mod lifecycle;
 mod listener;
 #[cfg(test)]
 mod locks;
+#[cfg(test)]
+mod races;
 #[cfg(test)]
 mod reading;
 #[cfg(test)]

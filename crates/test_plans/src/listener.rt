@@ -2,74 +2,257 @@
 ghost use Rattle.std.specs.Prelude.{◌≡◌, ◌≤◌, false};
 
 use crate::rows::{FOUR_LANES, PLAIN, same};
-use ext_run::{Options, RunListener, run_with_listener};
+use ext_model::Fault;
+use ext_run::{Options, ReportForm, RunListener, run_with_listener};
 use std::alloc::Global;
 use std::process::Abort;
 use std::sync::Wait;
 use std::sync::atomic::{AtomicU64, Ordering};
 use std::test::Fail;
-use std::thread::Threads;
+use std::thread::{Threads, sleep};
+use std::time::{Clock, Duration};
 
-/// A container that is aborted, with a test that is skipped, and a test beside it.
+/// A container that is aborted before its children, with a test that is skipped, and beside it a test that fails.
 const PLAN: &str =
     "[[node]]\nid = \"[engine:x]\"\n\n[[node]]\nid = \"[engine:x]/[class:A]\"\nbefore_all = [[\"abort no\"]]\n\n[[node]]\nid = \"[engine:x]/[class:A]/[method:m()]\"\ntest = []\n\n[[node]]\nid = \"[engine:x]/[method:n()]\"\ntest = [\"fail f\"]\n";
 
-/// Counts how often each of four nodes has ended.
-#[derive(Drop)]
-struct EndCounts {
-    counts: [AtomicU64; 4],
-}
+/// A test with three faults: its own, one of an after-callback, and one of a close.
+const THREE_FAULTS: &str =
+    "[[key]]\nlabel = \"a\"\n\n[[node]]\nid = \"[engine:x]\"\nafter_each = [[\"fail u\"]]\n\n[[node]]\nid = \"[engine:x]/[method:m()]\"\ntest = [\"put! a bad\", \"fail t\"]\n";
 
-impl EndCounts {
-    fn new() -> EndCounts {
-        EndCounts {
-            counts: [
-                AtomicU64::new(0),
-                AtomicU64::new(0),
-                AtomicU64::new(0),
-                AtomicU64::new(0),
-            ],
-        }
+/// The faults of that test, in the order in which they come,
+const FAULTS: [&str; 3] = ["t", "u", "close bad"];
+
+/// and the report of its run.
+const THREE_FAULTS_REPORT: &str =
+    "[engine:x] successful closed 0\n[engine:x]/[method:m()] failed closed 1: t (+2)\ntests 1 successful 0 aborted 0 failed 1 skipped 0\ncomputed 0 found 0 closed 1 close faults 1\n";
+
+/// Two tests that fail and may run at once, but for the lock that both name.
+const ONE_LOCK: &str =
+    "[[node]]\nid = \"[engine:x]\"\n\n[[node]]\nid = \"[engine:x]/[method:m()]\"\nmode = \"concurrent\"\nlocks = [\"READ_WRITE db\"]\ntest = [\"fail f\"]\n\n[[node]]\nid = \"[engine:x]/[method:n()]\"\nmode = \"concurrent\"\nlocks = [\"READ_WRITE db\"]\ntest = [\"fail f\"]\n";
+
+/// On two lanes, over the store for several threads.
+const TWO_LANES: Options = Options {
+    lanes: 2,
+    plain: false,
+    form: ReportForm::Text,
+};
+
+/// How often the listener looks whether another test has started, a thousandth of a second apart.
+const LOOKS: u32 = 10_000;
+
+/// Counters of a node each.
+#[derive(Drop)]
+struct Counts([AtomicU64; 4]);
+
+impl Counts {
+    fn new() -> Counts {
+        Counts([
+            AtomicU64::new(0),
+            AtomicU64::new(0),
+            AtomicU64::new(0),
+            AtomicU64::new(0),
+        ])
     }
 
-    /// How often the node has ended.
+    /// Counts one more, and gives how many there were. A node that the plans don't have is not counted.
+    fn add(&self, node: usize) -> Option<u64> {
+        let count = self.0.get(node)?;
+        Some(count.fetch_add(1, Ordering::SeqCst))
+    }
+
+    /// How many there are.
     fn of(&self, node: usize) -> Option<u64> {
-        let count = self.counts.get(node)?;
+        let count = self.0.get(node)?;
         Some(count.load(Ordering::SeqCst))
     }
+
+    /// How many there are of each node.
+    fn all(&self) -> [Option<u64>; 4] {
+        [self.of(0), self.of(1), self.of(2), self.of(3)]
+    }
 }
 
-impl RunListener for EndCounts {
-    fn ended(&self, node: usize, nodes: usize) {
-        if nodes != 4 {
-            return;
+/// Counts what is told of up to four nodes, and what is told in a wrong order.
+#[derive(Drop)]
+struct Heard {
+    /// How many lanes the run has, and how many nodes.
+    lanes: usize,
+    nodes: usize,
+    starts: Counts,
+    faults: Counts,
+    ends: Counts,
+    wrong: AtomicU64,
+}
+
+impl Heard {
+    fn of(options: Options, nodes: usize) -> Heard {
+        Heard {
+            lanes: if options.plain { 1 } else { options.lanes },
+            nodes,
+            starts: Counts::new(),
+            faults: Counts::new(),
+            ends: Counts::new(),
+            wrong: AtomicU64::new(0),
         }
-        if let Some(count) = self.counts.get(node) {
-            count.fetch_add(1, Ordering::SeqCst);
+    }
+
+    /// Counts what is wrong unless this is right.
+    fn expect(&self, right: bool) {
+        if !right {
+            self.wrong.fetch_add(1, Ordering::SeqCst);
         }
     }
 }
 
-/// Asserts that each node that was run so has ended once, and the skipped one has not.
-fn hears_each_end<R: Threads + Wait + Sync + Abort>(
+impl RunListener for Heard {
+    /// Comes first, on a lane of the run.
+    fn started(&self, node: usize, lane: usize) {
+        self.expect(lane < self.lanes);
+        self.expect(self.faults.of(node) == Some(0) && self.ends.of(node) == Some(0));
+        self.starts.add(node);
+    }
+
+    /// Comes between the start and the end, with the next of the faults where the node has three.
+    fn faulted(&self, node: usize, fault: &Fault) {
+        self.expect(self.starts.of(node) == Some(1) && self.ends.of(node) == Some(0));
+        let told = self.faults.add(node);
+        if self.nodes == 2 {
+            self.expect(is_next(told, fault));
+        }
+    }
+
+    /// Comes last.
+    fn ended(&self, node: usize, nodes: usize) {
+        self.expect(nodes == self.nodes && self.starts.of(node) == Some(1));
+        self.ends.add(node);
+    }
+}
+
+/// Whether it is the fault that comes after so many.
+fn is_next(before: Option<u64>, fault: &Fault) -> bool {
+    let Fault::Text(text) = fault else {
+        return false;
+    };
+    match before {
+        Some(0) => text.as_str() == FAULTS[0],
+        Some(1) => text.as_str() == FAULTS[1],
+        Some(2) => text.as_str() == FAULTS[2],
+        _ => false,
+    }
+}
+
+/// Runs the plan so, with this listener, and asserts that a node failed. Gives the report.
+fn failing_report<R: Threads + Wait + Sync + Abort, L: RunListener + Sync>(
+    rt: &R,
+    alloc: Global,
+    plan: &str,
+    options: Options,
+    listener: &L,
+) -> Result<String, Fail>
+    requires { options.plain ≡ false → (1 ≤ options.lanes) × (options.lanes ≤ 16) }
+{
+    let mut reader = plan.as_bytes();
+    let mut written = Vec::new(alloc);
+    let summary = run_with_listener(rt, alloc, &mut reader, &mut written, options, listener)?;
+    same(rt, summary.failed, true, "whether a node failed");
+    let text = std::str::from_utf8(written.as_slice()).map_err(|_| "the report is text")?;
+    Ok(String::from_str(alloc, text)?)
+}
+
+/// Asserts that of each node that was run so it is told once that it started and once that it ended, with its fault between, and nothing of the
+/// skipped one.
+fn hears_each_node<R: Threads + Wait + Sync + Abort>(
     rt: &R,
     alloc: Global,
     options: Options,
 ) -> Result<(), Fail>
     requires { options.plain ≡ false → (1 ≤ options.lanes) × (options.lanes ≤ 16) }
 {
-    let counts = EndCounts::new();
-    let mut plan = PLAN.as_bytes();
-    let mut written = Vec::new(alloc);
-    let summary = run_with_listener(rt, alloc, &mut plan, &mut written, options, &counts)?;
-    same(rt, summary.failed, true, "whether a node failed");
-    let ended = [counts.of(0), counts.of(1), counts.of(2), counts.of(3)];
-    same(rt, ended, [Some(1), Some(1), Some(0), Some(1)], "the ends");
+    let heard = Heard::of(options, 4);
+    failing_report(rt, alloc, PLAN, options, &heard)?;
+    let ran = [Some(1), Some(1), Some(0), Some(1)];
+    same(rt, heard.starts.all(), ran, "the starts");
+    let faults = [Some(0), Some(1), Some(0), Some(1)];
+    same(rt, heard.faults.all(), faults, "the faults");
+    same(rt, heard.ends.all(), ran, "the ends");
+    let wrong = heard.wrong.load(Ordering::SeqCst);
+    same(rt, wrong, 0, "what came in a wrong order");
     Ok(())
 }
 
 #[test]
 fn listener_is_told_once_of_each_node_that_ran(rt: HostRuntime) -> Result<(), Fail> {
-    hears_each_end(&rt, rt.alloc(), PLAIN)?;
-    hears_each_end(&rt, rt.alloc(), FOUR_LANES)
+    hears_each_node(&rt, rt.alloc(), PLAIN)?;
+    hears_each_node(&rt, rt.alloc(), FOUR_LANES)
+}
+
+/// Asserts that the three faults of a test that was run so are told, in order: the first is that of its result, which counts the others.
+fn hears_three_faults<R: Threads + Wait + Sync + Abort>(
+    rt: &R,
+    alloc: Global,
+    options: Options,
+) -> Result<(), Fail>
+    requires { options.plain ≡ false → (1 ≤ options.lanes) × (options.lanes ≤ 16) }
+{
+    let heard = Heard::of(options, 2);
+    let report = failing_report(rt, alloc, THREE_FAULTS, options, &heard)?;
+    same(rt, report.as_str(), THREE_FAULTS_REPORT, "the report");
+    let faults = [Some(0), Some(3), Some(0), Some(0)];
+    same(rt, heard.faults.all(), faults, "the faults");
+    let wrong = heard.wrong.load(Ordering::SeqCst);
+    same(rt, wrong, 0, "other faults, or in another order");
+    Ok(())
+}
+
+#[test]
+fn listener_is_told_all_faults_of_a_test(rt: HostRuntime) -> Result<(), Fail> {
+    hears_three_faults(&rt, rt.alloc(), PLAIN)?;
+    hears_three_faults(&rt, rt.alloc(), FOUR_LANES)
+}
+
+/// Holds the first of two tests up, while it has its lock, until the other one has started, and counts the starts on either lane.
+#[derive(Drop)]
+struct HoldsUp<'a, C> {
+    clock: &'a C,
+    starts: Counts,
+    missed: AtomicU64,
+}
+
+impl<C> HoldsUp<'_, C> {
+    /// Whether both lanes have started a test, and the first one the root before.
+    fn have_both_started(&self) -> bool {
+        self.starts.of(0) == Some(2) && self.starts.of(1) == Some(1)
+    }
+}
+
+impl<C: Clock> RunListener for HoldsUp<'_, C> {
+    fn started(&self, _node: usize, lane: usize) {
+        self.starts.add(lane);
+    }
+
+    fn faulted(&self, _node: usize, _fault: &Fault) {
+        for _ in 0..LOOKS {
+            if self.have_both_started() {
+                return;
+            }
+            sleep(self.clock, Duration::from_millis(1));
+        }
+        self.missed.fetch_add(1, Ordering::SeqCst);
+    }
+
+    fn ended(&self, _node: usize, _nodes: usize) {}
+}
+
+#[test]
+fn listener_is_told_of_a_test_that_waits_for_a_lock(rt: HostRuntime) -> Result<(), Fail> {
+    let listener = HoldsUp {
+        clock: &rt,
+        starts: Counts::new(),
+        missed: AtomicU64::new(0),
+    };
+    failing_report(&rt, rt.alloc(), ONE_LOCK, TWO_LANES, &listener)?;
+    let missed = listener.missed.load(Ordering::SeqCst);
+    same(&rt, missed, 0, "who saw no other start");
+    Ok(())
 }

@@ -2,7 +2,7 @@
 //! their reports, which the program is run on (scripts/worked-rows).
 ghost use Rattle.std.specs.Prelude.{◌≡◌, ◌≤◌, false};
 
-use ext_run::{Options, RunFault, Summary, run};
+use ext_run::{Options, ReportForm, RunFault, Summary, run};
 use std::alloc::Global;
 use std::fmt::Debug;
 use std::process::Abort;
@@ -14,18 +14,21 @@ use std::thread::Threads;
 pub(crate) const PLAIN: Options = Options {
     lanes: 4,
     plain: true,
+    form: ReportForm::Text,
 };
 
 /// On one lane, over the store for several threads.
 const ONE_LANE: Options = Options {
     lanes: 1,
     plain: false,
+    form: ReportForm::Text,
 };
 
 /// On four lanes, over the store for several threads.
 pub(crate) const FOUR_LANES: Options = Options {
     lanes: 4,
     plain: false,
+    form: ReportForm::Text,
 };
 
 /// The contexts of the chain before its method, with one key.

@@ -203,7 +203,7 @@ fn calls_of_a_suite_make_their_steps(rt: HostRuntime) -> Result<(), Fail> {
 /// Asserts what the close of a value with this text answers.
 fn closes(
     rt: &impl Abort,
-    action: &mut PlanAction,
+    action: &mut PlanAction<'_, NoListener>,
     number: u32,
     text: &str,
     wanted: Result<(), Fault>,

@@ -1,4 +1,4 @@
-//! Tests of the store by lanes in threads of their own, and the code of docs/GUIDE.md.
+//! Tests of the store by lanes in threads of their own.
 #![tactic(auto)]
 
 #[cfg(test)]
@@ -9,8 +9,6 @@ mod closing;
 mod failing;
 #[cfg(test)]
 mod gates;
-#[cfg(test)]
-mod guide;
 #[cfg(test)]
 mod held;
 #[cfg(test)]

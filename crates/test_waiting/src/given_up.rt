@@ -42,7 +42,27 @@ fn put_and_remove(store: &Store<Letter>, lane: &mut Lane<Letter>, key: &Key) -> 
     put.is_ok() && removed.is_ok()
 }
 
-/// Does so again and again.
+/// Puts a value at the root, and takes it out again once the lane that computes has met it.
+fn put_until_met<R: Abort + Clock>(
+    rt: &R,
+    store: &Store<Letter>,
+    lane: &mut Lane<Letter>,
+    key: &Key,
+    progress: &Progress,
+)
+    requires lane { IsLaneOf store.now.id lane.old }
+    requires context { 0 < length store.now.tree }
+    ensures { IsLaneOf store.now.id lane.new }
+{
+    let Ok(kept) = store.keep(lane, Letter { letter: 'x' }) else {
+        return;
+    };
+    let _put = store.put(lane, 0, key, kept);
+    watch_more(rt, &progress.unused);
+    let _removed = store.remove(lane, 0, key);
+}
+
+/// Puts and removes again and again, without waiting.
 fn put_above(store: &Store<Letter>, lane: &mut Lane<Letter>, key: &Key, progress: &Progress)
     requires lane { IsLaneOf store.now.id lane.old }
     requires context { 0 < length store.now.tree }
@@ -51,6 +71,21 @@ fn put_above(store: &Store<Letter>, lane: &mut Lane<Letter>, key: &Key, progress
         put_and_remove(store, lane, key);
     }
     progress.ended.store(1, Ordering::SeqCst);
+}
+
+/// Puts once until the two others have begun, and then again and again.
+fn put_beside<R: Abort + Clock>(
+    rt: &R,
+    store: &Store<Letter>,
+    lane: &mut Lane<Letter>,
+    key: &Key,
+    progress: &Progress,
+)
+    requires lane { IsLaneOf store.now.id lane.old }
+    requires context { 0 < length store.now.tree }
+{
+    put_until_met(rt, store, lane, key, progress);
+    put_above(store, lane, key, progress);
 }
 
 /// Removes in the method until the two others have ended: it sleeps where it meets a claim twice.
@@ -130,7 +165,7 @@ fn run<R: Abort + Clock + Threads + Wait + Sync>(
                 rt,
                 ||
                     requires { IsLaneOf store.now.id first.now × (2 < length store.now.tree) }
-                { put_above(store, first, key, progress) },
+                { put_beside(rt, store, first, key, progress) },
                 ||
                     requires { IsLaneOf store.now.id second.now × (2 < length store.now.tree) }
                 { compute_beside(rt, store, second, key, progress) },

@@ -3,7 +3,7 @@ ghost use Rattle.std.specs.Prelude.{◌≤◌};
 
 use crate::outcome::Outcome;
 use ext_engine::EngineFault;
-use ext_run::{Options, PlanFault, RunFault, run};
+use ext_run::{Options, PlanFault, ReportForm, RunFault, run};
 use std::alloc::Global;
 use std::sync::Wait;
 use std::thread::Threads;
@@ -76,6 +76,7 @@ fn runs_on<R: Threads + Wait + Sync>(
     let options = Options {
         lanes,
         plain: false,
+        form: ReportForm::Text,
     };
     let mut written = [0u8; 1024];
     let mut reader = plan.as_bytes();

@@ -1,5 +1,5 @@
 //! The closers of a subtree, and their split among the children of its node.
-ghost use Rattle.std.specs.Prelude.{◌≡◌, ◌≢◌, ◌<◌, ◌≤◌, ℕ, true, not, length, vec_len, map, filter, All, Contains, IfOk, IfNone, IfSome, slice_index_or};
+ghost use Rattle.std.specs.Prelude.{◌≡◌, ◌≢◌, ◌<◌, ◌≤◌, ℕ, true, not, length, vec_len, map, filter, All, Contains, IfOk, IfNone, IfSome, slice_index_or, take};
 ghost use Rattle.ext_tree.specs.Trees.{children_of};
 ghost use Rattle.ext_store.specs.Stores.{IsCloserOf};
 ghost use Rattle.ext_engine.specs.InnerClosers.{IsItem, IsWithin, OfStore, HasClosers, HasBelow, contexts};
@@ -63,10 +63,11 @@ pub(crate) fn closer_of<V>(store: &Store<V>, item: Item) -> Closer
     take_own(store, node, &mut closers)
 }
 
-/// Where the node's closer stands.
-fn place_of(closers: &[Closer], node: ContextNo) -> Option<usize>
+/// Where the node's closer stands, the first of them.
+pub(crate) fn place_of(closers: &[Closer], node: ContextNo) -> Option<usize>
     ensures within { IfSome result (λ at. at < length closers.now) }
     ensures at { IfSome result (λ at. (d : _) → (slice_index_or closers.now at d).context ≡ node) }
+    ensures first { IfSome result (λ at. All (λ c. c.context ≢ node) (take at closers.now)) }
     ensures none { IfNone result (All (λ c. c.context ≢ node) closers.now) }
 {
     closers.iter().position(|c| c.context() == node)

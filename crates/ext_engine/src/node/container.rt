@@ -30,8 +30,8 @@ pub(crate) struct OpenContainer {
     pub went_on: bool,
 }
 
-/// Makes what a container is run with, calls its before-callbacks on the first lane, in order, up to the first that isn't successful, and gives what is
-/// left to be done after its children, and these.
+/// Makes what a container is run with, tells the suite that it starts, calls its before-callbacks on the first lane, in order, up to the first that isn't
+/// successful, and gives what is left to be done after its children, and these.
 ///
 /// The item is a container with the closers of its subtree, and `depth` is 17 less the levels from the root to it. There is at least one lane, all are of
 /// the store, and the store is one that the suite may be run over. Refused as `Memory` where memory for its lists is refused: then nothing was called, the lanes are as they were,
@@ -66,6 +66,7 @@ pub(crate) fn open_container<'a, R: Wait, V: StoreValue + Drop, S: Suite<V>>(
         afters,
         children,
     } = container_parts(nodes, alloc, depth, item)?;
+    nodes.suite.started(node, lanes[0].number());
     let tally = call_befores(
         nodes.rt,
         nodes.suite,

@@ -138,7 +138,7 @@ impl<'a, R: Wait, V: StoreValue + Drop, S: Suite<V>> NodeRunner<'a, R, V, S> {
         Ok(ran)
     }
 
-    /// Takes the locks of the test, makes its calls, closes its context, and gives the locks back.
+    /// Tells the suite that the test starts, takes its locks, makes its calls, closes its context, and gives the locks back.
     fn run_locked(
         &self,
         node: ContextNo,
@@ -162,6 +162,7 @@ impl<'a, R: Wait, V: StoreValue + Drop, S: Suite<V>> NodeRunner<'a, R, V, S> {
             from: node,
             index: 0,
         };
+        self.suite.started(node, lanes[0].number());
         let held = take_locks(self.rt, self.locks, &mut lock_lanes[0], &parts.set);
         let tally = call_test(
             self.rt,

@@ -1,9 +1,10 @@
 //! What is meant by a fault of a node that is no step, or of all nodes.
 ghost use Rattle.std.specs.Prelude.{All, IfOk};
-ghost use Rattle.ext_plan.specs.Plans.{keys_view};
+ghost use Rattle.ext_plan.specs.Plans.{key_view, keys_view};
 ghost use Rattle.ext_plan.specs.StoreKeys.{HasParts};
 
 use crate::explaining::fields::table_of;
+use crate::explaining::ids::words_of_id;
 use crate::explaining::words::{quoted, said};
 use crate::fault::{Place, PlanFault};
 use crate::fields::{tables_at, text_at};
@@ -12,8 +13,8 @@ use crate::locks::lock_at;
 use crate::modes::mode_at;
 use crate::nodes::{NodeSketch, ids_of, sketches_of};
 use ext_ids::{IdFault, UniqueId};
-use ext_plan::keys_are_few;
-use ext_tree::{Tree, TreeFault};
+use ext_plan::PlanKey;
+use ext_tree::{Directory, Tree, TreeFault};
 use std::alloc::Global;
 use toml::Table;
 
@@ -50,8 +51,14 @@ fn no_id(alloc: Global, text: &str) -> Result<Option<String>, PlanFault> {
     match UniqueId::parse(alloc, text) {
         Ok(_) => Ok(None),
         Err(IdFault::Memory) => Err(PlanFault::Memory),
-        Err(fault) => Ok(Some(format!(in alloc; "{fault} in {text:?}")?)),
+        Err(fault) => bad_id_text(alloc, text, fault),
     }
+}
+
+/// What is meant by the fault of a text that is no id.
+fn bad_id_text(alloc: Global, text: &str, fault: IdFault) -> Result<Option<String>, PlanFault> {
+    let words = words_of_id(alloc, text, fault)?;
+    Ok(Some(format!(in alloc; "{fault} in {text:?}: {}", words.as_str())?))
 }
 
 /// What is meant by a fault of the nodes after the first pass: of their ids, or of a node's mode, locks or test.
@@ -105,7 +112,7 @@ fn in_the_way(
 ) -> Result<Option<String>, PlanFault> {
     match fault {
         TreeFault::Memory => Err(PlanFault::Memory),
-        TreeFault::TooMany => said(alloc, "it has more than 256 nodes"),
+        TreeFault::TooMany => too_many_nodes(alloc, sketches.len()),
         TreeFault::NoRoot => {
             let why = "has more than one segment, so that it is no root";
             named(alloc, sketches, 0, why)
@@ -114,6 +121,11 @@ fn in_the_way(
         TreeFault::NoParent(node) => named(alloc, sketches, node, "has no parent before it"),
         TreeFault::Twice(node) => named(alloc, sketches, node, "stands before already"),
     }
+}
+
+/// What is said of more nodes than there may be.
+fn too_many_nodes(alloc: Global, nodes: usize) -> Result<Option<String>, PlanFault> {
+    Ok(Some(format!(in alloc; "it has {nodes} nodes, more than 256")?))
 }
 
 /// What is said of a node, behind its id.
@@ -199,8 +211,39 @@ fn is_lock(alloc: Global, node: usize, text: &str) -> Result<bool, PlanFault> {
 /// What there are too many of.
 pub(crate) fn too_many(alloc: Global, top: &Table) -> Result<Option<String>, PlanFault> {
     let keys = keys_in(alloc, top)?;
-    if keys_are_few(alloc, keys.keys.as_slice())? {
-        return said(alloc, "its locks have more than 63 different names");
+    let first = first_too_many(alloc, keys.keys.as_slice())?;
+    match first {
+        Some(key) => too_many_keys(alloc, key),
+        None => said(alloc, "its locks have more than 63 different names"),
     }
-    said(alloc, "it declares more than 64 different keys")
+}
+
+/// What is said of more keys than may be declared, of which this is the first.
+fn too_many_keys(alloc: Global, key: usize) -> Result<Option<String>, PlanFault> {
+    Ok(Some(format!(in alloc; "it declares more than 64 different keys: key {key} is the 65th")?))
+}
+
+/// The first of these keys before which 64 other ones stand.
+fn first_too_many(alloc: Global, keys: &[PlanKey]) -> Result<Option<usize>, PlanFault>
+    requires { All HasParts (keys_view keys.now) }
+{
+    let mut directory = Directory::new(alloc);
+    let mut place: usize = 0;
+    for key in keys {
+        match declare(alloc, &mut directory, key) {
+            Ok(()) => place = place.saturating_add(1),
+            Err(TreeFault::TooMany) => return Ok(Some(place)),
+            Err(_) => return Err(PlanFault::Memory),
+        }
+    }
+    Ok(None)
+}
+
+/// Declares the key of a label.
+fn declare(alloc: Global, directory: &mut Directory, key: &PlanKey) -> Result<(), TreeFault>
+    requires { HasParts (key_view key.now) }
+{
+    let key = key.store_key(alloc)?;
+    directory.declare(key)?;
+    Ok(())
 }

@@ -157,15 +157,39 @@ fn reason_among(words: &[&str]) -> &'static str {
         return "has a space too many";
     }
     match words {
-        [name, _, ..] => reason_of_name(name),
-        _ => "is none of the steps",
+        [name, rest @ ..] => reason_of(name, rest),
+        [] => NO_STEP,
     }
 }
 
-/// Why a text of two words or more, of which this is the first, is no step.
-fn reason_of_name(name: &str) -> &'static str {
+/// What is said of a text that begins with no step's name.
+const NO_STEP: &str = "is none of the steps";
+
+/// What is said of a step whose `up` is followed by another word.
+const NO_HEIGHT: &str = "has an up that is no number from 1 to 15";
+
+/// Why a text that begins with this word is no step, by the words behind it.
+fn reason_of(name: &str, rest: &[&str]) -> &'static str {
     match name {
         "fail" | "abort" => "takes one text and no up",
-        _ => "is none of the steps",
+        "none" | "remove" => reason_of_key(rest),
+        "put" | "put!" | "want" | "compute" | "compute!" | "computefail" => reason_of_text(rest),
+        _ => NO_STEP,
+    }
+}
+
+/// Why the words behind the name of a step with a key alone are none.
+fn reason_of_key(rest: &[&str]) -> &'static str {
+    match rest {
+        [_, up, _] if *up == "up" => NO_HEIGHT,
+        _ => "takes a key and no text",
+    }
+}
+
+/// Why the words behind the name of a step with a key and a text are none.
+fn reason_of_text(rest: &[&str]) -> &'static str {
+    match rest {
+        [_, _, up, _] if *up == "up" => NO_HEIGHT,
+        _ => "takes a key and one text",
     }
 }

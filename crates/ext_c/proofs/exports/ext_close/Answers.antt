@@ -1,4 +1,4 @@
-use Rattle.std.proofs.Common.{◌≡◌, length, take}
+use Rattle.std.proofs.Common.{◌≡◌}
 use Rattle.ext_c.specs.Closing.{CloseSays}
 use Rattle.ext_c.specs.declared.seat.Seat.{Seat}
 use Rattle.ext_c.proofs.Said.{on_slot}
@@ -7,7 +7,8 @@ use Rattle.ext_c.proofs.exports.ext_close.Goals as goal
 pub returns : goal.returns
 returns c = record {
   says =
-      on_slot (λ (old : Seat) (now : Seat). now.store ≡ old.store) (λ before after. CloseSays c.args.context (length c.args.values.now) before after (take c.close-code.new.count c.close-code.new.values))
+      on_slot (λ (old : Seat) (now : Seat). now.store ≡ old.store) ((c.close-code.new.count ≡ 0) × (c.close-code.new.values ≡ c.args.values.now))
+      (λ before after. CloseSays c.args.context before after c.args.values.now c.close-code.new.values c.close-code.new.count)
       c.args.slot.now c.give.new.self c.number-2.result c.in-Some.seat.value c.deref_mut.result.now c.close-code.new.self c.close-code.result
       c.in-Some.ensures.taken c.give.ensures.state c.give.ensures.seat c.close-code.ensures.store c.deref_mut.ensures.value c.number-2.ensures c.close-code.ensures.says;
 }

@@ -1,3 +1,4 @@
+use Rattle.std.proofs.Common.{◌≡◌}
 use Rattle.ext_c.specs.Answers.{GetSays}
 use Rattle.ext_c.specs.Slots.{StaysSo}
 use Rattle.ext_c.proofs.Said.{on_slot}
@@ -6,7 +7,7 @@ use Rattle.ext_c.proofs.exports.ext_get.Goals as goal
 pub returns : goal.returns
 returns c = record {
   says =
-      on_slot StaysSo (λ before after. GetSays c.args.context c.args.key before after c.get-code.new.found)
+      on_slot StaysSo (c.get-code.new.found ≡ c.args.found.now) (λ before after. GetSays c.args.context c.args.key before after c.args.found.now c.get-code.new.found)
       c.args.slot.now c.give.new.self c.number-2.result c.in-Some.seat.value c.deref_mut.result.now c.get-code.new.self c.get-code.result
       c.in-Some.ensures.taken c.give.ensures.state c.give.ensures.seat (record { store = c.get-code.ensures.store; closers = c.get-code.ensures.closers }) c.deref_mut.ensures.value c.number-2.ensures c.get-code.ensures.says;
 }

@@ -1,7 +1,9 @@
-use Rattle.std.proofs.Common.{rules, ◌≡◌, length, map, vec_len, arith, refl, subst}
+use Rattle.std.proofs.Common.{rules, ◌≡◌, ◌∙◌, length, map, vec_len, arith, refl, subst, ap}
 use Rattle.ext_tree.specs.Trees.{IsTree}
 use Rattle.ext_engine.specs.InnerHelpers.{ran_view}
-use Rattle.ext_engine.specs.TreeRun.{setting_of}
+use Rattle.ext_lifecycle.specs.Results.{told}
+use Rattle.ext_engine.specs.TreeRun.{setting_of, all_results, all_skipped, placed}
+use Rattle.ext_engine.proofs.InTree.{results_within}
 use Rattle.ext_engine.proofs.Roots.{root-item, ran-placed, skipped-count}
 use Rattle.ext_engine.proofs.RunLaws.{ran_within}
 use Rattle.ext_engine.proofs.Told.{grown}
@@ -21,3 +23,13 @@ place-requires g c =
     let count : c.len.result ≡ nodes = search rules in
     let places : vec_len c.in_ok-results.results ≡ nodes = (let e = skipped-count su c.in_ok-results.results.items c.len.result c.in_ok-results.ensures in let f = c.in_ok-results.results.ok.0 in omega (arith, e, f, count)) in
     ran-placed c.in_ok-ran.ran.items nodes (vec_len c.in_ok-results.results) places (ran_within st.tree su tree 16 (map ran_view c.in_ok-ran.ran.items) grow)
+
+pub returns-clause-nodes : goal.returns-clause-nodes
+returns-clause-nodes g c =
+    let nodes = length c.args.store.now.tree in
+    let su = g.S.Suite.suite_view c.args.suite.now in
+    let ran = map ran_view c.in_ok-ran.ran.items in
+    let count : c.len.result ≡ nodes = search rules in
+    let are : map told c.place.new.results.items ≡ all_results su nodes ran =
+    c.place.ensures ∙ ap (λ l. placed l ran) (c.in_ok-results.ensures ∙ ap (λ n. all_skipped su n) count) in
+    results_within su nodes ran c.place.new.results.items are

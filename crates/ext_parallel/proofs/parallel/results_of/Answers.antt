@@ -10,7 +10,7 @@ use Rattle.ext_engine.specs.TreeRun.{IsRunnable, IsUsable, Lanes, TreeRun, all_r
 use Rattle.ext_parallel.specs.PlanSuites.{suite_of}
 use Rattle.ext_parallel.proofs.Runnable.{tree_runnable}
 use Rattle.ext_parallel.specs.ParallelRun.{setting_of_plan}
-use Rattle.ext_parallel.proofs.InTree.{if_err, if_ok, results_within}
+use Rattle.ext_parallel.proofs.Mapped.{if_err, if_ok}
 use Rattle.ext_parallel.proofs.Refusals.{refused_run}
 use Rattle.ext_engine.proofs.Fresh.{fresh_usable}
 use Rattle.ext_parallel.proofs.parallel.results_of.Goals as goal
@@ -60,8 +60,7 @@ returns-clause-in_tree g c =
     let plan = plan_view c.args.plan.now in
     let st = c.in_ok-store.store in
     let count : length st.tree ≡ length c.args.plan.now.nodes.items = ap length c.in_ok-store.ensures.store.tree ∙ length-map plan.nodes (λ n. n.id) ∙ length-map c.args.plan.now.nodes.items node_view in
-    if_ok c.run_tree-ran.result (λ results ran.
-    subst (λ (n : ℕ). All (λ r. r.node < n) results.items) count (results_within (suite_of c.args.suite.now) (length st.tree) ran.0 results.items ran.2)) c.run_tree-ran.ensures.run
+    if_ok c.run_tree-ran.result (λ results within. subst (λ (n : ℕ). All (λ r. r.node < n) results.items) count within) c.run_tree-ran.ensures.nodes
 
 pub returns-clause-fault : goal.returns-clause-fault
 returns-clause-fault g c =

@@ -1,4 +1,5 @@
 use Rattle.std.proofs.Common.{true}
+use Rattle.ext_report.specs.declared.form.ReportForm.TheVariants as forms
 use Rattle.ext_run.proofs.RunReports.{plan_of_utf8, plan_of_others, RefusedAs-plan}
 use Rattle.ext_run.proofs.checks.line_of.Goals as goal
 
@@ -13,4 +14,4 @@ returns-in_ok-counts_line-in-Ok-read_plan c =
 pub returns-in-Err : goal.returns-in-Err
 returns-in-Err c =
     let text = c.in-Ok.ensures.cases in
-    rw (plan_of_utf8 c.args.input.now text.1, ← text.0) (RefusedAs-plan (record { lanes = 1; plain = true }) _ _ c.in-Err.ensures.exact)
+    rw (plan_of_utf8 c.args.input.now text.1, ← text.0) (RefusedAs-plan (record { lanes = 1; plain = true; form = forms.Text }) _ _ c.in-Err.ensures.exact)

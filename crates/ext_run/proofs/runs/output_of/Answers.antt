@@ -1,11 +1,12 @@
 use Rattle.std.proofs.Common.{◌≡◌, ◌∙◌, ◌<◌, All, length, ap, sym, subst}
 use Rattle.ext_lifecycle.specs.FaultTexts.{results_view}
-use Rattle.ext_report.specs.Report.{any_failed, report_of}
+use Rattle.ext_report.specs.Report.{any_failed}
+use Rattle.ext_report.specs.Forms.{report_in}
 use Rattle.ext_run.proofs.RunReports.{run_report_is}
 use Rattle.ext_run.proofs.runs.output_of.Goals as goal
 
-pub report_text-requires : goal.report_text-requires
-report_text-requires g c = record { in_tree = subst (All (λ r. r.node < length c.in_ok-tree.tree)) (sym c.as_slice.ensures.value) c.in-Ok.ensures.in_tree }
+pub report_in-requires : goal.report_in-requires
+report_in-requires g c = record { in_tree = subst (All (λ r. r.node < length c.in_ok-tree.tree)) (sym c.as_slice.ensures.value) c.in-Ok.ensures.in_tree }
 
 pub returns-clause-ok : goal.returns-clause-ok
 returns-clause-ok g c =
@@ -15,5 +16,5 @@ returns-clause-ok g c =
     record {
       results = results;
       run = c.in-Ok.ensures.run;
-      report_is = run_report_is _ _ _ _ _ (c.in_ok-report.ensures.text ∙ ap (report_of c.in_ok-tree.tree) first ∙ ap (λ ids. report_of ids results) c.in_ok-tree.ensures) (c.any_failed.ensures ∙ ap any_failed again);
+      report_is = run_report_is _ _ _ _ _ (c.in_ok-report.ensures ∙ ap (report_in c.args.options.form c.in_ok-tree.tree) first ∙ ap (λ ids. report_in c.args.options.form ids results) c.in_ok-tree.ensures) (c.any_failed.ensures ∙ ap any_failed again);
     }

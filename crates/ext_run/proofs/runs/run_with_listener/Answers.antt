@@ -11,4 +11,4 @@ returns-in_err-write_whole-clause-refused g c =
 pub returns-clause-written : goal.returns-clause-written
 returns-clause-written g c =
     let input = c.in_ok-input.ensures in
-    written c.args.options _ _ _ _ _ _ _ _ input.whole input.short c.as_slice.ensures.value c.in_ok-output.ensures c.as_bytes.ensures.value c.in_ok-write_whole.ensures.written
+    written c.args.options _ _ _ _ _ _ _ _ input.whole input.short c.as_slice.ensures.value c.in_ok-output.ensures c.as_slice-2.ensures.value c.in_ok-write_whole.ensures.written

@@ -11,5 +11,13 @@ returns c =
     subst (AsksRun (rows_of found)) (sym c.run_on.ensures) (record {
       lanes = subst (λ text. IsLaneCount text c.lanes_of.result) (one_text-rows found (codes "lanes")) c.lanes_of.ensures;
       plain = subst (λ text. IsTrue c.is_plain.result ↔ (text ≡ Some (codes "plain"))) (first_value-rows found (codes "store")) c.is_plain.ensures;
-      told = subst (λ text. IsFlag text c.is_told.result) (one_text-rows found (codes "progress")) c.is_told.ensures;
+      form = record {
+        tree = c.is_set.result;
+        json = c.is_json.result;
+        drawn = subst (λ text. IsFlag text c.is_set.result) (one_text-rows found (codes "tree")) c.is_set.ensures;
+        by_lines = subst (λ text. IsTrue c.is_json.result ↔ (text ≡ Some (codes "json"))) (first_value-rows found (codes "report")) c.is_json.ensures;
+        form_is = c.form_of.ensures;
+      };
+      told = subst (λ text. IsFlag text c.is_set-2.result) (one_text-rows found (codes "progress")) c.is_set-2.ensures;
+      again = subst (λ text. IsFlag text c.is_set-3.result) (one_text-rows found (codes "failures")) c.is_set-3.ensures;
     })

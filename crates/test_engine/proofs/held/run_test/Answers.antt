@@ -1,6 +1,5 @@
-use Rattle.test_engine.proofs.ReadyToRun.{leaves_runnable, one_name}
+use Rattle.ext_engine.proofs.Named.{one_name}
 use Rattle.test_engine.proofs.held.run_test.Goals as goal
 
-pub run_tree-requires-clause-runnable : goal.run_tree-requires-clause-runnable
-run_tree-requires-clause-runnable g c κs inside =
-    leaves_runnable c.args.store.now c.args.locks.now c.tree.result.now _ c.tree.ensures (one_name c.args.locks.now _ c.requires.lock)
+pub leaf_laws-requires-clause-names : goal.leaf_laws-requires-clause-names
+leaf_laws-requires-clause-names g c κs inside node within = one_name c.args.locks.now _ _ c.requires.lock

@@ -9,4 +9,4 @@ returns-in-None-clause-says c =
 pub returns-in-Some-claim_missing-clause-says : goal.returns-in-Some-claim_missing-clause-says
 returns-in-Some-claim_missing-clause-says c =
     begin_said c.args.context c.args.key c.args.self.now c.claim_missing.new.self c.tell_unused.new.self c.claim_missing.ensures.known c.claim_missing.ensures.faults
-    c.tell_unused.ensures.still c.tell_unused.new.found c.tell_unused.result c.in-Some-claim_missing.why c.in-Some-claim_missing.ensures.unclaimed.1 c.tell_unused.ensures.told
+    c.tell_unused.ensures.still c.args.found.now c.tell_unused.new.found c.tell_unused.result c.in-Some-claim_missing.why c.in-Some-claim_missing.ensures.unclaimed.1 c.tell_unused.ensures.told

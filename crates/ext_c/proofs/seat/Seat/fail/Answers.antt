@@ -8,7 +8,7 @@ pub returns-then-not-keeps_faults-clause-says : goal.returns-then-not-keeps_faul
 returns-then-not-keeps_faults-clause-says c =
     FailSays.given_up c.in-Some.claim (sym c.replace.ensures.value ∙ c.in-Some.is)
     (subst (λ (s : StoreView). s.id.cells.limits.keep_faults ≡ false) c.deref-shared.ensures (sym c.keeps_faults.ensures ∙ c.if-not-keeps_faults.true))
-    c.give_up_quietly.ensures.abandoned refl
+    c.give_up_quietly.ensures.abandoned refl refl
 
 pub returns-in_default-fault_of-clause-says : goal.returns-in_default-fault_of-clause-says
 returns-in_default-fault_of-clause-says c =
@@ -21,4 +21,4 @@ returns-in-Ok-fail_claim-clause-says c =
 
 pub returns-in-Err-clause-says : goal.returns-in-Err-clause-says
 returns-in-Err-clause-says c =
-    FailSays.unkept c.in-Some.claim c.in-Err.why (sym c.replace.ensures.value ∙ c.in-Some.is) c.in-Err.ensures.unkept c.of_keep-in-Err.ensures
+    FailSays.unkept c.in-Some.claim c.in-Err.why (sym c.replace.ensures.value ∙ c.in-Some.is) c.in-Err.ensures.unkept refl c.of_keep-in-Err.ensures

@@ -9,16 +9,16 @@ end_refused-requires-clause-placed g c = remove_placed c.args.store.now _ _ _ _ 
 
 pub returns-in-Ok-clause-removes : goal.returns-in-Ok-clause-removes
 returns-in-Ok-clause-removes g c =
-    step_removes c.args.store.now (call_view c.args.call.now) c.at-context.result c.at-context.ensures c.args.lane.now c.of.result c.remove_wait.new.lane _ c.in-Ok.ensures.answer c.in-Ok.ensures.known c.in-Ok.ensures.faults
+    step_removes c.args.store.now (call_view c.args.call.now) c.at-context.result c.at-context.ensures c.args.lane.now c.of.result c.remove_wait.new.lane _ c.in-Ok.ensures.answer c.in-Ok.ensures.stays.known c.in-Ok.ensures.stays.faults
     (ends_well 0 0 _ c.of.ensures.verdict c.of.ensures.computed c.of.ensures.found)
 
 pub returns-in-Err-clause-removes : goal.returns-in-Err-clause-removes
 returns-in-Err-clause-removes g c =
-    step_removes c.args.store.now (call_view c.args.call.now) c.at-context.result c.at-context.ensures c.args.lane.now c.end_refused.result c.remove_wait.new.lane _ c.in-Err.ensures.answer c.in-Err.ensures.known c.in-Err.ensures.faults
+    step_removes c.args.store.now (call_view c.args.call.now) c.at-context.result c.at-context.ensures c.args.lane.now c.end_refused.result c.remove_wait.new.lane _ c.in-Err.ensures.answer c.in-Err.ensures.stays.known c.in-Err.ensures.stays.faults
     c.end_refused.ensures
 
 pub returns-in-Ok-clause-frame : goal.returns-in-Ok-clause-frame
-returns-in-Ok-clause-frame g c = c.in-Ok.ensures.frame
+returns-in-Ok-clause-frame g c = c.in-Ok.ensures.stays.frame
 
 pub returns-in-Err-clause-frame : goal.returns-in-Err-clause-frame
-returns-in-Err-clause-frame g c = c.in-Err.ensures.frame
+returns-in-Err-clause-frame g c = c.in-Err.ensures.stays.frame

@@ -10,37 +10,37 @@ use Rattle.ext_parallel.proofs.steps.looks.see.Goals as goal
 pub returns-in-Ok-Found-clause-sees : goal.returns-in-Ok-Found-clause-sees
 returns-in-Ok-Found-clause-sees g c =
     let n = of_answer _ _ _ _ _ c.in-Ok-Found.ensures.answer in
-    (n.0, subst (λ (notes : List KnownPlace). IsKeyNumber notes c.args.key.now n.0) (sym c.show.ensures.keys) n.1, sees_shown _ _ n.0 c.args.lane.now c.get_wait.new.lane c.show.new.lane _ (look.Found c.in-Ok-Found.field-0-0 c.in-Ok-Found.number) _ c.in-Ok-Found.field-0-is n.2 c.in-Ok-Found.ensures.known c.in-Ok-Found.ensures.faults c.show.ensures.steps (c.show.ensures.faults, c.show.ensures.shows))
+    (n.0, subst (λ (notes : List KnownPlace). IsKeyNumber notes c.args.key.now n.0) (sym c.show.ensures.keys) n.1, sees_shown _ _ n.0 c.args.lane.now c.get_wait.new.lane c.show.new.lane _ (look.Found c.in-Ok-Found.field-0-0 c.in-Ok-Found.number) _ c.in-Ok-Found.field-0-is n.2 c.in-Ok-Found.ensures.stays.known c.in-Ok-Found.ensures.stays.faults c.show.ensures.steps (c.show.ensures.faults, c.show.ensures.shows))
 
 pub returns-in-Ok-Fault-clause-sees : goal.returns-in-Ok-Fault-clause-sees
 returns-in-Ok-Fault-clause-sees g c =
     let n = of_answer _ _ _ _ _ c.in-Ok-Fault.ensures.answer in
-    (n.0, subst (λ (notes : List KnownPlace). IsKeyNumber notes c.args.key.now n.0) (sym c.show_fault.ensures.keys) n.1, sees_shown _ _ n.0 c.args.lane.now c.get_wait.new.lane c.show_fault.new.lane _ (look.Fault c.in-Ok-Fault.field-0-0 c.in-Ok-Fault.number) _ c.in-Ok-Fault.field-0-is n.2 c.in-Ok-Fault.ensures.known c.in-Ok-Fault.ensures.faults c.show_fault.ensures.steps (c.show_fault.ensures.known, c.show_fault.ensures.shows))
+    (n.0, subst (λ (notes : List KnownPlace). IsKeyNumber notes c.args.key.now n.0) (sym c.show_fault.ensures.keys) n.1, sees_shown _ _ n.0 c.args.lane.now c.get_wait.new.lane c.show_fault.new.lane _ (look.Fault c.in-Ok-Fault.field-0-0 c.in-Ok-Fault.number) _ c.in-Ok-Fault.field-0-is n.2 c.in-Ok-Fault.ensures.stays.known c.in-Ok-Fault.ensures.stays.faults c.show_fault.ensures.steps (c.show_fault.ensures.known, c.show_fault.ensures.shows))
 
 pub returns-in-Ok-Absent-clause-sees : goal.returns-in-Ok-Absent-clause-sees
 returns-in-Ok-Absent-clause-sees g c =
     let n = of_answer _ _ _ _ _ c.in-Ok-Absent.ensures.answer in
-    (n.0, n.1, sees_shown _ _ n.0 c.args.lane.now c.get_wait.new.lane c.get_wait.new.lane _ look.Absent _ c.in-Ok-Absent.field-0-is n.2 c.in-Ok-Absent.ensures.known c.in-Ok-Absent.ensures.faults refl ((refl, refl), refl))
+    (n.0, n.1, sees_shown _ _ n.0 c.args.lane.now c.get_wait.new.lane c.get_wait.new.lane _ look.Absent _ c.in-Ok-Absent.field-0-is n.2 c.in-Ok-Absent.ensures.stays.known c.in-Ok-Absent.ensures.stays.faults refl ((refl, refl), refl))
 
 pub returns-in-Ok-Closed-clause-sees : goal.returns-in-Ok-Closed-clause-sees
 returns-in-Ok-Closed-clause-sees g c =
     let n = of_answer _ _ _ _ _ c.in-Ok-Closed.ensures.answer in
-    (n.0, n.1, sees_shown _ _ n.0 c.args.lane.now c.get_wait.new.lane c.get_wait.new.lane _ (look.Closed c.in-Ok-Closed.field-0-0) _ c.in-Ok-Closed.field-0-is n.2 c.in-Ok-Closed.ensures.known c.in-Ok-Closed.ensures.faults refl ((refl, refl), refl))
+    (n.0, n.1, sees_shown _ _ n.0 c.args.lane.now c.get_wait.new.lane c.get_wait.new.lane _ (look.Closed c.in-Ok-Closed.field-0-0) _ c.in-Ok-Closed.field-0-is n.2 c.in-Ok-Closed.ensures.stays.known c.in-Ok-Closed.ensures.stays.faults refl ((refl, refl), refl))
 
 pub returns-in-Err-clause-refused : goal.returns-in-Err-clause-refused
-returns-in-Err-clause-refused g c = (look_refused c.args.store.now _ _ _ _ _ c.in-Err.ensures.answer c.in-Err.ensures.decided, (c.in-Err.ensures.known, c.in-Err.ensures.faults))
+returns-in-Err-clause-refused g c = (look_refused c.args.store.now _ _ _ _ _ c.in-Err.ensures.answer c.in-Err.ensures.decided, (c.in-Err.ensures.stays.known, c.in-Err.ensures.stays.faults))
 
 pub returns-in-Ok-Found-clause-frame : goal.returns-in-Ok-Found-clause-frame
-returns-in-Ok-Found-clause-frame g c = then_framed c.args.store.now c.args.lane.now c.get_wait.new.lane c.show.new.lane c.in-Ok-Found.ensures.frame c.show.ensures.frame
+returns-in-Ok-Found-clause-frame g c = then_framed c.args.store.now c.args.lane.now c.get_wait.new.lane c.show.new.lane c.in-Ok-Found.ensures.stays.frame c.show.ensures.frame
 
 pub returns-in-Ok-Fault-clause-frame : goal.returns-in-Ok-Fault-clause-frame
-returns-in-Ok-Fault-clause-frame g c = then_framed c.args.store.now c.args.lane.now c.get_wait.new.lane c.show_fault.new.lane c.in-Ok-Fault.ensures.frame c.show_fault.ensures.frame
+returns-in-Ok-Fault-clause-frame g c = then_framed c.args.store.now c.args.lane.now c.get_wait.new.lane c.show_fault.new.lane c.in-Ok-Fault.ensures.stays.frame c.show_fault.ensures.frame
 
 pub returns-in-Ok-Absent-clause-frame : goal.returns-in-Ok-Absent-clause-frame
-returns-in-Ok-Absent-clause-frame g c = c.in-Ok-Absent.ensures.frame
+returns-in-Ok-Absent-clause-frame g c = c.in-Ok-Absent.ensures.stays.frame
 
 pub returns-in-Ok-Closed-clause-frame : goal.returns-in-Ok-Closed-clause-frame
-returns-in-Ok-Closed-clause-frame g c = c.in-Ok-Closed.ensures.frame
+returns-in-Ok-Closed-clause-frame g c = c.in-Ok-Closed.ensures.stays.frame
 
 pub returns-in-Err-clause-frame : goal.returns-in-Err-clause-frame
-returns-in-Err-clause-frame g c = c.in-Err.ensures.frame
+returns-in-Err-clause-frame g c = c.in-Err.ensures.stays.frame

@@ -5,32 +5,32 @@ use Rattle.ext_plain.specs.ContextEnds.{closeables}
 use Rattle.ext_plain.specs.InnerHelpers.{state_view, HasClosed}
 use Rattle.ext_plain.proofs.Sealing.{closes-more, closes-same, HasClosed-is, HasClosed-more}
 use Rattle.ext_plain.proofs.value_store.ValueStore.close_values.Goals as goal
-use Rattle.ext_plain.proofs.value_store.ValueStore.close_values.Goals.{in-Some+in_ok-close_fault, in_default}
+use Rattle.ext_plain.proofs.value_store.ValueStore.close_values.Goals.{in-Some+in_ok-fault, in_default}
 use Rattle.ext_plan.specs.Values.{close_fault, value_view}
 
 pub loop-number-init : goal.loop-number-init
-loop-number-init c = record {
+loop-number-init g c = record {
   closed = record { faults = []; counted = c.new-closes.ensures; texts = refl };
   bounded = omega (arith, ap (λ e. e.more_faults) c.new-closes.ensures);
   few = omega (arith, ap (λ e. e.closed) c.new-closes.ensures);
 }
 
 pub add-requires-clause-room : goal.add-requires-clause-room
-add-requires-clause-room c = omega (arith, c.loop-number.invariant.few, c.loop-number-test.true, c.requires)
+add-requires-clause-room g c = omega (arith, c.loop-number.invariant.few, c.loop-number-test.true, c.requires)
 
 pub add-requires-clause-bounded : goal.add-requires-clause-bounded
-add-requires-clause-bounded c = c.loop-number.invariant.bounded
+add-requires-clause-bounded g c = c.loop-number.invariant.bounded
 
 pub loop-number-preserved : goal.loop-number-preserved
-loop-number-preserved c =
+loop-number-preserved g c =
     let values = (state_view c.args.self.now).values in
     let numbers = c.args.numbers.now in
     elim c.match-closeable.branch [
-      | in-Some+in_ok-close_fault w ↦
+      | in-Some+in_ok-fault w ↦
           let value = value_view w.in-Some.value in
           let found = sym (ap (option_map value_view) w.in-Some.is) ∙ c.closeable.ensures in
           let more = closes-more values numbers c.loop-number.number-index value c.loop-number-test.true found in
-          let one = HasClosed-more c.loop-number.closes _ _ _ _ c.loop-number.invariant.closed w.add.ensures.counted w.in_ok-close_fault.ensures.fault in
+          let one = HasClosed-more c.loop-number.closes _ _ _ _ c.loop-number.invariant.closed w.add.ensures.counted w.in_ok-fault.ensures.fault in
           record {
             closed = HasClosed-is c.match-closeable.closes _ _ _ w.closes-is more one;
             bounded = subst (λ e. e.more_faults ≤ e.closed) (sym w.closes-is) w.add.ensures.bounded;
@@ -46,6 +46,6 @@ loop-number-preserved c =
     ]
 
 pub returns : goal.returns
-returns c =
+returns g c =
     let whole = take_all c.loop-number.number-index c.args.numbers.now (omega (arith, c.loop-number-test.false)) in
     subst (λ numbers. HasClosed c.loop-number.closes (map close_fault (closeables (state_view c.args.self.now).values numbers))) whole c.loop-number.invariant.closed

@@ -5,7 +5,7 @@ use Rattle.ext_plain.proofs.value_store.ValueStore.close_values.Given as goal
 use Rattle.ext_plan.specs.Values.{close_fault}
 
 abbrev pub invariant-loop-number : goal.invariant-loop-number
-invariant-loop-number l = record {
+invariant-loop-number g l = record {
   closed : HasClosed l.closes (map close_fault (closeables (state_view l.self).values (take l.number-index l.numbers)));
   bounded : l.closes.more_faults ≤ l.closes.closed;
   few : l.closes.closed ≤ l.number-index;

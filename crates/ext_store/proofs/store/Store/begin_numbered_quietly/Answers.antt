@@ -2,7 +2,7 @@ use Rattle.std.proofs.Common.{[], refl, ap, subst}
 use Rattle.ext_cells.specs.Lanes.{Lane}
 use Rattle.ext_store.specs.Stores.{StoreView, StoreLane}
 use Rattle.ext_store.specs.Computing.{ClaimsMissing}
-use Rattle.ext_store.proofs.Frames.{frame_keeps, frame_lane}
+use Rattle.ext_store.proofs.Frames.{stays_inside}
 use Rattle.ext_store.proofs.Composing.{claim_frame}
 use Rattle.ext_store.proofs.Faulting.{begun_faultless, begun_held}
 use Rattle.ext_store.proofs.store.Store.begin_numbered_quietly.Goals as goal
@@ -17,16 +17,8 @@ returns-clause-held g c = begun_held c.args.self.now c.args.context c.args.key c
 pub returns-clause-no_faults : goal.returns-clause-no_faults
 returns-clause-no_faults g c = begun_faultless c.args.self.now c.args.context c.args.key c.args.lane.now.cells.view c.claim_missing_quietly.new.lane.view c.claim_missing_quietly.result (returns-clause-answer g c)
 
-pub returns-clause-frame : goal.returns-clause-frame
-returns-clause-frame g c =
-    claim_frame c.args.self.now.id (record { cells = c.lane.inside.cells; known = c.lane.inside.notes; faults = c.lane.inside.faults; keys = c.lane.inside.keys }) c.args.lane.now (record { cells = c.claim_missing_quietly.new.lane; known = c.lane.inside.notes; faults = c.lane.inside.faults; keys = c.lane.inside.keys }) c.lane.view_is c.requires.lane c.claim_missing_quietly.ensures.lane refl
-    c.self.inside.shared (ap (λ (s : StoreView). s.id.cells) c.self.view_is) c.args.context c.args.key c.claim_missing_quietly.result c.claim_missing_quietly.ensures.claim
-
-pub returns-clause-known : goal.returns-clause-known
-returns-clause-known g c = ap (λ (l : StoreLane g.row.V.Denot). l.known) c.lane.view_is
-
-pub returns-clause-lane : goal.returns-clause-lane
-returns-clause-lane g c = frame_lane c.args.self.now.id [] c.args.lane.now (record { cells = c.claim_missing_quietly.new.lane; known = c.lane.inside.notes; faults = c.lane.inside.faults; keys = c.lane.inside.keys }) (returns-clause-frame g c)
-
-pub returns-clause-kept : goal.returns-clause-kept
-returns-clause-kept g c = frame_keeps c.args.self.now.id c.args.lane.now (record { cells = c.claim_missing_quietly.new.lane; known = c.lane.inside.notes; faults = c.lane.inside.faults; keys = c.lane.inside.keys }) (returns-clause-frame g c)
+pub returns-clause-stays : goal.returns-clause-stays
+returns-clause-stays g c =
+    stays_inside c.args.self.now.id [] (record { cells = c.lane.inside.cells; known = c.lane.inside.notes; faults = c.lane.inside.faults; keys = c.lane.inside.keys }) c.args.lane.now (record { cells = c.claim_missing_quietly.new.lane; known = c.lane.inside.notes; faults = c.lane.inside.faults; keys = c.lane.inside.keys }) c.lane.view_is refl
+    (claim_frame c.args.self.now.id (record { cells = c.lane.inside.cells; known = c.lane.inside.notes; faults = c.lane.inside.faults; keys = c.lane.inside.keys }) c.args.lane.now (record { cells = c.claim_missing_quietly.new.lane; known = c.lane.inside.notes; faults = c.lane.inside.faults; keys = c.lane.inside.keys }) c.lane.view_is c.requires.lane c.claim_missing_quietly.ensures.lane refl
+    c.self.inside.shared (ap (λ (s : StoreView). s.id.cells) c.self.view_is) c.args.context c.args.key c.claim_missing_quietly.result c.claim_missing_quietly.ensures.claim)

@@ -3,7 +3,7 @@ use Rattle.std.specs.Prelude.{Ok, Err}
 use Rattle.std.specs.Fn.{FnOnceReturnsAt}
 use Rattle.ext_values.specs.Known.{Learns}
 use Rattle.ext_store.specs.Computing.{ClaimsMissing, ComputesFrom, Computes, without_factory}
-use Rattle.ext_store.proofs.Frames.{frame_keeps, frame_known, frame_lane, frames_compose}
+use Rattle.ext_store.proofs.Frames.{frames_compose, grows}
 use Rattle.ext_store.proofs.Composing.{unused_computes, for_path, ends_failed, failed_uses, failed_back, failed_apart, failed_faultless, computes, keeps_not}
 use Rattle.ext_store.proofs.Faulting.{handed_faultless}
 use Rattle.ext_store.proofs.Numbered.{uses_later}
@@ -19,8 +19,8 @@ returns-in-Err-clause-answer g c =
     subst (λ r. Computes s c.args.context c.args.key a b (without_factory r)) (sym c.hand_back.ensures)
     (for_path s c.args.context m.0 c.args.key a b _ c.requires.lane.cells m.1 (unused_computes g.row.V.Denot s c.args.context m.0 c.args.key a.view b.view c.args.factory c.in-Err.why m.2))
 
-pub returns-in-Err-clause-known : goal.returns-in-Err-clause-known
-returns-in-Err-clause-known g c = frame_known c.args.self.now.id [] c.args.lane.now c.begin_numbered.new.lane c.begin_numbered.ensures.frame
+pub returns-in-Err-clause-grows : goal.returns-in-Err-clause-grows
+returns-in-Err-clause-grows g c = grows c.args.self.now.id c.args.lane.now c.begin_numbered.new.lane c.begin_numbered.ensures.stays.frame
 
 pub returns-in-Err-clause-handed_back : goal.returns-in-Err-clause-handed_back
 returns-in-Err-clause-handed_back g c = unused_back c.args.factory c.in-Err.why c.hand_back.result c.hand_back.ensures
@@ -30,7 +30,7 @@ returns-in-Err-clause-apart g c = unused_apart c.args.factory c.in-Err.why c.han
 
 pub returns-in-Err-clause-factory : goal.returns-in-Err-clause-factory
 returns-in-Err-clause-factory g c =
-    unused_uses c.args.factory c.in-Err.why c.hand_back.result c.hand_back.ensures (λ answer. FnOnceReturnsAt g.F.FnOnce c.args.factory c.args.name.now answer) c.args.lane.now c.begin_numbered.new.lane c.begin_numbered.ensures.known c.begin_numbered.ensures.faults
+    unused_uses c.args.factory c.in-Err.why c.hand_back.result c.hand_back.ensures (λ answer. FnOnceReturnsAt g.F.FnOnce c.args.factory c.args.name.now answer) c.args.lane.now c.begin_numbered.new.lane c.begin_numbered.ensures.stays.known c.begin_numbered.ensures.stays.faults
 
 pub returns-in-Err-clause-no_faults : goal.returns-in-Err-clause-no_faults
 returns-in-Err-clause-no_faults g c off = handed_faultless c.args.factory c.in-Err.why c.hand_back.result c.hand_back.ensures (c.in-Err.ensures.no_faults off)
@@ -57,27 +57,14 @@ returns-in-Err-fill-clause-answer g c =
     for_path s c.args.context m.0 c.args.key a c.fill.new.lane.cells _ c.requires.lane.cells m.1
     (keeps_not s c.args.context m.0 c.args.key c.in-Ok.claim a.view b.view c.fill.new.lane.cells.view m.2 c.in-Err-fill.cause c.in-Err-fill.ensures.events)
 
-pub returns-in-Ok-fill-clause-frame : goal.returns-in-Ok-fill-clause-frame
-returns-in-Ok-fill-clause-frame g c = frames_compose c.args.self.now.id [] [] c.args.lane.now c.begin_numbered.new.lane c.fill.new.lane c.begin_numbered.ensures.frame c.fill.ensures.frame
+pub returns-in-Ok-fill-clause-grows : goal.returns-in-Ok-fill-clause-grows
+returns-in-Ok-fill-clause-grows g c = grows c.args.self.now.id c.args.lane.now c.fill.new.lane (frames_compose c.args.self.now.id [] [] c.args.lane.now c.begin_numbered.new.lane c.fill.new.lane c.begin_numbered.ensures.stays.frame c.fill.ensures.frame)
 
-pub returns-in-Ok-fill-clause-kept : goal.returns-in-Ok-fill-clause-kept
-returns-in-Ok-fill-clause-kept g c = frame_keeps c.args.self.now.id c.args.lane.now c.fill.new.lane (returns-in-Ok-fill-clause-frame g c)
+pub returns-in-Err-fill-clause-grows : goal.returns-in-Err-fill-clause-grows
+returns-in-Err-fill-clause-grows g c = grows c.args.self.now.id c.args.lane.now c.fill.new.lane (frames_compose c.args.self.now.id [] [] c.args.lane.now c.begin_numbered.new.lane c.fill.new.lane c.begin_numbered.ensures.stays.frame c.fill.ensures.frame)
 
-pub returns-in-Ok-fill-clause-known : goal.returns-in-Ok-fill-clause-known
-returns-in-Ok-fill-clause-known g c = frame_known c.args.self.now.id [] c.args.lane.now c.fill.new.lane (returns-in-Ok-fill-clause-frame g c)
-
-pub returns-in-Err-fill-clause-frame : goal.returns-in-Err-fill-clause-frame
-returns-in-Err-fill-clause-frame g c = frames_compose c.args.self.now.id [] [] c.args.lane.now c.begin_numbered.new.lane c.fill.new.lane c.begin_numbered.ensures.frame c.fill.ensures.frame
-
-pub returns-in-Err-fill-clause-kept : goal.returns-in-Err-fill-clause-kept
-returns-in-Err-fill-clause-kept g c = frame_keeps c.args.self.now.id c.args.lane.now c.fill.new.lane (returns-in-Err-fill-clause-frame g c)
-
-pub returns-in-Err-fill-clause-known : goal.returns-in-Err-fill-clause-known
-returns-in-Err-fill-clause-known g c = frame_known c.args.self.now.id [] c.args.lane.now c.fill.new.lane (returns-in-Err-fill-clause-frame g c)
-
--- what was kept before is kept while the cell is claimed, and then it is none that is drawn
 pub returns-in-Ok-fill-clause-apart : goal.returns-in-Ok-fill-clause-apart
-returns-in-Ok-fill-clause-apart g c m kept = c.in-Ok-fill.ensures.apart m (c.begin_numbered.ensures.kept m kept)
+returns-in-Ok-fill-clause-apart g c m kept = c.in-Ok-fill.ensures.apart m (c.begin_numbered.ensures.stays.kept m kept)
 
 pub returns-in-Err-fill-clause-apart : goal.returns-in-Err-fill-clause-apart
 returns-in-Err-fill-clause-apart g c = tt
@@ -91,14 +78,14 @@ returns-in-Err-fill-clause-handed_back g c = tt
 -- what the factory answered it answered for the key of the number
 pub returns-in-Ok-fill-clause-factory : goal.returns-in-Ok-fill-clause-factory
 returns-in-Ok-fill-clause-factory g c =
-    let learnt = subst (λ l. Learns l c.fill.new.lane.known c.in-Ok-fill.number c.in-Ok-run_factory.value) c.begin_numbered.ensures.known c.in-Ok-fill.ensures.known in
-    (c.in-Ok-run_factory.value, c.in-Ok-run_factory.ensures, learnt, c.fill.ensures.faults ∙ c.begin_numbered.ensures.faults)
+    let learnt = subst (λ l. Learns l c.fill.new.lane.known c.in-Ok-fill.number c.in-Ok-run_factory.value) c.begin_numbered.ensures.stays.known c.in-Ok-fill.ensures.known in
+    (c.in-Ok-run_factory.value, c.in-Ok-run_factory.ensures, learnt, c.fill.ensures.faults ∙ c.begin_numbered.ensures.stays.faults)
 
 pub returns-in-Err-fill-clause-factory : goal.returns-in-Err-fill-clause-factory
 returns-in-Err-fill-clause-factory g c =
     let kept = c.in-Err-fill.ensures.known in
     let returned = subst (λ value. FnOnceReturnsAt g.F.FnOnce c.args.factory c.args.name.now (Ok value)) (sym kept.0) c.in-Ok-run_factory.ensures in
-    (returned, kept.1 ∙ c.begin_numbered.ensures.known, c.fill.ensures.faults ∙ c.begin_numbered.ensures.faults)
+    (returned, kept.1 ∙ c.begin_numbered.ensures.stays.known, c.fill.ensures.faults ∙ c.begin_numbered.ensures.stays.faults)
 
 -- ---- where the factory failed
 
@@ -111,21 +98,12 @@ returns-in-Err-run_factory-clause-answer g c =
     for_path s c.args.context m.0 c.args.key a c.end_failed.new.lane.cells _ c.requires.lane.cells m.1
     (ends_failed s c.in-Err-run_factory.fault c.in-Ok.claim b c.end_failed.new.lane c.args.context m.0 c.args.key a.view m.2 (without_factory c.end_failed.result) c.end_failed.ensures.ends)
 
-pub returns-in-Err-run_factory-clause-frame : goal.returns-in-Err-run_factory-clause-frame
-returns-in-Err-run_factory-clause-frame g c = frames_compose c.args.self.now.id [] [] c.args.lane.now c.begin_numbered.new.lane c.end_failed.new.lane c.begin_numbered.ensures.frame c.end_failed.ensures.frame
-
-pub returns-in-Err-run_factory-clause-kept : goal.returns-in-Err-run_factory-clause-kept
-returns-in-Err-run_factory-clause-kept g c = frame_keeps c.args.self.now.id c.args.lane.now c.end_failed.new.lane (returns-in-Err-run_factory-clause-frame g c)
-
-pub returns-in-Err-run_factory-clause-lane : goal.returns-in-Err-run_factory-clause-lane
-returns-in-Err-run_factory-clause-lane g c = frame_lane c.args.self.now.id [] c.args.lane.now c.end_failed.new.lane (returns-in-Err-run_factory-clause-frame g c)
-
-pub returns-in-Err-run_factory-clause-known : goal.returns-in-Err-run_factory-clause-known
-returns-in-Err-run_factory-clause-known g c = frame_known c.args.self.now.id [] c.args.lane.now c.end_failed.new.lane (returns-in-Err-run_factory-clause-frame g c)
+pub returns-in-Err-run_factory-clause-grows : goal.returns-in-Err-run_factory-clause-grows
+returns-in-Err-run_factory-clause-grows g c = grows c.args.self.now.id c.args.lane.now c.end_failed.new.lane (frames_compose c.args.self.now.id [] [] c.args.lane.now c.begin_numbered.new.lane c.end_failed.new.lane c.begin_numbered.ensures.stays.frame c.end_failed.ensures.frame)
 
 pub returns-in-Err-run_factory-clause-factory : goal.returns-in-Err-run_factory-clause-factory
 returns-in-Err-run_factory-clause-factory g c =
-    uses_later (λ answer. FnOnceReturnsAt g.F.FnOnce c.args.factory c.args.name.now answer) c.args.lane.now c.begin_numbered.new.lane c.end_failed.new.lane c.begin_numbered.ensures.known c.begin_numbered.ensures.faults (without_factory c.end_failed.result)
+    uses_later (λ answer. FnOnceReturnsAt g.F.FnOnce c.args.factory c.args.name.now answer) c.args.lane.now c.begin_numbered.new.lane c.end_failed.new.lane c.begin_numbered.ensures.stays.known c.begin_numbered.ensures.stays.faults (without_factory c.end_failed.result)
     (failed_uses c.args.self.now c.in-Err-run_factory.fault c.in-Ok.claim c.begin_numbered.new.lane c.end_failed.new.lane (λ answer. FnOnceReturnsAt g.F.FnOnce c.args.factory c.args.name.now answer) c.in-Err-run_factory.ensures (without_factory c.end_failed.result) c.end_failed.ensures.ends)
 
 pub returns-in-Err-run_factory-clause-handed_back : goal.returns-in-Err-run_factory-clause-handed_back

@@ -6,7 +6,7 @@ use Rattle.ext_values.specs.Known.{Learns}
 use Rattle.ext_store.specs.Stores.{StoreLane, StoreView}
 use Rattle.ext_store.specs.Computing.{ComputesFrom, Uses, without_factory}
 use Rattle.ext_store.specs.Waiting.{ClaimsAfterWaits, ComputesAfterWaits}
-use Rattle.ext_store.proofs.Frames.{frame_keeps, frame_known, frame_lane, frames_compose}
+use Rattle.ext_store.proofs.Frames.{frame_keeps, frames_compose, grows}
 use Rattle.ext_store.proofs.Composing.{unused_computes, ends_failed, failed_uses, failed_back, failed_apart, failed_faultless, computes, keeps_not}
 use Rattle.ext_store.proofs.Waited.{computes_later, waits_frame}
 use Rattle.ext_store.proofs.Faulting.{unused_faultless}
@@ -24,13 +24,11 @@ returns-in-Err-clause-answer g c =
     subst (λ r. ComputesAfterWaits s c.args.context c.args.key a b (without_factory r)) (sym c.hand_back.ensures)
     (computes_later s c.args.context c.args.key a b b.view (Err c.in-Err.why) w _ c.requires.lane.cells (unused_computes g.row.V.Denot s c.args.context w.then_is.0 c.args.key w.between b.view c.args.factory c.in-Err.why w.then_is.2))
 
-pub returns-in-Err-clause-frame : goal.returns-in-Err-clause-frame
-returns-in-Err-clause-frame g c =
-    waits_frame c.args.self.now.id (record { cells = c.lane.inside.cells; known = c.lane.inside.notes; faults = c.lane.inside.faults; keys = c.lane.inside.keys }) c.args.lane.now (record { cells = c.wait_to_claim.new.lane; known = c.lane.inside.notes; faults = c.lane.inside.faults; keys = c.lane.inside.keys }) c.lane.view_is c.requires.lane c.wait_to_claim.ensures.lane refl
-    c.self.inside.shared (ap (λ (s : StoreView). s.id.cells) c.self.view_is) c.args.context c.args.key (Err c.in-Err.why) c.in-Err.ensures.claim
-
-pub returns-in-Err-clause-kept : goal.returns-in-Err-clause-kept
-returns-in-Err-clause-kept g c = frame_keeps c.args.self.now.id c.args.lane.now (record { cells = c.wait_to_claim.new.lane; known = c.lane.inside.notes; faults = c.lane.inside.faults; keys = c.lane.inside.keys }) (returns-in-Err-clause-frame g c)
+pub returns-in-Err-clause-grows : goal.returns-in-Err-clause-grows
+returns-in-Err-clause-grows g c =
+    grows c.args.self.now.id c.args.lane.now (record { cells = c.wait_to_claim.new.lane; known = c.lane.inside.notes; faults = c.lane.inside.faults; keys = c.lane.inside.keys })
+    (waits_frame c.args.self.now.id (record { cells = c.lane.inside.cells; known = c.lane.inside.notes; faults = c.lane.inside.faults; keys = c.lane.inside.keys }) c.args.lane.now (record { cells = c.wait_to_claim.new.lane; known = c.lane.inside.notes; faults = c.lane.inside.faults; keys = c.lane.inside.keys }) c.lane.view_is c.requires.lane c.wait_to_claim.ensures.lane refl
+    c.self.inside.shared (ap (λ (s : StoreView). s.id.cells) c.self.view_is) c.args.context c.args.key (Err c.in-Err.why) c.in-Err.ensures.claim)
 
 pub returns-in-Ok-wait_to_fill-clause-answer : goal.returns-in-Ok-wait_to_fill-clause-answer
 unfolding ComputesFrom
@@ -56,29 +54,22 @@ returns-in-Err-wait_to_fill-clause-answer g c =
     computes_later s c.args.context c.args.key a c.wait_to_fill.new.lane.cells b.view (Ok c.in-Ok.claim) w _ c.requires.lane.cells
     (keeps_not s c.args.context w.then_is.0 c.args.key c.in-Ok.claim w.between b.view c.wait_to_fill.new.lane.cells.view w.then_is.2 c.in-Err-wait_to_fill.cause c.in-Err-wait_to_fill.ensures.events)
 
-pub returns-in-Ok-wait_to_fill-clause-frame : goal.returns-in-Ok-wait_to_fill-clause-frame
-returns-in-Ok-wait_to_fill-clause-frame g c =
+pub returns-in-Ok-wait_to_fill-clause-grows : goal.returns-in-Ok-wait_to_fill-clause-grows
+returns-in-Ok-wait_to_fill-clause-grows g c =
     let s = c.args.self.now in
     let inside : StoreLane g.row.V.Denot = record { cells = c.lane.inside.cells; known = c.lane.inside.notes; faults = c.lane.inside.faults; keys = c.lane.inside.keys } in
     let claimed : StoreLane g.row.V.Denot = record { cells = c.wait_to_claim.new.lane; known = c.lane.inside.notes; faults = c.lane.inside.faults; keys = c.lane.inside.keys } in
-    frames_compose s.id [] [] c.args.lane.now claimed c.wait_to_fill.new.lane
-    (waits_frame s.id inside c.args.lane.now claimed c.lane.view_is c.requires.lane c.wait_to_claim.ensures.lane refl c.self.inside.shared (ap (λ (s : StoreView). s.id.cells) c.self.view_is) c.args.context c.args.key (Ok c.in-Ok.claim) c.in-Ok.ensures.claim) c.wait_to_fill.ensures.frame
+    grows s.id c.args.lane.now c.wait_to_fill.new.lane
+    (frames_compose s.id [] [] c.args.lane.now claimed c.wait_to_fill.new.lane (waits_frame s.id inside c.args.lane.now claimed c.lane.view_is c.requires.lane c.wait_to_claim.ensures.lane refl c.self.inside.shared (ap (λ (s : StoreView). s.id.cells) c.self.view_is) c.args.context c.args.key (Ok c.in-Ok.claim) c.in-Ok.ensures.claim) c.wait_to_fill.ensures.frame)
 
-pub returns-in-Ok-wait_to_fill-clause-kept : goal.returns-in-Ok-wait_to_fill-clause-kept
-returns-in-Ok-wait_to_fill-clause-kept g c = frame_keeps c.args.self.now.id c.args.lane.now c.wait_to_fill.new.lane (returns-in-Ok-wait_to_fill-clause-frame g c)
-
-pub returns-in-Err-wait_to_fill-clause-frame : goal.returns-in-Err-wait_to_fill-clause-frame
-returns-in-Err-wait_to_fill-clause-frame g c =
+pub returns-in-Err-wait_to_fill-clause-grows : goal.returns-in-Err-wait_to_fill-clause-grows
+returns-in-Err-wait_to_fill-clause-grows g c =
     let s = c.args.self.now in
     let inside : StoreLane g.row.V.Denot = record { cells = c.lane.inside.cells; known = c.lane.inside.notes; faults = c.lane.inside.faults; keys = c.lane.inside.keys } in
     let claimed : StoreLane g.row.V.Denot = record { cells = c.wait_to_claim.new.lane; known = c.lane.inside.notes; faults = c.lane.inside.faults; keys = c.lane.inside.keys } in
-    frames_compose s.id [] [] c.args.lane.now claimed c.wait_to_fill.new.lane
-    (waits_frame s.id inside c.args.lane.now claimed c.lane.view_is c.requires.lane c.wait_to_claim.ensures.lane refl c.self.inside.shared (ap (λ (s : StoreView). s.id.cells) c.self.view_is) c.args.context c.args.key (Ok c.in-Ok.claim) c.in-Ok.ensures.claim) c.wait_to_fill.ensures.frame
+    grows s.id c.args.lane.now c.wait_to_fill.new.lane
+    (frames_compose s.id [] [] c.args.lane.now claimed c.wait_to_fill.new.lane (waits_frame s.id inside c.args.lane.now claimed c.lane.view_is c.requires.lane c.wait_to_claim.ensures.lane refl c.self.inside.shared (ap (λ (s : StoreView). s.id.cells) c.self.view_is) c.args.context c.args.key (Ok c.in-Ok.claim) c.in-Ok.ensures.claim) c.wait_to_fill.ensures.frame)
 
-pub returns-in-Err-wait_to_fill-clause-kept : goal.returns-in-Err-wait_to_fill-clause-kept
-returns-in-Err-wait_to_fill-clause-kept g c = frame_keeps c.args.self.now.id c.args.lane.now c.wait_to_fill.new.lane (returns-in-Err-wait_to_fill-clause-frame g c)
-
--- what was kept before is kept while the cell is claimed, and then it is none that is drawn
 pub returns-in-Ok-wait_to_fill-clause-apart : goal.returns-in-Ok-wait_to_fill-clause-apart
 returns-in-Ok-wait_to_fill-clause-apart g c m kept =
     let s = c.args.self.now in
@@ -103,29 +94,11 @@ returns-in-Err-wait_to_fill-clause-factory g c =
 
 -- ---- what the frames say, and what comes of a factory that is not called
 
-pub returns-in-Err-clause-lane : goal.returns-in-Err-clause-lane
-returns-in-Err-clause-lane g c = frame_lane c.args.self.now.id [] c.args.lane.now (record { cells = c.wait_to_claim.new.lane; known = c.lane.inside.notes; faults = c.lane.inside.faults; keys = c.lane.inside.keys }) (returns-in-Err-clause-frame g c)
-
-pub returns-in-Err-clause-known : goal.returns-in-Err-clause-known
-returns-in-Err-clause-known g c = frame_known c.args.self.now.id [] c.args.lane.now (record { cells = c.wait_to_claim.new.lane; known = c.lane.inside.notes; faults = c.lane.inside.faults; keys = c.lane.inside.keys }) (returns-in-Err-clause-frame g c)
-
-pub returns-in-Ok-wait_to_fill-clause-lane : goal.returns-in-Ok-wait_to_fill-clause-lane
-returns-in-Ok-wait_to_fill-clause-lane g c = frame_lane c.args.self.now.id [] c.args.lane.now c.wait_to_fill.new.lane (returns-in-Ok-wait_to_fill-clause-frame g c)
-
-pub returns-in-Ok-wait_to_fill-clause-known : goal.returns-in-Ok-wait_to_fill-clause-known
-returns-in-Ok-wait_to_fill-clause-known g c = frame_known c.args.self.now.id [] c.args.lane.now c.wait_to_fill.new.lane (returns-in-Ok-wait_to_fill-clause-frame g c)
-
 pub returns-in-Ok-wait_to_fill-clause-handed_back : goal.returns-in-Ok-wait_to_fill-clause-handed_back
 returns-in-Ok-wait_to_fill-clause-handed_back g c = tt
 
 pub returns-in-Ok-wait_to_fill-clause-decided : goal.returns-in-Ok-wait_to_fill-clause-decided
 returns-in-Ok-wait_to_fill-clause-decided g c = tt
-
-pub returns-in-Err-wait_to_fill-clause-lane : goal.returns-in-Err-wait_to_fill-clause-lane
-returns-in-Err-wait_to_fill-clause-lane g c = frame_lane c.args.self.now.id [] c.args.lane.now c.wait_to_fill.new.lane (returns-in-Err-wait_to_fill-clause-frame g c)
-
-pub returns-in-Err-wait_to_fill-clause-known : goal.returns-in-Err-wait_to_fill-clause-known
-returns-in-Err-wait_to_fill-clause-known g c = frame_known c.args.self.now.id [] c.args.lane.now c.wait_to_fill.new.lane (returns-in-Err-wait_to_fill-clause-frame g c)
 
 pub returns-in-Err-wait_to_fill-clause-handed_back : goal.returns-in-Err-wait_to_fill-clause-handed_back
 returns-in-Err-wait_to_fill-clause-handed_back g c = tt
@@ -162,22 +135,13 @@ returns-in-Err-run_factory-clause-answer g c =
     computes_later s c.args.context c.args.key a c.wait_to_end_failed.new.lane.cells b.view (Ok c.in-Ok.claim) w _ c.requires.lane.cells
     (ends_failed s c.in-Err-run_factory.fault c.in-Ok.claim claimed c.wait_to_end_failed.new.lane c.args.context w.then_is.0 c.args.key w.between w.then_is.2 (without_factory c.wait_to_end_failed.result) c.wait_to_end_failed.ensures.ends)
 
-pub returns-in-Err-run_factory-clause-frame : goal.returns-in-Err-run_factory-clause-frame
-returns-in-Err-run_factory-clause-frame g c =
+pub returns-in-Err-run_factory-clause-grows : goal.returns-in-Err-run_factory-clause-grows
+returns-in-Err-run_factory-clause-grows g c =
     let s = c.args.self.now in
     let inside : StoreLane g.row.V.Denot = record { cells = c.lane.inside.cells; known = c.lane.inside.notes; faults = c.lane.inside.faults; keys = c.lane.inside.keys } in
     let claimed : StoreLane g.row.V.Denot = (record { cells = c.wait_to_claim.new.lane; known = c.lane.inside.notes; faults = c.lane.inside.faults; keys = c.lane.inside.keys }) in
-    frames_compose s.id [] [] c.args.lane.now claimed c.wait_to_end_failed.new.lane
-    (waits_frame s.id inside c.args.lane.now claimed c.lane.view_is c.requires.lane c.wait_to_claim.ensures.lane refl c.self.inside.shared (ap (λ (s : StoreView). s.id.cells) c.self.view_is) c.args.context c.args.key (Ok c.in-Ok.claim) c.in-Ok.ensures.claim) c.wait_to_end_failed.ensures.frame
-
-pub returns-in-Err-run_factory-clause-kept : goal.returns-in-Err-run_factory-clause-kept
-returns-in-Err-run_factory-clause-kept g c = frame_keeps c.args.self.now.id c.args.lane.now c.wait_to_end_failed.new.lane (returns-in-Err-run_factory-clause-frame g c)
-
-pub returns-in-Err-run_factory-clause-lane : goal.returns-in-Err-run_factory-clause-lane
-returns-in-Err-run_factory-clause-lane g c = frame_lane c.args.self.now.id [] c.args.lane.now c.wait_to_end_failed.new.lane (returns-in-Err-run_factory-clause-frame g c)
-
-pub returns-in-Err-run_factory-clause-known : goal.returns-in-Err-run_factory-clause-known
-returns-in-Err-run_factory-clause-known g c = frame_known c.args.self.now.id [] c.args.lane.now c.wait_to_end_failed.new.lane (returns-in-Err-run_factory-clause-frame g c)
+    grows s.id c.args.lane.now c.wait_to_end_failed.new.lane
+    (frames_compose s.id [] [] c.args.lane.now claimed c.wait_to_end_failed.new.lane (waits_frame s.id inside c.args.lane.now claimed c.lane.view_is c.requires.lane c.wait_to_claim.ensures.lane refl c.self.inside.shared (ap (λ (s : StoreView). s.id.cells) c.self.view_is) c.args.context c.args.key (Ok c.in-Ok.claim) c.in-Ok.ensures.claim) c.wait_to_end_failed.ensures.frame)
 
 pub returns-in-Err-run_factory-clause-factory : goal.returns-in-Err-run_factory-clause-factory
 returns-in-Err-run_factory-clause-factory g c =

@@ -3,19 +3,11 @@ use Rattle.ext_model.specs.declared.event.Act.TheVariants.{Abandon}
 use Rattle.ext_store_cells.proofs.Claimed.{none_stored, nor_this}
 use Rattle.ext_store.specs.Stores.{StoreLane}
 use Rattle.ext_store.proofs.Composing.{storing_frame}
-use Rattle.ext_store.proofs.Frames.{frame_keeps, frame_lane}
+use Rattle.ext_store.proofs.Frames.{stays_inside}
 use Rattle.ext_store.proofs.store.Store.give_up_quietly.Goals as goal
 
-pub returns-clause-frame : goal.returns-clause-frame
-returns-clause-frame g c =
-    storing_frame c.args.self.now.id (record { cells = c.lane.inside.cells; known = c.lane.inside.notes; faults = c.lane.inside.faults; keys = c.lane.inside.keys }) c.args.lane.now (record { cells = c.abandon_quietly.new.lane; known = c.lane.inside.notes; faults = c.lane.inside.faults; keys = c.lane.inside.keys }) c.lane.view_is c.requires.lane c.abandon_quietly.ensures.lane refl
-    (Abandon c.args.claim ∷ []) (nor_this (Abandon c.args.claim) [] refl none_stored) c.abandon_quietly.ensures.abandoned.calls
-
-pub returns-clause-known : goal.returns-clause-known
-returns-clause-known g c = ap (λ (l : StoreLane g.row.V.Denot). l.known) c.lane.view_is
-
-pub returns-clause-lane : goal.returns-clause-lane
-returns-clause-lane g c = frame_lane c.args.self.now.id [] c.args.lane.now (record { cells = c.abandon_quietly.new.lane; known = c.lane.inside.notes; faults = c.lane.inside.faults; keys = c.lane.inside.keys }) (returns-clause-frame g c)
-
-pub returns-clause-kept : goal.returns-clause-kept
-returns-clause-kept g c = frame_keeps c.args.self.now.id c.args.lane.now (record { cells = c.abandon_quietly.new.lane; known = c.lane.inside.notes; faults = c.lane.inside.faults; keys = c.lane.inside.keys }) (returns-clause-frame g c)
+pub returns-clause-stays : goal.returns-clause-stays
+returns-clause-stays g c =
+    stays_inside c.args.self.now.id [] (record { cells = c.lane.inside.cells; known = c.lane.inside.notes; faults = c.lane.inside.faults; keys = c.lane.inside.keys }) c.args.lane.now (record { cells = c.abandon_quietly.new.lane; known = c.lane.inside.notes; faults = c.lane.inside.faults; keys = c.lane.inside.keys }) c.lane.view_is refl
+    (storing_frame c.args.self.now.id (record { cells = c.lane.inside.cells; known = c.lane.inside.notes; faults = c.lane.inside.faults; keys = c.lane.inside.keys }) c.args.lane.now (record { cells = c.abandon_quietly.new.lane; known = c.lane.inside.notes; faults = c.lane.inside.faults; keys = c.lane.inside.keys }) c.lane.view_is c.requires.lane c.abandon_quietly.ensures.lane refl
+    (Abandon c.args.claim ∷ []) (nor_this (Abandon c.args.claim) [] refl none_stored) c.abandon_quietly.ensures.abandoned.calls)

@@ -1,41 +1,23 @@
 use Rattle.std.proofs.Common.{◌≡◌, ◌∙◌, refl, []}
 use Rattle.std.specs.Prelude.{Err}
 use Rattle.ext_store.specs.LaneCalls.{Puts, stored_by}
-use Rattle.ext_store.proofs.Frames.{frames_compose}
-use Rattle.ext_store.proofs.Numbered.{kept_later, of_number, of_refusal, refused_decided}
+use Rattle.ext_store.proofs.Frames.{stays_then}
+use Rattle.ext_store.proofs.Numbered.{of_number, of_refusal, refused_decided}
 use Rattle.ext_store.proofs.store.Store.put_wait.Goals as goal
 
 pub returns-in-Ok-clause-answer : goal.returns-in-Ok-clause-answer
 returns-in-Ok-clause-answer g c =
     of_number c.args.lane.now c.number.new.lane c.put_wait_numbered.new.lane c.number.ensures.still c.args.self.now.id (stored_by c.args.kept c.put_wait_numbered.result) c.args.key.now c.in-Ok.key (λ why. c.put_wait_numbered.result ≡ Err (c.args.kept, why)) (λ l n. Puts c.args.self.now c.args.context n c.args.kept l c.put_wait_numbered.new.lane.cells c.put_wait_numbered.result)
-    c.in-Ok.ensures.number c.put_wait_numbered.ensures.frame c.put_wait_numbered.ensures.answer
+    c.in-Ok.ensures.number c.put_wait_numbered.ensures.stays.frame c.put_wait_numbered.ensures.answer
 
-pub returns-in-Ok-clause-known : goal.returns-in-Ok-clause-known
-returns-in-Ok-clause-known g c = c.put_wait_numbered.ensures.known ∙ c.number.ensures.known
+pub returns-in-Ok-clause-stays : goal.returns-in-Ok-clause-stays
+returns-in-Ok-clause-stays g c = stays_then c.args.self.now.id (stored_by c.args.kept c.put_wait_numbered.result) c.args.lane.now c.number.new.lane c.put_wait_numbered.new.lane c.number.ensures.stays c.put_wait_numbered.ensures.stays
 
-pub returns-in-Ok-clause-lane : goal.returns-in-Ok-clause-lane
-returns-in-Ok-clause-lane g c = c.put_wait_numbered.ensures.lane
-
-pub returns-in-Ok-clause-frame : goal.returns-in-Ok-clause-frame
-returns-in-Ok-clause-frame g c = frames_compose c.args.self.now.id [] (stored_by c.args.kept c.put_wait_numbered.result) c.args.lane.now c.number.new.lane c.put_wait_numbered.new.lane c.number.ensures.frame c.put_wait_numbered.ensures.frame
-
-pub returns-in-Err-clause-known : goal.returns-in-Err-clause-known
-returns-in-Err-clause-known g c = c.number.ensures.known
-
-pub returns-in-Err-clause-lane : goal.returns-in-Err-clause-lane
-returns-in-Err-clause-lane g c = c.number.ensures.lane
-
-pub returns-in-Err-clause-kept : goal.returns-in-Err-clause-kept
-returns-in-Err-clause-kept g c = c.number.ensures.kept
-
-pub returns-in-Err-clause-frame : goal.returns-in-Err-clause-frame
-returns-in-Err-clause-frame g c = c.number.ensures.frame
+pub returns-in-Err-clause-stays : goal.returns-in-Err-clause-stays
+returns-in-Err-clause-stays g c = c.number.ensures.stays
 
 pub put_wait_numbered-requires-clause-kept : goal.put_wait_numbered-requires-clause-kept
-put_wait_numbered-requires-clause-kept g c = c.number.ensures.kept c.args.kept c.requires.kept
-
-pub returns-in-Ok-clause-kept : goal.returns-in-Ok-clause-kept
-returns-in-Ok-clause-kept g c = kept_later c.args.lane.now c.number.new.lane c.put_wait_numbered.new.lane c.number.ensures.still c.put_wait_numbered.result c.args.kept c.number.ensures.kept c.put_wait_numbered.ensures.kept
+put_wait_numbered-requires-clause-kept g c = c.number.ensures.stays.kept c.args.kept c.requires.kept
 
 pub returns-in-Ok-clause-handed_back : goal.returns-in-Ok-clause-handed_back
 returns-in-Ok-clause-handed_back g c = c.put_wait_numbered.ensures.handed_back
@@ -52,9 +34,3 @@ returns-in-Ok-clause-decided g c = c.put_wait_numbered.ensures.decided
 
 pub returns-in-Err-clause-decided : goal.returns-in-Err-clause-decided
 returns-in-Err-clause-decided g c = refused_decided c.args.lane.now c.number.new.lane c.args.key.now c.in-Err.why c.in-Err.ensures.refused
-
-pub returns-in-Ok-clause-faults : goal.returns-in-Ok-clause-faults
-returns-in-Ok-clause-faults g c = c.put_wait_numbered.ensures.faults ∙ c.number.ensures.faults
-
-pub returns-in-Err-clause-faults : goal.returns-in-Err-clause-faults
-returns-in-Err-clause-faults g c = c.number.ensures.faults

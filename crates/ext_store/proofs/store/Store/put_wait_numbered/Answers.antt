@@ -5,7 +5,7 @@ use Rattle.ext_store.specs.Stores.{StoreView, StoreLane, StillKeeps, StillKeepsB
 use Rattle.ext_store.specs.LaneCalls.{Puts, with_kept, Frame, stored_by}
 use Rattle.ext_store_cells.proofs.Events.{put_calls}
 use Rattle.ext_store.proofs.Keeping.{handed_back, decided_back, put_keeps}
-use Rattle.ext_store.proofs.Frames.{frame_lane, put_frame}
+use Rattle.ext_store.proofs.Frames.{put_frame, stays_inside}
 use Rattle.ext_store.proofs.store.Store.put_wait_numbered.Goals as goal
 
 pub returns-clause-answer : goal.returns-clause-answer
@@ -13,29 +13,15 @@ returns-clause-answer g c =
     subst (Puts c.args.self.now c.args.context c.args.key c.args.kept c.args.lane.now.cells c.wait_to_put-stored.new.lane) (sym c.unless_stored.ensures)
     (subst (λ (z : StoreView × Lane × ℕ). Puts z.0 c.args.context c.args.key z.2 z.1 c.wait_to_put-stored.new.lane (with_kept z.2 c.wait_to_put-stored.result)) (λ i. (c.self.view_is i, (c.lane.view_is i).cells, c.kept.view_is i)) c.wait_to_put-stored.ensures.answer)
 
-pub returns-clause-frame : goal.returns-clause-frame
-returns-clause-frame g c =
+pub returns-clause-stays : goal.returns-clause-stays
+returns-clause-stays g c =
     let before : StoreLane g.row.V.Denot = record { cells = c.lane.inside.cells; known = c.lane.inside.notes; faults = c.lane.inside.faults; keys = c.lane.inside.keys } in
     let after : StoreLane g.row.V.Denot = record { cells = c.wait_to_put-stored.new.lane; known = c.lane.inside.notes; faults = c.lane.inside.faults; keys = c.lane.inside.keys } in
-    subst (λ r. Frame c.args.self.now.id (stored_by c.args.kept r) c.args.lane.now after) (sym c.unless_stored.ensures)
+    stays_inside c.args.self.now.id (stored_by c.args.kept c.unless_stored.result) before c.args.lane.now after c.lane.view_is refl
+    (subst (λ r. Frame c.args.self.now.id (stored_by c.args.kept r) c.args.lane.now after) (sym c.unless_stored.ensures)
     (subst (λ k. Frame c.args.self.now.id (stored_by k (with_kept k c.wait_to_put-stored.result)) c.args.lane.now after) c.kept.view_is
     (put_frame c.args.self.now.id before c.args.lane.now after c.lane.view_is c.requires.lane c.wait_to_put-stored.ensures.lane refl c.self.inside.shared c.args.context c.args.key c.kept.inside.number (with_kept c.kept.inside.number c.wait_to_put-stored.result)
-    (put_calls c.self.inside.shared c.args.context c.args.key c.lane.inside.cells c.wait_to_put-stored.new.lane c.kept.inside.number c.wait_to_put-stored.result c.wait_to_put-stored.ensures.answer)))
-
-pub returns-clause-kept : goal.returns-clause-kept
-returns-clause-kept g c =
-    let before : StoreLane g.row.V.Denot = record { cells = c.lane.inside.cells; known = c.lane.inside.notes; faults = c.lane.inside.faults; keys = c.lane.inside.keys } in
-    let after : StoreLane g.row.V.Denot = record { cells = c.wait_to_put-stored.new.lane; known = c.lane.inside.notes; faults = c.lane.inside.faults; keys = c.lane.inside.keys } in
-    subst (λ r. MatchResult r (λ _. StillKeepsBut c.args.kept c.args.lane.now after) (λ _. StillKeeps c.args.lane.now after)) (sym c.unless_stored.ensures)
-    (subst (λ (z : ℕ × StoreLane g.row.V.Denot). MatchResult (with_kept z.0 c.wait_to_put-stored.result) (λ _. StillKeepsBut z.0 z.1 after) (λ _. StillKeeps z.1 after)) (λ i. (c.kept.view_is i, c.lane.view_is i))
-    (put_keeps c.self.inside.shared c.args.context c.args.key before after refl c.kept.inside.number (with_kept c.kept.inside.number c.wait_to_put-stored.result)
-    (put_calls c.self.inside.shared c.args.context c.args.key c.lane.inside.cells c.wait_to_put-stored.new.lane c.kept.inside.number c.wait_to_put-stored.result c.wait_to_put-stored.ensures.answer)))
-
-pub returns-clause-known : goal.returns-clause-known
-returns-clause-known g c = ap (λ (l : StoreLane g.row.V.Denot). l.known) c.lane.view_is
-
-pub returns-clause-lane : goal.returns-clause-lane
-returns-clause-lane g c = frame_lane c.args.self.now.id (stored_by c.args.kept c.unless_stored.result) c.args.lane.now (record { cells = c.wait_to_put-stored.new.lane; known = c.lane.inside.notes; faults = c.lane.inside.faults; keys = c.lane.inside.keys }) (returns-clause-frame g c)
+    (put_calls c.self.inside.shared c.args.context c.args.key c.lane.inside.cells c.wait_to_put-stored.new.lane c.kept.inside.number c.wait_to_put-stored.result c.wait_to_put-stored.ensures.answer))))
 
 pub returns-clause-handed_back : goal.returns-clause-handed_back
 returns-clause-handed_back g c = handed_back c.args.kept c.wait_to_put-stored.result _ c.unless_stored.ensures

@@ -1,7 +1,7 @@
 use Rattle.std.proofs.Common.{◌≡◌, ◌∙◌, ◌+◌, refl, []}
 use Rattle.std.specs.Prelude.{Err}
 use Rattle.ext_store.specs.LaneCalls.{Removes}
-use Rattle.ext_store.proofs.Frames.{frames_compose}
+use Rattle.ext_store.proofs.Frames.{stays_then}
 use Rattle.ext_store.proofs.Numbered.{of_number, of_refusal, refused_steps, steps_later}
 use Rattle.ext_model.specs.declared.event.Act.TheVariants.{Remove}
 use Rattle.ext_cells.specs.CellCalls.{ComesLast}
@@ -12,31 +12,13 @@ use Rattle.ext_store.proofs.store.Store.remove.Goals as goal
 pub returns-in-Ok-clause-answer : goal.returns-in-Ok-clause-answer
 returns-in-Ok-clause-answer g c =
     of_number c.args.lane.now c.number.new.lane c.remove_numbered.new.lane c.number.ensures.still c.args.self.now.id [] c.args.key.now c.in-Ok.key (λ why. c.remove_numbered.result ≡ Err why) (λ l n. Removes c.args.self.now c.args.context n l c.remove_numbered.new.lane.cells c.remove_numbered.result)
-    c.in-Ok.ensures.number c.remove_numbered.ensures.frame c.remove_numbered.ensures.answer
+    c.in-Ok.ensures.number c.remove_numbered.ensures.stays.frame c.remove_numbered.ensures.answer
 
-pub returns-in-Ok-clause-known : goal.returns-in-Ok-clause-known
-returns-in-Ok-clause-known g c = c.remove_numbered.ensures.known ∙ c.number.ensures.known
+pub returns-in-Ok-clause-stays : goal.returns-in-Ok-clause-stays
+returns-in-Ok-clause-stays g c = stays_then c.args.self.now.id [] c.args.lane.now c.number.new.lane c.remove_numbered.new.lane c.number.ensures.stays c.remove_numbered.ensures.stays
 
-pub returns-in-Ok-clause-lane : goal.returns-in-Ok-clause-lane
-returns-in-Ok-clause-lane g c = c.remove_numbered.ensures.lane
-
-pub returns-in-Ok-clause-frame : goal.returns-in-Ok-clause-frame
-returns-in-Ok-clause-frame g c = frames_compose c.args.self.now.id [] [] c.args.lane.now c.number.new.lane c.remove_numbered.new.lane c.number.ensures.frame c.remove_numbered.ensures.frame
-
-pub returns-in-Err-clause-known : goal.returns-in-Err-clause-known
-returns-in-Err-clause-known g c = c.number.ensures.known
-
-pub returns-in-Err-clause-lane : goal.returns-in-Err-clause-lane
-returns-in-Err-clause-lane g c = c.number.ensures.lane
-
-pub returns-in-Err-clause-kept : goal.returns-in-Err-clause-kept
-returns-in-Err-clause-kept g c = c.number.ensures.kept
-
-pub returns-in-Err-clause-frame : goal.returns-in-Err-clause-frame
-returns-in-Err-clause-frame g c = c.number.ensures.frame
-
-pub returns-in-Ok-clause-kept : goal.returns-in-Ok-clause-kept
-returns-in-Ok-clause-kept g c number kept = c.remove_numbered.ensures.kept number (c.number.ensures.kept number kept)
+pub returns-in-Err-clause-stays : goal.returns-in-Err-clause-stays
+returns-in-Err-clause-stays g c = c.number.ensures.stays
 
 pub returns-in-Err-clause-answer : goal.returns-in-Err-clause-answer
 returns-in-Err-clause-answer g c =
@@ -48,17 +30,11 @@ returns-in-Ok-clause-steps g c = steps_later c.args.lane.now c.number.new.lane c
 pub returns-in-Err-clause-steps : goal.returns-in-Err-clause-steps
 returns-in-Err-clause-steps g c = refused_steps c.args.lane.now c.number.new.lane c.args.key.now c.in-Err.why c.in-Err.ensures.refused (c.args.self.now.tries + 1)
 
-pub returns-in-Ok-clause-faults : goal.returns-in-Ok-clause-faults
-returns-in-Ok-clause-faults g c = c.remove_numbered.ensures.faults ∙ c.number.ensures.faults
-
-pub returns-in-Err-clause-faults : goal.returns-in-Err-clause-faults
-returns-in-Err-clause-faults g c = c.number.ensures.faults
-
 pub returns-in-Ok-clause-contended : goal.returns-in-Ok-clause-contended
 returns-in-Ok-clause-contended g c =
     of_number c.args.lane.now c.number.new.lane c.remove_numbered.new.lane c.number.ensures.still c.args.self.now.id [] c.args.key.now c.in-Ok.key (λ why. c.remove_numbered.result ≡ Err why)
     (λ l n. ComesLast refusal.Contended c.args.self.now.tries l c.remove_numbered.new.lane.cells (Remove (cell_in c.args.self.now n c.args.context)) c.remove_numbered.result)
-    c.in-Ok.ensures.number c.remove_numbered.ensures.frame c.remove_numbered.ensures.contended
+    c.in-Ok.ensures.number c.remove_numbered.ensures.stays.frame c.remove_numbered.ensures.contended
 
 pub returns-in-Err-clause-contended : goal.returns-in-Err-clause-contended
 returns-in-Err-clause-contended g c =

@@ -1,38 +1,20 @@
 use Rattle.std.proofs.Common.{◌≡◌, ◌∙◌, refl, []}
 use Rattle.std.specs.Prelude.{Err}
 use Rattle.ext_store.specs.LaneCalls.{Removes}
-use Rattle.ext_store.proofs.Frames.{frames_compose}
+use Rattle.ext_store.proofs.Frames.{stays_then}
 use Rattle.ext_store.proofs.Numbered.{of_number, of_refusal, refused_decided}
 use Rattle.ext_store.proofs.store.Store.remove_wait.Goals as goal
 
 pub returns-in-Ok-clause-answer : goal.returns-in-Ok-clause-answer
 returns-in-Ok-clause-answer g c =
     of_number c.args.lane.now c.number.new.lane c.remove_wait_numbered.new.lane c.number.ensures.still c.args.self.now.id [] c.args.key.now c.in-Ok.key (λ why. c.remove_wait_numbered.result ≡ Err why) (λ l n. Removes c.args.self.now c.args.context n l c.remove_wait_numbered.new.lane.cells c.remove_wait_numbered.result)
-    c.in-Ok.ensures.number c.remove_wait_numbered.ensures.frame c.remove_wait_numbered.ensures.answer
+    c.in-Ok.ensures.number c.remove_wait_numbered.ensures.stays.frame c.remove_wait_numbered.ensures.answer
 
-pub returns-in-Ok-clause-known : goal.returns-in-Ok-clause-known
-returns-in-Ok-clause-known g c = c.remove_wait_numbered.ensures.known ∙ c.number.ensures.known
+pub returns-in-Ok-clause-stays : goal.returns-in-Ok-clause-stays
+returns-in-Ok-clause-stays g c = stays_then c.args.self.now.id [] c.args.lane.now c.number.new.lane c.remove_wait_numbered.new.lane c.number.ensures.stays c.remove_wait_numbered.ensures.stays
 
-pub returns-in-Ok-clause-lane : goal.returns-in-Ok-clause-lane
-returns-in-Ok-clause-lane g c = c.remove_wait_numbered.ensures.lane
-
-pub returns-in-Ok-clause-frame : goal.returns-in-Ok-clause-frame
-returns-in-Ok-clause-frame g c = frames_compose c.args.self.now.id [] [] c.args.lane.now c.number.new.lane c.remove_wait_numbered.new.lane c.number.ensures.frame c.remove_wait_numbered.ensures.frame
-
-pub returns-in-Err-clause-known : goal.returns-in-Err-clause-known
-returns-in-Err-clause-known g c = c.number.ensures.known
-
-pub returns-in-Err-clause-lane : goal.returns-in-Err-clause-lane
-returns-in-Err-clause-lane g c = c.number.ensures.lane
-
-pub returns-in-Err-clause-kept : goal.returns-in-Err-clause-kept
-returns-in-Err-clause-kept g c = c.number.ensures.kept
-
-pub returns-in-Err-clause-frame : goal.returns-in-Err-clause-frame
-returns-in-Err-clause-frame g c = c.number.ensures.frame
-
-pub returns-in-Ok-clause-kept : goal.returns-in-Ok-clause-kept
-returns-in-Ok-clause-kept g c number kept = c.remove_wait_numbered.ensures.kept number (c.number.ensures.kept number kept)
+pub returns-in-Err-clause-stays : goal.returns-in-Err-clause-stays
+returns-in-Err-clause-stays g c = c.number.ensures.stays
 
 pub returns-in-Err-clause-answer : goal.returns-in-Err-clause-answer
 returns-in-Err-clause-answer g c =
@@ -43,9 +25,3 @@ returns-in-Ok-clause-decided g c = c.remove_wait_numbered.ensures.decided
 
 pub returns-in-Err-clause-decided : goal.returns-in-Err-clause-decided
 returns-in-Err-clause-decided g c = refused_decided c.args.lane.now c.number.new.lane c.args.key.now c.in-Err.why c.in-Err.ensures.refused
-
-pub returns-in-Ok-clause-faults : goal.returns-in-Ok-clause-faults
-returns-in-Ok-clause-faults g c = c.remove_wait_numbered.ensures.faults ∙ c.number.ensures.faults
-
-pub returns-in-Err-clause-faults : goal.returns-in-Err-clause-faults
-returns-in-Err-clause-faults g c = c.number.ensures.faults

@@ -2,7 +2,7 @@ use Rattle.std.proofs.Common.{[], refl, ap, subst}
 use Rattle.ext_cells.specs.Lanes.{Lane}
 use Rattle.ext_store.specs.Stores.{StoreView, StoreLane, CloserView, cell_in}
 use Rattle.ext_store.specs.ContextCalls.{SealsKey}
-use Rattle.ext_store.proofs.Frames.{frame_keeps, frame_lane}
+use Rattle.ext_store.proofs.Frames.{stays_inside}
 use Rattle.ext_store.proofs.SealsKeep.{seal_frame}
 use Rattle.ext_model.specs.declared.event.Act.TheVariants.{Seal}
 use Rattle.ext_cells.specs.CellCalls.{ComesLast}
@@ -13,21 +13,10 @@ pub returns-clause-answer : goal.returns-clause-answer
 returns-clause-answer g c =
     subst (λ (z : StoreView × Lane × CloserView). SealsKey z.0 z.2.context c.args.key z.1 c.seal_at.new.lane c.seal_at.result) (λ i. (c.self.view_is i, (c.lane.view_is i).cells, c.closer.view_is i)) c.seal_at.ensures.answer
 
-pub returns-clause-frame : goal.returns-clause-frame
-returns-clause-frame g c =
-    seal_frame c.args.self.now.id c.self.inside.shared (record { cells = c.lane.inside.cells; known = c.lane.inside.notes; faults = c.lane.inside.faults; keys = c.lane.inside.keys }) c.args.lane.now (record { cells = c.seal_at.new.lane; known = c.lane.inside.notes; faults = c.lane.inside.faults; keys = c.lane.inside.keys }) c.lane.view_is c.requires.lane c.seal_at.ensures.lane refl _ c.args.key c.seal_at.result c.seal_at.ensures.answer
-
-pub returns-clause-known : goal.returns-clause-known
-returns-clause-known g c = ap (λ (l : StoreLane g.row.V.Denot). l.known) c.lane.view_is
-
-pub returns-clause-faults : goal.returns-clause-faults
-returns-clause-faults g c = ap (λ (l : StoreLane g.row.V.Denot). l.faults) c.lane.view_is
-
-pub returns-clause-lane : goal.returns-clause-lane
-returns-clause-lane g c = frame_lane c.args.self.now.id [] c.args.lane.now (record { cells = c.seal_at.new.lane; known = c.lane.inside.notes; faults = c.lane.inside.faults; keys = c.lane.inside.keys }) (returns-clause-frame g c)
-
-pub returns-clause-kept : goal.returns-clause-kept
-returns-clause-kept g c = frame_keeps c.args.self.now.id c.args.lane.now (record { cells = c.seal_at.new.lane; known = c.lane.inside.notes; faults = c.lane.inside.faults; keys = c.lane.inside.keys }) (returns-clause-frame g c)
+pub returns-clause-stays : goal.returns-clause-stays
+returns-clause-stays g c =
+    stays_inside c.args.self.now.id [] (record { cells = c.lane.inside.cells; known = c.lane.inside.notes; faults = c.lane.inside.faults; keys = c.lane.inside.keys }) c.args.lane.now (record { cells = c.seal_at.new.lane; known = c.lane.inside.notes; faults = c.lane.inside.faults; keys = c.lane.inside.keys }) c.lane.view_is refl
+    (seal_frame c.args.self.now.id c.self.inside.shared (record { cells = c.lane.inside.cells; known = c.lane.inside.notes; faults = c.lane.inside.faults; keys = c.lane.inside.keys }) c.args.lane.now (record { cells = c.seal_at.new.lane; known = c.lane.inside.notes; faults = c.lane.inside.faults; keys = c.lane.inside.keys }) c.lane.view_is c.requires.lane c.seal_at.ensures.lane refl _ c.args.key c.seal_at.result c.seal_at.ensures.answer)
 
 pub returns-clause-keys : goal.returns-clause-keys
 returns-clause-keys g c = ap (λ (l : StoreLane g.row.V.Denot). l.keys) c.lane.view_is

@@ -1,0 +1,105 @@
+-- What an opening says of its slots, and what a leave says. `before` and `after` are the slots, or the slot.
+use Rattle.std.specs.Prelude.{ℕ, ◌≡◌, ◌≢◌, ◌*◌, ◌++◌, All, Bool, List, [], ◌∷◌, length, map, Option, None, Some}
+use Rattle.std.specs.Global.{Box}
+use Rattle.std.specs.List.{AllZip}
+use Rattle.ext_ids.specs.Grammar.{IsIdText}
+use Rattle.ext_tree.specs.Trees.{Id, IsTree}
+use Rattle.ext_cells.specs.Lanes.{fresh_lanes}
+use Rattle.ext_store.specs.Opening.{fault_count}
+use Rattle.ext_store.specs.Stores.{AreStoreLimits, CloserView, StoreLane, StoreView, closers_below, fresh_store_lane}
+use Rattle.ext_c.specs.declared.code.Code.{Code}
+use Rattle.ext_c.specs.declared.code.Code.TheVariants as code
+use Rattle.ext_c.specs.declared.handle.Handle.{Handle}
+use Rattle.ext_c.specs.declared.seat.Seat.{Seat}
+use Rattle.ext_c.specs.declared.slot.ExtSlot.{ExtSlot}
+use Rattle.ext_c.specs.Answers.{store_of}
+use Rattle.ext_c.specs.Texts.{AreTexts, NamesNoTree, texts_in}
+
+-- no slot has a lane
+abbrev pub AreEmpty : List ExtSlot → Type 0
+AreEmpty slots = All (λ (s : ExtSlot). s.state ≡ 0) slots
+
+-- the store is of these ids and limits, and of 64 keys
+pub record IsStoreOf (ids : List Id) (lanes tries numbers : ℕ) (keeps : Bool) (store : StoreView) : Type 0 where
+  pub within : AreStoreLimits lanes tries numbers
+  pub tree : store.tree ≡ ids
+  pub limits : store.id.cells.limits ≡ record { cells = length ids * 64; lanes = lanes; numbers = numbers; keep_faults = keeps }
+  pub tries_are : store.tries ≡ tries
+  pub keys : length store.id.keys ≡ 64
+  pub places : length store.id.places ≡ numbers
+  pub fault_places : length store.id.fault_places ≡ fault_count keeps numbers
+
+-- a lane for each number below this, in order, which has made no step and knows nothing
+abbrev pub lanes_below : StoreView → ℕ → List (StoreLane Handle)
+lanes_below store lanes = map (fresh_store_lane store.id.places store.id.fault_places store.id.keys) (fresh_lanes store.id.cells 0 lanes)
+
+-- a closer for each context, in order
+abbrev pub all_closers : StoreView → List (Option CloserView)
+all_closers store = map Some (closers_below store.id.cells (length store.tree))
+
+-- the seat is of this store and this lane, has these closers, and no claim
+pub record IsSeatOf (store : StoreView) (closers : List (Option CloserView)) (lane : StoreLane Handle) (seat : Seat) : Type 0 where
+  pub store_is : store_of seat ≡ store
+  pub lane_is : seat.lane ≡ lane
+  pub closers_are : seat.closers.items ≡ closers
+  pub unclaimed : seat.claim ≡ None
+
+-- the slot has such a seat
+pub record HasSeatOf (store : StoreView) (closers : List (Option CloserView)) (lane : StoreLane Handle) (slot : ExtSlot) : Type 0 where
+  pub filled : slot.state ≡ 1
+  pub seat : Seat
+  pub has : slot.lane.seat ≡ Some seat
+  pub is : IsSeatOf store closers lane seat
+
+-- the slots have these lanes of the store, one each, in order; the last has the closers of all contexts, and no other one has any
+pub record HaveLanes (store : StoreView) (lanes : List (StoreLane Handle)) (slots : List ExtSlot) : Type 0 where
+  pub other_lanes : List (StoreLane Handle)
+  pub last_lane : StoreLane Handle
+  pub all_lanes : lanes ≡ other_lanes ++ last_lane ∷ []
+  pub other_slots : List ExtSlot
+  pub last_slot : ExtSlot
+  pub all_slots : slots ≡ other_slots ++ last_slot ∷ []
+  pub others : AllZip (HasSeatOf store []) other_lanes other_slots
+  pub last : HasSeatOf store (all_closers store) last_lane last_slot
+
+-- ---- within the crate: the seats before they stand in the slots
+
+-- the slot has this seat
+pub record IsIn (seat : Box Seat) (slot : ExtSlot) : Type 0 where
+  pub filled : slot.state ≡ 1
+  pub has : slot.lane.seat ≡ Some seat.value
+
+-- a seat for each lane, in order; the last has these closers, and no other one has any
+pub record AreSeats (store : StoreView) (lanes : List (StoreLane Handle)) (closers : List CloserView) (seats : List (Box Seat)) : Type 0 where
+  pub other_lanes : List (StoreLane Handle)
+  pub last_lane : StoreLane Handle
+  pub all_lanes : lanes ≡ other_lanes ++ last_lane ∷ []
+  pub other_seats : List (Box Seat)
+  pub last_seat : Box Seat
+  pub all_seats : seats ≡ other_seats ++ last_seat ∷ []
+  pub others : AllZip (λ lane seat. IsSeatOf store [] lane seat.value) other_lanes other_seats
+  pub last : IsSeatOf store (map Some closers) last_lane last_seat.value
+
+-- the seats of a store of these ids and limits
+pub record AreOpened (ids : List Id) (lanes tries numbers : ℕ) (keeps : Bool) (seats : List (Box Seat)) : Type 0 where
+  pub store : StoreView
+  pub is : IsStoreOf ids lanes tries numbers keeps store
+  pub seats_are : AreSeats store (lanes_below store lanes) (closers_below store.id.cells (length store.tree)) seats
+
+-- ---- what the exports say
+
+-- A slot has a lane; or the texts name no tree; or a limit is out of its range; or memory was wanted: then nothing has changed. Else there is a store of these ids and limits, and the slots have its lanes
+pub data OpenSays (bytes lengths : List ℕ) (tries numbers : ℕ) (keeps : Bool) (before after : List ExtSlot) (said : Code) : Type 0 where
+  not_empty : ¬ AreEmpty before → after ≡ before → said ≡ code.NotEmpty → OpenSays bytes lengths tries numbers keeps before after said
+  no_tree : AreEmpty before → NamesNoTree bytes lengths said → after ≡ before → OpenSays bytes lengths tries numbers keeps before after said
+  bad_limit : AreEmpty before → AreTexts bytes lengths → (ids : List Id) → AllZip IsIdText (texts_in bytes lengths) ids → IsTree ids
+      → ¬ AreStoreLimits (length before) tries numbers → after ≡ before → said ≡ code.BadLimit → OpenSays bytes lengths tries numbers keeps before after said
+  no_memory : AreEmpty before → after ≡ before → said ≡ code.NoMemory → OpenSays bytes lengths tries numbers keeps before after said
+  opened : AreEmpty before → AreTexts bytes lengths → (ids : List Id) → AllZip IsIdText (texts_in bytes lengths) ids → IsTree ids
+      → (store : StoreView) → IsStoreOf ids (length before) tries numbers keeps store → HaveLanes store (lanes_below store (length before)) after
+      → said ≡ code.Done → OpenSays bytes lengths tries numbers keeps before after said
+
+-- The slot had no lane, and is as it was; or it had one, and is empty
+pub data LeaveSays (before after : ExtSlot) (said : Code) : Type 0 where
+  no_lane : before.state ≢ 1 → after ≡ before → said ≡ code.NoLane → LeaveSays before after said
+  left : (seat : Seat) → before.lane.seat ≡ Some seat → after.state ≡ 0 → after.lane.seat ≡ None → said ≡ code.Done → LeaveSays before after said

@@ -1,0 +1,96 @@
+//! What an explanation ends with: the id of the node, and the line of the plan where its table begins.
+use crate::explaining::fields::table_of;
+use crate::explaining::line_at;
+use crate::fault::{Place, PlanFault};
+use crate::fields::{tables_at, text_at};
+use std::alloc::Global;
+use toml::Table;
+
+/// An explanation with its end: the id of its node, as the plan has it, and the line where the table of its key or its node begins, if these are known. What is
+/// said of a bad id has it already.
+pub(crate) fn with_end(
+    alloc: Global,
+    text: &str,
+    top: &Table,
+    fault: PlanFault,
+    meaning: &str,
+) -> Result<String, PlanFault> {
+    let line = line_of(alloc, text, fault.place())?;
+    let id = id_of(alloc, top, fault)?;
+    Ok(match (id, line) {
+        (Some(id), Some(line)) => format!(in alloc; "{meaning} ({id:?}, line {line})")?,
+        (Some(id), None) => format!(in alloc; "{meaning} ({id:?})")?,
+        (None, Some(line)) => format!(in alloc; "{meaning} (line {line})")?,
+        (None, None) => String::from_str(alloc, meaning)?,
+    })
+}
+
+/// The id of the node with a fault, as the plan has it, unless it is the fault.
+fn id_of<'a>(
+    alloc: Global,
+    top: &'a Table,
+    fault: PlanFault,
+) -> Result<Option<&'a str>, PlanFault> {
+    let place = match fault {
+        PlanFault::BadId(_) => Place::Whole,
+        other => other.place(),
+    };
+    let Place::Node(_) = place else {
+        return Ok(None);
+    };
+    let table = table_of(alloc, top, place)?;
+    Ok(table.and_then(|table| text_at(table, "id")))
+}
+
+/// The line of the plan where the table of a place begins, from 1: where it has a header of its own, as `[[node]]`.
+fn line_of(alloc: Global, text: &str, place: Place) -> Result<Option<usize>, PlanFault> {
+    let (header, name, number) = match place {
+        Place::Whole => return Ok(None),
+        Place::Key(key) => ("[[key]]", "key", key),
+        Place::Node(node) => ("[[node]]", "node", node),
+    };
+    let Some(end) = end_of_header(text, header, number) else {
+        return Ok(None);
+    };
+    if has_tables(alloc, text, end, name, number.saturating_add(1))? {
+        return Ok(Some(line_at(text, end)));
+    }
+    Ok(None)
+}
+
+/// Where the line of the header of this number ends.
+fn end_of_header(text: &str, header: &str, number: usize) -> Option<usize> {
+    let mut end: usize = 0;
+    let mut before: usize = 0;
+    for line in text.split('\n') {
+        end = end.saturating_add(line.len());
+        if line.trim().starts_with(header) {
+            if before == number {
+                return Some(end);
+            }
+            before = before.saturating_add(1);
+        }
+        end = end.saturating_add(1);
+    }
+    None
+}
+
+/// Tests whether the text up to this place is a document with so many tables of this name.
+fn has_tables(
+    alloc: Global,
+    text: &str,
+    end: usize,
+    name: &str,
+    count: usize,
+) -> Result<bool, PlanFault> {
+    let Some(front) = text.get(..end) else {
+        return Ok(false);
+    };
+    let Ok(top) = toml::table_from_str(alloc, front) else {
+        return Ok(false);
+    };
+    let Ok(tables) = tables_at(alloc, &top, name, PlanFault::BadField(Place::Whole)) else {
+        return Ok(false);
+    };
+    Ok(tables.len() == count)
+}

@@ -1,0 +1,91 @@
+-- Touches and races that are equal by their tests are one.
+use Rattle.std.proofs.Common.{◌≡◌, ℕ, Bool, true, false, refl, sym, ap, ◌∙◌}
+use Rattle.std.specs.Prelude.{◌==◌, ◌&&◌, if◌then◌else◌}
+use Rattle.std.specs.Cmp.{booleans_Decides}
+use Rattle.std.specs.Cmp.Lexicographic.{bytes_decides}
+use Rattle.std.proofs.lemmas.Bool.Decides.{Decides-eqb}
+use Rattle.ext_races.specs.declared.race.Race.{Race}
+use Rattle.ext_races.specs.declared.race.Side.{Side}
+use Rattle.ext_races.specs.declared.word.Word.{Word}
+use Rattle.ext_races.specs.declared.word.Word.TheVariants as words
+use Rattle.ext_races.specs.InnerTold.{race_eq, side_eq, touch_eq}
+use Rattle.ext_races.specs.Touches.{TouchText}
+use Rattle.ext_races.specs.Words.{word_code, word_eq}
+
+pub both : (a b : Bool) → (a && b) ≡ true → (a ≡ true) × (b ≡ true)
+both true true h = (refl, refl)
+both true false h = absurd cc
+both false b h = absurd cc
+
+pub equal : (a b : ℕ) → (a == b) ≡ true → a ≡ b
+equal a b = (Decides-eqb a b).0
+
+word_of : ℕ → Word
+word_of n =
+    if n == 0 then words.Put
+    else (if n == 1 then words.PutCloseable
+    else (if n == 2 then words.Want
+    else (if n == 3 then words.None
+    else (if n == 4 then words.Remove
+    else (if n == 5 then words.Compute
+    else (if n == 6 then words.ComputeCloseable
+    else words.ComputeFail))))))
+
+word_back : (a : Word) → word_of (word_code a) ≡ a
+unfolding word_of
+word_back words.Put = refl
+word_back words.PutCloseable = refl
+word_back words.Want = refl
+word_back words.None = refl
+word_back words.Remove = refl
+word_back words.Compute = refl
+word_back words.ComputeCloseable = refl
+word_back words.ComputeFail = refl
+
+pub word_is : (a b : Word) → word_eq a b ≡ true → a ≡ b
+word_is a b h = sym (word_back a) ∙ ap word_of (equal (word_code a) (word_code b) h) ∙ word_back b
+
+pub touch_is : (t u : TouchText) → touch_eq t u ≡ true → t ≡ u
+touch_is t u h =
+    let h5 = both _ _ h in
+    let h4 = both _ _ h5.0 in
+    let h3 = both _ _ h4.0 in
+    let h2 = both _ _ h3.0 in
+    let h1 = both _ _ h2.0 in
+    let node = equal t.node u.node h1.0 in
+    let context = equal t.context u.context h1.1 in
+    let key = equal t.key u.key h2.1 in
+    let word = word_is t.word u.word h3.1 in
+    let changes = (booleans_Decides t.changes u.changes).0 h4.1 in
+    let text = (bytes_decides t.text u.text).0 h5.1 in
+    λ i. record { node = node i; context = context i; key = key i; word = word i; changes = changes i; text = text i }
+
+side_is : (a b : Side) → side_eq a b ≡ true → a ≡ b
+side_is a b h =
+    let h2 = both _ _ h in
+    let h1 = both _ _ h2.0 in
+    let node = equal a.node b.node h1.0 in
+    let word = word_is a.word b.word h1.1 in
+    let key = equal a.key b.key h2.1 in
+    λ i. record { node = node i; word = word i; key = key i }
+
+pub race_is : (a b : Race) → race_eq a b ≡ true → a ≡ b
+race_is a b h =
+    let h2 = both _ _ h in
+    let h1 = both _ _ h2.0 in
+    let first = side_is a.first b.first h1.0 in
+    let second = side_is a.second b.second h1.1 in
+    let context = equal a.context b.context h2.1 in
+    λ i. record { first = first i; second = second i; context = context i }
+
+pub both_true : (a b : Bool) → a ≡ true → b ≡ true → (a && b) ≡ true
+both_true a b p q = rw p q
+
+same : (a : ℕ) → (a == a) ≡ true
+same a = (Decides-eqb a a).1 refl
+
+side_same : (a : Side) → side_eq a a ≡ true
+side_same a = both_true _ _ (both_true _ _ (same a.node) (same (word_code a.word))) (same a.key)
+
+pub race_same : (a : Race) → race_eq a a ≡ true
+race_same a = both_true _ _ (both_true _ _ (side_same a.first) (side_same a.second)) (same a.context)

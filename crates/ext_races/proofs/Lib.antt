@@ -1,0 +1,14 @@
+pub mod After
+pub mod Calls
+pub mod Equalities
+pub mod Exact
+pub mod Finds
+pub mod Grouped
+pub mod Lists
+pub mod Named
+pub mod Paths
+pub mod Sides
+pub mod StepTouches
+pub mod Told
+pub mod TouchNodes
+pub mod Within

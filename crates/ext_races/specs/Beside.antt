@@ -1,0 +1,27 @@
+-- Which nodes may run beside one another: those in the subtrees of two different concurrent children of one container. JUnit 5 User Guide, "Parallel Execution".
+-- Neither locks nor isolation order two such nodes: which of them goes first stays open.
+use Rattle.std.specs.Prelude.{ℕ, ◌≡◌, ◌≢◌, ◌⊎◌, true, List, [], ◌∷◌}
+use Rattle.ext_plan.specs.Plans.{PlanText}
+use Rattle.ext_plan.specs.PlanCalls.{concurrent_of}
+use Rattle.ext_races.specs.MadeSteps.{plan_path}
+
+-- on its way to the root the path comes by the child, and then by its container
+abbrev pub PassesBy : List ℕ → ℕ → ℕ → Type 0
+PassesBy [] child container = ⊥
+PassesBy (first ∷ []) child container = ⊥
+PassesBy (first ∷ next ∷ above) child container = ((first ≡ child) × (next ≡ container)) ⊎ PassesBy (next ∷ above) child container
+
+-- the one path comes from at or below one concurrent child of a container, and the other from at or below another
+pub record AreBeside (plan : PlanText) (path second : List ℕ) : Type 0 where
+  pub container : ℕ
+  pub child : ℕ
+  pub other : ℕ
+  pub below : PassesBy path child container
+  pub other_below : PassesBy second other container
+  pub differ : child ≢ other
+  pub concurrent : concurrent_of plan child ≡ true
+  pub other_concurrent : concurrent_of plan other ≡ true
+
+-- two nodes of the plan may run beside one another
+abbrev pub IsBeside : PlanText → ℕ → ℕ → Type 0
+IsBeside plan first second = AreBeside plan (plan_path plan first) (plan_path plan second)

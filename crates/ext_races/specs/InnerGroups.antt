@@ -1,0 +1,55 @@
+-- Touches in groups: one for each place, and one for each context's values whose closes may fail.
+use Rattle.std.specs.Prelude.{ℕ, ◌≡◌, ◌+◌, ◌*◌, ◌<◌, true, List, [], length, map, slice_index_or, Contains, ◌⊎◌}
+use Rattle.std.specs.declared.alloc.Global.{Global}
+use Rattle.std.specs.Prelude.{Vec}
+use Rattle.ext_races.specs.declared.touch.Touch.{Touch}
+use Rattle.ext_races.specs.Touches.{TouchText, touch_view}
+use Rattle.ext_races.specs.Clashes.{may_fail}
+
+abbrev pub group_view : Vec Touch Global → List TouchText
+group_view v = map touch_view v.items
+
+abbrev pub groups_view : List (Vec Touch Global) → List (List TouchText)
+groups_view groups = map group_view groups
+
+abbrev pub group_at : List (List TouchText) → ℕ → List TouchText
+group_at groups number = slice_index_or groups number []
+
+-- a context has 65 groups: one for each key, and the last for closes
+abbrev pub place_group : TouchText → ℕ
+place_group t = t.context * 65 + t.key
+
+abbrev pub close_group_of : ℕ → ℕ
+close_group_of context = context * 65 + 64
+
+abbrev pub close_group : TouchText → ℕ
+close_group t = close_group_of t.context
+
+-- the group of this number has this touch too
+pub record IsPushed (before : List (List TouchText)) (number : ℕ) (touch : TouchText) (after : List (List TouchText)) : Type 0 where
+  pub count : length after ≡ length before
+  pub here : Contains (group_at after number) touch
+  pub kept : (k : ℕ) (t : TouchText) → Contains (group_at before k) t → Contains (group_at after k) t
+  pub only : (k : ℕ) (t : TouchText) → Contains (group_at after k) t → Contains (group_at before k) t ⊎ (t ≡ touch)
+
+-- each of these touches stands in the groups to which it belongs, and nothing else came into a group
+pub record IsAdded (touches : List TouchText) (before after : List (List TouchText)) : Type 0 where
+  pub count : length after ≡ length before
+  pub kept : (k : ℕ) (t : TouchText) → Contains (group_at before k) t → Contains (group_at after k) t
+  pub only : (k : ℕ) (t : TouchText) → Contains (group_at after k) t → Contains (group_at before k) t ⊎ Contains touches t
+  pub places : (t : TouchText) → Contains touches t → Contains (group_at after (place_group t)) t
+  pub closes : (t : TouchText) → Contains touches t → may_fail t ≡ true → Contains (group_at after (close_group t)) t
+
+-- these touches in groups, and nothing else
+pub record IsGrouped (touches : List TouchText) (groups : List (List TouchText)) : Type 0 where
+  pub only : (k : ℕ) (t : TouchText) → Contains (group_at groups k) t → Contains touches t
+  pub places : (t : TouchText) → Contains touches t → Contains (group_at groups (place_group t)) t
+  pub closes : (t : TouchText) → Contains touches t → may_fail t ≡ true → Contains (group_at groups (close_group t)) t
+
+-- no group has a touch
+abbrev pub AreEmpty : List (List TouchText) → Type 0
+AreEmpty groups = (k : ℕ) (t : TouchText) → Contains (group_at groups k) t → ⊥
+
+-- a context has its groups among so many
+abbrev pub HasGroups : ℕ → ℕ → Type 0
+HasGroups count context = close_group_of context < count

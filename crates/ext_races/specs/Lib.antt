@@ -1,0 +1,10 @@
+pub mod Acts
+pub mod Beside
+pub mod Clashes
+pub mod InnerGroups
+pub mod InnerNaming
+pub mod InnerTold
+pub mod MadeSteps
+pub mod Races
+pub mod Touches
+pub mod Words

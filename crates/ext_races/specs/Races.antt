@@ -1,0 +1,59 @@
+-- What a race of a plan is, and what is told of a plan's races.
+use Rattle.std.specs.Prelude.{ℕ, ◌≡◌, ◌≢◌, ◌<◌, ◌≤◌, true, List, length, map, nat_lt, All, AllPairs, Contains, if◌then◌else◌}
+use Rattle.std.specs.Borrow.{Bor}
+use Rattle.ext_tree.specs.Keys.{KeyValue}
+use Rattle.ext_plan.specs.Plans.{PlanText, step_key_view}
+use Rattle.ext_plan.specs.StoreKeys.{key_of_step}
+use Rattle.ext_plan.specs.declared.plan.StepKey.{StepKey}
+use Rattle.ext_races.specs.declared.race.Race.{Race}
+use Rattle.ext_races.specs.declared.race.Side.{Side}
+use Rattle.ext_races.specs.declared.found.Found.{Found}
+use Rattle.ext_races.specs.declared.found.Found.TheVariants as found
+use Rattle.ext_races.specs.Touches.{TouchText, keys_named, numbers_drawn, touches_made}
+use Rattle.ext_races.specs.Clashes.{clashes}
+use Rattle.ext_races.specs.Beside.{IsBeside}
+
+abbrev pub side_of : TouchText → Side
+side_of t = record { node = t.node; word = t.word; key = t.key }
+
+-- of two touches in one context; that of the lower node comes first
+abbrev pub race_of : TouchText → TouchText → Race
+race_of t u =
+    if nat_lt t.node u.node
+    then record { first = side_of t; second = side_of u; context = t.context }
+    else record { first = side_of u; second = side_of t; context = t.context }
+
+-- two touches of nodes that may run beside one another clash
+pub record IsRace (plan : PlanText) (race : Race) : Type 0 where
+  pub first : TouchText
+  pub second : TouchText
+  pub first_made : Contains (touches_made plan) first
+  pub second_made : Contains (touches_made plan) second
+  pub beside : IsBeside plan first.node second.node
+  pub clash : clashes first second ≡ true
+  pub is : race ≡ race_of first second
+
+-- each that is told is a race, and none is told twice; so many are told at most, and where fewer are told there are no others
+pub record AreRaces (plan : PlanText) (most : ℕ) (races : List Race) : Type 0 where
+  pub found : All (IsRace plan) races
+  pub different : AllPairs (λ a b. a ≢ b) races
+  pub few : length races ≤ most
+  pub all : length races < most → (race : Race) → IsRace plan race → Contains races race
+
+-- how many keys and numbers a run has
+abbrev pub key_limit : ℕ
+key_limit = 64
+
+abbrev pub number_limit : ℕ
+number_limit = 65535
+
+-- the keys of these names
+abbrev pub keys_of_names : PlanText → List (Bor StepKey) → List KeyValue
+keys_of_names plan names = map (λ k. key_of_step plan.keys (step_key_view k.now)) names
+
+-- Too many keys are told before too many numbers, and either before the races
+abbrev pub IsFound : PlanText → ℕ → Found → Type 0
+IsFound plan most found.TooManyKeys = key_limit < length (keys_named plan)
+IsFound plan most found.TooManyNumbers = (length (keys_named plan) ≤ key_limit) × (number_limit < numbers_drawn plan)
+IsFound plan most (found.Races races names) =
+    (length (keys_named plan) ≤ key_limit) × (numbers_drawn plan ≤ number_limit) × AreRaces plan most races.items × (keys_of_names plan names.items ≡ keys_named plan)

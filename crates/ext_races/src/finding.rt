@@ -1,0 +1,46 @@
+//! The races of a plan.
+ghost use Rattle.std.specs.Prelude.{◌≡◌, IfOk};
+ghost use Rattle.ext_plan.specs.Plans.{plan_view};
+ghost use Rattle.ext_plan.specs.ReadPlans.{IsRunnablePlan};
+ghost use Rattle.ext_races.specs.Races.{IsFound, number_limit};
+
+use crate::Found;
+use crate::groups::groups_of;
+use crate::made::steps_made;
+use crate::naming::{keys_named, numbers_drawn};
+use crate::telling::races_told;
+use ext_plan::{Plan, StepKeys};
+use ext_tree::TreeFault;
+use std::alloc::{AllocError, Global};
+
+/// How many numbers a run has.
+const NUMBERS: usize = 65_535;
+
+/// The races of a plan, at most so many: two nodes that may run beside one another, each with a step, where the steps touch one place that one of them may change, or
+/// leave values in one context whose closes may fail. Where fewer are told there are no others: a plan has none just where none is told, for `most` of at least 1.
+///
+/// A plan whose steps name more than 64 keys is told as `TooManyKeys`, and else one whose steps may draw more than 65,535 numbers as `TooManyNumbers`: it has no one
+/// report, whatever its nodes touch.
+///
+/// It takes memory for the steps that the plan may make, 32 bytes for each, and for what they touch; `AllocError` comes only where that is refused. Time: about that of the
+/// steps, and where two nodes may change one place that of the pairs of its touches. Own rule.
+pub fn races<'p>(alloc: Global, plan: &'p Plan, most: usize) -> Result<Found<'p>, AllocError>
+    requires { IsRunnablePlan (plan_view plan.now) }
+    ensures { IfOk result (IsFound (plan_view plan.now) most) }
+{
+    let tree = plan.tree(alloc)?;
+    let made = steps_made(alloc, plan, &tree)?;
+    let declared = plan.store_keys(alloc)?;
+    let keys = StepKeys::of(plan.keys.as_slice(), declared.as_slice());
+    let (directory, names) = match keys_named(alloc, &keys, made.as_slice()) {
+        Ok(named) => named,
+        Err(TreeFault::TooMany) => return Ok(Found::TooManyKeys),
+        Err(_) => return Err(AllocError),
+    };
+    if numbers_drawn(plan, made.as_slice()) > NUMBERS {
+        return Ok(Found::TooManyNumbers);
+    }
+    let groups = groups_of(alloc, &keys, &directory, &tree, made.as_slice())?;
+    let races = races_told(alloc, plan, &tree, groups.as_slice(), most)?;
+    Ok(Found::Races { races, names })
+}

@@ -1,0 +1,200 @@
+//! Touches in groups: one for each place, and one for each context's values whose closes may fail.
+ghost use Rattle.std.specs.Prelude.{◌≡◌, ◌*◌, ◌<◌, ◌≤◌, [], ◌∷◌, true, All, IfOk, IfSome, OnOk, length, map, vec_len, drop, take, reverse};
+ghost use Rattle.std.specs.List.{flat_map, list_any};
+ghost use Rattle.ext_plan.specs.StepCalls.{keys_in};
+ghost use Rattle.ext_plan.specs.Plans.{step_key_view};
+ghost use Rattle.ext_plan.specs.StoreKeys.{is_there, key_of_step, place_of_key};
+ghost use Rattle.ext_races.specs.Acts.{act_view};
+ghost use Rattle.ext_races.specs.InnerGroups.{AreEmpty, HasGroups, IsAdded, IsGrouped, IsPushed, groups_view};
+ghost use Rattle.ext_races.specs.InnerNaming.{keys_told};
+ghost use Rattle.ext_races.specs.InnerTold.{touch_eq};
+ghost use Rattle.ext_races.specs.MadeSteps.{made_view};
+ghost use Rattle.ext_races.specs.Touches.{key_of_made, touch_view, touches_above, touches_along, touches_of};
+
+use crate::act::{StepAct, act_of};
+use crate::made::{MadeStep, path_in};
+use crate::naming::store_key;
+use crate::reach::reach;
+use crate::touch::{Touch, touch_of};
+use ext_model::{ContextNo, KeyNo};
+use ext_plan::{StepKey, StepKeys};
+use ext_tree::{Directory, Tree};
+use std::alloc::{AllocError, Global};
+
+/// How many groups a context has: one for each of 64 keys, and one for closes.
+const GROUPS: usize = 65;
+
+/// The place of the last of them.
+const CLOSES: usize = 64;
+
+/// How many of a group's last touches are compared with a further one.
+const COMPARED: usize = 16;
+
+/// The touches of these steps, by the numbers of the keys, in groups. Takes memory for them.
+pub(crate) fn groups_of<'p>(
+    alloc: Global,
+    keys: &StepKeys<'_>,
+    directory: &Directory,
+    tree: &Tree,
+    made: &[MadeStep<'p>],
+) -> Result<Vec<Vec<Touch<'p>>>, AllocError>
+    requires keys { directory.now ≡ keys_told (keys_in keys.now) (map made_view made.now) }
+    requires few { length directory.now ≤ 64 }
+    requires nodes { All (λ m. m.node < length tree.now) made.now }
+    ensures { IfOk result (λ v. IsGrouped (flat_map (touches_of tree.now (keys_in keys.now) directory.now) (map made_view made.now)) (groups_view v.items)) }
+{
+    let mut groups = no_groups(alloc, tree.len() * GROUPS)?;
+    for step in made {
+        add_step(alloc, keys, directory, tree, step, &mut groups)?;
+    }
+    Ok(groups)
+}
+
+/// So many groups of no touches.
+fn no_groups<'p>(alloc: Global, count: usize) -> Result<Vec<Vec<Touch<'p>>>, AllocError>
+    ensures count { IfOk result (λ v. vec_len v ≡ count) }
+    ensures empty { IfOk result (λ v. AreEmpty (groups_view v.items)) }
+{
+    let mut groups = Vec::new(alloc);
+    for _ in 0..count {
+        groups.push(Vec::new(alloc))?;
+    }
+    Ok(groups)
+}
+
+/// Adds what a step touches. Its key is one of the directory's.
+fn add_step<'p>(
+    alloc: Global,
+    keys: &StepKeys<'_>,
+    directory: &Directory,
+    tree: &Tree,
+    step: &MadeStep<'p>,
+    groups: &mut Vec<Vec<Touch<'p>>>,
+) -> Result<(), AllocError>
+    requires key { IfSome (key_of_made (keys_in keys.now) (made_view step.now)) (λ key. is_there directory.now key ≡ true) }
+    requires few { length directory.now ≤ 64 }
+    requires node { step.now.node < length tree.now }
+    requires count { vec_len groups.old ≡ length tree.now * 65 }
+    ensures { OnOk result (IsAdded (touches_of tree.now (keys_in keys.now) directory.now (made_view step.now)) (groups_view groups.old.items) (groups_view groups.new.items)) }
+{
+    let Some(act) = act_of(step.step) else {
+        return Ok(());
+    };
+    let key = key_number(alloc, keys, directory, act.key)?;
+    let seen = reach(alloc, keys, &act, step.before, path_in(tree, step.node))?;
+    let path = ancestor(seen, act.up);
+    add_act(groups, step.node, key, &act, path)?;
+    Ok(())
+}
+
+/// The number of a key that a step names, which is one of the directory's.
+fn key_number(
+    alloc: Global,
+    keys: &StepKeys<'_>,
+    directory: &Directory,
+    key: &StepKey,
+) -> Result<KeyNo, AllocError>
+    requires key { is_there directory.now (key_of_step (keys_in keys.now) (step_key_view key.now)) ≡ true }
+    requires few { length directory.now ≤ 64 }
+    ensures number { IfOk result (λ n. n ≡ place_of_key directory.now (key_of_step (keys_in keys.now) (step_key_view key.now))) }
+    ensures few { IfOk result (λ n. n < 64) }
+{
+    let called = store_key(alloc, keys, key)?;
+    Ok(directory.number_of(&called).unwrap_or(0))
+}
+
+/// The path of the ancestor so many contexts up.
+fn ancestor(path: &[ContextNo], up: usize) -> &[ContextNo]
+    ensures { result.now ≡ drop up path.now }
+{
+    match path.get(up..) {
+        Some(path) => path,
+        None => &[],
+    }
+}
+
+/// Adds what an act touches from the first context of this path on.
+fn add_act<'p>(
+    groups: &mut Vec<Vec<Touch<'p>>>,
+    node: ContextNo,
+    key: KeyNo,
+    act: &StepAct<'p>,
+    path: &[ContextNo],
+) -> Result<(), AllocError>
+    requires key { key < 64 }
+    requires path { All (HasGroups (vec_len groups.old)) path.now }
+    ensures { OnOk result (IsAdded (touches_along node key (act_view act.now) path.now) (groups_view groups.old.items) (groups_view groups.new.items)) }
+{
+    match path.split_first() {
+        None => Ok(()),
+        Some((context, above)) => {
+            let touch = touch_of(node, key, act, act.word.changes(), *context);
+            add(groups, touch)?;
+            add_above(groups, node, key, act, above)?;
+            Ok(())
+        }
+    }
+}
+
+/// Adds what an act touches above the context that it acts on.
+fn add_above<'p>(
+    groups: &mut Vec<Vec<Touch<'p>>>,
+    node: ContextNo,
+    key: KeyNo,
+    act: &StepAct<'p>,
+    above: &[ContextNo],
+) -> Result<(), AllocError>
+    requires key { key < 64 }
+    requires path { All (HasGroups (vec_len groups.old)) above.now }
+    ensures { OnOk result (IsAdded (touches_above node key (act_view act.now) above.now) (groups_view groups.old.items) (groups_view groups.new.items)) }
+{
+    if !act.word.looks_along() {
+        return Ok(());
+    }
+    for context in above {
+        let touch = touch_of(node, key, act, false, *context);
+        add(groups, touch)?;
+    }
+    Ok(())
+}
+
+/// Adds a touch to its groups.
+fn add<'p>(groups: &mut Vec<Vec<Touch<'p>>>, touch: Touch<'p>) -> Result<(), AllocError>
+    requires key { touch.key < 64 }
+    requires context { HasGroups (vec_len groups.old) touch.context }
+    ensures { OnOk result (IsAdded (touch_view touch.entry ∷ []) (groups_view groups.old.items) (groups_view groups.new.items)) }
+{
+    let first = touch.context * GROUPS;
+    push_in(groups, first + touch.key, touch)?;
+    if touch.may_fail() {
+        push_in(groups, first + CLOSES, touch)?;
+    }
+    Ok(())
+}
+
+/// Adds a touch to a group, unless it is one of its last.
+fn push_in<'p>(
+    groups: &mut Vec<Vec<Touch<'p>>>,
+    number: usize,
+    touch: Touch<'p>,
+) -> Result<(), AllocError>
+    requires { number < vec_len groups.old }
+    ensures { OnOk result (IsPushed (groups_view groups.old.items) number (touch_view touch.entry) (groups_view groups.new.items)) }
+{
+    if stands_last(groups[number].as_slice(), &touch) {
+        return Ok(());
+    }
+    groups[number].push(touch)?;
+    Ok(())
+}
+
+/// Tests whether the touch is one of the last of the group.
+fn stands_last(group: &[Touch<'_>], touch: &Touch<'_>) -> bool
+    ensures { result ≡ list_any (λ other. touch_eq (touch_view other) (touch_view touch.now)) (take COMPARED (reverse group.now)) }
+{
+    group
+        .iter()
+        .rev()
+        .take(COMPARED)
+        .any(|other| other.is_same(touch))
+}

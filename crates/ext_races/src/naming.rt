@@ -1,0 +1,99 @@
+//! The keys that the steps of a plan name.
+ghost use Rattle.std.specs.Prelude.{◌≡◌, ◌<◌, ◌≤◌, ◌++◌, [], ◌∷◌, Err, IfOk, OnOk, length, map, if◌then◌else◌};
+ghost use Rattle.std.specs.List.{count_by};
+ghost use Rattle.ext_tree.specs.declared.fault.TreeFault.TheVariants as fault;
+ghost use Rattle.ext_plan.specs.Plans.{plan_view, step_key_view, step_view};
+ghost use Rattle.ext_plan.specs.StepCalls.{keys_in};
+ghost use Rattle.ext_plan.specs.StoreKeys.{key_of_step, with_key};
+ghost use Rattle.ext_races.specs.Acts.{draws};
+ghost use Rattle.ext_races.specs.InnerNaming.{keys_of, keys_told};
+ghost use Rattle.ext_races.specs.MadeSteps.{made_view};
+ghost use Rattle.ext_races.specs.Touches.{key_of_made, with_key_of};
+
+use crate::act::{act_of, draws};
+use crate::made::MadeStep;
+use ext_plan::{Plan, StepKey, StepKeys};
+use ext_tree::{Directory, Key, TreeFault};
+use std::alloc::{AllocError, Global};
+
+/// The different keys that the steps name, in the order in which they first do, and the first step's word for each. Takes memory for them.
+///
+/// Refused as `TooMany` where they are more than 64, and as `Memory`.
+pub(crate) fn keys_named<'p>(
+    alloc: Global,
+    keys: &StepKeys<'_>,
+    made: &[MadeStep<'p>],
+) -> Result<(Directory, Vec<&'p StepKey>), TreeFault>
+    ensures keys { IfOk result (λ named. named.0 ≡ keys_told (keys_in keys.now) (map made_view made.now)) }
+    ensures names { IfOk result (λ named. keys_of (keys_in keys.now) named.1.items ≡ named.0) }
+    ensures few { IfOk result (λ named. length named.0 ≤ 64) }
+    ensures full { result ≡ Err fault.TooMany → 64 < length (keys_told (keys_in keys.now) (map made_view made.now)) }
+{
+    let mut directory = Directory::new(alloc);
+    let mut names = Vec::new(alloc);
+    for step in made {
+        name(alloc, keys, step, &mut directory, &mut names)?;
+    }
+    Ok((directory, names))
+}
+
+/// Gives the key that the step names a number, unless it has one.
+fn name<'p>(
+    alloc: Global,
+    keys: &StepKeys<'_>,
+    step: &MadeStep<'p>,
+    directory: &mut Directory,
+    names: &mut Vec<&'p StepKey>,
+) -> Result<(), TreeFault>
+    requires names { keys_of (keys_in keys.now) names.old.items ≡ directory.old }
+    requires few { length directory.old ≤ 64 }
+    ensures keys { OnOk result (directory.new ≡ with_key_of directory.old (key_of_made (keys_in keys.now) (made_view step.now))) }
+    ensures names { OnOk result (keys_of (keys_in keys.now) names.new.items ≡ directory.new) }
+    ensures few { OnOk result (length directory.new ≤ 64) }
+    ensures full { result ≡ Err fault.TooMany → 64 < length (with_key_of directory.old (key_of_made (keys_in keys.now) (made_view step.now))) }
+{
+    let Some(act) = act_of(step.step) else {
+        return Ok(());
+    };
+    let key = store_key(alloc, keys, act.key)?;
+    if declare(directory, key)? {
+        names.push(act.key)?;
+    }
+    Ok(())
+}
+
+/// The key of the store that a step names.
+pub(crate) fn store_key(
+    alloc: Global,
+    keys: &StepKeys<'_>,
+    key: &StepKey,
+) -> Result<Key, AllocError>
+    ensures { IfOk result (λ k. k ≡ key_of_step (keys_in keys.now) (step_key_view key.now)) }
+{
+    let called = keys.key_of(alloc, key)?;
+    called.key().clone()
+}
+
+/// Gives the key a number, and says whether it had none before.
+fn declare(directory: &mut Directory, key: Key) -> Result<bool, TreeFault>
+    requires { length directory.old ≤ 64 }
+    ensures keys { OnOk result (directory.new ≡ with_key directory.old key) }
+    ensures added { IfOk result (λ is_new. directory.new ≡ (if is_new then directory.old ++ key ∷ [] else directory.old)) }
+    ensures few { OnOk result (length directory.new ≤ 64) }
+    ensures full { result ≡ Err fault.TooMany → 64 < length (with_key directory.old key) }
+{
+    let before = directory.len();
+    match directory.declare(key) {
+        Ok(_) => Ok(directory.len() != before),
+        Err(fault) => Err(fault),
+    }
+}
+
+/// How many numbers the steps may draw.
+pub(crate) fn numbers_drawn(plan: &Plan, made: &[MadeStep<'_>]) -> usize
+    ensures { result ≡ count_by (λ made. draws (plan_view plan.now).keep_faults made.step) (map made_view made.now) }
+{
+    made.iter()
+        .filter(|made| draws(plan.keep_faults, made.step))
+        .count()
+}

@@ -1,0 +1,125 @@
+//! How a step touches a place, and which two touches clash.
+ghost use Rattle.std.specs.Prelude.{◌≡◌};
+ghost use Rattle.ext_races.specs.Acts.{act_view};
+ghost use Rattle.ext_races.specs.Touches.{touch_of, touch_view};
+
+use crate::act::StepAct;
+use crate::{Race, Side, Word};
+use ext_model::{ContextNo, KeyNo};
+
+/// A step of a node touches a place. Its text is kept where that tells whether the step races.
+#[derive(Clone, Copy, Debug)]
+pub(crate) struct Touch<'p> {
+    pub node: ContextNo,
+    pub context: ContextNo,
+    pub key: KeyNo,
+    pub word: Word,
+    pub changes: bool,
+    pub text: &'p str,
+}
+
+/// How an act of a node touches the place of the key with this number in a context.
+pub(crate) fn touch_of<'p>(
+    node: ContextNo,
+    key: KeyNo,
+    act: &StepAct<'p>,
+    changes: bool,
+    context: ContextNo,
+) -> Touch<'p>
+    ensures { touch_view result ≡ touch_of node key (act_view act.now) changes context }
+{
+    let text = if changes && act.word.has_text() {
+        act.text
+    } else {
+        ""
+    };
+    Touch {
+        node,
+        context,
+        key,
+        word: act.word,
+        changes,
+        text,
+    }
+}
+
+impl Touch<'_> {
+    ghost use Rattle.ext_races.specs.Clashes.{agree, clashes, closes_differ, may_fail};
+    ghost use Rattle.ext_races.specs.InnerTold.{touch_eq};
+    ghost use Rattle.ext_races.specs.Races.{race_of, side_of};
+
+    /// Whether it is the same touch.
+    pub(crate) fn is_same(&self, other: &Touch<'_>) -> bool
+        ensures { result ≡ touch_eq (touch_view self.now) (touch_view other.now) }
+    {
+        self.node == other.node
+            && self.context == other.context
+            && self.key == other.key
+            && self.word.code() == other.word.code()
+            && self.changes == other.changes
+            && self.text == other.text
+    }
+
+    /// Whether it may change a place that the other touches, and they don't agree; or whether their closes tell an order.
+    pub(crate) fn clashes(&self, other: &Touch<'_>) -> bool
+        ensures { result ≡ clashes (touch_view self.now) (touch_view other.now) }
+    {
+        self.changes
+            && self.context == other.context
+            && if self.key == other.key {
+                !self.agrees(other)
+            } else {
+                self.closes_differ(other)
+            }
+    }
+
+    /// Whether both compute one place, and come to the same whoever does.
+    fn agrees(&self, other: &Touch<'_>) -> bool
+        ensures { result ≡ agree (touch_view self.now) (touch_view other.now) }
+    {
+        other.changes
+            && self.word.computes()
+            && self.word.code() == other.word.code()
+            && self.text == other.text
+    }
+
+    /// Whether of their closes either may be told first.
+    fn closes_differ(&self, other: &Touch<'_>) -> bool
+        ensures { result ≡ closes_differ (touch_view self.now) (touch_view other.now) }
+    {
+        self.may_fail() && other.may_fail() && self.text != other.text
+    }
+
+    /// Whether it may leave a value whose close fails.
+    pub(crate) fn may_fail(&self) -> bool
+        ensures { result ≡ may_fail (touch_view self.now) }
+    {
+        self.changes && self.word.leaves_closeable() && self.text.as_bytes().starts_with(b"bad")
+    }
+
+    /// The race with the other: that of the lower node comes first.
+    pub(crate) fn race_with(&self, other: &Touch<'_>) -> Race
+        ensures { result ≡ race_of (touch_view self.now) (touch_view other.now) }
+    {
+        let (first, second) = if self.node < other.node {
+            (self.side(), other.side())
+        } else {
+            (other.side(), self.side())
+        };
+        Race {
+            first,
+            second,
+            context: self.context,
+        }
+    }
+
+    fn side(&self) -> Side
+        ensures { result ≡ side_of (touch_view self.now) }
+    {
+        Side {
+            node: self.node,
+            word: self.word,
+            key: self.key,
+        }
+    }
+}

@@ -1,0 +1,104 @@
+//! The first words of the steps that call a store.
+ghost use Rattle.std.specs.Prelude.{◌≡◌, codes};
+
+/// The first word of a step that calls the store. `fail` and `abort` call none.
+#[derive(Clone, Copy, Debug, PartialEq, Eq)]
+pub enum Word {
+    /// `put`.
+    Put,
+    /// `put!`.
+    PutCloseable,
+    /// `want`.
+    Want,
+    /// `none`.
+    None,
+    /// `remove`.
+    Remove,
+    /// `compute`.
+    Compute,
+    /// `compute!`.
+    ComputeCloseable,
+    /// `computefail`.
+    ComputeFail,
+}
+
+impl Word {
+    ghost use Rattle.ext_races.specs.Words.{changes, computes, gives_value, has_text, leaves_closeable, looks_along, word_code, word_text};
+
+    /// The word, as a plan has it.
+    pub fn text(self) -> &'static str
+        ensures { result.now ≡ word_text self }
+    {
+        match self {
+            Word::Put => "put",
+            Word::PutCloseable => "put!",
+            Word::Want => "want",
+            Word::None => "none",
+            Word::Remove => "remove",
+            Word::Compute => "compute",
+            Word::ComputeCloseable => "compute!",
+            Word::ComputeFail => "computefail",
+        }
+    }
+
+    /// Whether a step of this word may change the place that it acts on: each but `want` and `none`.
+    pub fn changes(self) -> bool
+        ensures { result ≡ changes self }
+    {
+        !matches!(self, Word::Want | Word::None)
+    }
+
+    /// Whether a step of this word looks along the path of the context that it acts on: `want`, `none` and the computes.
+    pub fn looks_along(self) -> bool
+        ensures { result ≡ looks_along self }
+    {
+        !matches!(self, Word::Put | Word::PutCloseable | Word::Remove)
+    }
+
+    /// Whether a step of this word has a factory.
+    pub(crate) fn computes(self) -> bool
+        ensures { result ≡ computes self }
+    {
+        matches!(
+            self,
+            Word::Compute | Word::ComputeCloseable | Word::ComputeFail
+        )
+    }
+
+    /// Whether a step of this word has a factory that gives a value.
+    pub(crate) fn gives_value(self) -> bool
+        ensures { result ≡ gives_value self }
+    {
+        matches!(self, Word::Compute | Word::ComputeCloseable)
+    }
+
+    /// Whether a step of this word may leave a closeable value.
+    pub(crate) fn leaves_closeable(self) -> bool
+        ensures { result ≡ leaves_closeable self }
+    {
+        matches!(self, Word::PutCloseable | Word::ComputeCloseable)
+    }
+
+    /// Whether the text of such a step tells whether it races: of the computes, and of those that leave a closeable value.
+    pub(crate) fn has_text(self) -> bool
+        ensures { result ≡ has_text self }
+    {
+        !matches!(self, Word::Put | Word::Want | Word::None | Word::Remove)
+    }
+
+    /// A number of its own for each word.
+    pub(crate) fn code(self) -> u8
+        ensures { result ≡ word_code self }
+    {
+        match self {
+            Word::Put => 0,
+            Word::PutCloseable => 1,
+            Word::Want => 2,
+            Word::None => 3,
+            Word::Remove => 4,
+            Word::Compute => 5,
+            Word::ComputeCloseable => 6,
+            Word::ComputeFail => 7,
+        }
+    }
+}

@@ -1,0 +1,15 @@
+-- The forms of a report.
+use Rattle.std.specs.Prelude.{ℕ, List}
+use Rattle.ext_ids.specs.Grammar.{Pair}
+use Rattle.ext_lifecycle.specs.FaultTexts.{NodeOutcome}
+use Rattle.ext_report.specs.declared.form.ReportForm.{ReportForm}
+use Rattle.ext_report.specs.declared.form.ReportForm.TheVariants as forms
+use Rattle.ext_report.specs.Report.{report_of}
+use Rattle.ext_report.specs.JsonLines.{json_lines}
+use Rattle.ext_report.specs.TreeLines.{tree_of}
+
+-- the report of this form
+abbrev pub report_in : ReportForm → List (List Pair) → List NodeOutcome → List ℕ
+report_in forms.Text ids rs = report_of ids rs
+report_in forms.Json ids rs = json_lines ids rs
+report_in forms.Tree ids rs = tree_of ids rs

@@ -1,0 +1,128 @@
+//! The report of a run in JSON, by lines.
+ghost use Rattle.std.specs.Prelude.{◌≡◌, ◌<◌, ◌++◌, ◌∷◌, [], length, option_map, All, IfOk, OnOk};
+ghost use Rattle.ext_lifecycle.specs.FaultTexts.{fault_text, result_view, results_view};
+ghost use Rattle.json.specs.Token.{boolean, key, string};
+ghost use Rattle.json.specs.Print.{print};
+ghost use Rattle.ext_report.specs.JsonLines.{count_member, count_members, ending_members, fault_token, json_line, json_lines, node_object};
+
+use crate::line::{fault_text, status_text};
+use ext_ids::UniqueId;
+use ext_lifecycle::NodeResult;
+use ext_model::Fault;
+use ext_tree::Tree;
+use json::Writer;
+use std::alloc::{AllocError, Global};
+
+/// The report of results in JSON, each of a context of the tree: an object for each in a line of its own, in the order of the list.
+/// A context may have no result, or several.
+///
+/// An object has the members `id`, `test`, `status`, `fault`, `more`, `computed`, `found`, `closed` and `close_faults`, in this order.
+/// `fault` is null where the result has none, whatever its status is.
+///
+/// Takes memory for the text. `AllocError` comes only where that is refused.
+pub fn json_report(
+    alloc: Global,
+    tree: &Tree,
+    results: &[NodeResult],
+) -> Result<Vec<u8>, AllocError>
+    requires in_tree { All (λ r. r.node < length tree.now) results.now }
+    ensures { IfOk result
+        (λ bytes. bytes.items ≡ json_lines tree.now (results_view results.now)) }
+{
+    let mut lines = Vec::new(alloc);
+    for node in results {
+        let line = line_of(alloc, tree.id(node.node), node)?;
+        lines.extend_from_slice(line.as_slice())?;
+    }
+    Ok(lines)
+}
+
+/// The line of a node.
+fn line_of(alloc: Global, id: &UniqueId, node: &NodeResult) -> Result<Vec<u8>, AllocError>
+    ensures { IfOk result (λ line. line.items ≡ json_line id.now (result_view node.now)) }
+{
+    let mut name = String::new(alloc);
+    id.write_to(&mut name)?;
+    let mut line = object_of(alloc, name.as_str(), node)?;
+    line.push(b'\n')?;
+    Ok(line)
+}
+
+/// The object of a node with this id.
+#[tactic(auto, unfolding(crate::specs::JsonLines::node_object))]
+fn object_of(alloc: Global, id: &str, node: &NodeResult) -> Result<Vec<u8>, AllocError>
+    ensures { IfOk result (λ text. text.items ≡ print (node_object id.now (result_view node.now))) }
+{
+    let mut writer = Writer::new(Vec::new(alloc));
+    writer.begin_object()?;
+    write_ending(&mut writer, id, node)?;
+    write_counts(&mut writer, node)?;
+    writer.end_object()?;
+    Ok(writer.into_inner())
+}
+
+/// Writes the members that say what a node is and how it ended.
+fn write_ending(writer: &mut Writer, id: &str, node: &NodeResult) -> Result<(), AllocError>
+    ensures before { OnOk result (writer.new.before ≡ writer.old.before) }
+    ensures tokens { OnOk result
+        (writer.new.tokens ≡ writer.old.tokens ++ ending_members id.now (result_view node.now)) }
+{
+    write_text(writer, "id", id)?;
+    write_truth(writer, "test", node.is_test)?;
+    write_text(writer, "status", status_text(node.status))?;
+    write_fault(writer, "fault", &node.fault)?;
+    Ok(())
+}
+
+/// Writes the members that count.
+fn write_counts(writer: &mut Writer, node: &NodeResult) -> Result<(), AllocError>
+    ensures before { OnOk result (writer.new.before ≡ writer.old.before) }
+    ensures tokens { OnOk result
+        (writer.new.tokens ≡ writer.old.tokens ++ count_members (result_view node.now)) }
+{
+    write_count(writer, "more", node.more)?;
+    write_count(writer, "computed", node.computed)?;
+    write_count(writer, "found", node.found)?;
+    write_count(writer, "closed", node.closed)?;
+    write_count(writer, "close_faults", node.close_faults)?;
+    Ok(())
+}
+
+/// Writes a member whose value is a text.
+fn write_text(writer: &mut Writer, name: &str, text: &str) -> Result<(), AllocError>
+    ensures before { OnOk result (writer.new.before ≡ writer.old.before) }
+    ensures tokens { OnOk result (writer.new.tokens ≡ writer.old.tokens ++ key name.now ∷ string text.now ∷ []) }
+{
+    writer.key(name)?;
+    writer.string(text)
+}
+
+/// Writes a member whose value is true or false.
+fn write_truth(writer: &mut Writer, name: &str, truth: bool) -> Result<(), AllocError>
+    ensures before { OnOk result (writer.new.before ≡ writer.old.before) }
+    ensures tokens { OnOk result (writer.new.tokens ≡ writer.old.tokens ++ key name.now ∷ boolean truth ∷ []) }
+{
+    writer.key(name)?;
+    writer.boolean(truth)
+}
+
+/// Writes a member whose value is a count.
+fn write_count(writer: &mut Writer, name: &str, count: u64) -> Result<(), AllocError>
+    ensures before { OnOk result (writer.new.before ≡ writer.old.before) }
+    ensures tokens { OnOk result (writer.new.tokens ≡ writer.old.tokens ++ count_member name.now count) }
+{
+    writer.key(name)?;
+    writer.u64(count)
+}
+
+/// Writes a member whose value is a fault, or null.
+fn write_fault(writer: &mut Writer, name: &str, fault: &Option<Fault>) -> Result<(), AllocError>
+    ensures before { OnOk result (writer.new.before ≡ writer.old.before) }
+    ensures tokens { OnOk result (writer.new.tokens ≡ writer.old.tokens ++ key name.now ∷ fault_token (option_map fault_text fault.now) ∷ []) }
+{
+    writer.key(name)?;
+    match fault {
+        None => writer.null(),
+        Some(fault) => writer.string(fault_text(fault)),
+    }
+}

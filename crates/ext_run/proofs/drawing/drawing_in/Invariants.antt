@@ -1,0 +1,8 @@
+use Rattle.std.proofs.Common.{◌≡◌, string_bytes, take}
+use Rattle.std.specs.List.{flat_map, slice_get}
+use Rattle.ext_plan_reading.specs.Plans.{nodes_view}
+use Rattle.ext_run.specs.Drawings.{node_line}
+use Rattle.ext_run.proofs.drawing.drawing_in.Given as goal
+
+abbrev pub invariant-loop-place : goal.invariant-loop-place
+invariant-loop-place l = string_bytes l.text ≡ flat_map (λ context. node_line (slice_get (nodes_view l.nodes) context)) (take l.place-index l.order)

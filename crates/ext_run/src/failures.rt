@@ -1,0 +1,200 @@
+//! What failed and what was aborted in a run, told once more at its end.
+ghost use Rattle.std.specs.Prelude.{◌≡◌, ◌++◌, [], string_bytes, IfOk, OnOk, OnErr};
+ghost use Rattle.ext_lifecycle.specs.FaultTexts.{fault_text};
+ghost use Rattle.ext_plan_reading.specs.Plans.{plan_view};
+ghost use Rattle.ext_plan_reading.specs.ReadPlans.{IsRunnablePlan};
+ghost use Rattle.ext_run.specs.Reports.{plan_of_bytes};
+ghost use Rattle.ext_run.specs.Failures.{IsAdded, NotesFault, failure_at, failure_line, failures_at, failures_in, failures_of};
+ghost use Rattle.ext_run.specs.Drawings.{TextAs};
+
+use crate::fault::RunFault;
+use ext_ids::UniqueId;
+use ext_lifecycle::RunListener;
+use ext_model::{ContextNo, Fault};
+use ext_plan_reading::{Plan, PlanFault, read_plan};
+use ext_tree::Tree;
+use std::alloc::{AllocError, Global};
+use std::sync::{Mutex, Wait};
+
+/// A fault of a node that a listener was told.
+#[derive(Debug, Drop)]
+pub struct NodeFault {
+    /// The node, by its place in the plan from 0.
+    pub node: ContextNo,
+    /// The fault's text.
+    pub text: String,
+}
+
+/// The faults that were told so far, in the order in which they were.
+#[derive(Debug, Drop)]
+pub struct ToldFaults {
+    /// Those for which there was memory.
+    pub faults: Vec<NodeFault>,
+    /// Whether there was none for a fault.
+    pub lost: bool,
+}
+
+impl ToldFaults {
+    /// No fault. Takes no memory.
+    pub fn new(alloc: Global) -> ToldFaults
+        ensures { result.faults.items ≡ [] }
+    {
+        ToldFaults {
+            faults: Vec::new(alloc),
+            lost: false,
+        }
+    }
+
+    /// Adds a fault of a node behind the others. Takes memory for its text; where that is refused the fault is lost, which is noted.
+    pub fn note(&mut self, alloc: Global, node: ContextNo, fault: &Fault)
+        ensures { NotesFault self.old self.new node (fault_text fault.now) }
+    {
+        if self.push(alloc, node, fault).is_err() {
+            self.lost = true;
+        }
+    }
+
+    /// Adds a fault of a node behind the others, if there is memory.
+    fn push(&mut self, alloc: Global, node: ContextNo, fault: &Fault) -> Result<(), AllocError>
+        ensures lost { self.new.lost ≡ self.old.lost }
+        ensures added { OnOk result (IsAdded self.old.faults.items self.new.faults.items node (fault_text fault.now)) }
+        ensures kept { OnErr result (self.new.faults.items ≡ self.old.faults.items) }
+    {
+        let text = text_of(alloc, fault)?;
+        self.faults.push(NodeFault { node, text })?;
+        Ok(())
+    }
+}
+
+/// A copy of a fault's text.
+fn text_of(alloc: Global, fault: &Fault) -> Result<String, AllocError>
+    ensures { IfOk result (λ text. string_bytes text ≡ fault_text fault.now) }
+{
+    match fault {
+        Fault::Text(text) => String::from_str(alloc, text.as_str()),
+        Fault::Memory => String::from_str(alloc, "no memory"),
+    }
+}
+
+/// Keeps the faults of all nodes of a run, and passes on all that it is told to another listener.
+///
+/// Its lock is held for as long as a fault is added, and while nothing else is waited for.
+#[derive(Drop)]
+pub struct Failures<'a, R, L> {
+    rt: &'a R,
+    alloc: Global,
+    listener: &'a L,
+    told: Mutex<ToldFaults>,
+}
+
+impl<'a, R: Wait, L: RunListener> Failures<'a, R, L> {
+    /// Of a run that was not begun, with the listener to which it passes on what it is told. Takes no memory.
+    pub fn new(rt: &'a R, alloc: Global, listener: &'a L) -> Failures<'a, R, L> {
+        Failures {
+            rt,
+            alloc,
+            listener,
+            told: Mutex::new(ToldFaults::new(alloc)),
+        }
+    }
+
+    /// What was told.
+    pub fn into_told(self) -> ToldFaults {
+        self.told.into_inner()
+    }
+}
+
+impl<R: Wait, L: RunListener> RunListener for Failures<'_, R, L> {
+    /// Passes it on.
+    fn started(&self, node: ContextNo, lane: usize) {
+        self.listener.started(node, lane);
+    }
+
+    /// Keeps the fault, and passes it on. It may wait for other threads that add one.
+    fn faulted(&self, node: ContextNo, fault: &Fault) {
+        self.told.lock(self.rt).note(self.alloc, node, fault);
+        self.listener.faulted(node, fault);
+    }
+
+    /// Passes it on.
+    fn ended(&self, node: ContextNo, nodes: usize) {
+        self.listener.ended(node, nodes);
+    }
+}
+
+/// The faults of the nodes of a plan, in lines `ID: FAULT`: those of each node one after the other, in the order in which they were told, and the nodes in
+/// the order of the plan. The bytes are the plan's, as a run reads them.
+///
+/// Refused as `Plan` where the plan is refused, and as `Memory` where memory is for the plan's tree or for the text. It waits for nobody.
+#[tactic(auto, unfolding(crate::specs::Reports::plan_of_bytes))]
+pub fn failures_text(alloc: Global, input: &[u8], faults: &[NodeFault]) -> Result<String, RunFault>
+    ensures { TextAs string_bytes (failures_in faults.now) result (plan_of_bytes input.now) }
+{
+    let Ok(text) = std::str::from_utf8(input) else {
+        return Err(RunFault::Plan(PlanFault::NotUtf8));
+    };
+    match read_plan(alloc, text) {
+        Ok(plan) => Ok(failures_of_plan(alloc, &plan, faults)?),
+        Err(fault) => Err(RunFault::Plan(fault)),
+    }
+}
+
+/// The same of a plan that was read.
+fn failures_of_plan(alloc: Global, plan: &Plan, faults: &[NodeFault]) -> Result<String, AllocError>
+    requires { IsRunnablePlan (plan_view plan.now) }
+    ensures { IfOk result (λ text. string_bytes text ≡ failures_in faults.now (plan_view plan.now)) }
+{
+    let tree = plan.tree(alloc)?;
+    failures_of_tree(alloc, &tree, faults)
+}
+
+/// The same by the tree of the plan's nodes.
+fn failures_of_tree(alloc: Global, tree: &Tree, faults: &[NodeFault]) -> Result<String, AllocError>
+    ensures { IfOk result (λ text. string_bytes text ≡ failures_of tree.now faults.now) }
+{
+    let mut text = String::new(alloc);
+    for node in 0..tree.len() {
+        write_failures(&mut text, tree.id(node), node, faults)?;
+    }
+    Ok(text)
+}
+
+/// Writes the faults of a node at the end of a text.
+fn write_failures(
+    text: &mut String,
+    id: &UniqueId,
+    node: ContextNo,
+    faults: &[NodeFault],
+) -> Result<(), AllocError>
+    ensures { OnOk result (string_bytes text.new ≡ string_bytes text.old ++ failures_at id.now node faults.now) }
+{
+    for fault in faults {
+        write_if_of(text, id, node, fault)?;
+    }
+    Ok(())
+}
+
+/// Writes a fault at the end of a text, if it is the node's.
+fn write_if_of(
+    text: &mut String,
+    id: &UniqueId,
+    node: ContextNo,
+    fault: &NodeFault,
+) -> Result<(), AllocError>
+    ensures { OnOk result (string_bytes text.new ≡ string_bytes text.old ++ failure_at id.now node fault.now) }
+{
+    if fault.node == node {
+        return write_failure(text, id, fault);
+    }
+    Ok(())
+}
+
+/// Writes a fault of the node of this id at the end of a text.
+fn write_failure(text: &mut String, id: &UniqueId, fault: &NodeFault) -> Result<(), AllocError>
+    ensures { OnOk result (string_bytes text.new ≡ string_bytes text.old ++ failure_line id.now (string_bytes fault.now.text)) }
+{
+    id.write_to(text)?;
+    text.push_str(": ")?;
+    text.push_str(fault.text.as_str())?;
+    text.push('\n')
+}

@@ -1,0 +1,64 @@
+//! What failed and what was aborted in a run, told once more at its end on standard error.
+ghost use Rattle.std.specs.Prelude.{◌≡◌, ◌≤◌, false, IfOk};
+ghost use Rattle.std.specs.Io.KnownBytes.{Appends};
+ghost use Rattle.extrun.specs.Tasks.{IsReported};
+
+use ext_run::{
+    Failures, Options, RunFault, RunListener, Summary, ToldFaults, failures_text, run_with_listener,
+};
+use std::io::Write;
+use std::sync::Wait;
+use std::thread::Threads;
+
+/// Runs the plan of these bytes, and tells its faults once more at the end or not.
+pub(crate) fn run_plan<R, W: Write, L: RunListener + Sync>(
+    rt: &R,
+    input: &[u8],
+    writer: &mut W,
+    options: Options,
+    listener: &L,
+    failures: bool,
+) -> Result<Summary, RunFault>
+where
+    R: Threads + Wait + Sync + AllocGlobal + Eprint,
+    requires lanes { options.plain ≡ false → (1 ≤ options.lanes) × (options.lanes ≤ 16) }
+    ensures { IfOk result (λ summary. IsReported options input.now summary (Appends (W.contents writer.old) (W.contents writer.new))) }
+{
+    if failures {
+        return run_with_failures(rt, input, writer, options, listener);
+    }
+    let mut reader = input;
+    run_with_listener(rt, rt.alloc(), &mut reader, writer, options, listener)
+}
+
+/// Runs the plan of these bytes, and tells all faults of its nodes once more behind all else.
+fn run_with_failures<'a, R, W: Write, L: RunListener + Sync>(
+    rt: &'a R,
+    input: &[u8],
+    writer: &mut W,
+    options: Options,
+    listener: &'a L,
+) -> Result<Summary, RunFault>
+where
+    R: Threads + Wait + Sync + AllocGlobal + Eprint,
+    requires lanes { options.plain ≡ false → (1 ≤ options.lanes) × (options.lanes ≤ 16) }
+    ensures { IfOk result (λ summary. IsReported options input.now summary (Appends (W.contents writer.old) (W.contents writer.new))) }
+{
+    let failures = Failures::new(rt, rt.alloc(), listener);
+    let mut reader = input;
+    let outcome = run_with_listener(rt, rt.alloc(), &mut reader, writer, options, &failures);
+    if outcome.is_ok() {
+        tell_failures(rt, input, &failures.into_told());
+    }
+    outcome
+}
+
+/// Tells the faults of the nodes of this plan. Where that fails, nothing is left to do about it.
+fn tell_failures<R: AllocGlobal + Eprint>(rt: &R, input: &[u8], told: &ToldFaults) {
+    if let Ok(text) = failures_text(rt.alloc(), input, told.faults.as_slice()) {
+        let _ = eprint!(rt; "{}", text.as_str());
+    }
+    if told.lost {
+        let _ = eprintln!(rt; "further faults were lost: no memory");
+    }
+}

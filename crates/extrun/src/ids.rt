@@ -1,0 +1,30 @@
+//! What is asked of an id: to read it, with its fault explained or not.
+use crate::telling::tell;
+use ext_run::{RequestFault, Summary, explain_id, read_id};
+use std::io::Write;
+
+/// Reads the id that a text spells, and tells why where it spells none.
+pub(crate) fn outcome_of_id<R: AllocGlobal + Eprint, W: Write>(
+    rt: &R,
+    writer: &mut W,
+    text: &str,
+    explained: bool,
+) -> Result<Summary, RequestFault> {
+    let outcome = read_id(rt.alloc(), writer, text);
+    if let Err(fault) = outcome {
+        tell(rt, fault);
+        if explained {
+            tell_meaning(rt, text, fault);
+        }
+    }
+    outcome
+}
+
+/// Tells what is meant by the fault of a text that is no id.
+fn tell_meaning<R: AllocGlobal + Eprint>(rt: &R, text: &str, fault: RequestFault) {
+    if let RequestFault::Id(fault) = fault
+        && let Ok(line) = explain_id(rt.alloc(), text, fault)
+    {
+        let _ = eprintln!(rt; "{}", line.as_str());
+    }
+}
