@@ -2,10 +2,14 @@
 //!
 //! A peer takes the words `CASE THREADS ROUNDS MILLIS` and prints a line `PEER CASE THREADS WALL PROCESSOR` for each round, in
 //! nanoseconds an operation. Case by case it does what `tool_bench` does, in batches of the same size, each on a store of its own.
+#[path = "timing.rs"]
+mod timing;
+
 use std::hint::black_box;
 use std::process::ExitCode;
 use std::thread;
-use std::time::{Duration, Instant};
+use std::time::Duration;
+use timing::{measured, Span, Spent, Whose};
 
 /// A key: a namespace of texts and a name, as the store of the repository has it.
 #[derive(Clone, Debug, PartialEq, Eq, Hash)]
@@ -79,76 +83,6 @@ fn resource(number: u32) -> Payload {
     }
 }
 
-// ---- time
-
-#[repr(C)]
-struct Timespec {
-    seconds: i64,
-    nanoseconds: i64,
-}
-
-extern "C" {
-    fn clock_gettime(clock: i32, time: *mut Timespec) -> i32;
-}
-
-/// The processor time of this thread.
-fn processor_time() -> Duration {
-    const THREAD_CLOCK: i32 = 3;
-    let mut time = Timespec {
-        seconds: 0,
-        nanoseconds: 0,
-    };
-    // SAFETY: the pointer is to a live value of the layout that the call writes.
-    let status = unsafe { clock_gettime(THREAD_CLOCK, &mut time) };
-    assert_eq!(status, 0);
-    Duration::new(time.seconds as u64, time.nanoseconds as u32)
-}
-
-struct Span {
-    started: Instant,
-    ended: Instant,
-    processor: Duration,
-    operations: u64,
-}
-
-fn measured(work: impl FnOnce() -> u64) -> Span {
-    let processor = processor_time();
-    let started = Instant::now();
-    let operations = work();
-    let ended = Instant::now();
-    Span {
-        started,
-        ended,
-        processor: processor_time() - processor,
-        operations,
-    }
-}
-
-#[derive(Default)]
-struct Spent {
-    wall: Duration,
-    processor: Duration,
-    operations: u64,
-}
-
-impl Spent {
-    fn add(&mut self, spans: &[Span]) {
-        let first = spans.iter().map(|it| it.started).min();
-        let last = spans.iter().map(|it| it.ended).max();
-        if let (Some(first), Some(last)) = (first, last) {
-            self.wall += last - first;
-        }
-        for span in spans {
-            self.processor += span.processor;
-            self.operations += span.operations;
-        }
-    }
-
-    fn each(&self, time: Duration) -> f64 {
-        time.as_nanos() as f64 / self.operations.max(1) as f64
-    }
-}
-
 // ---- operations
 
 fn look_up<P: Peer>(store: &P, context: usize, key: &Key, there: bool) -> u64 {
@@ -188,7 +122,7 @@ fn compute_often<P: Peer>(store: &P, context: usize, key: &Key) -> u64 {
 fn opening<P: Peer>() -> Span {
     let (parents, keys) = (vec![0; 256], keys(KEYS));
     let mut store = None;
-    let span = measured(|| {
+    let span = measured(Whose::Thread, || {
         store = Some(P::open(&parents, &keys, VALUES));
         1
     });
@@ -200,7 +134,7 @@ fn computing<P: Peer>() -> Span {
     let names = keys(KEYS);
     let store = P::open(&vec![0; 256], &names, VALUES);
     let mut closed = 0;
-    measured(|| {
+    measured(Whose::Thread, || {
         for context in (1..256).rev() {
             for name in &names {
                 assert!(store.compute(context, name, || resource(1)));
@@ -217,7 +151,7 @@ fn computing<P: Peer>() -> Span {
 /// A thread's operations; none is counted of the thread that writes beside the others.
 fn work<P: Peer>(store: &P, case: &str, writes: bool, deepest: usize) -> Option<Span> {
     let (one, other) = (key(0), key(1));
-    let span = measured(|| match case {
+    let span = measured(Whose::Thread, || match case {
         "get-root-3-beside-other" if writes => put_over(store, 0, &other, 60_000),
         "get-root-3-beside-same" if writes => put_over(store, 0, &one, 60_000),
         "get-absent-3" => look_up(store, deepest, &one, false),

@@ -1,5 +1,5 @@
 //! Closers and lanes, one at a time, of those that were opened.
-ghost use Rattle.std.specs.Prelude.{◌≡◌, ◌++◌, All, IfSome, MatchOption, option_to_list};
+ghost use Rattle.std.specs.Prelude.{◌≡◌, ◌++◌, [], All, IfNone, IfSome, MatchOption, option_to_list};
 ghost use Rattle.ext_store.specs.Stores.{IsCloserOf, IsLaneOf};
 ghost use Rattle.ext_engine.specs.Opening.{HasNone, IsTaken};
 
@@ -29,6 +29,7 @@ pub fn take_lane<V: StoreValue + Drop>(
 ) -> Option<Lane<V>>
     requires { All (IsLaneOf store.now.id) lanes.old.items }
     ensures taken { lanes.old.items ≡ lanes.new.items ++ option_to_list result }
+    ensures none { IfNone result (lanes.old.items ≡ []) }
     ensures own { IfSome result (IsLaneOf store.now.id) }
     ensures others { All (IsLaneOf store.now.id) lanes.new.items }
 {

@@ -24,7 +24,7 @@ mod tally;
 pub use call::{Call, Kind};
 pub use callbacks::{Callbacks, afters_of, befores_of, calls_round};
 pub use lifecycle::{Caller, run_afters, run_befores, run_body, run_calls};
-pub use listener::{NoListener, RunListener};
+pub use listener::{NoListener, RunListener, tell_fault};
 pub use mode::Mode;
 pub use node_result::NodeResult;
 pub use outcome::{Outcome, Verdict};

@@ -29,3 +29,10 @@ impl RunListener for NoListener {
     /// Returns at once.
     fn ended(&self, _node: ContextNo, _nodes: usize) {}
 }
+
+/// Tells the listener of a fault of the node, if there is one, by `RunListener::faulted`; else it returns at once.
+pub fn tell_fault<L: RunListener>(listener: &L, node: ContextNo, fault: Option<&Fault>) {
+    if let Some(fault) = fault {
+        listener.faulted(node, fault);
+    }
+}

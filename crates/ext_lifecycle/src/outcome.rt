@@ -1,5 +1,5 @@
 //! How a call ended.
-ghost use Rattle.std.specs.Prelude.{◌≡◌};
+ghost use Rattle.std.specs.Prelude.{◌≡◌, option_map};
 
 use ext_model::Fault;
 
@@ -15,7 +15,8 @@ pub enum Verdict {
 }
 
 impl Verdict {
-    ghost use Rattle.ext_lifecycle.specs.Endings.{is_successful};
+    ghost use Rattle.ext_model.specs.Closed.{or_else};
+    ghost use Rattle.ext_lifecycle.specs.Endings.{abort_in, fault_in, is_successful};
     ghost use Rattle.ext_lifecycle.specs.Lifecycle.{ending_of};
 
     /// Tests whether the call was successful.
@@ -26,6 +27,17 @@ impl Verdict {
             Verdict::Successful => true,
             Verdict::Aborted(_) => false,
             Verdict::Failed(_) => false,
+        }
+    }
+
+    /// The fault of a call that failed or was aborted; none of one that was successful.
+    pub fn fault(&self) -> Option<&Fault>
+        ensures { option_map (λ fault. fault.now) result ≡ or_else (fault_in (ending_of self.now)) (abort_in (ending_of self.now)) }
+    {
+        match self {
+            Verdict::Successful => None,
+            Verdict::Aborted(fault) => Some(fault),
+            Verdict::Failed(fault) => Some(fault),
         }
     }
 }

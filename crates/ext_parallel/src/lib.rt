@@ -12,7 +12,6 @@
 //! names no source in JUnit is an own rule.
 #![tactic(auto)]
 
-mod faults;
 mod laws;
 mod meeting;
 mod opening;

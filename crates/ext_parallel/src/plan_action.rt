@@ -4,10 +4,9 @@ ghost use Rattle.ext_plan.specs.Values.{close_fault};
 ghost use Rattle.ext_parallel.specs.StoreCalls.{stored_view};
 ghost use Rattle.ext_parallel.specs.PlanActions.{AnswersClose};
 
-use crate::faults::tell_fault;
 use crate::steps::StoredValue;
 use ext_closing::CloseAction;
-use ext_lifecycle::RunListener;
+use ext_lifecycle::{RunListener, tell_fault};
 use ext_model::{ContextNo, Fault};
 use ext_plan::close_fault;
 use std::alloc::Global;

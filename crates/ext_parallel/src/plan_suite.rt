@@ -6,10 +6,9 @@ ghost use Rattle.ext_engine.specs.Suites.{asks};
 ghost use Rattle.ext_parallel.specs.PlanSuites.{asked};
 
 use crate::PlanAction;
-use crate::faults::{fault_of, tell_fault};
 use crate::steps::{StoreSteps, StoredValue};
 use ext_engine::{Call, Callbacks, Kind, Mode, Outcome, Suite};
-use ext_lifecycle::RunListener;
+use ext_lifecycle::{RunListener, tell_fault};
 use ext_locks::{Held, LockMode, LockRequest, Resource};
 use ext_model::{ContextNo, LaneNo};
 use ext_plan::{Plan, PlanLock, StepKeys};
@@ -141,7 +140,7 @@ impl<'a, L: RunListener + Sync> Suite<StoredValue<'a>> for PlanSuite<'a, L> {
         let steps = StoreSteps::of(self.alloc, names);
         let path = store.tree().path(node);
         let outcome = steps.run(rt, store, lane, path.as_slice(), plan.steps_of(call));
-        tell_fault(self.listener, node, fault_of(&outcome.verdict));
+        tell_fault(self.listener, node, outcome.verdict.fault());
         outcome
     }
 }

@@ -1,8 +1,7 @@
 //! The calls of a node, each on the store of the run.
-use crate::faults::{fault_of, tell_fault};
 use crate::setting::Setting;
 use crate::value_store::ValueStore;
-use ext_lifecycle::{Call, Caller, Outcome, RunListener};
+use ext_lifecycle::{Call, Caller, Outcome, RunListener, tell_fault};
 use ext_model::ContextNo;
 use std::alloc::Global;
 
@@ -47,7 +46,7 @@ impl<L: RunListener> Caller for NodeCaller<'_, L> {
         let alloc = self.alloc;
         let end = self.store.run_steps(alloc, &keys, path.as_slice(), steps);
         self.lacked = self.has_lacked(end.lacked);
-        tell_fault(self.listener, self.node, fault_of(&end.outcome.verdict));
+        tell_fault(self.listener, self.node, end.outcome.verdict.fault());
         end.outcome
     }
 }

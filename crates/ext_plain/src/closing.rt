@@ -5,9 +5,8 @@ ghost use Rattle.ext_plain.specs.ValueStates.{value_of};
 ghost use Rattle.ext_plain.specs.ContextEnds.{seal_keys, numbers_left, closeables};
 ghost use Rattle.ext_plain.specs.InnerHelpers.{state_view, only_closeable, HasClosed};
 
-use crate::faults::tell_fault;
 use crate::value_store::ValueStore;
-use ext_lifecycle::RunListener;
+use ext_lifecycle::{RunListener, tell_fault};
 use ext_model::{Closed, ContextNo, FallingNumbers};
 use ext_plan::{PlanValue, close_fault};
 use std::alloc::{AllocError, Global};

@@ -13,7 +13,6 @@
 mod callers;
 mod closing;
 mod computes;
-mod faults;
 mod found;
 mod keyed;
 mod keyed_step;

@@ -5,6 +5,7 @@ pub mod InnerGroups
 pub mod InnerNaming
 pub mod InnerTold
 pub mod MadeSteps
+pub mod RaceLines
 pub mod Races
 pub mod Touches
 pub mod Words

@@ -1,6 +1,12 @@
 //! What is found of a plan's races, in lines.
+ghost use Rattle.std.specs.Prelude.{◌≡◌, ◌++◌, string_bytes, take, IfOk, OnOk};
+ghost use Rattle.std.specs.List.{flat_map, slice_get};
+ghost use Rattle.ext_plan.specs.Plans.{plan_view, step_key_view};
+ghost use Rattle.ext_plan.specs.StepCalls.{label_of};
+ghost use Rattle.ext_races.specs.RaceLines.{found_text, id_of_node, line_limit, name_if, race_line, race_lines, side_text};
+
 use crate::{Found, Race, Side};
-use ext_model::ContextNo;
+use ext_model::{ContextNo, KeyNo};
 use ext_plan::{Plan, StepKey};
 use std::alloc::{AllocError, Global};
 
@@ -11,7 +17,9 @@ const LINES: usize = 20;
 /// `and more` after them where more are handed in; `no races` where there is none; and a line that names the limit where the plan goes past one.
 ///
 /// Takes memory for the text; `AllocError` comes only where that is refused. Own rule.
-pub fn races_text(alloc: Global, plan: &Plan, found: &Found<'_>) -> Result<String, AllocError> {
+pub fn races_text(alloc: Global, plan: &Plan, found: &Found<'_>) -> Result<String, AllocError>
+    ensures { IfOk result (λ text. string_bytes text ≡ found_text (plan_view plan.now) found.now) }
+{
     let mut text = String::new(alloc);
     match found {
         Found::TooManyKeys => text.push_str("the steps name more than 64 keys\n")?,
@@ -29,17 +37,43 @@ fn push_races(
     plan: &Plan,
     races: &[Race],
     names: &[&StepKey],
-) -> Result<(), AllocError> {
+) -> Result<(), AllocError>
+    ensures { OnOk result (string_bytes text.new ≡ string_bytes text.old ++ race_lines (plan_view plan.now) names.now races.now) }
+{
     if races.is_empty() {
         return text.push_str("no races\n");
     }
-    for race in races.iter().take(LINES) {
-        push_race(text, plan, race, names)?;
-    }
+    push_first(text, plan, races, names)?;
     if races.len() > LINES {
         text.push_str("and more\n")?;
     }
     Ok(())
+}
+
+/// Adds the lines of the first of these races.
+fn push_first(
+    text: &mut String,
+    plan: &Plan,
+    races: &[Race],
+    names: &[&StepKey],
+) -> Result<(), AllocError>
+    ensures { OnOk result (string_bytes text.new ≡ string_bytes text.old ++ flat_map (race_line (plan_view plan.now) names.now) (take line_limit races.now)) }
+{
+    let first = first_of(races);
+    for race in first {
+        push_race(text, plan, race, names)?;
+    }
+    Ok(())
+}
+
+/// The first of these races, which have lines.
+fn first_of(races: &[Race]) -> &[Race]
+    ensures { result.now ≡ take line_limit races.now }
+{
+    match races.get(..LINES) {
+        Some(first) => first,
+        None => races,
+    }
 }
 
 /// Adds the line of a race.
@@ -48,7 +82,9 @@ fn push_race(
     plan: &Plan,
     race: &Race,
     names: &[&StepKey],
-) -> Result<(), AllocError> {
+) -> Result<(), AllocError>
+    ensures { OnOk result (string_bytes text.new ≡ string_bytes text.old ++ race_line (plan_view plan.now) names.now race.now) }
+{
     push_side(text, plan, &race.first, names)?;
     text.push_str(" and ")?;
     push_side(text, plan, &race.second, names)?;
@@ -63,18 +99,30 @@ fn push_side(
     plan: &Plan,
     side: &Side,
     names: &[&StepKey],
-) -> Result<(), AllocError> {
+) -> Result<(), AllocError>
+    ensures { OnOk result (string_bytes text.new ≡ string_bytes text.old ++ side_text (plan_view plan.now) names.now side.now) }
+{
     text.push_str(side.word.text())?;
     text.push_str(" ")?;
-    if let Some(name) = names.get(side.key) {
-        text.push_str(name_of(plan, name))?;
-    }
+    text.push_str(name_at(plan, names, side.key))?;
     text.push_str(" of ")?;
     push_id(text, plan, side.node)
 }
 
+/// The word by which the plan's steps first name the key of this number, if they name one.
+fn name_at<'a>(plan: &'a Plan, names: &[&'a StepKey], key: KeyNo) -> &'a str
+    ensures { result.now ≡ name_if (plan_view plan.now) (slice_get names.now key) }
+{
+    match names.get(key) {
+        None => "",
+        Some(name) => name_of(plan, name),
+    }
+}
+
 /// The word by which a step names its key.
-fn name_of<'a>(plan: &'a Plan, key: &'a StepKey) -> &'a str {
+fn name_of<'a>(plan: &'a Plan, key: &'a StepKey) -> &'a str
+    ensures { result.now ≡ label_of (plan_view plan.now).keys (step_key_view key.now) }
+{
     match key {
         StepKey::Label(label) => match plan.keys.get(*label) {
             Some(key) => key.label.as_str(),
@@ -85,7 +133,9 @@ fn name_of<'a>(plan: &'a Plan, key: &'a StepKey) -> &'a str {
 }
 
 /// Adds the id of a node.
-fn push_id(text: &mut String, plan: &Plan, node: ContextNo) -> Result<(), AllocError> {
+fn push_id(text: &mut String, plan: &Plan, node: ContextNo) -> Result<(), AllocError>
+    ensures { OnOk result (string_bytes text.new ≡ string_bytes text.old ++ id_of_node (plan_view plan.now) node) }
+{
     match plan.nodes.get(node) {
         Some(node) => node.id.write_to(text),
         None => Ok(()),

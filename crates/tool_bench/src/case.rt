@@ -11,6 +11,8 @@ pub(crate) enum Case {
     GetRoot16,
     /// A look-up of a value at the root, from the third context, by the key's number.
     GetRoot3Numbered,
+    /// The same, and the value that is found is shown.
+    GetRoot3Shown,
     /// A look-up that finds nothing in three contexts.
     GetAbsent3,
     /// A value kept and put over one that stands.
@@ -25,6 +27,16 @@ pub(crate) enum Case {
     NameNew,
     /// A context closed in which nothing stands: 256 contexts a store.
     Close256,
+    /// A run of an engine with one test that does nothing.
+    Tree1,
+    /// A run of an engine with 16 such tests, which may run beside one another.
+    Tree16,
+    /// A run of an engine with 255 of them.
+    Tree255,
+    /// A run of an engine with 255 tests that work for some 100 microseconds each.
+    Tree255Busy,
+    /// What a run of an engine with 255 tests goes over, opened.
+    OpenTree255,
     /// A look-up of a value at the root from the third context, while one more thread puts values under another key there.
     GetBesideOther,
     /// The same while it puts values under the same key.
@@ -35,11 +47,12 @@ pub(crate) enum Case {
 
 impl Case {
     /// All cases, in the order of the table.
-    pub(crate) const ALL: [Case; 14] = [
+    pub(crate) const ALL: [Case; 20] = [
         Case::GetOwn3,
         Case::GetRoot3,
         Case::GetRoot16,
         Case::GetRoot3Numbered,
+        Case::GetRoot3Shown,
         Case::GetAbsent3,
         Case::PutOver,
         Case::PutRemove,
@@ -47,6 +60,11 @@ impl Case {
         Case::Open256x16,
         Case::NameNew,
         Case::Close256,
+        Case::Tree1,
+        Case::Tree16,
+        Case::Tree255,
+        Case::Tree255Busy,
+        Case::OpenTree255,
         Case::GetBesideOther,
         Case::GetBesideSame,
         Case::ComputeHot,
@@ -59,6 +77,7 @@ impl Case {
             Case::GetRoot3 => "get-root-3",
             Case::GetRoot16 => "get-root-16",
             Case::GetRoot3Numbered => "get-root-3-numbered",
+            Case::GetRoot3Shown => "get-root-3-shown",
             Case::GetAbsent3 => "get-absent-3",
             Case::PutOver => "put-over",
             Case::PutRemove => "put-remove",
@@ -66,6 +85,11 @@ impl Case {
             Case::Open256x16 => "open-256x16",
             Case::NameNew => "name-new",
             Case::Close256 => "close-256",
+            Case::Tree1 => "tree-1",
+            Case::Tree16 => "tree-16",
+            Case::Tree255 => "tree-255",
+            Case::Tree255Busy => "tree-255-busy",
+            Case::OpenTree255 => "open-tree-255",
             Case::GetBesideOther => "get-root-3-beside-other",
             Case::GetBesideSame => "get-root-3-beside-same",
             Case::ComputeHot => "compute-hot",
@@ -86,16 +110,19 @@ impl Case {
     pub(crate) fn quick_threads(self) -> usize {
         match self {
             Case::GetBesideOther | Case::GetBesideSame | Case::ComputeHot => 4,
+            Case::Tree255Busy => 4,
             _ => 1,
         }
     }
 
-    /// Whether it runs on one thread and on no more.
-    pub(crate) fn is_of_one_thread(self) -> bool {
-        matches!(
-            self,
-            Case::ComputeFreshAndClose | Case::Open256x16 | Case::NameNew | Case::Close256
-        )
+    /// On how many threads it can run: a run of a tree has a lane for each.
+    pub(crate) fn most_threads(self) -> usize {
+        match self {
+            Case::ComputeFreshAndClose | Case::Open256x16 | Case::NameNew | Case::Close256 => 1,
+            Case::Tree1 | Case::Tree16 | Case::Tree255 | Case::Tree255Busy | Case::OpenTree255 =>
+                16,
+            _ => 14,
+        }
     }
 
     /// Whether one more thread writes meanwhile, whose time is not counted.

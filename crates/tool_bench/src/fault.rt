@@ -5,8 +5,8 @@
 pub(crate) enum BenchFault {
     /// The words of the command line are none of the usage.
     Words,
-    /// A case that runs on one thread was asked for on several.
-    OneThread,
+    /// The case doesn't run on so many threads.
+    Threads,
     /// An allocation failed, or the store was not opened.
     Opening,
     /// The clock can't be read.
@@ -22,7 +22,8 @@ impl BenchFault {
     pub(crate) fn text(self) -> &'static str {
         match self {
             BenchFault::Words => "the words are not understood; --help tells them",
-            BenchFault::OneThread => "this case runs on one thread: THREADS must be 1",
+            BenchFault::Threads =>
+                "this case doesn't run on so many threads; --help tells on how many",
             BenchFault::Opening => "the store can't be opened",
             BenchFault::Clock => "the clock can't be read",
             BenchFault::Answer => "a call has a wrong answer",
@@ -33,7 +34,7 @@ impl BenchFault {
     /// The exit status: 2 for words that are refused, and else 3.
     pub(crate) fn status(self) -> u8 {
         match self {
-            BenchFault::Words | BenchFault::OneThread => 2,
+            BenchFault::Words | BenchFault::Threads => 2,
             _ => 3,
         }
     }

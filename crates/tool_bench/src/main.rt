@@ -1,4 +1,4 @@
-//! Measures what the calls of the store cost: nanoseconds of wall and of processor time an operation. Own rule.
+//! Measures what the calls of the store, and runs of the engine, cost: nanoseconds of wall and of processor time an operation. Own rule.
 //!
 //! Without arguments it prints its usage and a table of all cases, and with `CASE THREADS ROUNDS MILLIS` a line for each round. It
 //! makes library calls alone. The exit status is 0, or 2 where the words are refused, or 3 where a round failed.
@@ -9,6 +9,8 @@ mod fault;
 mod opening;
 mod round;
 mod spent;
+mod suite;
+mod trees;
 mod words;
 mod work;
 
@@ -17,6 +19,7 @@ use fault::BenchFault;
 use round::round_of;
 use spent::Spent;
 use std::process::ExitCode;
+use std::sync::Wait;
 use std::thread::Threads;
 use std::time::{Clock, CpuClock};
 use words::{Request, USAGE, request_of};
@@ -33,7 +36,7 @@ fn main(rt: HostRuntime) -> ExitCode {
 }
 
 /// Does what the words ask.
-fn done<R: Threads + Sync + Clock + CpuClock + AllocGlobal + Print>(
+fn done<R: Threads + Wait + Sync + Clock + CpuClock + AllocGlobal + Print>(
     rt: &R,
     request: Request,
 ) -> Result<(), BenchFault> {
@@ -58,7 +61,7 @@ fn usage(rt: &impl Print) -> Result<(), BenchFault> {
 }
 
 /// A round of two seconds for each case, on one thread, and on four where threads are in each other's way.
-fn table<R: Threads + Sync + Clock + CpuClock + AllocGlobal + Print>(
+fn table<R: Threads + Wait + Sync + Clock + CpuClock + AllocGlobal + Print>(
     rt: &R,
 ) -> Result<(), BenchFault> {
     for case in Case::ALL {
@@ -68,7 +71,7 @@ fn table<R: Threads + Sync + Clock + CpuClock + AllocGlobal + Print>(
 }
 
 /// Prints a line for each round.
-fn rounds_of<R: Threads + Sync + Clock + CpuClock + AllocGlobal + Print>(
+fn rounds_of<R: Threads + Wait + Sync + Clock + CpuClock + AllocGlobal + Print>(
     rt: &R,
     case: Case,
     threads: usize,

@@ -61,14 +61,19 @@ fn add_chain(alloc: Global, ids: &mut Vec<UniqueId>, below: usize) -> Option<()>
 
 /// An engine with 255 classes.
 pub(crate) fn wide(alloc: Global) -> Option<Tree> {
-    let mut ids = Vec::new(alloc);
-    add_wide(alloc, &mut ids)?;
+    let ids = wide_ids(alloc, 255)?;
     Tree::build(alloc, ids.as_slice()).ok()
 }
 
-fn add_wide(alloc: Global, ids: &mut Vec<UniqueId>) -> Option<()> {
+/// The ids of an engine and of so many classes.
+pub(crate) fn wide_ids(alloc: Global, classes: u32) -> Option<Vec<UniqueId>> {
+    let mut ids = Vec::new(alloc);
+    add_wide(alloc, &mut ids, classes).and(Some(ids))
+}
+
+fn add_wide(alloc: Global, ids: &mut Vec<UniqueId>, classes: u32) -> Option<()> {
     add(alloc, ids, "[engine:x]")?;
-    for class in 0..255 {
+    for class in 0..classes {
         add_class(alloc, ids, class)?;
     }
     Some(())

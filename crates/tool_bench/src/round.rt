@@ -6,15 +6,18 @@ use crate::case::Case;
 use crate::fault::BenchFault;
 use crate::opening::{NUMBERS, Opened, Payload, chain, names, open, wide};
 use crate::spent::{Span, Spent, Started};
+use crate::suite::BUSY;
+use crate::trees::{opening_run, running};
 use crate::work::{
-    compute_all, compute_often, look_up, look_up_numbered, name_all, put_and_remove, put_one,
-    put_over,
+    compute_all, compute_often, look_up, look_up_numbered, look_up_shown, name_all, put_and_remove,
+    put_one, put_over,
 };
 use ext_closing::{CloseAction, close};
 use ext_model::{ContextNo, Fault};
 use ext_store::{Closer, Lane, Store};
 use ext_tree::{Key, Tree};
 use std::alloc::Global;
+use std::sync::Wait;
 use std::thread::{Threads, map_vec};
 use std::time::{Clock, CpuClock};
 
@@ -28,7 +31,7 @@ const KEYS: u32 = 16;
 const NAMES: u32 = 64;
 
 /// Batches of the case until so many milliseconds of the wall's time were spent on operations.
-pub(crate) fn round_of<R: Threads + Sync + Clock + CpuClock + AllocGlobal>(
+pub(crate) fn round_of<R: Threads + Wait + Sync + Clock + CpuClock + AllocGlobal>(
     rt: &R,
     case: Case,
     threads: usize,
@@ -45,7 +48,7 @@ pub(crate) fn round_of<R: Threads + Sync + Clock + CpuClock + AllocGlobal>(
 }
 
 /// What is spent after one more batch of the case.
-fn spent_after<R: Threads + Sync + Clock + CpuClock + AllocGlobal>(
+fn spent_after<R: Threads + Wait + Sync + Clock + CpuClock + AllocGlobal>(
     rt: &R,
     case: Case,
     threads: usize,
@@ -56,6 +59,11 @@ fn spent_after<R: Threads + Sync + Clock + CpuClock + AllocGlobal>(
         Case::ComputeFreshAndClose => and_one(spent, computing(rt)),
         Case::NameNew => and_one(spent, naming(rt)),
         Case::Close256 => and_one(spent, closing(rt)),
+        Case::Tree1 => and_one(spent, running(rt, 1, 0, threads)),
+        Case::Tree16 => and_one(spent, running(rt, 16, 0, threads)),
+        Case::Tree255 => and_one(spent, running(rt, 255, 0, threads)),
+        Case::Tree255Busy => and_one(spent, running(rt, 255, BUSY, threads)),
+        Case::OpenTree255 => and_one(spent, opening_run(rt, 255, threads)),
         _ => match batch(rt, case, threads) {
             Ok(spans) => Ok(spent.and(spans.as_slice())),
             Err(fault) => Err(fault),
@@ -82,7 +90,7 @@ fn opening<R: Clock + CpuClock + AllocGlobal>(rt: &R) -> Result<Span, BenchFault
 }
 
 /// What was spent since the clocks were started, if they were.
-fn ended<R: Clock + CpuClock>(
+pub(crate) fn ended<R: Clock + CpuClock>(
     rt: &R,
     started: Result<Started, BenchFault>,
     operations: u64,
@@ -92,8 +100,8 @@ fn ended<R: Clock + CpuClock>(
 
 /// Counts what it closes.
 #[derive(Clone, Copy)]
-struct Counting {
-    closed: u64,
+pub(crate) struct Counting {
+    pub(crate) closed: u64,
 }
 
 impl CloseAction<Payload> for Counting {
@@ -498,6 +506,7 @@ fn operate(
         Case::GetBesideOther if writes => put_over(store, lane, 0, job.other, 60_000),
         Case::GetBesideSame if writes => put_over(store, lane, 0, key, 60_000),
         Case::GetRoot3Numbered => look_up_numbered(store, lane, deepest, key, LOOKS),
+        Case::GetRoot3Shown => look_up_shown(store, lane, deepest, key, LOOKS),
         Case::GetAbsent3 => look_up(store, lane, deepest, key, LOOKS, false),
         Case::PutOver => put_over(store, lane, deepest, key, puts),
         Case::PutRemove => put_and_remove(store, lane, deepest, key, puts),

@@ -3,7 +3,7 @@ use crate::fault::BenchFault;
 use std::fmt::{self, Display, Formatter, Write};
 use std::time::{Clock, CpuClock, Duration, Instant};
 
-/// What a thread spent on its operations, and from when to when.
+/// What was spent on operations, and from when to when.
 #[derive(Clone, Copy)]
 pub(crate) struct Span {
     started: Instant,
@@ -12,19 +12,53 @@ pub(crate) struct Span {
     operations: u64,
 }
 
-/// A thread's clocks, started.
+/// Whose processor time is counted.
+#[derive(Clone, Copy)]
+enum Whose {
+    /// That of the thread that reads the clocks.
+    Thread,
+    /// That of all threads of the process.
+    Process,
+}
+
+impl Whose {
+    /// How much of it was spent so far.
+    fn time<R: CpuClock>(self, rt: &R) -> Result<Duration, BenchFault> {
+        let time = match self {
+            Whose::Thread => rt.thread_cpu_time(),
+            Whose::Process => rt.process_cpu_time(),
+        };
+        time.or(Err(BenchFault::Clock))
+    }
+}
+
+/// Clocks, started.
 #[derive(Clone, Copy)]
 pub(crate) struct Started {
+    whose: Whose,
     wall: Instant,
     processor: Duration,
 }
 
 impl Started {
-    /// Reads the clocks.
+    /// Reads the clocks of this thread.
     pub(crate) fn now<R: Clock + CpuClock>(rt: &R) -> Result<Started, BenchFault> {
-        let processor = rt.thread_cpu_time().or(Err(BenchFault::Clock))?;
+        Started::of(rt, Whose::Thread)
+    }
+
+    /// Reads those of all threads.
+    pub(crate) fn now_of_all<R: Clock + CpuClock>(rt: &R) -> Result<Started, BenchFault> {
+        Started::of(rt, Whose::Process)
+    }
+
+    fn of<R: Clock + CpuClock>(rt: &R, whose: Whose) -> Result<Started, BenchFault> {
+        let processor = whose.time(rt)?;
         let wall = Instant::now(rt).or(Err(BenchFault::Clock))?;
-        Ok(Started { wall, processor })
+        Ok(Started {
+            whose,
+            wall,
+            processor,
+        })
     }
 
     /// Reads them again after so many operations.
@@ -34,7 +68,7 @@ impl Started {
         operations: u64,
     ) -> Result<Span, BenchFault> {
         let ended = Instant::now(rt).or(Err(BenchFault::Clock))?;
-        let processor = rt.thread_cpu_time().or(Err(BenchFault::Clock))?;
+        let processor = self.whose.time(rt)?;
         Ok(Span {
             started: self.wall,
             ended,

@@ -15,11 +15,13 @@ rounds, of MILLIS (1 to 600000) milliseconds each, on THREADS (1 to 14) threads:
     ext_store CASE THREADS NANOSECONDS-OF-WALL-AN-OP NANOSECONDS-OF-PROCESSOR-AN-OP
 
 compute-fresh-and-close, open-256x16, name-new and close-256 run on one thread: with them THREADS
-other than 1 is refused.
+other than 1 is refused. In tree-1, tree-16, tree-255 and tree-255-busy an engine with so many tests
+is run on THREADS (1 to 16) lanes, and an operation is a test; in open-tree-255 what such a run goes
+over is opened, which is the operation. Of these the processor time is that of all threads.
 
-Cases: get-own-3 get-root-3 get-root-16 get-root-3-numbered get-absent-3 put-over put-remove
-compute-fresh-and-close open-256x16 name-new close-256 get-root-3-beside-other get-root-3-beside-same
-compute-hot
+Cases: get-own-3 get-root-3 get-root-16 get-root-3-numbered get-root-3-shown get-absent-3 put-over
+put-remove compute-fresh-and-close open-256x16 name-new close-256 tree-1 tree-16 tree-255
+tree-255-busy open-tree-255 get-root-3-beside-other get-root-3-beside-same compute-hot
 ";
 
 /// What the words ask for.
@@ -29,7 +31,7 @@ pub(crate) enum Request {
     Usage,
     /// The usage and the table of all cases.
     Table,
-    /// So many rounds of a case, of so many milliseconds, on so many threads: 1 to 14.
+    /// So many rounds of a case, of so many milliseconds, on so many threads: as many as the case can run on.
     Rounds {
         case: Case,
         threads: usize,
@@ -64,19 +66,19 @@ fn request_in(words: &[String]) -> Request {
 }
 
 fn rounds_in(case: &str, threads: &str, rounds: &str, millis: &str) -> Request {
-    let (Some(case), Some(threads)) = (Case::named(case), number_in(threads, 14)) else {
+    let (Some(case), Some(threads)) = (Case::named(case), number_in(threads, 16)) else {
         return Request::Refused(BenchFault::Words);
     };
     let (Some(rounds), Some(millis)) = (number_in(rounds, 1_000), number_in(millis, 600_000)) else {
         return Request::Refused(BenchFault::Words);
     };
-    // A case of one thread is not run on several.
-    if case.is_of_one_thread() && threads != 1 {
-        return Request::Refused(BenchFault::OneThread);
+    let threads = threads as usize;
+    if threads > case.most_threads() {
+        return Request::Refused(BenchFault::Threads);
     }
     Request::Rounds {
         case,
-        threads: threads as usize,
+        threads,
         rounds,
         millis,
     }

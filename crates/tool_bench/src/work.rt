@@ -44,6 +44,54 @@ fn finds(store: &Store<Payload>, lane: &mut Lane<Payload>, context: ContextNo, k
     }
 }
 
+/// Looks the key up so often, whose number is asked for once, and has each value that is found shown. Each answer is that value.
+pub(crate) fn look_up_shown(
+    store: &Store<Payload>,
+    lane: &mut Lane<Payload>,
+    context: ContextNo,
+    key: &Key,
+    times: u32,
+) -> Result<u64, BenchFault>
+    requires lane { IsLaneOf store.now.id lane.old }
+    requires context { context < length store.now.tree }
+    ensures { IsLaneOf store.now.id lane.new }
+{
+    let Ok(number) = store.number(lane, key) else {
+        return Err(BenchFault::Answer);
+    };
+    let mut right = true;
+    for _ in 0..times {
+        let shown = shows(store, lane, context, number);
+        right = right && shown;
+    }
+    counted(right, times)
+}
+
+/// Whether the look-up finds a number whose value is shown, or other lanes were in its way.
+fn shows(store: &Store<Payload>, lane: &mut Lane<Payload>, context: ContextNo, key: KeyNo) -> bool
+    requires lane { IsLaneOf store.now.id lane.old }
+    requires context { context < length store.now.tree }
+    requires key { key < 64 }
+    ensures { IsLaneOf store.now.id lane.new }
+{
+    match store.get_numbered(lane, context, key) {
+        Ok(Look::Found { number, .. }) => is_shown(store, lane, number),
+        Ok(_) => false,
+        Err(refusal) => refusal == Refusal::Contended,
+    }
+}
+
+/// Whether the value of this number is shown: one that was put before the batch.
+fn is_shown(store: &Store<Payload>, lane: &mut Lane<Payload>, number: u32) -> bool
+    requires { IsLaneOf store.now.id lane.old }
+    ensures { IsLaneOf store.now.id lane.new }
+{
+    match store.show(lane, number) {
+        Some(value) => value.number > 0,
+        None => false,
+    }
+}
+
 /// Looks the key up so often. Each answer is that a value is there, or none is, as the case has it.
 pub(crate) fn look_up(
     store: &Store<Payload>,

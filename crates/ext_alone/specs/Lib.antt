@@ -1,0 +1,6 @@
+-- What the clauses of this crate speak of.
+pub mod Alone
+pub mod Changing
+pub mod Laws
+pub mod Shares
+pub mod StoreCalls

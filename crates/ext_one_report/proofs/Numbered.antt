@@ -1,0 +1,55 @@
+-- The key of a step in a plain run that has room: the number that it has or gets.
+use Rattle.std.proofs.Common.{◌≡◌, ℕ, ◌<◌, inl, inr, true, false, List, length, refl, ap, sym, ◌∙◌, arith}
+use Rattle.std.specs.Prelude.{nat_lt}
+use Rattle.std.proofs.lemmas.Bool.Decides.{nat_tests}
+use Rattle.ext_history.proofs.Lists.{bools}
+use Rattle.ext_model.specs.History.{History}
+use Rattle.ext_tree.specs.Keys.{KeyValue}
+use Rattle.ext_plan.specs.StoreKeys.{is_there, place_of_key}
+use Rattle.ext_plan.proofs.KeyLists.{place_last, not_contained}
+use Rattle.ext_plain.specs.ValueStates.{ValueState, enough, key_limit, with_number}
+use Rattle.ext_plain.specs.StepRuns.{StepEnd, number_by, numbered_by}
+use Rattle.ext_plain.proofs.Numberings.{is_known, is_next, there_then}
+use Rattle.ext_one_report.specs.Matching.{RunView, Places, Matches, IsNumbered}
+use Rattle.ext_one_report.proofs.Matching.{keys_keep_matches, keys_keep_numbered}
+
+-- The state in which the key has its number, and what of the state before is so of it
+pub record IsNamed (key : KeyValue) (s : ValueState) : Type 0 where
+  pub state : ValueState
+  pub there : is_there state.keys key ≡ true
+  pub goes : (name label : List ℕ) (goes_on : ℕ → ValueState → StepEnd) → numbered_by enough name label key goes_on s ≡ goes_on (place_of_key state.keys key) state
+  pub matches : (run : RunView) (places : Places) (h : History) → Matches run places h s → Matches run places h state
+  pub numbered : IsNumbered state
+  pub drawn : state.store ≡ s.store
+  pub values : state.values ≡ s.values
+  pub faults : state.keep_faults ≡ s.keep_faults
+
+less_is : (a b : ℕ) → a < b → nat_lt a b ≡ true
+less_is a b less = grind (arith, nat_tests)
+
+pub named : (key : KeyValue) (s : ValueState) → (is_there s.keys key ≡ false → length s.keys < key_limit) → IsNumbered s → IsNamed key s
+named key s room numbered =
+    elim (bools (is_there s.keys key)) [
+      | inl there ↦ record {
+        state = s;
+        there = there;
+        goes = λ name label goes_on. ap (number_by enough name label key goes_on s) (is_known s.keys key there);
+        matches = λ run places h matches. matches;
+        numbered = numbered;
+        drawn = refl;
+        values = refl;
+        faults = refl;
+      }
+      | inr none ↦ record {
+        state = with_number key s;
+        there = there_then s.keys key none;
+        goes = λ name label goes_on.
+            ap (number_by enough name label key goes_on s) (is_next s.keys key (not_contained s.keys key none) (less_is (length s.keys) key_limit (room none)))
+            ∙ ap (λ n. goes_on n (with_number key s)) (sym (place_last s.keys key none));
+        matches = λ run places h matches. keys_keep_matches run places h key s none numbered matches;
+        numbered = keys_keep_numbered key s numbered;
+        drawn = refl;
+        values = refl;
+        faults = refl;
+      }
+    ]

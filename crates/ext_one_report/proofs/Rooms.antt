@@ -1,0 +1,225 @@
+-- Each step of a plain run draws one number at most, and numbers one key at most.
+use Rattle.std.proofs.Common.{◌≡◌, ◌≤◌, ◌<◌, ℕ, ◌+◌, suc, inl, inr, Bool, true, false, List, [], ◌∷◌, ◌++◌, length, length-append, drop, Option, None, Some, Contains, refl, sym, subst, arith}
+use Rattle.std.specs.Prelude.{All, IfSome, if◌then◌else◌, codes, nat_lt}
+use Rattle.std.proofs.lemmas.Bool.{ltb-true}
+use Rattle.std.proofs.lemmas.List.Elements.{All-push}
+use Rattle.ext_history.proofs.Lists.{bools}
+use Rattle.ext_model.specs.declared.event.Act.TheVariants.{Put, Remove, Claim, Fill, Fail, Abandon, Seal}
+use Rattle.ext_model.specs.declared.look.Look.{Look}
+use Rattle.ext_model.specs.declared.look.Look.TheVariants as look
+use Rattle.ext_model.specs.Plain.{Place}
+use Rattle.ext_tree.specs.Keys.{KeyValue}
+use Rattle.ext_lifecycle.specs.Endings.{successful, is_successful}
+use Rattle.ext_plan.specs.declared.reason.Reason.{Reason}
+use Rattle.ext_plan.specs.Plans.{KeyText, StepKeyText, StepText, put, put_closeable, want, nothing, remove, compute, compute_closeable, compute_fail, fail, abort}
+use Rattle.ext_plan.specs.StepCalls.{label_of, start_of}
+use Rattle.ext_plan.specs.Steps.{step_key}
+use Rattle.ext_plan.specs.StoreKeys.{is_there, key_of_step}
+use Rattle.ext_plan.specs.Values.{ValueText}
+use Rattle.ext_plan.proofs.KeyLists.{not_contained}
+use Rattle.ext_plain.specs.ValueStates.{Numbering, ValueState, after_act, enough, full, keep_value, key_limit, known, next, next_number, numbering_of, run_numbers, why_refused, with_number}
+use Rattle.ext_plain.specs.StepRuns.{StepEnd, claim_and, compute_looked, compute_numbered, computefail_looked, computefail_numbered, ended, factory_failed, factory_gave, found_along, kept_or_refused, none_numbered, number_by, numbered_by, or_refused, put_in, remove_numbered, step_run, steps_run, want_numbered}
+use Rattle.ext_plain.specs.Laws.{HasValues, NamesOneOf}
+use Rattle.ext_plain.proofs.Kept.{IsKept, IsKeptNaming, step-kept-by, steps-kept-by}
+use Rattle.ext_plain.proofs.Named.{OfKeys, numbers-once, of-keys}
+use Rattle.ext_plain.proofs.Numberings.{is_full}
+use Rattle.ext_plain.proofs.Rooms.{has_room}
+use Rattle.ext_plain.proofs.Values.{act-values, keep-drawn}
+use Rattle.ext_one_report.specs.Steps.{HasRoom}
+use Rattle.ext_one_report.specs.Calls.{StepsHaveRoom}
+use Rattle.ext_one_report.specs.Rooms.{GaveFew}
+use Rattle.ext_one_report.proofs.Calls.{all_first, all_later, plain_goes, plain_stops, step_memory}
+use Rattle.ext_plain.proofs.Stepping.{steps_run-nil}
+
+-- ---- a step keeps one value at most
+
+one_longer : (values : List ValueText) (value : ValueText) → length (values ++ value ∷ []) ≡ length values + 1
+one_longer values value = length-append values (value ∷ [])
+
+module _ (n : ℕ) where
+  -- no more values than n
+  abbrev Few : ValueState → Type 0
+  Few s = length s.values ≤ n
+
+  or_few : (name label : List ℕ) (why : Option Reason) (s : ValueState) (goes : StepEnd) → Few s → Few goes.state → Few (or_refused name label why s goes).state
+  or_few name label None s goes h g = g
+  or_few name label (Some why) s goes h g = h
+
+  kept_few : (name label : List ℕ) (why : Option Reason) (s : ValueState) (goes : StepEnd) → Few s → Few goes.state → Few (kept_or_refused enough name label why s goes).state
+  kept_few name label None s goes h g = g
+  kept_few name label (Some why) s goes h g = h
+
+  number_few : (name label : List ℕ) (key : KeyValue) (goes : ℕ → ValueState → StepEnd) (s : ValueState) (numbering : Numbering) → Few s → ((number : ℕ) (t : ValueState) → t.values ≡ s.values → Few (goes number t).state)
+      → Few (number_by enough name label key goes s numbering).state
+  number_few name label key goes s (known number) h each = each number s refl
+  number_few name label key goes s (next number) h each = each number (with_number key s) refl
+  number_few name label key goes s full h each = h
+
+  either_few : (b : Bool) (x y : StepEnd) → Few x.state → Few y.state → Few (if b then x else y).state
+  either_few true x y g h = g
+  either_few false x y g h = h
+
+  gave_few : (name label : List ℕ) (place : Place) (value : ValueText) (s : ValueState) → length s.values + 1 ≤ n → Few (factory_gave name label place value s).state
+  gave_few name label place value s room =
+      let kept = keep_value value s in
+      or_few name label (why_refused (next_number s) s) (after_act (Abandon place) s) _ (omega (arith, room)) (omega (arith, room, one_longer s.values value))
+
+  failed_few : (name label : List ℕ) (place : Place) (text : List ℕ) (s : ValueState) → length s.values + 1 ≤ n → Few (factory_failed name label place text s).state
+  failed_few name label place text s room =
+      let value : ValueText = record { text = text; closeable = false } in
+      let kept = keep_value value s in
+      let gone = after_act (Abandon place) s in
+      let stored = ended successful (after_act (Fail place kept.store.drawn) kept) in
+      either_few s.keep_faults (or_refused name label (why_refused (next_number s) s) gone stored) (ended successful gone)
+      (or_few name label (why_refused (next_number s) s) gone stored (omega (arith, room)) (omega (arith, room, one_longer s.values value))) (omega (arith, room))
+
+  claim_few : (name label : List ℕ) (place : Place) (factory : ValueState → StepEnd) (s : ValueState) → length s.values + 1 ≤ n → ((t : ValueState) → length t.values + 1 ≤ n → Few (factory t).state) → Few (claim_and name label place factory s).state
+  claim_few name label place factory s room each =
+      or_few name label (why_refused (Claim place) s) s (factory (after_act (Claim place) s)) (omega (arith, room)) (each (after_act (Claim place) s) room)
+
+  compute_few : (name label : List ℕ) (place : Place) (value : ValueText) (s : ValueState) (found : Look) → length s.values + 1 ≤ n → Few (compute_looked name label place value s found).state
+  compute_few name label place value s (look.Found at number) room = omega (arith, room)
+  compute_few name label place value s (look.Fault at number) room = omega (arith, room)
+  compute_few name label place value s look.Absent room = claim_few name label place (factory_gave name label place value) s room (gave_few name label place value)
+  compute_few name label place value s (look.Busy at) room = omega (arith, room)
+  compute_few name label place value s (look.Closed at) room = omega (arith, room)
+
+  fail_few : (name label : List ℕ) (place : Place) (text : List ℕ) (s : ValueState) (found : Look) → length s.values + 1 ≤ n → Few (computefail_looked name label place text s found).state
+  fail_few name label place text s (look.Found at number) room = omega (arith, room)
+  fail_few name label place text s (look.Fault at number) room = omega (arith, room)
+  fail_few name label place text s look.Absent room = claim_few name label place (factory_failed name label place text) s room (failed_few name label place text)
+  fail_few name label place text s (look.Busy at) room = omega (arith, room)
+  fail_few name label place text s (look.Closed at) room = omega (arith, room)
+
+  same_room : (s t : ValueState) → length s.values + 1 ≤ n → t.values ≡ s.values → length t.values + 1 ≤ n
+  same_room s t room same = subst (λ v. length v + 1 ≤ n) (sym same) room
+
+  same_few : (s t : ValueState) → length s.values + 1 ≤ n → t.values ≡ s.values → Few t
+  same_few s t room same = let r = same_room s t room same in omega (arith, r)
+
+  put_few : (keys : List KeyText) (name : List ℕ) (key : StepKeyText) (path : List ℕ) (value : ValueText) (s : ValueState) → length s.values + 1 ≤ n
+      → Few (kept_or_refused enough name (label_of keys key) (why_refused (next_number s) s) s (numbered_by enough name (label_of keys key) (key_of_step keys key) (λ number. put_in enough name (label_of keys key) (start_of path, number)) (keep_value value s))).state
+  put_few keys name key path value s room =
+      let label = label_of keys key in
+      let k = key_of_step keys key in
+      let kept = keep_value value s in
+      let more : Few kept = omega (arith, room, one_longer s.values value) in
+      kept_few name label (why_refused (next_number s) s) s _ (omega (arith, room))
+      (number_few name label k (λ number. put_in enough name label (start_of path, number)) kept (numbering_of kept.keys k) more (λ number t same. subst (λ v. length v ≤ n) (sym same) more))
+
+  step_few : (keys : List KeyText) (path : List ℕ) (step : StepText) (s : ValueState) → length s.values + 1 ≤ n → Few (step_run keys path step s).state
+  step_few keys path (put key text up) s room = put_few keys (codes "put") key (drop up path) (record { text = text; closeable = false }) s room
+  step_few keys path (put_closeable key text up) s room = put_few keys (codes "put!") key (drop up path) (record { text = text; closeable = true }) s room
+  step_few keys path (want key text up) s room = number_few (codes "want") (label_of keys key) (key_of_step keys key) (want_numbered enough (codes "want") (label_of keys key) (drop up path) text) s (numbering_of s.keys (key_of_step keys key)) (omega (arith, room)) (λ number t same. same_few s t room same)
+  step_few keys path (nothing key up) s room = number_few (codes "none") (label_of keys key) (key_of_step keys key) (none_numbered enough (codes "none") (label_of keys key) (drop up path)) s (numbering_of s.keys (key_of_step keys key)) (omega (arith, room)) (λ number t same. same_few s t room same)
+  step_few keys path (remove key up) s room = number_few (codes "remove") (label_of keys key) (key_of_step keys key) (remove_numbered enough (codes "remove") (label_of keys key) (drop up path)) s (numbering_of s.keys (key_of_step keys key)) (omega (arith, room)) (λ number t same. same_few s t room same)
+  step_few keys path (compute key text up) s room = number_few (codes "compute") (label_of keys key) (key_of_step keys key) (compute_numbered enough (codes "compute") (label_of keys key) (drop up path) (record { text = text; closeable = false })) s (numbering_of s.keys (key_of_step keys key)) (omega (arith, room))
+      (λ number t same. compute_few (codes "compute") (label_of keys key) (start_of (drop up path), number) (record { text = text; closeable = false }) t (found_along number (drop up path) t) (same_room s t room same))
+  step_few keys path (compute_closeable key text up) s room = number_few (codes "compute!") (label_of keys key) (key_of_step keys key) (compute_numbered enough (codes "compute!") (label_of keys key) (drop up path) (record { text = text; closeable = true })) s (numbering_of s.keys (key_of_step keys key)) (omega (arith, room))
+      (λ number t same. compute_few (codes "compute!") (label_of keys key) (start_of (drop up path), number) (record { text = text; closeable = true }) t (found_along number (drop up path) t) (same_room s t room same))
+  step_few keys path (compute_fail key text up) s room = number_few (codes "computefail") (label_of keys key) (key_of_step keys key) (computefail_numbered enough (codes "computefail") (label_of keys key) (drop up path) text) s (numbering_of s.keys (key_of_step keys key)) (omega (arith, room))
+      (λ number t same. fail_few (codes "computefail") (label_of keys key) (start_of (drop up path), number) text t (found_along number (drop up path) t) (same_room s t room same))
+  step_few keys path (fail text) s room = omega (arith, room)
+  step_few keys path (abort text) s room = omega (arith, room)
+
+-- ---- what was given
+
+keep_values : (value : ValueText) (s : ValueState) → why_refused (next_number s) s ≡ None → HasValues s → HasValues (keep_value value s)
+keep_values value s room h = let longer = one_longer s.values value in let drawn = keep-drawn value s room in omega (arith, longer, drawn, h)
+
+valued : IsKept HasValues
+valued = record {
+  finds = λ memory s h. h;
+  puts = λ place number s h. act-values (Put place number) s refl h;
+  removes = λ place s h. act-values (Remove place) s refl h;
+  seals = λ place s h. act-values (Seal place) s refl h;
+  keeps = keep_values;
+  abandons = λ place s won h. act-values (Abandon place) (after_act (Claim place) s) refl (act-values (Claim place) s refl h);
+  fills = λ place value s won room h.
+      let claimed = after_act (Claim place) s in
+      let kept = keep_value value claimed in
+      act-values (Fill place kept.store.drawn) kept refl (keep_values value claimed room (act-values (Claim place) s refl h));
+  fails = λ place value s keeps won room h.
+      let claimed = after_act (Claim place) s in
+      let kept = keep_value value claimed in
+      act-values (Fail place kept.store.drawn) kept refl (keep_values value claimed room (act-values (Claim place) s refl h));
+}
+
+by_any : (P : ValueState → Type 0) (keys : List KeyText) (o : Option StepKeyText) → ((key : KeyValue) → IsKeptNaming P key) → IfSome o (λ key. IsKeptNaming P (key_of_step keys key))
+by_any P keys None each = tt
+by_any P keys (Some key) each = each (key_of_step keys key)
+
+valued_naming : (key : KeyValue) → IsKeptNaming HasValues key
+valued_naming key = record { gets = λ number s is h. h }
+
+step_values : (keys : List KeyText) (path : List ℕ) (step : StepText) (s : ValueState) → HasValues s → HasValues (step_run keys path step s).state
+step_values keys path step s h = step-kept-by HasValues valued keys enough path step s (by_any HasValues keys (step_key step) valued_naming) h
+
+steps_values : (keys : List KeyText) (path : List ℕ) (steps : List StepText) (s : ValueState) → HasValues s → HasValues (steps_run keys path steps s).state
+steps_values keys path steps s h = steps-kept-by HasValues valued keys path steps s (λ k d inside. by_any HasValues keys (step_key _) valued_naming) h
+
+module _ (names : List KeyValue) where
+  abbrev Within : List KeyValue → Type 0
+  Within keys = All (Contains names) keys
+
+  naming : (key : KeyValue) → Contains names key → IsKeptNaming (OfKeys Within) key
+  naming key there = record { gets = λ number s is within. All-push (Contains names) s.keys key within there }
+
+  by_named : (keys : List KeyText) (o : Option StepKeyText) → IfSome o (λ key. Contains names (key_of_step keys key)) → IfSome o (λ key. IsKeptNaming (OfKeys Within) (key_of_step keys key))
+  by_named keys None there = tt
+  by_named keys (Some key) there = naming (key_of_step keys key) there
+
+  step_given : (keys : List KeyText) (path : List ℕ) (step : StepText) (s : ValueState) → GaveFew names s → NamesOneOf names keys step → GaveFew names (step_run keys path step s).state
+  step_given keys path step s few named = record {
+    values = step_values keys path step s few.values;
+    keys = numbers-once.step keys enough path step s few.keys;
+    named = step-kept-by (OfKeys Within) (of-keys Within) keys enough path step s (by_named keys (step_key step) named) few.named;
+  }
+
+  pub few_are_given : (keys : List KeyText) (path : List ℕ) (steps : List StepText) (s : ValueState) → GaveFew names s → All (NamesOneOf names keys) steps → GaveFew names (steps_run keys path steps s).state
+  few_are_given keys path steps s few named = record {
+    values = steps_values keys path steps s few.values;
+    keys = numbers-once.steps keys path steps s few.keys;
+    named = steps-kept-by (OfKeys Within) (of-keys Within) keys path steps s (λ k d inside. by_named keys (step_key _) (named k d inside)) few.named;
+  }
+
+  -- ---- room
+
+  key_room : (s : ValueState) (key : KeyValue) → length names ≤ key_limit → GaveFew names s → Contains names key → is_there s.keys key ≡ false → length s.keys < key_limit
+  key_room s key limit few there none =
+      elim (bools (nat_lt (length s.keys) key_limit)) [
+        | inl is ↦ ltb-true (length s.keys) key_limit is
+        | inr over ↦ absurd (has_room names s.keys key limit few.keys.different few.named there (is_full s.keys key (not_contained s.keys key none) over))
+      ]
+
+  room_of : (keys : List KeyText) (o : Option StepKeyText) (s : ValueState) → length names ≤ key_limit → GaveFew names s → s.store.drawn < run_numbers → IfSome o (λ key. Contains names (key_of_step keys key)) → IfSome o (λ key. HasRoom (key_of_step keys key) s)
+  room_of keys None s limit few drawn there = tt
+  room_of keys (Some key) s limit few drawn there = record { numbers = drawn; keys = key_room s (key_of_step keys key) limit few there }
+
+drawn_few : (keys : List KeyText) (path : List ℕ) (step : StepText) (s : ValueState) → HasValues s → (step_run keys path step s).state.store.drawn ≤ s.store.drawn + 1
+drawn_few keys path step s h =
+    let few : length (step_run keys path step s).state.values ≤ length s.values + 1 = step_few (length s.values + 1) keys path step s (omega arith) in
+    let later = step_values keys path step s h in
+    omega (arith, few, later, h)
+
+pub few_have_room : (names : List KeyValue) (keys : List KeyText) (path : List ℕ) (steps : List StepText) (s : ValueState)
+    → length names ≤ key_limit → GaveFew names s → All (NamesOneOf names keys) steps → s.store.drawn + length steps ≤ run_numbers → StepsHaveRoom keys path steps s
+few_have_room names keys path [] s limit few named count = tt
+few_have_room names keys path (step ∷ more) s limit few named count =
+    let one = all_first (NamesOneOf names keys) step more named in
+    let drawn = drawn_few keys path step s few.values in (
+      room_of names keys (step_key step) s limit few (omega (arith, count)) one,
+      λ on. few_have_room names keys path more (step_run keys path step s).state limit (step_given names keys path step s few one) (all_later (NamesOneOf names keys) step more named) (omega (arith, count, drawn)),
+    )
+
+pub steps_draw_few : (keys : List KeyText) (path : List ℕ) (steps : List StepText) (s : ValueState) → HasValues s → s.memory ≡ [] → (steps_run keys path steps s).state.store.drawn ≤ s.store.drawn + length steps
+steps_draw_few keys path [] s h none = subst (λ (e : StepEnd). e.state.store.drawn ≤ s.store.drawn + 0) (sym (steps_run-nil keys path s)) (omega arith)
+steps_draw_few keys path (step ∷ more) s h none =
+    let next = step_run keys path step s in
+    let drawn = drawn_few keys path step s h in
+    elim (bools (is_successful next.verdict)) [
+      | inl on ↦
+          let rest = steps_draw_few keys path more next.state (step_values keys path step s h) (step_memory keys path step s none) in
+          subst (λ (e : StepEnd). e.state.store.drawn ≤ s.store.drawn + suc (length more)) (sym (plain_goes keys path step more s none on)) (omega (arith, rest, drawn))
+      | inr off ↦ subst (λ (e : StepEnd). e.state.store.drawn ≤ s.store.drawn + suc (length more)) (sym (plain_stops keys path step more s none off)) (omega (arith, drawn))
+    ]

@@ -1,0 +1,15 @@
+pub mod OnCells
+pub mod CellLaws
+pub mod WorkedCells
+pub mod Standings
+pub mod StandingLaws
+pub mod WorkedStandings
+pub mod Matching
+pub mod MatchingLaws
+pub mod Steps
+pub mod StepLaws
+pub mod Views
+pub mod Calls
+pub mod CallLists
+pub mod TestCalls
+pub mod Rooms

@@ -1,0 +1,4 @@
+-- Lemmas of this crate.
+pub mod Going
+pub mod Runs
+pub mod Steps

@@ -1,0 +1,2 @@
+-- What the clauses of this crate speak of.
+pub mod PlanCells
