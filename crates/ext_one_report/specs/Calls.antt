@@ -1,7 +1,7 @@
 -- The steps of a call on a lane that is alone on the places that they touch, beside the same steps of a plain run: when the two are compared.
 -- Javadoc `ExtensionContext.Store`. What a list of steps does on a lane is a definition of [ext_parallel StoreSteps], and what it does in a plain run one of [ext_plain StepRuns].
 -- That memory, places, numbers and keys suffice is asked of how the call ends, and of each step of the plain run.
-use Rattle.std.specs.Prelude.{ℕ, ◌≡◌, ◌≢◌, codes, true, List, [], ◌∷◌, All, IfSome, length}
+use Rattle.std.specs.Prelude.{ℕ, ◌≡◌, ◌≢◌, true, List, [], ◌∷◌, Option, Some, None, All, IfSome, length}
 use Rattle.ext_history.specs.Histories.{seen_by}
 use Rattle.ext_tree.specs.Trees.{IsTree, IsPathOf}
 use Rattle.ext_lifecycle.specs.declared.call.Call.{Call}
@@ -13,6 +13,8 @@ use Rattle.ext_plan.specs.Steps.{step_key}
 use Rattle.ext_plan.specs.ReadPlans.{StayOnPath}
 use Rattle.ext_plan.specs.StoreKeys.{key_of_step}
 use Rattle.ext_plan.specs.PlanCalls.{steps_of_call}
+use Rattle.ext_races.specs.Acts.{ActText, act_of}
+use Rattle.ext_races.specs.Words.{word_text}
 use Rattle.ext_store.specs.Stores.{IsLaneOf}
 use Rattle.ext_plain.specs.ValueStates.{ValueState}
 use Rattle.ext_plain.specs.StepRuns.{step_run, steps_run}
@@ -26,18 +28,13 @@ use Rattle.ext_one_report.specs.Steps.{ActsWithin, EndAlike, FindsAll, HasRoom, 
 
 -- ---- one step of any form
 
--- its first word
+-- its first word, where it names a key
+abbrev pub word_of_act : Option ActText → List ℕ
+word_of_act None = []
+word_of_act (Some act) = word_text act.word
+
 abbrev pub name_of : StepText → List ℕ
-name_of (put key text up) = codes "put"
-name_of (put_closeable key text up) = codes "put!"
-name_of (want key text up) = codes "want"
-name_of (nothing key up) = codes "none"
-name_of (remove key up) = codes "remove"
-name_of (compute key text up) = codes "compute"
-name_of (compute_closeable key text up) = codes "compute!"
-name_of (compute_fail key text up) = codes "computefail"
-name_of (fail text) = codes "fail"
-name_of (abort text) = codes "abort"
+name_of step = word_of_act (act_of step)
 
 -- What it touches is among the places: the place of its context, and where it looks up those of the contexts above too
 abbrev pub StepWithin : List KeyText → List ℕ → Places → StepText → Type 0

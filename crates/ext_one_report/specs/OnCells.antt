@@ -1,12 +1,9 @@
 -- The events of a history on some of its cells, apart from all others: which histories have the same events there.
 -- Own rule. A cell is a context and a key in one number, and histories are those of `History` of ext_model. The draw of a number is an event on no cell.
-use Rattle.std.specs.Prelude.{ℕ, ◌≡◌, Bool, true, false, nat_eq, filter, Option, None, Some}
-use Rattle.ext_model.specs.Events.{is_on, place_of}
+use Rattle.std.specs.Prelude.{ℕ, ◌≡◌, Bool, true, false, filter, Option, None, Some}
+use Rattle.ext_model.specs.Events.{place_of}
 use Rattle.ext_model.specs.History.{History, IsQuiet}
-
--- the events on one cell, in order
-abbrev pub events_at : ℕ → History → History
-events_at cell h = filter (λ e. is_on nat_eq cell e.act) h
+pub use Rattle.ext_alone.specs.Changing.{events_at}
 
 -- some of the cells
 abbrev pub Cells : Type 0

@@ -1,6 +1,6 @@
 -- Which cells the steps of a plan's nodes change, in a run on several lanes whose keys have these numbers; and what that says of the calls of a run.
 -- Own rule, for Javadoc `ExtensionContext.Store` and JUnit 5 User Guide, "Parallel Execution".
-use Rattle.std.specs.Prelude.{◌≡◌, ℕ, ◌<◌, List, drop, length, Contains, Option, Some, None}
+use Rattle.std.specs.Prelude.{◌≡◌, ℕ, ◌<◌, List, drop, length, Contains, Option, Some, None, if◌then◌else◌}
 use Rattle.ext_lifecycle.specs.declared.call.Call.{Call}
 use Rattle.ext_lifecycle.specs.declared.outcome.Outcome.{Outcome}
 use Rattle.ext_lifecycle.specs.Results.{ResultOf}
@@ -8,9 +8,11 @@ use Rattle.ext_locks.specs.Opening.{LocksView}
 use Rattle.ext_locks.specs.Sets.{HeldView}
 use Rattle.ext_model.specs.declared.look.Fault.{Fault}
 use Rattle.ext_plan.specs.PlanCalls.{steps_of_call}
-use Rattle.ext_plan.specs.Plans.{KeyText, PlanText, StepKeyText, StepText, put, put_closeable, want, nothing, remove, compute, compute_closeable, compute_fail, fail, abort}
+use Rattle.ext_plan.specs.Plans.{KeyText, PlanText, StepKeyText, StepText}
 use Rattle.ext_plan.specs.StepCalls.{start_of}
 use Rattle.ext_plan.specs.StoreKeys.{key_of_step}
+use Rattle.ext_races.specs.Acts.{ActText, act_of}
+use Rattle.ext_races.specs.Words.{changes}
 use Rattle.ext_store.specs.Stores.{StoreLane, StoreView, cell_in}
 use Rattle.ext_tree.specs.Keys.{IsKeyNumber, KeepsKeys, KnownPlace}
 use Rattle.ext_tree.specs.Trees.{IsPathOf, IsTree}
@@ -23,18 +25,13 @@ use Rattle.ext_parallel.specs.StoreSteps.{StepsRun}
 
 -- ---- steps
 
--- the key under which a step may change something, and how many contexts up; a look-up changes nothing
+-- the key under which an act may change something, and how many contexts up; a look-up changes nothing
+abbrev pub changed_of : Option ActText → Option (StepKeyText × ℕ)
+changed_of None = None
+changed_of (Some act) = if changes act.word then Some (act.key, act.up) else None
+
 abbrev pub changed_by : StepText → Option (StepKeyText × ℕ)
-changed_by (put key text up) = Some (key, up)
-changed_by (put_closeable key text up) = Some (key, up)
-changed_by (want key text up) = None
-changed_by (nothing key up) = None
-changed_by (remove key up) = Some (key, up)
-changed_by (compute key text up) = Some (key, up)
-changed_by (compute_closeable key text up) = Some (key, up)
-changed_by (compute_fail key text up) = Some (key, up)
-changed_by (fail text) = None
-changed_by (abort text) = None
+changed_by step = changed_of (act_of step)
 
 -- the cell that a step changes that runs in the first context of the path, where keys have these numbers
 pub record IsCellOf (store : StoreView) (keys : List KeyText) (numbering : List KnownPlace) (path : List ℕ) (step : StepText) (cell : ℕ) : Type 0 where
