@@ -62,7 +62,7 @@ module _ {V A : Type 0} (t : TreeSetting V A) (tree : IsTree t.store.tree) (node
       is_child (slice_index_or xs i d) (contains_from_filter (λ c. not (t.suite.is_concurrent c)) (children_of t.store.tree node) (slice_index_or xs i d) (Contains-get_or xs i d l))
 
   -- different places are of different children
-  children_differ : (i j : ℕ) → i < length (concurrent_children t node) → j < length (concurrent_children t node) → j ≢ i → slice_index_or (concurrent_children t node) i 0 ≢ slice_index_or (concurrent_children t node) j 0
+  pub children_differ : (i j : ℕ) → i < length (concurrent_children t node) → j < length (concurrent_children t node) → j ≢ i → slice_index_or (concurrent_children t node) i 0 ≢ slice_index_or (concurrent_children t node) j 0
   children_differ i j below below' differ same =
       let cs = concurrent_children t node in
       let order : AllPairs (λ a b. a < b) cs =

@@ -13,6 +13,7 @@ use Rattle.ext_model.specs.declared.event.Act.{Act}
 use Rattle.ext_model.specs.declared.event.Event.{Event}
 use Rattle.ext_model.specs.History.{History, Limits, lane_of, own}
 use Rattle.ext_store.specs.Stores.{StoreLane}
+use Rattle.ext_engine.specs.Meeting.{HasSeenWithin}
 use Rattle.ext_engine.specs.Order.{IsMadeBy}
 
 pub event_at : (h : History) (place : ℕ) → place < length h → (e : Event ℕ) × (slice_get h place ≡ Some e)
@@ -73,3 +74,15 @@ made_acts limits acts a b h place calls within made =
     let are : own n on.0 ≡ events_by n acts = events_past calls in
     one_of_acts n acts made.event (subst (λ (l : History). Contains l made.event) are
     (among_more n (seen_by a.cells.view) (seen_by b.cells.view) h on within place made.event made.there made.since made.until made.own_event))
+
+-- at a place stands one event
+pub one_event : (h : History) (place : ℕ) (one other : Event ℕ) → slice_get h place ≡ Some one → slice_get h place ≡ Some other → one ≡ other
+one_event h place one other there also = let both : Some one ≡ Some other = sym there ∙ also in cc both
+
+-- an event that a lane made stands where it stood in what the lane has seen
+pub stands_in_seen : {V : Type 0} (h : History) (place : ℕ) (a b : StoreLane V) → HasSeenWithin h b → (made : IsMadeBy h place a b) → slice_get (seen_by b.cells.view) place ≡ Some made.event
+stands_in_seen h place a b within made = in_part (seen_by b.cells.view) within.0 place made.event made.until (subst (λ (l : History). slice_get l place ≡ Some made.event) (sym within.1) made.there)
+
+-- so the lane made it there
+abbrev pub made_in_seen : {V : Type 0} (h : History) (place : ℕ) (a b : StoreLane V) → HasSeenWithin h b → IsMadeBy h place a b → IsMadeBy (seen_by b.cells.view) place a b
+made_in_seen h place a b within made = record { event = made.event; there = stands_in_seen h place a b within made; own_event = made.own_event; since = made.since; until = made.until }

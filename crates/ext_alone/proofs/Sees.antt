@@ -18,11 +18,11 @@ use Rattle.ext_engine.proofs.Acts.{shorter}
 use Rattle.ext_alone.specs.Changing.{AloneSeesItsOwn, events_at}
 use Rattle.ext_alone.proofs.Events.{behind_part, in_whole}
 
-at_place : (cell : ℕ) (place : Option ℕ) → is_at nat_eq cell place ≡ true → place ≡ Some cell
+pub at_place : (cell : ℕ) (place : Option ℕ) → is_at nat_eq cell place ≡ true → place ≡ Some cell
 at_place cell None on = absurd (cc on)
 at_place cell (Some at) on = ap Some (eqb-true at cell on)
 
-filter_no : (p : Event ℕ → Bool) (e : Event ℕ) (h : History) → p e ≡ false → filter p (e ∷ h) ≡ filter p h
+pub filter_no : (p : Event ℕ → Bool) (e : Event ℕ) (h : History) → p e ≡ false → filter p (e ∷ h) ≡ filter p h
 filter_no p e h off = ap (λ b. cond b (e ∷ filter p h) (filter p h)) off
 
 -- where each event on the cell is the lane's, the events on the cell are among the lane's

@@ -13,11 +13,11 @@ use Rattle.ext_model.specs.History.{History, lane_of, own}
 use Rattle.ext_cells.specs.Lanes.{CellsId, fresh_lane, fresh_lanes}
 use Rattle.ext_store.specs.Stores.{StoreLane, fresh_store_lane}
 use Rattle.ext_engine.specs.Meeting.{HasSeenWithin, first_seen}
-use Rattle.ext_engine.specs.Order.{AllGoOn, CallsGoOn, IsMadeIn, LaneGoesOn}
-use Rattle.ext_engine.specs.TreeRun.{TreeSetting}
+use Rattle.ext_engine.specs.Order.{AllGoOn, CallsGoOn, ChildRun, IsMadeIn, LaneGoesOn}
+use Rattle.ext_engine.specs.TreeRun.{Lanes, Ran, TreeSetting}
 use Rattle.ext_engine.proofs.Acts.{shorter}
 use Rattle.ext_engine.proofs.Going.{tree_goes}
-use Rattle.ext_alone.specs.Alone.{HasJustItsOwn, IsSeenMeanwhile, numbers_of}
+use Rattle.ext_alone.specs.Alone.{AreAllLanes, HasJustItsOwn, IsSeenMeanwhile, numbers_of}
 use Rattle.ext_alone.specs.Laws.{FreshLanesAreAll, WholeRunsAreAlone}
 use Rattle.ext_alone.proofs.Parts.{first_within}
 use Rattle.ext_alone.proofs.Events.{among_more, cut_at, event_at}
@@ -71,6 +71,13 @@ whole_alone t moves depth node before ran after run h all =
       record { each = λ place seen. inl (made place seen) },
       record { run = run; within = all.parts; alone = record { each = λ place seen. inl (made place seen) } },
     )
+
+-- where the first lane had seen nothing before, the lanes made all events of the history
+pub whole_made : {V A : Type 0} (t : TreeSetting V A) (moves : CallsGoOn t.call_gives) (depth node : ℕ) (before : Lanes V) (ran : List Ran) (after : Lanes V) → ChildRun t depth node before ran after → (h : History)
+    → AreAllLanes h before.first after.first → first_seen before.first ≡ [] → (place : ℕ) (event : Event ℕ) → slice_get h place ≡ Some event → IsMadeIn h place before.first after.first
+whole_made t moves depth node before ran after run h all nothing place event there =
+    let none : length (first_seen before.first) ≡ 0 = ap length nothing in
+    made_by_one h (first_seen before.first) before.first after.first place event (tree_goes t moves depth node before ran after run) all.first all.parts all.own_events there (omega (arith, none)) (all.by_lanes place event there)
 
 -- ---- fresh lanes
 

@@ -1,8 +1,10 @@
 //! Who makes the events that a lane sees while a node runs, as the contract of a function that does nothing.
 ghost use Rattle.ext_alone.specs.Laws.{CallsAreAlone, ChildrenRunAlone, ContainersAreAlone, FreshLanesAreAll, TestsAreAlone, WholeRunsAreAlone};
+ghost use Rattle.ext_alone.specs.Bodies.{AllIsLeftToRoot, ApartIsLeftAmong, BodiesKeepCells, CallsKeepOthers, ClosesKeepOthers, LeftToConcurrent, LeftToOthers, RunsKeepOthers};
 ghost use Rattle.ext_alone.specs.Changing.{ActsAreOnly, AloneOnCells, AloneSeesItsOwn, ApartIsLeft, CallsAreAloneOnCells, OfCells, RunsChangeOnly};
 ghost use Rattle.ext_alone.specs.Shares.{BesideIsByOthers, FreshLanesDiffer, SharesAreOwn, WholeRunsHaveOwnLanes};
 ghost use Rattle.ext_alone.specs.StoreCalls.{ComputesChangeOne, GetsChangeNone, KeepFailsChangeNone, KeepsChangeNone, OnlyMore, OnlyThen, PutsChangeOne, RemovesChangeOne, WaitsChangeOne};
+ghost use Rattle.ext_alone.specs.Made.{RunsMakeOnlySuch};
 ghost use Rattle.ext_engine.specs.NodeRun.{setting_of};
 ghost use Rattle.ext_engine.specs.Order.{OfSuites};
 
@@ -52,6 +54,24 @@ pub fn apart_laws<V: StoreValue + Drop, S: Suite<V>>()
     ensures left { OfCells (setting_of V.is_closeable S.suite_view S.registered S.call_gives S.action_gives S.Action.close_gives) ApartIsLeft }
 {}
 
+/// Proves what the body of a container keeps, cell by cell, for any suite of this type whose calls let their lanes go on, whatever cells each
+/// node changes. On a cell that no other concurrent child changes a concurrent child begins with the events that the container had there,
+/// and the container goes on with those that the child leaves there. Each cell is left to the root, and one that is left to a container is left
+/// to its children, but for what other concurrent children change: nothing that the child looks at, where such nodes are apart. And a run, a call and a close leave what was there on each cell that is left to their node and that they
+/// do not change. It does nothing when it runs.
+///
+/// Own rule, for JUnit 5 User Guide, section "Parallel Execution".
+pub fn body_laws<V: StoreValue + Drop, S: Suite<V>>()
+    ensures bodies { OfCells (setting_of V.is_closeable S.suite_view S.registered S.call_gives S.action_gives S.Action.close_gives) BodiesKeepCells }
+    ensures concurrent { OfCells (setting_of V.is_closeable S.suite_view S.registered S.call_gives S.action_gives S.Action.close_gives) LeftToConcurrent }
+    ensures others { OfCells (setting_of V.is_closeable S.suite_view S.registered S.call_gives S.action_gives S.Action.close_gives) LeftToOthers }
+    ensures apart { OfCells (setting_of V.is_closeable S.suite_view S.registered S.call_gives S.action_gives S.Action.close_gives) ApartIsLeftAmong }
+    ensures root { OfCells (setting_of V.is_closeable S.suite_view S.registered S.call_gives S.action_gives S.Action.close_gives) AllIsLeftToRoot }
+    ensures runs { OfCells (setting_of V.is_closeable S.suite_view S.registered S.call_gives S.action_gives S.Action.close_gives) RunsKeepOthers }
+    ensures calls { OfCells (setting_of V.is_closeable S.suite_view S.registered S.call_gives S.action_gives S.Action.close_gives) CallsKeepOthers }
+    ensures closes { OfCells (setting_of V.is_closeable S.suite_view S.registered S.call_gives S.action_gives S.Action.close_gives) ClosesKeepOthers }
+{}
+
 /// Proves which cells the calls of a store change, for any values, whatever they answer: a look-up and a keep none, and a put, a remove, a
 /// compute and a compute that waits at most the cell of their context and key. Calls that follow one another change the cells that each of
 /// them may. It does nothing when it runs.
@@ -67,4 +87,12 @@ pub fn change_laws<V: StoreValue + Drop>()
     ensures removes { RemovesChangeOne V }
     ensures computes { ComputesChangeOne V }
     ensures waits { WaitsChangeOne V }
+{}
+
+/// Proves what the events are like that are made in a run, for any suite of this type whose calls let their lanes go on: where each call of
+/// a node and each close of a context makes none but such events, so does each run of a node. It does nothing when it runs.
+///
+/// Own rule, for JUnit 5 User Guide, section "Parallel Execution".
+pub fn made_laws<V: StoreValue + Drop, S: Suite<V>>()
+    ensures runs { OfSuites (setting_of V.is_closeable S.suite_view S.registered S.call_gives S.action_gives S.Action.close_gives) RunsMakeOnlySuch }
 {}

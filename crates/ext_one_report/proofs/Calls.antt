@@ -64,7 +64,7 @@ path_above ids (first ∷ parent ∷ rest) node (suc up) is within = path_above 
 
 module _ (run : RunView) (keys : List KeyText) (path : List ℕ) (places : Places) (a : PlanLane) (o : Outcome) (b : PlanLane) (s : ValueState)
     (view : IsRunView run) (lane : IsLaneIn run b) (tree : IsTree run.store.tree) (alone : IsAlone run places a.cells.view b.cells.view)
-    (keeps : a.cells.cells.limits.keep_faults ≡ s.keep_faults) (matches : Matches run places (seen_by a.cells.view) s) (numbered : IsNumbered s) where
+    (keeps : a.cells.cells.limits.keep_faults ≡ s.keep_faults) (matches : Matches run places (seen_by a.cells.view) s) (numbered : IsNumbered places s) where
   step_alike : (step : StepText) → StepOnPath run.store path step → StepWithin keys path places step → StepFinds keys o step → StepHasRoom keys step s
       → StepRun run.store keys path step a o b → EndAlike run places o b (step_run keys path step s)
   step_alike (put key text up) on within finds room ran = puts_end_alike key text up run keys path places a o b s within

@@ -99,7 +99,7 @@ end_by name label act s r is = ap (λ k. ended (unless_refused name label (plain
 
 module _ (run : RunView) (places : Places) (view : IsRunView run) (name label : List ℕ) (context : ℕ) (key : KeyValue) (number : ℕ) (a b : PlanLane) (o : Outcome) (t : ValueState)
     (within : places context key ≡ true) (has : HasNumberIn run key number) (there : is_there t.keys key ≡ true) (alone : IsAlone run places a.cells.view b.cells.view) (finds : FindsAll name label o)
-    (matches : Matches run places (seen_by a.cells.view) t) (numbered : IsNumbered t) where
+    (matches : Matches run places (seen_by a.cells.view) t) (numbered : IsNumbered places t) where
   -- where it is no event
   quiet_end : (act : Act Place) (text : VerdictText) → Calls a.cells.cells.limits a.cells.view b.cells.view [] → Ends text 0 0 o → act_ends name label act t ≡ ended text t
       → EndAlike run places o b (act_ends name label act t)
@@ -119,7 +119,7 @@ module _ (run : RunView) (places : Places) (view : IsRunView run) (name label : 
     computed = ends.computed_are;
     found = ends.found_are;
     matches = subst (λ h. Matches run places h (after_event any_lane act' t)) (sym seen_is) (equal_events_keep_matches run places p t a.cells.view.number any_lane act act' view equal here);
-    numbered = equal_events_keep_numbered run t any_lane act act' equal numbered;
+    numbered = equal_events_keep_numbered run places t any_lane act act' equal numbered;
   })
 
   -- what stands at a point where it matches
@@ -224,11 +224,11 @@ removes_end_alike key up run keys path places a o b s within both (inl (inr (why
 removes_end_alike key up run keys path places a o b s within both (inl (inl (number, has, made))) =
     let label = label_of keys key in
     let name_of = key_of_step keys key in
-    let it : IsNamed name_of s = named name_of s both.room.keys both.numbered in
+    let it : IsNamed places name_of s = named places name_of s both.room.keys both.numbered in
     let has_in : HasNumberIn run name_of number = number_stays b.keys run.numbering name_of number both.lane.keys has in
     subst (λ (end : StepEnd). EndAlike run places o b end) (sym (it.goes (codes "remove") label (remove_numbered enough (codes "remove") label (drop up path))))
     (removes_alike run places both.view (codes "remove") label (start_of (drop up path)) name_of number a b o it.state within has_in it.there both.alone both.finds
-    (it.matches run places (seen_by a.cells.view) both.matches) it.numbered made.result made.removes made.ends)
+    (it.matches run (seen_by a.cells.view) both.matches) it.numbered made.result made.removes made.ends)
 
 -- a step that puts this value
 module _ (run : RunView) (keys : List KeyText) (path : List ℕ) (places : Places) (name : List ℕ) (key : StepKeyText) (up : ℕ) (v : ValueText) (a : PlanLane) (o : Outcome) (b : PlanLane) (s : ValueState)
@@ -243,8 +243,8 @@ module _ (run : RunView) (keys : List KeyText) (path : List ℕ) (places : Place
   not_kept keep_fault.Contended ends = ends
   not_kept keep_fault.Unplaced ends = has_room name (label_of keys key) reasons.Unplaced o tt both.finds ends
 
-  it : IsNamed (key_of_step keys key) (keep_value v s)
-  it = named (key_of_step keys key) (keep_value v s) both.room.keys (values_keep_numbered v s both.room.numbers both.numbered)
+  it : IsNamed places (key_of_step keys key) (keep_value v s)
+  it = named places (key_of_step keys key) (keep_value v s) both.room.keys (values_keep_numbered places v s both.room.numbers both.numbered)
 
   goes : put_end ≡ act_ends name (label_of keys key) (Put (start_of (drop up path), place_of_key it.state.keys (key_of_step keys key)) it.state.store.drawn) it.state
   goes =
@@ -267,7 +267,7 @@ module _ (run : RunView) (keys : List KeyText) (path : List ℕ) (places : Place
       (put_decided_by there.result there.ends made.kept) in
       let first : IsAlone run places a.cells.view m.cells.view = alone_first run places a.cells.view m.cells.view b.cells.view (seen_goes_on put_so) both.alone in
       let later : IsAlone run places m.cells.view b.cells.view = alone_later run places a.cells.view m.cells.view b.cells.view (seen_goes_on drew) (same_number drew) both.alone in
-      let before : Matches run places (seen_by a.cells.view) it.state = it.matches run places (seen_by a.cells.view) (values_keep_matches run places (seen_by a.cells.view) v s both.matches) in
+      let before : Matches run places (seen_by a.cells.view) it.state = it.matches run (seen_by a.cells.view) (values_keep_matches run places (seen_by a.cells.view) v s both.matches) in
       let between : Matches run places (seen_by m.cells.view) it.state =
       matches_after run places a.cells.view m.cells.view first (by a.cells.view.number (Keep made.kept) ∷ []) (seen_by m.cells.view) it.state (seen_goes_on drew) ([], append-nil (seen_by m.cells.view)) drew.own_events
       (record { quiet = λ context other n here is. refl }) before in
@@ -298,7 +298,7 @@ closeable_puts_end_alike key text up run keys path places a o b s within both (i
 
 -- ---- steps that touch nothing
 
-ends_so : (run : RunView) (places : Places) (text : VerdictText) (a b : PlanLane) (o : Outcome) (s : ValueState) → o.verdict ≢ no_memory → Matches run places (seen_by a.cells.view) s → IsNumbered s → b ≡ a → Ends text 0 0 o
+ends_so : (run : RunView) (places : Places) (text : VerdictText) (a b : PlanLane) (o : Outcome) (s : ValueState) → o.verdict ≢ no_memory → Matches run places (seen_by a.cells.view) s → IsNumbered places s → b ≡ a → Ends text 0 0 o
     → EndAlike run places o b (ended text s)
 ends_so run places text a b o s memory matches numbered same ends = record {
   says = said text o.verdict memory ends.says;

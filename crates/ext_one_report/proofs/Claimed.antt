@@ -63,7 +63,7 @@ module _ (t : ValueState) (context : ℕ) (key : KeyValue) (there : is_there t.k
   claim_stands : claimed.store.slots (context, place_of_key t.keys key) ≡ Some (slot.Claim any_lane)
   claim_stands = place_then t.store any_lane (Claim (context, place_of_key t.keys key)) (context, place_of_key t.keys key) true (here (context, place_of_key t.keys key))
 
-  module _ (v : ValueText) (left : t.store.drawn < run_numbers) (numbered : IsNumbered t) where
+  module _ (v : ValueText) (left : t.store.drawn < run_numbers) (places : Places) (numbered : IsNumbered places t) where
     -- the state with the value under its number
     abbrev pub kept_claimed : ValueState
     kept_claimed = keep_value v claimed
@@ -91,14 +91,14 @@ module _ (t : ValueState) (context : ℕ) (key : KeyValue) (there : is_there t.k
         let number_is : kept_claimed.store.drawn ≡ suc (length t.values) = kept_drawn v claimed left ∙ (ap (λ n. n + 1) numbered.drawn ∙ add-one (length t.values)) in
         ap (λ n. value_of filled.values n) number_is ∙ value_last t.values v
 
-    pub filled_others : (run : RunView) (places : Places) (h : History) → Matches run (but places context key) h t → Matches run (but places context key) h filled
-    filled_others run places h matches =
+    pub filled_others : (run : RunView) (h : History) → Matches run (but places context key) h t → Matches run (but places context key) h filled
+    filled_others run h matches =
         let place : Place = (context, place_of_key t.keys key) in
         others_event run places context key h kept_claimed any_lane (Fill place kept_claimed.store.drawn) there refl
         (values_keep_matches run (but places context key) h v claimed (others_event run places context key h t any_lane (Claim place) there refl matches))
 
-    pub filled_numbered : IsNumbered filled
+    pub filled_numbered : IsNumbered places filled
     filled_numbered =
         let place : Place = (context, place_of_key t.keys key) in
-        event_keeps_numbered kept_claimed any_lane (Fill place kept_claimed.store.drawn) context key there refl
-        (values_keep_numbered v claimed left (event_keeps_numbered t any_lane (Claim place) context key there refl numbered))
+        event_keeps_numbered places kept_claimed any_lane (Fill place kept_claimed.store.drawn) context key there refl
+        (values_keep_numbered places v claimed left (event_keeps_numbered places t any_lane (Claim place) context key there refl numbered))

@@ -289,7 +289,7 @@ vains run places view tree context ancestors key number is_path has within t the
 
 module _ (run : RunView) (places : Places) (view : IsRunView run) (tree : IsTree run.store.tree) (name label : List ℕ) (context : ℕ) (ancestors : List ℕ) (key : KeyValue) (number : ℕ)
     (is_path : IsPathOf run.store.tree context (context ∷ ancestors)) (has : HasNumberIn run key number) (within : All (λ c. places c key ≡ true) (context ∷ ancestors)) (t : ValueState)
-    (there : is_there t.keys key ≡ true) (left : t.store.drawn < run_numbers) (numbered : IsNumbered t) (v : ValueText) (a b : PlanLane) (o : Outcome) (lane : IsLaneIn run b)
+    (there : is_there t.keys key ≡ true) (left : t.store.drawn < run_numbers) (numbered : IsNumbered places t) (v : ValueText) (a b : PlanLane) (o : Outcome) (lane : IsLaneIn run b)
     (finds : FindsAll name label o) (alone : IsAlone run places a.cells.view b.cells.view) (matches : Matches run places (seen_by a.cells.view) t) where
   abbrev its_end : StepEnd
   its_end = compute_looked name label (context, place_of_key t.keys key) v t (found_along (place_of_key t.keys key) (context ∷ ancestors) t)
@@ -331,7 +331,7 @@ module _ (run : RunView) (places : Places) (view : IsRunView run) (tree : IsTree
         let none : found_along (place_of_key t.keys key) (context ∷ ancestors) t ≡ look.Absent =
         plain_absent run places view tree context ancestors key number is_path has within t there limits first.at (matches_to run places mid b.cells.view alone_last first.at t first.point vain.matches) first.missing in
         let empty : t.store.slots (context, place_of_key t.keys key) ≡ None = absent_first (under t.store (place_of_key t.keys key)) context ancestors none in
-        let after : ValueState = filled t context key there empty v left numbered in
+        let after : ValueState = filled t context key there empty v left places numbered in
         let mine : History = by mid.number (Claim cell_is) ∷ by mid.number (Keep n) ∷ by mid.number (Fill cell_is n) ∷ [] in
         let here_in : places context key ≡ true = All-head (λ c. places c key ≡ true) context ancestors within in
         let others : Matches run (but places context key) (seen_by b.cells.view) t =
@@ -341,7 +341,7 @@ module _ (run : RunView) (places : Places) (view : IsRunView run) (tree : IsTree
         ∙ ap (fold then_there ((state_after (seen_by mid)).slots cell_is)) (on_fill cell_is mid.number n) in
         let end_is : its_end ≡ record { state = after; verdict = successful; computed = 1; found = 0 } =
         ap (compute_looked name label (context, place_of_key t.keys key) v t) none
-        ∙ (claims_first t context key there empty name label (factory_gave name label (context, place_of_key t.keys key) v) ∙ factory_gives t context key there empty v left numbered name label) in
+        ∙ (claims_first t context key there empty name label (factory_gave name label (context, place_of_key t.keys key) v) ∙ factory_gives t context key there empty v left places numbered name label) in
         subst (λ (end : StepEnd). EndAlike run places o b end) (sym end_is) (record {
           says = said successful o.verdict finds.memory ends.says;
           computed = ends.computed_are;
@@ -350,10 +350,10 @@ module _ (run : RunView) (places : Places) (view : IsRunView run) (tree : IsTree
               (record {
                 standing = value v;
                 here = ap (standing_of run.meaning) stands ∙ ap value_stands known;
-                there = ap (standing_of (plain_meaning after.values)) (filled_slot t context key there empty v left numbered) ∙ ap value_stands (filled_value t context key there empty v left numbered);
+                there = ap (standing_of (plain_meaning after.values)) (filled_slot t context key there empty v left places numbered) ∙ ap value_stands (filled_value t context key there empty v left places numbered);
               })
-              (filled_others t context key there empty v left numbered run places (seen_by b.cells.view) others);
-          numbered = filled_numbered t context key there empty v left numbered;
+              (filled_others t context key there empty v left places numbered run (seen_by b.cells.view) others);
+          numbered = filled_numbered t context key there empty v left places numbered;
         })
 
     -- what was met
@@ -440,19 +440,19 @@ module _ (run : RunView) (places : Places) (view : IsRunView run) (tree : IsTree
 
 module _ (run : RunView) (keys : List KeyText) (path : List ℕ) (places : Places) (name : List ℕ) (key : StepKeyText) (up : ℕ) (v : ValueText) (a : PlanLane) (o : Outcome) (b : PlanLane) (s : ValueState)
     (within : LooksWithin keys path places key up) (both : AreCompared run keys path places name key up a o b s) where
-  value_along : (below : List ℕ) → drop up path ≡ below → (it : IsNamed (key_of_step keys key) s) → (number : ℕ) → IsKeyNumber b.keys (key_of_step keys key) number
+  value_along : (below : List ℕ) → drop up path ≡ below → (it : IsNamed places (key_of_step keys key) s) → (number : ℕ) → IsKeyNumber b.keys (key_of_step keys key) number
       → ComputesValue run.store (start_of below) number name (label_of keys key) v a o b → IsPathOf run.store.tree (start_of below) below → All (λ c. places c (key_of_step keys key) ≡ true) below
       → EndAlike run places o b (compute_numbered enough name (label_of keys key) below v (place_of_key it.state.keys (key_of_step keys key)) it.state)
   value_along [] same it number has made is_path inside = absurd is_path
   value_along (context ∷ above) same it number has made is_path inside =
       value_alike run places both.view both.tree name (label_of keys key) context above (key_of_step keys key) number is_path (number_stays b.keys run.numbering (key_of_step keys key) number both.lane.keys has) inside
       it.state it.there (subst (λ (st : State Place). st.drawn < run_numbers) (sym it.drawn) both.room.numbers) it.numbered v a b o both.lane both.finds both.alone
-      (it.matches run places (seen_by a.cells.view) both.matches) made
+      (it.matches run (seen_by a.cells.view) both.matches) made
 
   pub computes_end_alike : StepComputes run.store (call_of keys path name key up) v a o b → EndAlike run places o b (keyed_by keys enough name key (λ label. compute_numbered enough name label (drop up path) v) s)
   computes_end_alike (inr (why, refused_key, (same, ends))) = absurd (key_found name (label_of keys key) o a b (key_of_step keys key) why both.finds refused_key ends)
   computes_end_alike (inl (number, has, made)) =
-      let it : IsNamed (key_of_step keys key) s = named (key_of_step keys key) s both.room.keys both.numbered in
+      let it : IsNamed places (key_of_step keys key) s = named places (key_of_step keys key) s both.room.keys both.numbered in
       subst (λ (end : StepEnd). EndAlike run places o b end) (sym (it.goes name (label_of keys key) (compute_numbered enough name (label_of keys key) (drop up path) v)))
       (value_along (drop up path) refl it number has made both.path_is within)
 

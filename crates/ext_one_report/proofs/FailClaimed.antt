@@ -27,13 +27,13 @@ abbrev pub words_value : List ℕ → ValueText
 words_value text = record { text = text; closeable = false }
 
 module _ (t : ValueState) (context : ℕ) (key : KeyValue) (there : is_there t.keys key ≡ true) (empty : t.store.slots (context, place_of_key t.keys key) ≡ None) (text : List ℕ)
-    (left : t.store.drawn < run_numbers) (numbered : IsNumbered t) where
+    (left : t.store.drawn < run_numbers) (places : Places) (numbered : IsNumbered places t) where
   -- the state under the claim, and with the words of the fault
   abbrev under_claim : ValueState
   under_claim = claimed t context key there empty
 
   abbrev pub with_words : ValueState
-  with_words = kept_claimed t context key there empty (words_value text) left numbered
+  with_words = kept_claimed t context key there empty (words_value text) left places numbered
 
   -- and once the fault stands in the place
   abbrev pub faulted : ValueState
@@ -44,7 +44,7 @@ module _ (t : ValueState) (context : ℕ) (key : KeyValue) (there : is_there t.k
   fault_kept name label keeps =
       let place : Place = (context, place_of_key t.keys key) in
       let act : Act Place = Fail place with_words.store.drawn in
-      let happens : reply_to act with_words ≡ Happens None = ap (end_reply any_lane) (still_claimed t context key there empty (words_value text) left numbered) in
+      let happens : reply_to act with_words ≡ Happens None = ap (end_reply any_lane) (still_claimed t context key there empty (words_value text) left places numbered) in
       let kept_end : StepEnd = ended successful (after_act act with_words) in
       let back_end : StepEnd = ended successful (after_act (Abandon place) under_claim) in
       ap (λ b. if b then or_refused name label (plain_refusal (reply_to (next_number under_claim) under_claim)) (after_act (Abandon place) under_claim) kept_end else back_end) keeps
@@ -68,16 +68,16 @@ module _ (t : ValueState) (context : ℕ) (key : KeyValue) (there : is_there t.k
   faulted_slot = plain_there faulted context key there ∙ place_then with_words.store any_lane (Fail (context, place_of_key t.keys key) with_words.store.drawn) (context, place_of_key t.keys key) true (here (context, place_of_key t.keys key))
 
   pub faulted_words : text_of (value_of faulted.values with_words.store.drawn) ≡ Some text
-  faulted_words = ap text_of (filled_value t context key there empty (words_value text) left numbered)
+  faulted_words = ap text_of (filled_value t context key there empty (words_value text) left places numbered)
 
-  pub faulted_others : (run : RunView) (places : Places) (h : History) → Matches run (but places context key) h t → Matches run (but places context key) h faulted
-  faulted_others run places h matches =
+  pub faulted_others : (run : RunView) (h : History) → Matches run (but places context key) h t → Matches run (but places context key) h faulted
+  faulted_others run h matches =
       let place : Place = (context, place_of_key t.keys key) in
       others_event run places context key h with_words any_lane (Fail place with_words.store.drawn) there refl
       (values_keep_matches run (but places context key) h (words_value text) under_claim (others_event run places context key h t any_lane (Claim place) there refl matches))
 
-  pub faulted_numbered : IsNumbered faulted
+  pub faulted_numbered : IsNumbered places faulted
   faulted_numbered =
       let place : Place = (context, place_of_key t.keys key) in
-      event_keeps_numbered with_words any_lane (Fail place with_words.store.drawn) context key there refl
-      (values_keep_numbered (words_value text) under_claim left (event_keeps_numbered t any_lane (Claim place) context key there refl numbered))
+      event_keeps_numbered places with_words any_lane (Fail place with_words.store.drawn) context key there refl
+      (values_keep_numbered places (words_value text) under_claim left (event_keeps_numbered places t any_lane (Claim place) context key there refl numbered))

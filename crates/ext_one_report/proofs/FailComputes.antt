@@ -120,7 +120,7 @@ only_fail cell lane number = λ other off.
 
 module _ (run : RunView) (places : Places) (view : IsRunView run) (tree : IsTree run.store.tree) (name label : List ℕ) (context : ℕ) (ancestors : List ℕ) (key : KeyValue) (number : ℕ)
     (is_path : IsPathOf run.store.tree context (context ∷ ancestors)) (has : HasNumberIn run key number) (within : All (λ c. places c key ≡ true) (context ∷ ancestors)) (t : ValueState)
-    (there : is_there t.keys key ≡ true) (left : t.store.drawn < run_numbers) (numbered : IsNumbered t) (text : List ℕ) (a b : PlanLane) (o : Outcome) (lane : IsLaneIn run b)
+    (there : is_there t.keys key ≡ true) (left : t.store.drawn < run_numbers) (numbered : IsNumbered places t) (text : List ℕ) (a b : PlanLane) (o : Outcome) (lane : IsLaneIn run b)
     (finds : FindsAll name label o) (alone : IsAlone run places a.cells.view b.cells.view) (matches : Matches run places (seen_by a.cells.view) t) where
   abbrev its_end : StepEnd
   its_end = computefail_looked name label (context, place_of_key t.keys key) text t (found_along (place_of_key t.keys key) (context ∷ ancestors) t)
@@ -168,7 +168,7 @@ module _ (run : RunView) (places : Places) (view : IsRunView run) (tree : IsTree
         let alone_last = last_alone goes in
         let none : found_along (place_of_key t.keys key) (context ∷ ancestors) t ≡ look.Absent = claim_empty looked goes in
         let empty : t.store.slots (context, place_of_key t.keys key) ≡ None = absent_first (under t.store (place_of_key t.keys key)) context ancestors none in
-        let after : ValueState = faulted t context key there empty text left numbered in
+        let after : ValueState = faulted t context key there empty text left places numbered in
         let mine : History = by mid.number (Claim cell_is) ∷ by mid.number (Keep n) ∷ by mid.number (Fail cell_is n) ∷ [] in
         let here_in : places context key ≡ true = All-head (λ c. places c key ≡ true) context ancestors within in
         let others : Matches run (but places context key) (seen_by b.cells.view) t =
@@ -178,7 +178,7 @@ module _ (run : RunView) (places : Places) (view : IsRunView run) (tree : IsTree
         ∙ ap (fold then_there ((state_after (seen_by mid)).slots cell_is)) (on_fail cell_is mid.number n) in
         let end_is : its_end ≡ ended successful after =
         ap (computefail_looked name label (context, place_of_key t.keys key) text t) none
-        ∙ (claims_first t context key there empty name label (factory_failed name label (context, place_of_key t.keys key) text) ∙ fault_kept t context key there empty text left numbered name label keeps) in
+        ∙ (claims_first t context key there empty name label (factory_failed name label (context, place_of_key t.keys key) text) ∙ fault_kept t context key there empty text left places numbered name label keeps) in
         subst (λ (end : StepEnd). EndAlike run places o b end) (sym end_is) (record {
           says = said successful o.verdict finds.memory ends.says;
           computed = ends.computed_are;
@@ -187,10 +187,10 @@ module _ (run : RunView) (places : Places) (view : IsRunView run) (tree : IsTree
               (record {
                 standing = fault text;
                 here = ap (standing_of run.meaning) stands ∙ ap fault_stands known;
-                there = ap (standing_of (plain_meaning after.values)) (faulted_slot t context key there empty text left numbered) ∙ ap fault_stands (faulted_words t context key there empty text left numbered);
+                there = ap (standing_of (plain_meaning after.values)) (faulted_slot t context key there empty text left places numbered) ∙ ap fault_stands (faulted_words t context key there empty text left places numbered);
               })
-              (faulted_others t context key there empty text left numbered run places (seen_by b.cells.view) others);
-          numbered = faulted_numbered t context key there empty text left numbered;
+              (faulted_others t context key there empty text left places numbered run (seen_by b.cells.view) others);
+          numbered = faulted_numbered t context key there empty text left places numbered;
         })
 
     -- and one that was not
@@ -202,7 +202,7 @@ module _ (run : RunView) (places : Places) (view : IsRunView run) (tree : IsTree
         let empty : t.store.slots (context, place_of_key t.keys key) ≡ None = absent_first (under t.store (place_of_key t.keys key)) context ancestors none in
         let end_is : its_end ≡ ended successful t =
         ap (computefail_looked name label (context, place_of_key t.keys key) text t) none
-        ∙ (claims_first t context key there empty name label (factory_failed name label (context, place_of_key t.keys key) text) ∙ fault_not_kept t context key there empty text left numbered name label keeps) in
+        ∙ (claims_first t context key there empty name label (factory_failed name label (context, place_of_key t.keys key) text) ∙ fault_not_kept t context key there empty text left places numbered name label keeps) in
         subst (λ (end : StepEnd). EndAlike run places o b end) (sym end_is) (record {
           says = said successful o.verdict finds.memory ends.says;
           computed = ends.computed_are;
@@ -303,7 +303,7 @@ module _ (run : RunView) (places : Places) (view : IsRunView run) (tree : IsTree
 
 module _ (run : RunView) (keys : List KeyText) (path : List ℕ) (places : Places) (key : StepKeyText) (up : ℕ) (text : List ℕ) (a : PlanLane) (o : Outcome) (b : PlanLane) (s : ValueState)
     (within : LooksWithin keys path places key up) (both : AreCompared run keys path places (codes "computefail") key up a o b s) where
-  fail_along : (below : List ℕ) → (it : IsNamed (key_of_step keys key) s) → (number : ℕ) → IsKeyNumber b.keys (key_of_step keys key) number
+  fail_along : (below : List ℕ) → (it : IsNamed places (key_of_step keys key) s) → (number : ℕ) → IsKeyNumber b.keys (key_of_step keys key) number
       → ComputesFault run.store (start_of below) number (codes "computefail") (label_of keys key) text a o b → IsPathOf run.store.tree (start_of below) below → All (λ c. places c (key_of_step keys key) ≡ true) below
       → EndAlike run places o b (computefail_numbered enough (codes "computefail") (label_of keys key) below text (place_of_key it.state.keys (key_of_step keys key)) it.state)
   fail_along [] it number has made is_path inside = absurd is_path
@@ -311,13 +311,13 @@ module _ (run : RunView) (keys : List KeyText) (path : List ℕ) (places : Place
       fail_alike run places both.view both.tree (codes "computefail") (label_of keys key) context above (key_of_step keys key) number is_path
       (number_stays b.keys run.numbering (key_of_step keys key) number both.lane.keys has) inside
       it.state it.there (subst (λ (st : State Place). st.drawn < run_numbers) (sym it.drawn) both.room.numbers) it.numbered text a b o both.lane both.finds both.alone
-      (it.matches run places (seen_by a.cells.view) both.matches) (both.keeps ∙ sym it.faults) made
+      (it.matches run (seen_by a.cells.view) both.matches) (both.keeps ∙ sym it.faults) made
 
 pub failures_end_alike : (key : StepKeyText) (text : List ℕ) (up : ℕ) → StepEndsAlike (codes "computefail") key up LooksWithin (compute_fail key text up)
 failures_end_alike key text up run keys path places a o b s within both (inr none) = absurd (both.finds.memory none.ends.0)
 failures_end_alike key text up run keys path places a o b s within both (inl (inr (why, refused_key, (same, ends)))) =
     absurd (key_found (codes "computefail") (label_of keys key) o a b (key_of_step keys key) why both.finds refused_key ends)
 failures_end_alike key text up run keys path places a o b s within both (inl (inl (number, has, made))) =
-    let it : IsNamed (key_of_step keys key) s = named (key_of_step keys key) s both.room.keys both.numbered in
+    let it : IsNamed places (key_of_step keys key) s = named places (key_of_step keys key) s both.room.keys both.numbered in
     subst (λ (end : StepEnd). EndAlike run places o b end) (sym (it.goes (codes "computefail") (label_of keys key) (computefail_numbered enough (codes "computefail") (label_of keys key) (drop up path) text)))
     (fail_along run keys path places key up text a o b s within both (drop up path) it number has made both.path_is within)

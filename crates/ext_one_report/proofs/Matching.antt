@@ -82,33 +82,34 @@ pub plain_none : (s : ValueState) (context : ℕ) (key : KeyValue) → is_there 
 plain_none s context key none = ap (λ b. if b then s.store.slots (context, place_of_key s.keys key) else None) none
 
 -- a key that gets its number changes nothing that stands
-slot_numbered : (s : ValueState) (first : KeyValue) (context : ℕ) (key : KeyValue) → is_there s.keys first ≡ false → IsNumbered s → plain_slot (with_number first s) context key ≡ plain_slot s context key
-slot_numbered s first context key new numbered =
+slot_numbered : (places : Places) (s : ValueState) (first : KeyValue) (context : ℕ) (key : KeyValue) → places context key ≡ true → is_there s.keys first ≡ false → IsNumbered places s → plain_slot (with_number first s) context key ≡ plain_slot s context key
+slot_numbered places s first context key is new numbered =
     elim (bools (is_there s.keys key)) [
       | inl there ↦ plain_there (with_number first s) context key (there_more s.keys key first there)
           ∙ (ap (λ n. s.store.slots (context, n)) (place_stays s.keys (first ∷ []) key there) ∙ sym (plain_there s context key there))
       | inr none ↦ elim (bools (is_there (s.keys ++ first ∷ []) key)) [
         | inl now ↦
             let same : first ≡ key = elim (contains_fewer s.keys key first (is_contained (s.keys ++ first ∷ []) key now)) [
-              | inl is ↦ is
+              | inl one ↦ one
               | inr before ↦ absurd (not_contained s.keys key none before)
             ] in
             let last : place_of_key (s.keys ++ first ∷ []) key ≡ length s.keys = subst (λ k. place_of_key (s.keys ++ first ∷ []) k ≡ length s.keys) same (place_last s.keys first new) in
             plain_there (with_number first s) context key now
-            ∙ (ap (λ n. s.store.slots (context, n)) last ∙ (numbered.beyond context (length s.keys) (omega arith) ∙ sym (plain_none s context key none)))
+            ∙ (ap (λ n. s.store.slots (context, n)) last ∙ (numbered.beyond context key (length s.keys) is (omega arith) ∙ sym (plain_none s context key none)))
         | inr still ↦ plain_none (with_number first s) context key still ∙ sym (plain_none s context key none)
       ]
     ]
 
-pub keys_keep_matches : (run : RunView) (places : Places) (h : History) (key : KeyValue) (s : ValueState) → is_there s.keys key ≡ false → IsNumbered s → Matches run places h s → Matches run places h (with_number key s)
+pub keys_keep_matches : (run : RunView) (places : Places) (h : History) (key : KeyValue) (s : ValueState) → is_there s.keys key ≡ false → IsNumbered places s → Matches run places h s → Matches run places h (with_number key s)
 keys_keep_matches run places h first s new numbered matches = record {
-  slots = λ context key number is has. subst (λ x. AreMatched run.meaning (plain_meaning s.values) (slots_in (cell_of run number) h context) x) (sym (slot_numbered s first context key new numbered))
+  slots = λ context key number is has. subst (λ x. AreMatched run.meaning (plain_meaning s.values) (slots_in (cell_of run number) h context) x) (sym (slot_numbered places s first context key is new numbered))
       (matches.slots context key number is has);
+  unnumbered = λ context key is none. slot_numbered places s first context key is new numbered ∙ matches.unnumbered context key is none;
 }
 
-pub keys_keep_numbered : (key : KeyValue) (s : ValueState) → IsNumbered s → IsNumbered (with_number key s)
-keys_keep_numbered key s numbered = record {
-  beyond = λ context number past. numbered.beyond context number (shorter s.keys number past);
+pub keys_keep_numbered : (places : Places) (key : KeyValue) (s : ValueState) → IsNumbered places s → IsNumbered places (with_number key s)
+keys_keep_numbered places key s numbered = record {
+  beyond = λ context its number is past. numbered.beyond context its number is (shorter s.keys number past);
   drawn = numbered.drawn;
 }
   where
@@ -154,6 +155,7 @@ pub values_keep_matches : (run : RunView) (places : Places) (h : History) (value
 values_keep_matches run places h value s matches = record {
   slots = λ context key number is has. subst (λ x. AreMatched run.meaning (plain_meaning (s.values ++ value ∷ [])) (slots_in (cell_of run number) h context) x) (sym (kept_slot value s context key))
       (matched_by_more run.meaning (plain_meaning s.values) run.meaning (plain_meaning (s.values ++ value ∷ [])) _ _ (knows_itself run.meaning) (values_known s.values (value ∷ [])) (matches.slots context key number is has));
+  unnumbered = λ context key is none. kept_slot value s context key ∙ matches.unnumbered context key is none;
 }
 
 -- where a number is left it is drawn
@@ -166,9 +168,9 @@ draw_happens s left = ap (λ b. if b then Happens (Some (s.store.drawn + 1)) els
 pub kept_drawn : (value : ValueText) (s : ValueState) → s.store.drawn < run_numbers → (keep_value value s).store.drawn ≡ s.store.drawn + 1
 kept_drawn value s left = ap (λ r. (state_by r s.store (record { lane = any_lane; act = next_number s })).drawn) (draw_happens s left)
 
-pub values_keep_numbered : (value : ValueText) (s : ValueState) → s.store.drawn < run_numbers → IsNumbered s → IsNumbered (keep_value value s)
-values_keep_numbered value s left numbered = record {
-  beyond = λ context number past. draw_slots (plain_reply run_numbers s.store any_lane (next_number s)) s.store any_lane (s.store.drawn + 1) (context, number) ∙ numbered.beyond context number past;
+pub values_keep_numbered : (places : Places) (value : ValueText) (s : ValueState) → s.store.drawn < run_numbers → IsNumbered places s → IsNumbered places (keep_value value s)
+values_keep_numbered places value s left numbered = record {
+  beyond = λ context key number is past. draw_slots (plain_reply run_numbers s.store any_lane (next_number s)) s.store any_lane (s.store.drawn + 1) (context, number) ∙ numbered.beyond context key number is past;
   drawn = kept_drawn value s left ∙ longer s.values s.store.drawn numbered.drawn;
 }
   where
@@ -178,10 +180,21 @@ values_keep_numbered value s left numbered = record {
 -- ---- the first state
 
 pub first_matches : (run : RunView) (places : Places) (keeps : Bool) → Matches run places [] (value_opening keeps)
-first_matches run places keeps = record { slots = λ context key number is has. record { standing = nothing; here = refl; there = refl } }
+first_matches run places keeps = record { slots = λ context key number is has. record { standing = nothing; here = refl; there = refl }; unnumbered = λ context key is none. refl }
 
-pub first_is_numbered : (keeps : Bool) → IsNumbered (value_opening keeps)
-first_is_numbered keeps = record { beyond = λ context number past. refl; drawn = refl }
+pub first_is_numbered : (places : Places) (keeps : Bool) → IsNumbered places (value_opening keeps)
+first_is_numbered places keeps = record { beyond = λ context key number is past. refl; drawn = refl }
+
+-- ---- fewer places
+
+pub matches_at_fewer : (run : RunView) (places fewer : Places) (h : History) (s : ValueState) → ((context : ℕ) (key : KeyValue) → fewer context key ≡ true → places context key ≡ true) → Matches run places h s → Matches run fewer h s
+matches_at_fewer run places fewer h s within matches = record {
+  slots = λ context key number is has. matches.slots context key number (within context key is) has;
+  unnumbered = λ context key is none. matches.unnumbered context key (within context key is) none;
+}
+
+pub numbered_at_fewer : (places fewer : Places) (s : ValueState) → ((context : ℕ) (key : KeyValue) → fewer context key ≡ true → places context key ≡ true) → IsNumbered places s → IsNumbered fewer s
+numbered_at_fewer places fewer s within numbered = record { beyond = λ context key number is past. numbered.beyond context key number (within context key is) past; drawn = numbered.drawn }
 
 -- ---- events elsewhere
 
@@ -192,6 +205,7 @@ others_keep_matches run places h more s others matches = record {
       let stays : slots_in (cell_of run number) (h ++ more) context ≡ slots_in (cell_of run number) h context =
       ap (λ (t : State ℕ). t.slots cell) (after-append h more) ∙ slot_stays more (state_after h) cell (others.quiet context key number is has) in
       subst (λ x. AreMatched run.meaning (plain_meaning s.values) x (plain_slot s context key)) (sym stays) (matches.slots context key number is has);
+  unnumbered = matches.unnumbered;
 }
 
 -- ---- equal events
@@ -270,12 +284,30 @@ module _ (run : RunView) (places : Places) (h : History) (s : ValueState) (lane 
       subst (λ x. AreMatched run.meaning (plain_meaning s.values) x (plain_slot (after_event other act' s) context key)) (sym (slot_then h lane act (cell_of run number context) false (on_cell _ ∙ off)))
       (subst (λ x. AreMatched run.meaning (plain_meaning s.values) (slots_in (cell_of run number) h context) x) (sym stays) (matches.slots context key number is has))
 
+  -- a key without a number has nothing still
+  unnumbered_then : (context : ℕ) (key : KeyValue) → places context key ≡ true → ((number : ℕ) → ¬ HasNumberIn run key number) → plain_slot (after_event other act' s) context key ≡ None
+  unnumbered_then context key is none =
+      let place : Place = (context, place_of_key s.keys key) in
+      elim (bools (is_there s.keys key)) [
+        | inr absent ↦ plain_none (after_event other act' s) context key absent
+        | inl there ↦ elim (bools (same_place (equal.context, place_of_key s.keys equal.key) place)) [
+          | inr apart ↦
+              plain_there (after_event other act' s) context key there
+              ∙ (place_then s.store other act' place false (on_place place ∙ apart) ∙ (sym (plain_there s context key there) ∙ matches.unnumbered context key is none))
+          | inl same ↦
+              let one : (equal.context, place_of_key s.keys equal.key) ≡ place = same_place_is (equal.context, place_of_key s.keys equal.key) place same in
+              let key_is : equal.key ≡ key = one_of_place s.keys equal.key key equal.there there (ap (λ (p : Place). p.1) one) in
+              absurd (none equal.number (subst (λ k. HasNumberIn run k equal.number) key_is equal.numbered))
+        ]
+      ]
+
   pub equal_events_keep_matches : Matches run places (h ++ by lane act ∷ []) (after_event other act' s)
   equal_events_keep_matches = record {
     slots = λ context key number is has. elim (bools (nat_eq (cell_of run equal.number equal.context) (cell_of run number context))) [
       | inl on ↦ event_there context key number is has on
       | inr off ↦ event_not_there context key number is has off
     ];
+    unnumbered = unnumbered_then;
   }
 
 -- an event at a place draws no number
@@ -290,9 +322,10 @@ drawn_stays (Abandon place) at drawn is = refl
 drawn_stays (Seal place) at drawn is = refl
 
 -- an event at the place of a key that has its number keeps the state numbered
-pub event_keeps_numbered : (s : ValueState) (lane : ℕ) (act : Act Place) (context : ℕ) (key : KeyValue) → is_there s.keys key ≡ true → place_of act ≡ Some (context, place_of_key s.keys key) → IsNumbered s → IsNumbered (after_event lane act s)
-event_keeps_numbered s lane act at_context key there at_place numbered = record {
-  beyond = λ context number past.
+pub event_keeps_numbered : (places : Places) (s : ValueState) (lane : ℕ) (act : Act Place) (context : ℕ) (key : KeyValue) → is_there s.keys key ≡ true → place_of act ≡ Some (context, place_of_key s.keys key)
+    → IsNumbered places s → IsNumbered places (after_event lane act s)
+event_keeps_numbered places s lane act at_context key there at_place numbered = record {
+  beyond = λ context its number is past.
       let at : Place = (at_context, place_of_key s.keys key) in
       let place : Place = (context, number) in
       elim (bools (same_place at place)) [
@@ -300,10 +333,10 @@ event_keeps_numbered s lane act at_context key there at_place numbered = record 
             let number_is : place_of_key s.keys key ≡ number = ap (λ (p : Place). p.1) (same_place_is at place same) in
             let less : place_of_key s.keys key < length s.keys = place_within s.keys key there in
             absurd (omega (arith, number_is, less, past))
-        | inr apart ↦ place_then s.store lane act place false (ap (is_at same_place place) at_place ∙ apart) ∙ numbered.beyond context number past
+        | inr apart ↦ place_then s.store lane act place false (ap (is_at same_place place) at_place ∙ apart) ∙ numbered.beyond context its number is past
       ];
   drawn = drawn_stays act (at_context, place_of_key s.keys key) s.store.drawn at_place ∙ numbered.drawn;
 }
 
-pub equal_events_keep_numbered : (run : RunView) (s : ValueState) (other : ℕ) (act : Act ℕ) (act' : Act Place) → AreEqualEvents run s act act' → IsNumbered s → IsNumbered (after_event other act' s)
-equal_events_keep_numbered run s other act act' equal numbered = event_keeps_numbered s other act' equal.context equal.key equal.there equal.at_place numbered
+pub equal_events_keep_numbered : (run : RunView) (places : Places) (s : ValueState) (other : ℕ) (act : Act ℕ) (act' : Act Place) → AreEqualEvents run s act act' → IsNumbered places s → IsNumbered places (after_event other act' s)
+equal_events_keep_numbered run places s other act act' equal numbered = event_keeps_numbered places s other act' equal.context equal.key equal.there equal.at_place numbered

@@ -13,13 +13,13 @@ use Rattle.ext_plain.proofs.Numberings.{is_known, is_next, there_then}
 use Rattle.ext_one_report.specs.Matching.{RunView, Places, Matches, IsNumbered}
 use Rattle.ext_one_report.proofs.Matching.{keys_keep_matches, keys_keep_numbered}
 
--- The state in which the key has its number, and what of the state before is so of it
-pub record IsNamed (key : KeyValue) (s : ValueState) : Type 0 where
+-- The state in which the key has its number, and what of the state before is so of it at these places
+pub record IsNamed (places : Places) (key : KeyValue) (s : ValueState) : Type 0 where
   pub state : ValueState
   pub there : is_there state.keys key ≡ true
   pub goes : (name label : List ℕ) (goes_on : ℕ → ValueState → StepEnd) → numbered_by enough name label key goes_on s ≡ goes_on (place_of_key state.keys key) state
-  pub matches : (run : RunView) (places : Places) (h : History) → Matches run places h s → Matches run places h state
-  pub numbered : IsNumbered state
+  pub matches : (run : RunView) (h : History) → Matches run places h s → Matches run places h state
+  pub numbered : IsNumbered places state
   pub drawn : state.store ≡ s.store
   pub values : state.values ≡ s.values
   pub faults : state.keep_faults ≡ s.keep_faults
@@ -27,14 +27,14 @@ pub record IsNamed (key : KeyValue) (s : ValueState) : Type 0 where
 less_is : (a b : ℕ) → a < b → nat_lt a b ≡ true
 less_is a b less = grind (arith, nat_tests)
 
-pub named : (key : KeyValue) (s : ValueState) → (is_there s.keys key ≡ false → length s.keys < key_limit) → IsNumbered s → IsNamed key s
-named key s room numbered =
+pub named : (places : Places) (key : KeyValue) (s : ValueState) → (is_there s.keys key ≡ false → length s.keys < key_limit) → IsNumbered places s → IsNamed places key s
+named places key s room numbered =
     elim (bools (is_there s.keys key)) [
       | inl there ↦ record {
         state = s;
         there = there;
         goes = λ name label goes_on. ap (number_by enough name label key goes_on s) (is_known s.keys key there);
-        matches = λ run places h matches. matches;
+        matches = λ run h matches. matches;
         numbered = numbered;
         drawn = refl;
         values = refl;
@@ -46,8 +46,8 @@ named key s room numbered =
         goes = λ name label goes_on.
             ap (number_by enough name label key goes_on s) (is_next s.keys key (not_contained s.keys key none) (less_is (length s.keys) key_limit (room none)))
             ∙ ap (λ n. goes_on n (with_number key s)) (sym (place_last s.keys key none));
-        matches = λ run places h matches. keys_keep_matches run places h key s none numbered matches;
-        numbered = keys_keep_numbered key s numbered;
+        matches = λ run h matches. keys_keep_matches run places h key s none numbered matches;
+        numbered = keys_keep_numbered places key s numbered;
         drawn = refl;
         values = refl;
         faults = refl;

@@ -68,10 +68,19 @@ matches_join run places context key number h t has there matches = record {
         let n_is : number ≡ n = one_number run.numbering run.numbering (one_key run.numbering) key number n has (subst (λ x. HasNumberIn run x n) (sym k_is) has') in
         subst (λ (x : ℕ × (KeyValue × ℕ)). AreMatched run.meaning (plain_meaning t.values) (slots_in (cell_of run x.1.1) h x.0) (plain_slot t x.0 x.1.0)) (λ i. (c_is i, (k_is i, n_is i))) there
   ];
+  unnumbered = λ c k is none. elim (bools (nat_eq c context && key_eq k key)) [
+    | inr off ↦ matches.unnumbered c k (ap (λ b. b && not (nat_eq c context && key_eq k key)) is ∙ ap not off) none
+    | inl on ↦
+        let k_is : key ≡ k = sym ((keys_Decides k key).0 (both_true (nat_eq c context) (key_eq k key) on).1) in
+        absurd (none number (subst (λ x. HasNumberIn run x number) k_is has))
+  ];
 }
 
 pub matches_but : (run : RunView) (places : Places) (context : ℕ) (key : KeyValue) (h : History) (t : ValueState) → Matches run places h t → Matches run (but places context key) h t
-matches_but run places context key h t matches = record { slots = λ c k n is has. matches.slots c k n (within_but places context key c k is) has }
+matches_but run places context key h t matches = record {
+  slots = λ c k n is has. matches.slots c k n (within_but places context key c k is) has;
+  unnumbered = λ c k is none. matches.unnumbered c k (within_but places context key c k is) none;
+}
 
 -- ---- own events on one cell
 
@@ -135,17 +144,20 @@ pub others_event : (run : RunView) (places : Places) (context : ℕ) (key : KeyV
     → place_of act ≡ Some (context, place_of_key t.keys key) → Matches run (but places context key) h t → Matches run (but places context key) h (after_event lane act t)
 others_event run places context key h t lane act there at matches = record {
   slots = λ c k n here has.
-      let place : Place = (c, place_of_key t.keys k) in
-      let own_place : Place = (context, place_of_key t.keys key) in
-      let stays : plain_slot (after_event lane act t) c k ≡ plain_slot t c k =
-      elim (bools (is_there t.keys k)) [
-        | inr none ↦ plain_none (after_event lane act t) c k none ∙ sym (plain_none t c k none)
-        | inl also ↦ elim (bools (same_place own_place place)) [
-          | inr apart ↦ plain_there (after_event lane act t) c k also ∙ (place_then t.store lane act place false (ap (is_at same_place place) at ∙ apart) ∙ sym (plain_there t c k also))
-          | inl same ↦
-              let one : own_place ≡ place = same_place_is own_place place same in
-              absurd (is_other places context key c k here (ap (λ (x : Place). x.0) one) (one_of_place t.keys key k there also (ap (λ (x : Place). x.1) one)))
-        ]
-      ] in
-      subst (λ x. AreMatched run.meaning (plain_meaning t.values) (slots_in (cell_of run n) h c) x) (sym stays) (matches.slots c k n here has);
+      subst (λ x. AreMatched run.meaning (plain_meaning t.values) (slots_in (cell_of run n) h c) x) (sym (stays c k here)) (matches.slots c k n here has);
+  unnumbered = λ c k here none. stays c k here ∙ matches.unnumbered c k here none;
 }
+  where
+    stays : (c : ℕ) (k : KeyValue) → but places context key c k ≡ true → plain_slot (after_event lane act t) c k ≡ plain_slot t c k
+    stays c k here =
+        let place : Place = (c, place_of_key t.keys k) in
+        let own_place : Place = (context, place_of_key t.keys key) in
+        elim (bools (is_there t.keys k)) [
+          | inr none ↦ plain_none (after_event lane act t) c k none ∙ sym (plain_none t c k none)
+          | inl also ↦ elim (bools (same_place own_place place)) [
+            | inr apart ↦ plain_there (after_event lane act t) c k also ∙ (place_then t.store lane act place false (ap (is_at same_place place) at ∙ apart) ∙ sym (plain_there t c k also))
+            | inl same ↦
+                let one : own_place ≡ place = same_place_is own_place place same in
+                absurd (is_other places context key c k here (ap (λ (x : Place). x.0) one) (one_of_place t.keys key k there also (ap (λ (x : Place). x.1) one)))
+          ]
+        ]

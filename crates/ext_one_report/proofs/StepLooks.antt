@@ -159,15 +159,15 @@ look_end verdict path number s = ended (verdict (plain_seen s.values (found_alon
 module _ (run : RunView) (keys : List KeyText) (path : List ℕ) (places : Places) (name : List ℕ) (key : StepKeyText) (up : ℕ) (a : PlanLane) (o : Outcome) (b : PlanLane) (s : ValueState)
     (verdict : SeenText → VerdictText) (refusing : (why : Reason) → verdict (seen_refused why) ≡ refused name (label_of keys key) why)
     (within : LooksWithin keys path places key up) (both : AreCompared run keys path places name key up a o b s) where
-  abbrev it : IsNamed (key_of_step keys key) s
-  it = named (key_of_step keys key) s both.room.keys both.numbered
+  abbrev it : IsNamed places (key_of_step keys key) s
+  it = named places (key_of_step keys key) s both.room.keys both.numbered
 
   look_alike : (number : ℕ) → IsKeyNumber b.keys (key_of_step keys key) number → (seen : SeenText) → Sees run.store (start_of (drop up path)) number a seen b → Ends (verdict seen) 0 0 o
       → EndAlike run places o b (look_end verdict (drop up path) (place_of_key it.state.keys (key_of_step keys key)) it.state)
   look_alike number has seen sees ends =
       let has_in : HasNumberIn run (key_of_step keys key) number = number_stays b.keys run.numbering (key_of_step keys key) number both.lane.keys has in
       let at = look_point run.store (start_of (drop up path)) number (drop up path) a.cells b.cells sees.answer both.tree both.path_is sees.looked in
-      let before : Matches run places (seen_by a.cells.view) it.state = it.matches run places (seen_by a.cells.view) both.matches in
+      let before : Matches run places (seen_by a.cells.view) it.state = it.matches run (seen_by a.cells.view) both.matches in
       let here : Matches run places at.at it.state = matches_to run places a.cells.view b.cells.view both.alone at.at it.state at.point before in
       let plain : Look = found_along (place_of_key it.state.keys (key_of_step keys key)) (drop up path) it.state in
       let same : ShowTheSame run.meaning (plain_meaning it.state.values) (look_after (cell_of run number) (drop up path) at.at) plain = looks_same run places at.at it.state (key_of_step keys key) number (drop up path) here has_in it.there within in
@@ -193,7 +193,7 @@ pub wants_end_alike : (key : StepKeyText) (text : List ℕ) (up : ℕ) → StepE
 wants_end_alike key text up run keys path places a o b s within both (inr (made, none)) = absurd (both.finds.memory none.ends.0)
 wants_end_alike key text up run keys path places a o b s within both (inl looks) =
     let label = label_of keys key in
-    let it : IsNamed (key_of_step keys key) s = named (key_of_step keys key) s both.room.keys both.numbered in
+    let it : IsNamed places (key_of_step keys key) s = named places (key_of_step keys key) s both.room.keys both.numbered in
     subst (λ (end : StepEnd). EndAlike run places o b end) (sym (it.goes (codes "want") label (want_numbered enough (codes "want") label (drop up path) text)))
     (looks_end_alike run keys path places (codes "want") key up a o b s (want_verdict (codes "want") label text) (λ why. refl) within both looks)
 
@@ -201,6 +201,6 @@ pub nones_end_alike : (key : StepKeyText) (up : ℕ) → StepEndsAlike (codes "n
 nones_end_alike key up run keys path places a o b s within both (inr (made, none)) = absurd (both.finds.memory none.ends.0)
 nones_end_alike key up run keys path places a o b s within both (inl looks) =
     let label = label_of keys key in
-    let it : IsNamed (key_of_step keys key) s = named (key_of_step keys key) s both.room.keys both.numbered in
+    let it : IsNamed places (key_of_step keys key) s = named places (key_of_step keys key) s both.room.keys both.numbered in
     subst (λ (end : StepEnd). EndAlike run places o b end) (sym (it.goes (codes "none") label (none_numbered enough (codes "none") label (drop up path))))
     (looks_end_alike run keys path places (codes "none") key up a o b s (none_verdict (codes "none") label) (λ why. refl) within both looks)

@@ -34,7 +34,7 @@ pub record CallsAlike (run : RunView) (places : Places) (outcomes : List Outcome
   pub computed : computed_in outcomes ≡ end.computed
   pub found : found_in outcomes ≡ end.found
   pub matches : Matches run places (seen_by after.cells.view) end.state
-  pub numbered : IsNumbered end.state
+  pub numbered : IsNumbered places end.state
 
 -- ---- when calls are compared
 

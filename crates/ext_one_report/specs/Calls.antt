@@ -82,7 +82,7 @@ pub record AreBeside (run : RunView) (path : List ℕ) (places : Places) (before
   pub keeps : run.store.id.cells.limits.keep_faults ≡ s.keep_faults
   -- the same stands at the places before
   pub matches : Matches run places (seen_by before.cells.view) s
-  pub numbered : IsNumbered s
+  pub numbered : IsNumbered places s
 
 -- The steps of a call in the context of a path: on a lane, and from this state in a plain run
 pub record AreComparedAll (run : RunView) (keys : List KeyText) (path : List ℕ) (places : Places) (steps : List StepText)

@@ -50,23 +50,25 @@ plain_meaning values = record { values = λ number. value_of values number; faul
 abbrev pub plain_slot : ValueState → ℕ → KeyValue → Option Slot
 plain_slot s context key = if is_there s.keys key then s.store.slots (context, place_of_key s.keys key) else None
 
--- nothing stands under a number that no key has, and each number that was drawn is that of a value
-pub record IsNumbered (s : ValueState) : Type 0 where
-  pub beyond : (context number : ℕ) → length s.keys ≤ number → s.store.slots (context, number) ≡ None
-  pub drawn : s.store.drawn ≡ length s.values
-
 -- ---- both
 
 -- some of the places, each a context and a key
 abbrev pub Places : Type 0
 Places = ℕ → KeyValue → Bool
 
--- At each of the places the same stands after this history and in this state of a plain run. Of a key that gets no number on several lanes nothing is said.
+-- In a context of one of the places nothing stands under a number that no key has, and each number that was drawn is that of a value. Of a context that has ended the first
+-- is not so: all of its places are sealed
+pub record IsNumbered (places : Places) (s : ValueState) : Type 0 where
+  pub beyond : (context : ℕ) (key : KeyValue) (number : ℕ) → places context key ≡ true → length s.keys ≤ number → s.store.slots (context, number) ≡ None
+  pub drawn : s.store.drawn ≡ length s.values
+
+-- At each of the places the same stands after this history and in this state of a plain run. Under a key that gets no number on several lanes nothing stands there.
 -- Two lanes put x and y into two contexts under one key. Where they draw 2 and 1, and the plain run 1 and 2, this holds of both places. It holds no more of the first once
 -- another put of y comes over x there, in one of both runs alone
 pub record Matches (run : RunView) (places : Places) (h : History) (s : ValueState) : Type 0 where
   pub slots : (context : ℕ) (key : KeyValue) (number : ℕ) → places context key ≡ true → HasNumberIn run key number
       → AreMatched run.meaning (plain_meaning s.values) (slots_in (cell_of run number) h context) (plain_slot s context key)
+  pub unnumbered : (context : ℕ) (key : KeyValue) → places context key ≡ true → ((number : ℕ) → ¬ HasNumberIn run key number) → plain_slot s context key ≡ None
 
 -- none of these events is at one of the places
 pub record AreNotAt (run : RunView) (places : Places) (events : History) : Type 0 where

@@ -21,7 +21,7 @@ abbrev pub FirstMatches : Type 0
 FirstMatches = (run : RunView) (places : Places) (keeps : Bool) → Matches run places [] (value_opening keeps)
 
 abbrev pub FirstIsNumbered : Type 0
-FirstIsNumbered = (keeps : Bool) → IsNumbered (value_opening keeps)
+FirstIsNumbered = (places : Places) (keeps : Bool) → IsNumbered places (value_opening keeps)
 
 -- events that are not at the places change nothing there
 abbrev pub OthersKeepMatches : Type 0
@@ -32,6 +32,12 @@ abbrev pub MatchesAtFewer : Type 0
 MatchesAtFewer =
     (run : RunView) (places fewer : Places) (h : History) (s : ValueState)
     → ((context : ℕ) (key : KeyValue) → fewer context key ≡ true → places context key ≡ true) → Matches run places h s → Matches run fewer h s
+
+-- and what is numbered at some places is so at fewer
+abbrev pub NumberedAtFewer : Type 0
+NumberedAtFewer =
+    (places fewer : Places) (s : ValueState)
+    → ((context : ℕ) (key : KeyValue) → fewer context key ≡ true → places context key ≡ true) → IsNumbered places s → IsNumbered fewer s
 
 -- an event in a context under a key, and one in the plain run that does the same in that context under that key
 pub record AreEqualEvents (run : RunView) (s : ValueState) (act : Act ℕ) (other : Act Place) : Type 0 where
@@ -50,24 +56,24 @@ EqualEventsKeepMatches =
     (run : RunView) (places : Places) (h : History) (s : ValueState) (lane other : ℕ) (act : Act ℕ) (act' : Act Place)
     → IsRunView run → AreEqualEvents run s act act' → Matches run places h s → Matches run places (h ++ by lane act ∷ []) (after_event other act' s)
 
--- and in the plain run nothing stands under a number that no key has
+-- and in the plain run nothing stands there under a number that no key has
 abbrev pub EqualEventsKeepNumbered : Type 0
 EqualEventsKeepNumbered =
-    (run : RunView) (s : ValueState) (other : ℕ) (act : Act ℕ) (act' : Act Place)
-    → AreEqualEvents run s act act' → IsNumbered s → IsNumbered (after_event other act' s)
+    (run : RunView) (places : Places) (s : ValueState) (other : ℕ) (act : Act ℕ) (act' : Act Place)
+    → AreEqualEvents run s act act' → IsNumbered places s → IsNumbered places (after_event other act' s)
 
 -- a value that the plain run keeps changes no place, while there are numbers
 abbrev pub ValuesKeepMatches : Type 0
 ValuesKeepMatches = (run : RunView) (places : Places) (h : History) (value : ValueText) (s : ValueState) → Matches run places h s → Matches run places h (keep_value value s)
 
 abbrev pub ValuesKeepNumbered : Type 0
-ValuesKeepNumbered = (value : ValueText) (s : ValueState) → s.store.drawn < run_numbers → IsNumbered s → IsNumbered (keep_value value s)
+ValuesKeepNumbered = (places : Places) (value : ValueText) (s : ValueState) → s.store.drawn < run_numbers → IsNumbered places s → IsNumbered places (keep_value value s)
 
 -- nor does a key that gets its number
 abbrev pub KeysKeepMatches : Type 0
 KeysKeepMatches =
     (run : RunView) (places : Places) (h : History) (key : KeyValue) (s : ValueState)
-    → is_there s.keys key ≡ false → IsNumbered s → Matches run places h s → Matches run places h (with_number key s)
+    → is_there s.keys key ≡ false → IsNumbered places s → Matches run places h s → Matches run places h (with_number key s)
 
 abbrev pub KeysKeepNumbered : Type 0
-KeysKeepNumbered = (key : KeyValue) (s : ValueState) → IsNumbered s → IsNumbered (with_number key s)
+KeysKeepNumbered = (places : Places) (key : KeyValue) (s : ValueState) → IsNumbered places s → IsNumbered places (with_number key s)

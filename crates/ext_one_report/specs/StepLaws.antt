@@ -50,7 +50,7 @@ FailedComputesEndAlike = (key : StepKeyText) (text : List ℕ) (up : ℕ) → St
 abbrev pub EndsAnywhere : StepText → Type 0
 EndsAnywhere step =
     (run : RunView) (keys : List KeyText) (path : List ℕ) (places : Places) (before : PlanLane) (outcome : Outcome) (after : PlanLane) (s : ValueState)
-    → outcome.verdict ≢ no_memory → Matches run places (seen_by before.cells.view) s → IsNumbered s → StepRun run.store keys path step before outcome after
+    → outcome.verdict ≢ no_memory → Matches run places (seen_by before.cells.view) s → IsNumbered places s → StepRun run.store keys path step before outcome after
     → EndAlike run places outcome after (step_run keys path step s)
 
 abbrev pub FailsEndAlike : Type 0

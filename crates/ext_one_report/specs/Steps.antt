@@ -88,7 +88,7 @@ pub record AreCompared (run : RunView) (keys : List KeyText) (path : List ℕ) (
   pub keeps : before.cells.cells.limits.keep_faults ≡ s.keep_faults
   -- the same stands there before
   pub matches : Matches run places (seen_by before.cells.view) s
-  pub numbered : IsNumbered s
+  pub numbered : IsNumbered places s
 
 -- the places that a look-up of the step asks are among these
 abbrev pub LooksWithin : List KeyText → List ℕ → Places → StepKeyText → ℕ → Type 0
@@ -105,7 +105,7 @@ pub record EndAlike (run : RunView) (places : Places) (outcome : Outcome) (after
   pub computed : outcome.computed ≡ end.computed
   pub found : outcome.found ≡ end.found
   pub matches : Matches run places (seen_by after.cells.view) end.state
-  pub numbered : IsNumbered end.state
+  pub numbered : IsNumbered places end.state
 
 -- A step of this name, key and height, where what it touches is within the places: on a lane that is alone there it ends as in the plain run
 abbrev pub StepEndsAlike : List ℕ → StepKeyText → ℕ → (List KeyText → List ℕ → Places → StepKeyText → ℕ → Type 0) → StepText → Type 0

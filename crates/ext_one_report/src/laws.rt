@@ -2,7 +2,7 @@
 ghost use Rattle.ext_one_report.specs.CallLists.{AllCallsEndAlike, BeforesEndAlike, NodeToldAlike};
 ghost use Rattle.ext_one_report.specs.Calls.{CallEndsAlike, StepsEndAlike, StepsLeaveMemory, StepsLeaveFaults};
 ghost use Rattle.ext_one_report.specs.CellLaws.{SlotsAgree, VersionsAgree, LooksAgree, RepliesAgree, DrawsAgree, ElsewhereChangesNothing, AlikeGoOn, AlikeItself, AlikeBack, AlikeOn, AlikeOnFewer, OneOrderIsAlike, ElsewhereIsNone, ApartCommutes};
-ghost use Rattle.ext_one_report.specs.MatchingLaws.{FirstMatches, FirstIsNumbered, OthersKeepMatches, MatchesAtFewer, EqualEventsKeepMatches, EqualEventsKeepNumbered, ValuesKeepMatches, ValuesKeepNumbered, KeysKeepMatches, KeysKeepNumbered};
+ghost use Rattle.ext_one_report.specs.MatchingLaws.{FirstMatches, FirstIsNumbered, OthersKeepMatches, MatchesAtFewer, NumberedAtFewer, EqualEventsKeepMatches, EqualEventsKeepNumbered, ValuesKeepMatches, ValuesKeepNumbered, KeysKeepMatches, KeysKeepNumbered};
 ghost use Rattle.ext_one_report.specs.Rooms.{FewHaveRoom, FewAreGiven, StepsDrawFew};
 ghost use Rattle.ext_one_report.specs.StandingLaws.{MatchedLooks, MatchedActs, MatchedEmpty, MatchedByMore};
 ghost use Rattle.ext_one_report.specs.StepLaws.{WantsEndAlike, NonesEndAlike, RemovesEndAlike, PutsEndAlike, CloseablePutsEndAlike, ComputesEndAlike, CloseableComputesEndAlike, FailedComputesEndAlike, FailsEndAlike, AbortsEndAlike};
@@ -51,6 +51,7 @@ pub fn matching_laws()
     ensures first_numbered { FirstIsNumbered }
     ensures others { OthersKeepMatches }
     ensures fewer { MatchesAtFewer }
+    ensures fewer_numbered { NumberedAtFewer }
     ensures equal_events { EqualEventsKeepMatches }
     ensures equal_events_numbered { EqualEventsKeepNumbered }
     ensures values { ValuesKeepMatches }

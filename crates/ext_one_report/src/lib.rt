@@ -1,5 +1,5 @@
-//! Towards one sentence: a plan without races has one report. However its nodes are run on several lanes, their results are those of the plain run, where no memory was
-//! wanted.
+//! What a step, a call and all calls of a test leave on a lane that is alone on their places, and in a plain run: the same. On these laws `ext_same_report` stands, which says
+//! of whole runs that they have one report.
 //!
 //! Proved here, from the bottom up:
 //!
@@ -19,11 +19,7 @@
 //! - `view_laws`: what the lanes of a run know of keys, values and faults is so in one view of the run (`Views`), at its end and before and after each of its calls. In it
 //!   the numbers of values and of faults stand for nothing that no lane knows, and keys are numbered as the run has them (`ShareKeys` of ext_parallel).
 //!
-//! Still open:
-//!
-//! - that a lane of a run is alone on the places of its node, where the plan has no race; and that it is shown what stands there. Here these are asked (`IsAlone`,
-//!   `FindsAll`);
-//! - the closes of contexts, the nodes of a container and their order: so the sentence itself.
+//! That a lane is alone on the places of its node is asked here (`IsAlone`), and that it is shown what stands there (`FindsAll`).
 //!
 //! Own rule: JUnit has no counterpart. A public call here takes no memory and waits for nobody.
 #![tactic(auto)]

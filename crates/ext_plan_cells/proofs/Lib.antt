@@ -2,3 +2,5 @@
 pub mod Going
 pub mod Runs
 pub mod Steps
+pub mod Stored
+pub mod StoredRuns

@@ -1,2 +1,3 @@
 -- What the clauses of this crate speak of.
 pub mod PlanCells
+pub mod Stored

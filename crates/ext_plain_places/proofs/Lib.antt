@@ -1,0 +1,21 @@
+-- Lemmas of this crate.
+pub mod CoveredCalls
+pub mod CoveredCells
+pub mod CoveredFree
+pub mod CoveredPaths
+pub mod CoveredPlans
+pub mod CoveredTouches
+pub mod OfPlanStates
+pub mod OfPlanSteps
+pub mod OfPlanEnds
+pub mod OfPlanHeights
+pub mod OfPlanCalls
+pub mod OfPlanNodes
+pub mod CountSums
+pub mod CountSteps
+pub mod CountNodes
+pub mod FrameSlots
+pub mod FrameSteps
+pub mod FrameNodes
+pub mod FrameKeys
+pub mod WorkedPlans

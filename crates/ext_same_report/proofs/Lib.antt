@@ -1,0 +1,23 @@
+-- Lemmas of this crate.
+pub mod Beside
+pub mod CloseCells
+pub mod CloseEnds
+pub mod CloseFaults
+pub mod CloseLists
+pub mod ClosePlain
+pub mod CloseResults
+pub mod CloseSame
+pub mod Left
+pub mod NodeBody
+pub mod NodeCalls
+pub mod NodeEnds
+pub mod NodePlaces
+pub mod NodePlain
+pub mod NodeRooms
+pub mod NodeTold
+pub mod NodeTrees
+pub mod OfStore
+pub mod One
+pub mod Results
+pub mod Tests
+pub mod Whole
