@@ -1,11 +1,7 @@
--- The first lane of a node that is alone but for nodes beside it, and a plain run: calls of the node that lack nothing may be compared with those of the plain run.
+-- Calls of a node that lack nothing, on lanes that know only what is so in the view: they may be compared with those of the plain run.
 use Rattle.std.proofs.Common.{◌≡◌, ℕ, inl, inr, Bool, true, false, List, [], ◌∷◌, refl, ap, sym, subst}
 use Rattle.std.specs.Prelude.{Option}
-use Rattle.ext_history.specs.Histories.{seen_by}
 use Rattle.ext_history.proofs.Lists.{bools}
-use Rattle.ext_model.specs.History.{History}
-use Rattle.ext_tree.specs.Keys.{KeyValue}
-use Rattle.ext_tree.specs.Trees.{IsPathOf}
 use Rattle.ext_lifecycle.specs.declared.call.Call.{Call}
 use Rattle.ext_lifecycle.specs.declared.outcome.Outcome.{Outcome}
 use Rattle.ext_lifecycle.specs.Callbacks.{test_call}
@@ -14,45 +10,24 @@ use Rattle.ext_lifecycle.specs.Lifecycle.{MakesAll, MakesBefores, MakesCalls, Ma
 use Rattle.ext_locks.specs.Opening.{LocksView}
 use Rattle.ext_locks.specs.Sets.{HeldView}
 use Rattle.ext_plan.specs.Plans.{PlanText}
-use Rattle.ext_store.specs.Stores.{IsLaneOf, StoreLane}
-use Rattle.ext_engine.specs.Meeting.{HasSeenWithin}
-use Rattle.ext_engine.specs.TreeRun.{MakesOn, OnFirst, TreeSetting}
-use Rattle.ext_alone.specs.Alone.{IsAloneButBeside, IsMadeBeside}
-use Rattle.ext_alone.proofs.Parts.{of_first}
-use Rattle.ext_plain.specs.ValueStates.{ValueState}
-use Rattle.ext_plain.proofs.Nodes.{start_is}
+use Rattle.ext_store.specs.Stores.{IsLaneOf}
+use Rattle.ext_engine.specs.TreeRun.{MakesOn}
 use Rattle.ext_parallel.specs.StoreCalls.{PlanLane}
 use Rattle.ext_one_report.specs.CallLists.{CallsFind, Makes}
-use Rattle.ext_one_report.specs.Calls.{AreBeside}
-use Rattle.ext_one_report.specs.Matching.{Places, RunView}
-use Rattle.ext_one_report.specs.Steps.{IsLaneIn}
+use Rattle.ext_one_report.specs.Matching.{RunView}
 use Rattle.ext_one_report.specs.TestCalls.{MakesTest, TestFinds, afters_round, befores_round}
 use Rattle.ext_same_report.specs.FullRuns.{setting_in}
-use Rattle.ext_same_report.specs.Left.{TouchedIsLeft}
-use Rattle.ext_same_report.specs.Levels.{AreLevel, IsBasis}
-use Rattle.ext_same_report.proofs.NodeCalls.{alone_there, tree}
-
--- ---- the first lane
-
--- where lanes of which only the first changes are alone, but for nodes beside theirs, so is this first
-pub first_alone : {V A : Type 0} (t : TreeSetting V A) (h : History) (node : ℕ) (R : StoreLane V → StoreLane V → Type 0) (xs ys : List (StoreLane V)) → (on : OnFirst R xs ys) → IsAloneButBeside t h node xs ys
-    → IsAloneButBeside t h node (on.lane ∷ []) (on.left ∷ [])
-first_alone {V} t h node R xs ys on alone =
-    of_first h (IsMadeBeside t h node) on.lane on.left on.rest
-    (subst (λ (l : List (StoreLane V)). IsAloneButBeside t h node (on.lane ∷ on.rest) l) on.first_is (subst (λ (l : List (StoreLane V)). IsAloneButBeside t h node l ys) on.first_was alone))
-
--- ---- calls that lack nothing, on lanes that know only what is so in the view
 
 module _ (plan : PlanText) (run : RunView) (locks : LocksView) (node : ℕ) (held : Option HeldView) where
   abbrev pub MakesFully : PlanLane → Call → Outcome → PlanLane → Type 0
   MakesFully = MakesOn (setting_in plan run locks) node held
 
   -- they are calls,
-  all_made : (calls : List Call) (a : PlanLane) (os : List Outcome) (b : PlanLane) → MakesAll MakesFully calls a os b → MakesAll (Makes plan run.store node) calls a os b
+  pub all_made : (calls : List Call) (a : PlanLane) (os : List Outcome) (b : PlanLane) → MakesAll MakesFully calls a os b → MakesAll (Makes plan run.store node) calls a os b
   all_made [] a os b made = made
   all_made (call ∷ calls) a os b made = (made.0, made.1, made.2, made.3, made.4.fully.made, all_made calls made.2 made.1 b made.5)
 
-  befores_made : (calls : List Call) (a : PlanLane) (os : List Outcome) (b : PlanLane) → MakesBefores MakesFully calls a os b → MakesBefores (Makes plan run.store node) calls a os b
+  pub befores_made : (calls : List Call) (a : PlanLane) (os : List Outcome) (b : PlanLane) → MakesBefores MakesFully calls a os b → MakesBefores (Makes plan run.store node) calls a os b
   befores_made [] a os b made = made
   befores_made (call ∷ calls) a os b made = (made.0, made.1, made.2, made.3, made.4.fully.made, ((λ on. befores_made calls made.2 made.1 b (made.5.0 on)), made.5.1))
 
@@ -64,11 +39,11 @@ module _ (plan : PlanText) (run : RunView) (locks : LocksView) (node : ℕ) (hel
   nothing_finds [] os none = tt
   nothing_finds (call ∷ calls) os none = subst (CallsFind plan (call ∷ calls)) (sym none) tt
 
-  all_find : (calls : List Call) (a : PlanLane) (os : List Outcome) (b : PlanLane) → MakesAll MakesFully calls a os b → CallsFind plan calls os
+  pub all_find : (calls : List Call) (a : PlanLane) (os : List Outcome) (b : PlanLane) → MakesAll MakesFully calls a os b → CallsFind plan calls os
   all_find [] a os b made = tt
   all_find (call ∷ calls) a os b made = subst (CallsFind plan (call ∷ calls)) (sym made.3) (made.4.fully.finds, all_find calls made.2 made.1 b made.5)
 
-  befores_find : (calls : List Call) (a : PlanLane) (os : List Outcome) (b : PlanLane) → MakesBefores MakesFully calls a os b → CallsFind plan calls os
+  pub befores_find : (calls : List Call) (a : PlanLane) (os : List Outcome) (b : PlanLane) → MakesBefores MakesFully calls a os b → CallsFind plan calls os
   befores_find [] a os b made = tt
   befores_find (call ∷ calls) a os b made =
       let rest : CallsFind plan calls made.1 = elim (bools (is_successful (ending_of made.0.verdict))) [
@@ -105,10 +80,10 @@ module _ (plan : PlanText) (run : RunView) (locks : LocksView) (node : ℕ) (hel
       )
 
   -- and where a call is made, the lane is one of the store
-  first_of_all : (call : Call) (calls : List Call) (a : PlanLane) (os : List Outcome) (b : PlanLane) → MakesAll MakesFully (call ∷ calls) a os b → IsLaneOf run.store.id a
+  pub first_of_all : (call : Call) (calls : List Call) (a : PlanLane) (os : List Outcome) (b : PlanLane) → MakesAll MakesFully (call ∷ calls) a os b → IsLaneOf run.store.id a
   first_of_all call calls a os b made = made.4.before_of
 
-  first_of_befores : (call : Call) (calls : List Call) (a : PlanLane) (os : List Outcome) (b : PlanLane) → MakesBefores MakesFully (call ∷ calls) a os b → IsLaneOf run.store.id a
+  pub first_of_befores : (call : Call) (calls : List Call) (a : PlanLane) (os : List Outcome) (b : PlanLane) → MakesBefores MakesFully (call ∷ calls) a os b → IsLaneOf run.store.id a
   first_of_befores call calls a os b made = made.4.before_of
 
   pub first_of_calls : (befores : List Call) (body : Call) (afters : List Call) (a : PlanLane) (os : List Outcome) (b : PlanLane) → MakesCalls MakesFully befores body afters a os b → IsLaneOf run.store.id a
@@ -117,23 +92,3 @@ module _ (plan : PlanText) (run : RunView) (locks : LocksView) (node : ℕ) (hel
       let none = made.befores_made in
       let one = made.body_made.made (ap (λ l. all_successful (endings_of l)) none.0) in
       subst (λ (x : PlanLane). IsLaneOf run.store.id x) none.1 (first_of_all body [] made.opened made.second made.closing one)
-
--- ---- a lane beside a plain run
-
--- a lane that is alone, but for nodes beside the node, stands beside a plain run where the same stands at places that the node touches
-pub stands_beside : (plan : PlanText) (run : RunView) (locks : LocksView) (h : History) (touched changes : ℕ → Places) (changed : ℕ → List ℕ) → IsBasis plan run locks h touched changes changed
-    → TouchedIsLeft plan run locks h touched changes changed → (node : ℕ) (places : Places) → ((context : ℕ) (key : KeyValue) → places context key ≡ true → touched node context key ≡ true)
-    → (path : List ℕ) (a b : PlanLane) (s : ValueState) → IsPathOf run.store.tree node path → IsLaneOf run.store.id a → IsLaneIn run b → HasSeenWithin h b
-    → IsAloneButBeside (setting_in plan run locks) h node (a ∷ []) (b ∷ []) → AreLevel plan run places (seen_by a.cells.view) s → AreBeside run path places a b s
-stands_beside plan run locks h touched changes changed basis left node places among path a b s path_is of so within alone level = record {
-  view = basis.view;
-  of = of;
-  lane = so;
-  tree = tree plan run locks h touched changes changed basis;
-  path_is = subst (λ n. IsPathOf run.store.tree n path) (sym (start_is run.store.tree node path path_is)) path_is;
-  alone = alone_there plan run locks h touched changes changed basis left node places a b among within alone;
-  memory = level.memory;
-  keeps = level.keeps;
-  matches = level.matches;
-  numbered = level.numbered;
-}

@@ -14,10 +14,6 @@ module _ {F : Type 0} where
   or_else-assoc None b c = refl
   or_else-assoc (Some x) b c = refl
 
-  or_else-none : (a : Option F) → or_else a None ≡ a
-  or_else-none None = refl
-  or_else-none (Some x) = refl
-
   fault-append : (xs ys : List (Ending F)) → first_fault (xs ++ ys) ≡ or_else (first_fault xs) (first_fault ys)
   fault-append [] ys = refl
   fault-append (x ∷ xs) ys = ap (or_else (fault_in x)) (fault-append xs ys) ∙ sym (or_else-assoc (fault_in x) (first_fault xs) (first_fault ys))

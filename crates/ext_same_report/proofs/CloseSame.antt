@@ -147,7 +147,7 @@ numbered_below run key (suc n) = elim (numbered_below run key n) [
 ]
 
 -- a key has a number, or none
-numbered_or_not : (run : RunView) (key : KeyValue) → ((number : ℕ) × HasNumberIn run key number) ⊎ ((number : ℕ) → ¬ HasNumberIn run key number)
+pub numbered_or_not : (run : RunView) (key : KeyValue) → ((number : ℕ) × HasNumberIn run key number) ⊎ ((number : ℕ) → ¬ HasNumberIn run key number)
 numbered_or_not run key = elim (numbered_below run key (length run.numbering)) [
   | inl found ↦ inl found
   | inr none ↦ inr (λ number has. none number (key_within run.numbering number key has.there) has)

@@ -8,7 +8,6 @@ use Rattle.ext_tree.specs.Keys.{KeyValue}
 use Rattle.ext_plan.specs.Plans.{PlanText}
 use Rattle.ext_plan.specs.Values.{ValueText}
 use Rattle.ext_alone.specs.Changing.{events_at}
-use Rattle.ext_plain.specs.Laws.{HasValues}
 use Rattle.ext_plain.specs.ValueStates.{ValueState, value_of}
 use Rattle.ext_one_report.specs.Matching.{IsNumbered, Matches, Places, RunView, cell_of, plain_meaning, plain_slot, text_of}
 use Rattle.ext_one_report.specs.Standings.{AreMatched, KnowsMore}
@@ -17,7 +16,7 @@ use Rattle.ext_one_report.proofs.OnCells.{same_slot}
 use Rattle.ext_one_report.proofs.Standings.{matched_by_more}
 use Rattle.ext_plain_places.specs.Covers.{is_within}
 use Rattle.ext_plain_places.specs.PlainFrames.{IsOpen, LeavesElse}
-use Rattle.ext_same_report.specs.Levels.{AreLevel}
+use Rattle.ext_same_report.specs.Levels.{AreLevel, besides, outside}
 
 -- ---- tests
 
@@ -141,18 +140,6 @@ module _ (changes : Places) (closes : ℕ → Bool) (s t : ValueState) (leaves :
       subst (λ y. AreMatched run.meaning (plain_meaning t.values) (slots_in (cell_of run number) h context) y) (sym (leaves.slots context key off still clear))
       (subst (λ x. AreMatched run.meaning (plain_meaning t.values) x (plain_slot s context key)) here more)
 
-  pub numbered_on : (places fewer : Places) → HasValues t → ((context : ℕ) (key : KeyValue) → fewer context key ≡ true → (places context key ≡ true) × (closes context ≡ false)) → IsNumbered places s → IsNumbered fewer t
-  numbered_on places fewer values each numbered = record {
-    beyond = λ context key number is past.
-        let here = each context key is in
-        leaves.stays_open context here.1 (λ n p. numbered.beyond context key n here.0 p) number past;
-    drawn = sym values;
-  }
-
--- where nothing stands under numbers that no key has
-pub open_there : (places : Places) (s : ValueState) (context : ℕ) (key : KeyValue) → IsNumbered places s → places context key ≡ true → IsOpen context s
-open_there places s context key numbered is number past = numbered.beyond context key number is past
-
 -- ---- fewer places
 
 pub matches_fewer : (run : RunView) (places fewer : Places) (h : History) (s : ValueState) → ((context : ℕ) (key : KeyValue) → fewer context key ≡ true → places context key ≡ true) → Matches run places h s → Matches run fewer h s
@@ -174,3 +161,11 @@ level_fewer plan run places fewer h s among level = record {
   gave = level.gave;
   of_plan = level.of_plan;
 }
+
+-- places in contexts that are neither the node's nor below it are in other contexts than this
+pub beyond_own : (plan : PlanText) (node : ℕ) (places : Places) → is_within plan node node ≡ true → (context : ℕ) (key : KeyValue) → outside plan node places context key ≡ true → besides node places context key ≡ true
+beyond_own plan node places own context key is =
+    let both = and_both (places context key) (not (is_within plan node context)) is in
+    and_of (places context key) (not (context == node)) both.0
+    (ap not (never (context == node) (λ same.
+    both_ways (is_within plan node context) (subst (λ c. is_within plan node c ≡ true) (sym (eqb-true context node same)) own) (from_not (is_within plan node context) both.1))))

@@ -1,24 +1,32 @@
 -- Calls of a node in a plain run: where numbers are left after them there were enough at each, and what they keep.
 use Rattle.std.proofs.Common.{◌≡◌, ℕ, ◌<◌, ◌≤◌, Bool, true, false, List, [], ◌∷◌, ◌++◌, length, refl, ap, sym, subst, ◌∙◌, arith}
-use Rattle.std.specs.Prelude.{All, ◌&&◌, if◌then◌else◌}
+use Rattle.std.specs.Prelude.{All, Contains, ◌&&◌, if◌then◌else◌}
 use Rattle.std.proofs.lemmas.List.Elements.{All-cons, All-head, All-nil, All-tail}
 use Rattle.ext_tree.specs.Keys.{KeyValue}
+use Rattle.ext_tree.specs.Trees.{IsPathOf}
 use Rattle.ext_lifecycle.specs.declared.call.Call.{Call}
 use Rattle.ext_lifecycle.specs.Endings.{all_successful, is_successful}
 use Rattle.ext_lifecycle.specs.FaultTexts.{VerdictText}
 use Rattle.ext_plan.specs.Plans.{KeyText, PlanText, StepText}
 use Rattle.ext_plan.specs.PlanCalls.{steps_of_call}
+use Rattle.ext_plan.specs.ReadPlans.{IsReadPlan, ids_of_nodes}
+use Rattle.ext_races.specs.MadeSteps.{calls_of}
+use Rattle.ext_races.specs.Touches.{keys_named}
 use Rattle.ext_plain.specs.Laws.{NamesOneOf}
 use Rattle.ext_plain.specs.ValueStates.{ValueState, key_limit, run_numbers}
 use Rattle.ext_plain.specs.StepRuns.{StepEnd, step_run, steps_run}
 use Rattle.ext_plain.specs.NodeCalls.{CallsEnd, and_call, call_run, make_all, make_befores, make_if_successful}
 use Rattle.ext_one_report.specs.CallLists.{BeforesHaveRoom, CallsHaveRoom}
 use Rattle.ext_one_report.specs.Calls.{StepsHaveRoom}
+use Rattle.ext_one_report.specs.Matching.{RunView}
 use Rattle.ext_one_report.specs.Rooms.{GaveFew}
 use Rattle.ext_one_report.proofs.CallLists.{if_made}
-use Rattle.ext_one_report.proofs.Calls.{plain_goes, steps_memory}
+use Rattle.ext_one_report.proofs.Calls.{plain_goes, steps_faults, steps_memory}
 use Rattle.ext_one_report.proofs.Rooms.{few_are_given, few_have_room}
 use Rattle.ext_plain.proofs.Stepping.{steps_run-nil}
+use Rattle.ext_plain_places.specs.OfPlan.{CallsAreOfPlan, IsOfPlan}
+use Rattle.ext_plain_places.proofs.FrameKeys.{calls_name_keys}
+use Rattle.ext_plain_places.proofs.FrameNodes.{within_nodes}
 use Rattle.ext_plain_places.proofs.FrameSteps.{steps_leave}
 
 -- ---- what each call keeps
@@ -128,3 +136,39 @@ module _ (names : List KeyValue) (limit : length names ≤ key_limit) where
           λ on. befores_room calls (and_call e end) (good_so_far e.calls end.verdict good on) (All-tail Named call calls named)
               (few_are_given names plan.keys path (steps_of_call plan call) e.state few one) clear (omega (arith, whole, left)),
         )
+
+-- ---- the calls of a node of a plan
+
+module _ (plan : PlanText) (run : RunView) (read : IsReadPlan plan) (calls_of_plan : CallsAreOfPlan) (node : ℕ) (path : List ℕ) (its : IsPathOf (ids_of_nodes plan.nodes) node path) where
+  pub in_nodes : node < length plan.nodes
+  in_nodes = within_nodes plan node path read.runnable.tree its
+
+  abbrev pub Own : Call → Type 0
+  Own = Contains (calls_of plan node)
+
+  abbrev pub NamesKeys : Call → Type 0
+  NamesKeys call = All (NamesOneOf (keys_named plan) plan.keys) (steps_of_call plan call)
+
+  pub names_keys : (call : Call) → Own call → NamesKeys call
+  names_keys call own = calls_name_keys plan node call in_nodes own
+
+  -- what each of them keeps
+  pub record Holds (s : ValueState) : Type 0 where
+    pub memory : s.memory ≡ []
+    pub keeps : run.store.id.cells.limits.keep_faults ≡ s.keep_faults
+    pub gave : GaveFew (keys_named plan) s
+    pub of_plan : IsOfPlan plan s
+
+  holds : (call : Call) (s : ValueState) → Own call → Holds s → Holds (call_run plan path call s).state
+  holds call s own before = record {
+    memory = steps_memory plan.keys path (steps_of_call plan call) s before.memory;
+    keeps = before.keeps ∙ sym (steps_faults plan.keys path (steps_of_call plan call) s);
+    gave = few_are_given (keys_named plan) plan.keys path (steps_of_call plan call) s before.gave (names_keys call own);
+    of_plan = calls_of_plan plan node path call s read its own before.memory before.of_plan;
+  }
+
+  pub befores_hold : (calls : List Call) (e : CallsEnd) → All Own calls → Holds e.state → Holds (make_befores (call_run plan path) calls e).state
+  befores_hold calls e own before = befores_keep plan path Own Holds holds calls e own before
+
+  pub all_hold : (calls : List Call) (e : CallsEnd) → All Own calls → Holds e.state → Holds (make_all (call_run plan path) calls e).state
+  all_hold calls e own before = all_keep plan path Own Holds holds calls e own before

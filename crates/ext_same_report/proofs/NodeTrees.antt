@@ -1,8 +1,8 @@
 -- Contexts at or below a node of a plan, and the paths of its nodes.
-use Rattle.std.proofs.Common.{◌≡◌, ℕ, ◌<◌, inl, inr, true, false, List, [], ◌∷◌, length, refl, sym, subst, arith}
+use Rattle.std.proofs.Common.{◌≡◌, ℕ, suc, ◌<◌, ◌≤◌, inl, inr, true, false, List, [], ◌∷◌, length, refl, sym, subst, arith}
 use Rattle.std.specs.Prelude.{Contains}
 use Rattle.std.proofs.lemmas.List.{length-map}
-use Rattle.ext_tree.specs.Trees.{Id, IsParentOf, IsPathOf}
+use Rattle.ext_tree.specs.Trees.{Id, IsParentOf, IsPathOf, IsTree, IsWalk}
 use Rattle.ext_engine.proofs.Above.{Under, parent_first, under_child, under_itself, under_order, under_root, within_tree}
 use Rattle.ext_plan.specs.Plans.{NodeText, PlanText}
 use Rattle.ext_plan.specs.ReadPlans.{NodesAreTree, ids_of_nodes}
@@ -10,6 +10,15 @@ use Rattle.ext_races.specs.MadeSteps.{plan_path}
 use Rattle.ext_races.proofs.Paths.{path_is}
 use Rattle.ext_plain_places.specs.Covers.{is_within}
 use Rattle.ext_same_report.proofs.NodePlaces.{found_on, on_found}
+
+-- a path is no longer than its node's number
+walk_short : (ids : List Id) → IsTree ids → (walk : List ℕ) (node : ℕ) → IsWalk ids node walk → length walk ≤ node
+walk_short ids tree [] node is = omega arith
+walk_short ids tree (parent ∷ walk) node is = let first = parent_first ids tree parent node is.0 in let rest = walk_short ids tree walk parent is.1 in omega (arith, first, rest)
+
+pub path_short : (ids : List Id) → IsTree ids → (path : List ℕ) (node : ℕ) → IsPathOf ids node path → length path ≤ suc node
+path_short ids tree [] node is = absurd is
+path_short ids tree (first ∷ walk) node is = let same = is.0 in let rest = walk_short ids tree walk first (subst (λ n. IsWalk ids n walk) (sym same) is.1) in omega (arith, same, rest)
 
 module _ (plan : PlanText) (tree : NodesAreTree plan) where
   abbrev pub ids : List Id
@@ -41,7 +50,7 @@ module _ (plan : PlanText) (tree : NodesAreTree plan) where
   pub within_parent : (node child context : ℕ) → IsParentOf ids node child → context < length ids → is_within plan child context ≡ true → is_within plan node context ≡ true
   within_parent node child context parent less is = under_within node context (under_child ids tree node child context parent (within_under child context less is))
 
-  on_its_path : (node : ℕ) (path : List ℕ) (context : ℕ) → IsPathOf ids node path → Contains path context → Under ids context node
+  pub on_its_path : (node : ℕ) (path : List ℕ) (context : ℕ) → IsPathOf ids node path → Contains path context → Under ids context node
   on_its_path node [] context is there = absurd is
   on_its_path node (first ∷ walk) context is there = record { walk = walk; is_walk = is.1; on_walk = subst (λ k. Contains (k ∷ walk) context) is.0 there }
 

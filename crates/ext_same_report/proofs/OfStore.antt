@@ -1,21 +1,14 @@
 -- Where a run of a tree begins with lanes of the store, and calls leave lanes that are of the store, each of its calls begins with such a lane.
-use Rattle.std.proofs.Common.{inl, inr, ℕ, zero, suc, Bool, true, false, List, [], ◌∷◌, min, length, refl, sym, subst}
-use Rattle.std.specs.Prelude.{All, Option, Some, None, slice_index_or}
-use Rattle.std.specs.List.{FoldsTo}
-use Rattle.std.proofs.lemmas.List.Elements.{All-cons, All-head, All-tail, All-take, All-drop}
+use Rattle.std.proofs.Common.{inl, inr, ℕ, zero, suc, List}
+use Rattle.std.specs.Prelude.{All, Option}
 use Rattle.ext_history.proofs.Lists.{bools}
-use Rattle.ext_model.specs.declared.look.Fault.{Fault}
 use Rattle.ext_lifecycle.specs.declared.call.Call.{Call}
 use Rattle.ext_lifecycle.specs.declared.outcome.Outcome.{Outcome}
-use Rattle.ext_lifecycle.specs.Endings.{all_successful, is_successful}
-use Rattle.ext_lifecycle.specs.Lifecycle.{MakesAll, MakesBefores, MakesCalls, MakesIf, ending_of, endings_of}
 use Rattle.ext_store.specs.Stores.{IsLaneOf, StoreLane}
 use Rattle.ext_locks.specs.Sets.{HeldView}
-use Rattle.ext_crew.proofs.Runs.{run-weaker}
-use Rattle.ext_engine.specs.TreeRun.{BodyMade, BodyRun, ClosesNode, ContainerRun, Lanes, MakesOn, OnFirst, Ran, TestRun, TreeRun, TreeSetting, concurrent_children, with_calls, with_lanes}
-use Rattle.ext_engine.proofs.Grown.{Entry}
-use Rattle.ext_engine.proofs.Order.{run-inside}
+use Rattle.ext_engine.specs.TreeRun.{Lanes, Ran, TreeRun, TreeSetting, with_calls}
 use Rattle.ext_engine.proofs.Trees.{met_mine}
+use Rattle.ext_same_report.proofs.CallsFrom.{CallsFrom, Keeps, tree_from}
 
 module _ {V A : Type 0} (t : TreeSetting V A) where
   abbrev Is : StoreLane V → Type 0
@@ -23,26 +16,9 @@ module _ {V A : Type 0} (t : TreeSetting V A) where
 
   -- a call that begins with a lane of the store
   abbrev pub CallsOf : ℕ → Call → Option HeldView → StoreLane V → Outcome → StoreLane V → Type 0
-  CallsOf node call held a outcome b = t.call_gives node call held a outcome b × IsLaneOf t.store.id a
+  CallsOf = CallsFrom t (IsLaneOf t.store.id)
 
-  abbrev finer : TreeSetting V A
-  finer = with_calls CallsOf t
-
-  -- ---- closes, which leave lanes of the store
-
-  close_of : (node : ℕ) (before : List (StoreLane V)) (faults : List (Option Fault)) (after : List (StoreLane V)) → ClosesNode t node before faults after → ClosesNode finer node before faults after
-  close_of node before faults after c = record {
-    closer = c.closer;
-    closer_is = c.closer_is;
-    context_is = c.context_is;
-    action = c.action;
-    action_is = c.action_is;
-    action_left = c.action_left;
-    closed = c.closed;
-    closes = c.closes;
-    faults_are = c.faults_are;
-  }
-
+  -- closes leave lanes of the store
   tree_leaves : (depth node : ℕ) (before : Lanes V) (ran : List Ran) (after : Lanes V) → TreeRun t depth node before ran after → All Is after.first
   tree_leaves zero node before ran after run = absurd run
   tree_leaves (suc depth) node before ran after run = elim (bools (t.suite.is_test node)) [
@@ -51,145 +27,13 @@ module _ {V A : Type 0} (t : TreeSetting V A) where
   ]
 
   module _ (stays : (node : ℕ) (call : Call) (held : Option HeldView) (a : StoreLane V) (outcome : Outcome) (b : StoreLane V) → t.call_gives node call held a outcome b → Is a → Is b) where
-    -- ---- the calls of a node
-
-    module _ (node : ℕ) (held : Option HeldView) where
-      abbrev Made : StoreLane V → Call → Outcome → StoreLane V → Type 0
-      Made = MakesOn t node held
-
-      abbrev Of : StoreLane V → Call → Outcome → StoreLane V → Type 0
-      Of = MakesOn finer node held
-
-      all_of : (calls : List Call) (a : StoreLane V) (outcomes : List Outcome) (b : StoreLane V) → MakesAll Made calls a outcomes b → Is a → MakesAll Of calls a outcomes b × Is b
-      all_of [] a outcomes b made is = (made, subst Is (sym made.1) is)
-      all_of (call ∷ calls) a outcomes b made is =
-          let rest = all_of calls made.2 made.1 b made.5 (stays node call held a made.0 made.2 made.4 is) in
-          ((made.0, made.1, made.2, made.3, (made.4, is), rest.0), rest.1)
-
-      befores_of : (calls : List Call) (a : StoreLane V) (outcomes : List Outcome) (b : StoreLane V) → MakesBefores Made calls a outcomes b → Is a → MakesBefores Of calls a outcomes b × Is b
-      befores_of [] a outcomes b made is = (made, subst Is (sym made.1) is)
-      befores_of (call ∷ calls) a outcomes b made is =
-          let one = stays node call held a made.0 made.2 made.4 is in
-          let here : Is b = elim (bools (is_successful (ending_of made.0.verdict))) [
-            | inl on ↦ (befores_of calls made.2 made.1 b (made.5.0 on) one).1
-            | inr off ↦ subst Is (sym (made.5.1 off).1) one
-          ] in
-          ((made.0, made.1, made.2, made.3, (made.4, is), ((λ on. (befores_of calls made.2 made.1 b (made.5.0 on) one).0), made.5.1)), here)
-
-      if_of : (go : Bool) (call : Call) (a : StoreLane V) (outcomes : List Outcome) (b : StoreLane V) → MakesIf Made go call a outcomes b → Is a → MakesIf Of go call a outcomes b × Is b
-      if_of true call a outcomes b made is =
-          let r = all_of (call ∷ []) a outcomes b (made.made refl) is in
-          (record { made = λ on. r.0; skipped = λ off. absurd (cc off) }, r.1)
-      if_of false call a outcomes b made is = (record { made = λ on. absurd (cc on); skipped = made.skipped }, subst Is (sym (made.skipped refl).1) is)
-
-      calls_of : (befores : List Call) (body : Call) (afters : List Call) (a : StoreLane V) (outcomes : List Outcome) (b : StoreLane V) → MakesCalls Made befores body afters a outcomes b → Is a
-          → MakesCalls Of befores body afters a outcomes b × Is b
-      calls_of befores body afters a outcomes b made is =
-          let first = befores_of befores a made.first made.opened made.befores_made is in
-          let second = if_of (all_successful (endings_of made.first)) body made.opened made.second made.closing made.body_made first.1 in
-          let third = all_of afters made.closing made.third b made.afters_made second.1 in
-          (record { first = made.first; second = made.second; third = made.third; opened = made.opened; closing = made.closing; befores_made = first.0; body_made = second.0; afters_made = third.0; all = made.all }, third.1)
-
-    -- a change of the first lane
-    first_of : (Q Q' : StoreLane V → StoreLane V → Type 0) (xs ys : List (StoreLane V)) → ((a b : StoreLane V) → Q a b → Is a → Q' a b × Is b) → OnFirst Q xs ys → All Is xs → OnFirst Q' xs ys × All Is ys
-    first_of Q Q' xs ys turn on all =
-        let lanes = subst (All Is) on.first_was all in
-        let r = turn on.lane on.left on.change (All-head Is on.lane on.rest lanes) in (
-          record { lane = on.lane; left = on.left; rest = on.rest; first_was = on.first_was; change = r.0; first_is = on.first_is },
-          subst (All Is) (sym on.first_is) (All-cons Is on.left on.rest r.1 (All-tail Is on.lane on.rest lanes)),
-        )
-
-    test_of : (node : ℕ) (path : List ℕ) (before : Lanes V) (ran : List Ran) (after : Lanes V) → TestRun t node path before ran after → All Is before.first → TestRun finer node path before ran after
-    test_of node path before ran after run all = record {
-      set = run.set;
-      set_is = run.set_is;
-      held = run.held;
-      locked = run.locked;
-      takes = run.takes;
-      outcomes = run.outcomes;
-      called = run.called;
-      calls = (first_of _ _ before.first run.called (λ a b made is. calls_of node (Some run.held) _ _ _ a run.outcomes b made is) run.calls all).0;
-      faults = run.faults;
-      closes = close_of node run.called run.faults after.first run.closes;
-      given_back = run.given_back;
-      ran_is = run.ran_is;
+    keeps : Keeps t (IsLaneOf t.store.id)
+    keeps = record {
+      calls = stays;
+      met = λ xs ys meet all. (met_mine t.store xs ys meet).0;
+      runs = λ depth node before ran after run all. tree_leaves depth node before ran after run;
+      joined = λ depth node before below after body all. (met_mine t.store body.between.first body.joined body.joins.only_meet).0;
     }
 
-    -- ---- children
-
-    module _ (Run Run' : ℕ → Lanes V → List Ran → Lanes V → Type 0) (at : (c : ℕ) (s : Lanes V) (below : List Ran) (u : Lanes V) → Run c s below u → All Is u.first)
-        (turn : (c : ℕ) (s : Lanes V) (below : List Ran) (u : Lanes V) → Run c s below u → All Is s.first → Run' c s below u) where
-      turned_of : (done : List Entry) (s u : Lanes V) → FoldsTo (λ s d u. Run d.0 s d.1 u) s done u → All Is s.first → FoldsTo (λ s d u. Run' d.0 s d.1 u) s done u × All Is u.first
-      turned_of [] s u run all = (run, subst (λ (x : Lanes V). All Is x.first) run all)
-      turned_of (e ∷ done) s u run all =
-          let rest = turned_of done run.0 u run.2 (at e.0 s e.1 run.0 run.1) in
-          ((run.0, turn e.0 s e.1 run.0 run.1 all, rest.0), rest.1)
-
-      body_of : (node : ℕ) (before : Lanes V) (below : List Ran) (after : Lanes V) → BodyRun t Run node before below after → BodyRun finer Run' node before below after × All Is after.first
-      body_of node before below after b =
-          let cs = concurrent_children t node in
-          let runs : ℕ → Lanes V → List Ran → Lanes V → Type 0 = λ i s ran u. Run (slice_index_or cs i 0) s ran u in
-          let forked = (met_mine t.store before.first b.forked b.forks.only_meet).0 in
-          let joined = (met_mine t.store b.between.first b.joined b.joins.only_meet).0 in
-          let inside = run-inside runs (λ s. All Is s.first) (λ s. Unit {0}) (λ job s o u r k. at (slice_index_or cs job 0) s o u r) (λ job s o u r l. tt)
-          (λ n s k. (All-take Is n s.first k, All-drop Is n s.first k)) (λ n s l. (tt, tt)) (length cs) (min (length b.forked) (length cs)) (with_lanes b.forked before) b.between b.beside forked tt b.dealt in
-          let rest = turned_of b.in_turn.done (with_lanes b.joined b.between) after b.in_turn.runs joined in (
-            record {
-              forked = b.forked;
-              forks = b.forks;
-              beside = b.beside;
-              between = b.between;
-              dealt = run-weaker _ _ inside (λ job s o u r. turn (slice_index_or cs job 0) s o u r.0 r.1);
-              joined = b.joined;
-              joins = b.joins;
-              alone = b.alone;
-              in_turn = record { done = b.in_turn.done; each = b.in_turn.each; runs = rest.0; ran_are = b.in_turn.ran_are };
-              below_are = b.below_are;
-            },
-            rest.1,
-          )
-
-      made_of : (on : Bool) (node : ℕ) (before : Lanes V) (below : List Ran) (after : Lanes V) → BodyMade t Run on node before below after → All Is before.first
-          → BodyMade finer Run' on node before below after × All Is after.first
-      made_of true node before below after made all =
-          let r = body_of node before below after (made.made refl) in
-          (record { made = λ on. r.0; skipped = λ off. absurd (cc off) }, r.1)
-      made_of false node before below after made all =
-          (record { made = λ on. absurd (cc on); skipped = made.skipped }, subst (λ (x : Lanes V). All Is x.first) (sym (made.skipped refl).1) all)
-
-      container_of : (node : ℕ) (path : List ℕ) (before : Lanes V) (ran : List Ran) (after : Lanes V) → ContainerRun t Run node path before ran after → All Is before.first
-          → ContainerRun finer Run' node path before ran after
-      container_of node path before ran after run all =
-          let opened : Lanes V = record { first = run.opened; second = before.second } in
-          let befores = first_of _ _ before.first run.opened (λ a b made is. befores_of node None _ a run.befores b made is) run.befores_made all in
-          let body = made_of (all_successful (endings_of run.befores)) node opened run.below run.body run.body_made befores.1 in
-          record {
-            befores = run.befores;
-            opened = run.opened;
-            befores_made = befores.0;
-            body = run.body;
-            below = run.below;
-            body_made = body.0;
-            own = run.own;
-            ends = record {
-              afters = run.ends.afters;
-              called = run.ends.called;
-              afters_made = (first_of _ _ run.body.first run.ends.called (λ a b made is. all_of node None _ a run.ends.afters b made is) run.ends.afters_made body.1).0;
-              faults = run.ends.faults;
-              closes = close_of node run.ends.called run.ends.faults after.first run.ends.closes;
-              own_is = run.ends.own_is;
-            };
-            no_locks = run.no_locks;
-            ran_are = run.ran_are;
-          }
-
-    pub tree_of : (depth node : ℕ) (before : Lanes V) (ran : List Ran) (after : Lanes V) → TreeRun t depth node before ran after → All Is before.first → TreeRun finer depth node before ran after
-    tree_of zero node before ran after run all = absurd run
-    tree_of (suc depth) node before ran after run all = (
-      run.0,
-      run.1,
-      (λ test. test_of node run.0 before ran after (run.2 test) all),
-      (λ container.
-          container_of (λ child s below u. TreeRun t depth child s below u) (λ child s below u. TreeRun finer depth child s below u)
-          (λ c s below u r. tree_leaves depth c s below u r) (λ c s below u r here. tree_of depth c s below u r here) node run.0 before ran after (run.3 container) all),
-    )
+    pub tree_of : (depth node : ℕ) (before : Lanes V) (ran : List Ran) (after : Lanes V) → TreeRun t depth node before ran after → All Is before.first → TreeRun (with_calls (CallsFrom t (IsLaneOf t.store.id)) t) depth node before ran after
+    tree_of depth node before ran after run all = tree_from t (IsLaneOf t.store.id) keeps depth node before ran after run all

@@ -25,9 +25,7 @@ use Rattle.ext_engine.proofs.Finer.{tree_finer}
 use Rattle.ext_engine.proofs.Going.{goes_met, goes_same, goes_sealed, goes_then, tree_goes}
 use Rattle.ext_engine.proofs.RunLaws.{one_result_each}
 use Rattle.ext_engine.proofs.Told.{grown}
-use Rattle.ext_alone.specs.Alone.{RunsAlone}
 use Rattle.ext_alone.specs.Changing.{NodesChangeOnly}
-use Rattle.ext_alone.proofs.Whole.{whole_alone}
 use Rattle.ext_parallel.specs.declared.steps.stored_value.StoredValue.{StoredValue}
 use Rattle.ext_parallel.specs.ParallelRun.{ParallelRun}
 use Rattle.ext_parallel.specs.PlanSuites.{suite_of}
@@ -35,7 +33,7 @@ use Rattle.ext_parallel.specs.StoreCalls.{PlanLane}
 use Rattle.ext_parallel.proofs.Runnable.{tree_runnable}
 use Rattle.ext_plan_cells.specs.PlanCells.{HaveChanged}
 use Rattle.ext_plan_cells.proofs.Going.{steps_go}
-use Rattle.ext_plan_cells.proofs.Runs.{run_lanes, steps_change_only}
+use Rattle.ext_plan_cells.proofs.Runs.{steps_change_only}
 use Rattle.ext_parallel.specs.Finding.{PlansGoOn}
 use Rattle.ext_one_report.specs.Matching.{IsRunView, RunView}
 use Rattle.ext_one_report.specs.Steps.{IsLaneIn}
@@ -51,9 +49,6 @@ plans_go plan store node call held a o b made = steps_go store plan.keys made.pa
 
 full_moves : (plan : PlanText) (store : StoreView) → CallsGoOn (CallsFully plan store)
 full_moves plan store node call held a o b made = plans_go plan store node call held a o b made.made
-
-pub view_moves : (plan : PlanText) (view : RunView) → CallsGoOn (CallsInView plan view)
-view_moves plan view node call held a o b made = full_moves plan view.store node call held a o b made.fully
 
 -- some lane of a share that goes on is there before and after
 some_before : (lanes : List PlanLane) (lane : PlanLane) (rest : List PlanLane) → lanes ≡ lane ∷ rest → 0 < length lanes
@@ -122,9 +117,6 @@ module _ (plan : PlanText) (lanes : ℕ) (results : List (ResultOf Fault)) (run 
       tree_finer (with_calls (CallsOf fully) fully) (CallsInView plan view) LaneGoesOn goes_same goes_then moves (goes_met store) (goes_sealed store) (IsLaneIn view) (earlier_is_so view)
       (λ node call held a o b made so. record { fully = made.0; before_of = made.1; before_in = earlier_is_so view a b (moves node call held a o b made) so; after_in = so })
       16 0 run.first run.ran run.after run_of_store lanes_in
-
-  pub alone : RunsAlone (setting_in plan view run.locks) run.shared.history 16 0 run.first run.ran run.after
-  alone = (whole_alone (setting_in plan view run.locks) (view_moves plan view) 16 0 run.first run.ran run.after run_in_view run.shared.history (run_lanes plan lanes results run)).1
 
   -- nodes change only these cells
   pub changes_only : (changed : ℕ → List ℕ) → HaveChanged plan store run.locks run.numbered.numbering changed → NodesChangeOnly (setting_in plan view run.locks) changed

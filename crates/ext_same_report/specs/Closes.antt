@@ -6,21 +6,27 @@ use Rattle.ext_model.specs.declared.slot.Slot.{Slot}
 use Rattle.ext_model.specs.declared.slot.Slot.TheVariants as slot
 use Rattle.ext_model.specs.History.{History, slots_in}
 use Rattle.ext_tree.specs.Keys.{KeyValue}
+use Rattle.ext_lifecycle.specs.declared.outcome.Outcome.{Outcome}
 use Rattle.ext_lifecycle.specs.FaultTexts.{VerdictText, fault_text}
-use Rattle.ext_lifecycle.specs.Results.{result_of}
+use Rattle.ext_lifecycle.specs.Lifecycle.{computed_in, endings_of, found_in}
+use Rattle.ext_lifecycle.specs.Results.{result_of, with_fault_told}
 use Rattle.ext_locks.specs.Opening.{LocksView}
 use Rattle.ext_plan.specs.Plans.{PlanText}
 use Rattle.ext_engine.specs.Meeting.{HasSeenWithin, first_seen}
 use Rattle.ext_engine.specs.TreeRun.{ClosesNode}
-use Rattle.ext_alone.specs.Alone.{IsAloneButBeside}
 use Rattle.ext_parallel.specs.StoreCalls.{PlanLane}
 use Rattle.ext_plain.specs.ValueStates.{ValueState, key_limit}
 use Rattle.ext_plain.specs.ContextEnds.{faults_of_closes, seal_keys}
+use Rattle.ext_plain.specs.NodeCalls.{CallsEnd}
+use Rattle.ext_plain.specs.PlainRun.{outcome_of}
+use Rattle.ext_one_report.specs.CallLists.{CallsAlike}
 use Rattle.ext_one_report.specs.Matching.{HasNumberIn, Places, RunView, cell_of}
 use Rattle.ext_one_report.specs.Steps.{IsLaneIn}
 use Rattle.ext_plain_places.specs.OfPlan.{TellOneText}
+use Rattle.ext_shared_values.specs.Open.{Open}
 use Rattle.ext_same_report.specs.FullRuns.{setting_in}
-use Rattle.ext_same_report.specs.Levels.{AreLevel, IsBasis}
+use Rattle.ext_same_report.specs.Levels.{AreLevel, besides}
+use Rattle.ext_same_report.specs.SharedNodes.{AreOwn, IsSharedBasis}
 
 -- ---- results
 
@@ -54,29 +60,48 @@ pub record SealsPlaces (node : ℕ) (before after : ValueState) : Type 0 where
 abbrev pub PlainSealsPlaces : Type 0
 PlainSealsPlaces = (node : ℕ) (s : ValueState) → SealsPlaces node s (seal_keys key_limit node s)
 
-module _ (plan : PlanText) (run : RunView) (locks : LocksView) (h : History) (touched changes : ℕ → Places) (changed : ℕ → List ℕ) where
-  -- From one history to a later one: the cells of this context are sealed, and those of all places in other contexts that the node touches are as before
-  pub record SealsCells (node : ℕ) (before after : History) : Type 0 where
-    pub sealed : (key : KeyValue) (number : ℕ) → HasNumberIn run key number → ((lane : ℕ) → slots_in (cell_of run number) before node ≢ Some (slot.Claim lane))
-        → slots_in (cell_of run number) after node ≡ seal_of (slots_in (cell_of run number) before node)
-    pub others : (context number : ℕ) (key : KeyValue) → context ≢ node → touched node context key ≡ true → HasNumberIn run key number
-        → slots_in (cell_of run number) after context ≡ slots_in (cell_of run number) before context
+-- From one history to a later one: the cells of this context are sealed, and those of these places in other contexts are as before
+pub record SealsCells (run : RunView) (node : ℕ) (places : Places) (before after : History) : Type 0 where
+  pub sealed : (key : KeyValue) (number : ℕ) → HasNumberIn run key number → ((lane : ℕ) → slots_in (cell_of run number) before node ≢ Some (slot.Claim lane))
+      → slots_in (cell_of run number) after node ≡ seal_of (slots_in (cell_of run number) before node)
+  pub others : (context number : ℕ) (key : KeyValue) → context ≢ node → places context key ≡ true → HasNumberIn run key number
+      → slots_in (cell_of run number) after context ≡ slots_in (cell_of run number) before context
 
-  -- so is it where a node's context is closed on lanes that are alone but for nodes beside this one, whatever those do meanwhile
+-- ---- the end of a node
+
+-- A node's context is closed on lanes and in the plain run: the same stands at all other places after it, and one result is told of the node
+pub record ClosesLevel (plan : PlanText) (run : RunView) (node : ℕ) (places : Places) (is_test : Bool) (outcomes : List Outcome) (faults : List (Option Fault)) (after : History) (end : CallsEnd) : Type 0 where
+  pub level : AreLevel plan run (besides node places) after (seal_keys key_limit node end.state)
+  pub told : with_fault_told fault_text (result_of node is_test (endings_of outcomes) (computed_in outcomes) (found_in outcomes) faults)
+      ≡ outcome_of node is_test end (faults_of_closes key_limit node (seal_keys key_limit node end.state))
+
+module _ (plan : PlanText) (run : RunView) (locks : LocksView) (h : History) (touched changes : ℕ → Places) (changed : ℕ → List ℕ) (shares : ℕ → Open) where
+  -- a node's context is closed on lanes, the first of which is this, that are alone at these places, among them all of the context, whatever others do meanwhile
+  pub record IsClosedAlone (node : ℕ) (places : Places) (lane : PlanLane) (rest : List PlanLane) (faults : List (Option Fault)) (after : List PlanLane) : Type 0 where
+    pub basis : IsSharedBasis plan run locks h touched changes changed shares
+    pub inside : node < length plan.nodes
+    pub closes : ClosesNode (setting_in plan run locks) node (lane ∷ rest) faults after
+    pub within : All (HasSeenWithin h) after
+    pub lanes : All (IsLaneIn run) after
+    pub own : AreOwn run h places (lane ∷ rest) after
+    pub all : (key : KeyValue) → places node key ≡ true
+
+  -- then its cells are sealed,
   abbrev pub LanesSealCells : Type 0
   LanesSealCells =
-      (node : ℕ) (lane : PlanLane) (rest after : List PlanLane) (faults : List (Option Fault))
-      → IsBasis plan run locks h touched changes changed → node < length plan.nodes → ClosesNode (setting_in plan run locks) node (lane ∷ rest) faults after
-      → All (HasSeenWithin h) after → IsAloneButBeside (setting_in plan run locks) h node (lane ∷ rest) after → ((key : KeyValue) → touched node node key ≡ true)
-      → SealsCells node (first_seen (lane ∷ rest)) (first_seen after)
+      (node : ℕ) (places : Places) (lane : PlanLane) (rest : List PlanLane) (faults : List (Option Fault)) (after : List PlanLane)
+      → IsClosedAlone node places lane rest faults after → SealsCells run node places (first_seen (lane ∷ rest)) (first_seen after)
 
-  -- ---- closes
-
-  -- where the same stands before, the closes of the context end with the same texts in both runs, though perhaps in another order, as numbers of values differ
+  -- where the same stands before, its closes end with the same texts in both runs, though perhaps in another order, as numbers of values differ,
   abbrev pub ClosesTellTheSame : Type 0
   ClosesTellTheSame =
-      (node : ℕ) (places : Places) (lane : PlanLane) (rest after : List PlanLane) (faults : List (Option Fault)) (s : ValueState)
-      → IsBasis plan run locks h touched changes changed → node < length plan.nodes → ClosesNode (setting_in plan run locks) node (lane ∷ rest) faults after
-      → All (HasSeenWithin h) after → All (IsLaneIn run) after → IsAloneButBeside (setting_in plan run locks) h node (lane ∷ rest) after → ((key : KeyValue) → touched node node key ≡ true)
-      → ((key : KeyValue) → places node key ≡ true) → AreLevel plan run places (first_seen (lane ∷ rest)) s
+      (node : ℕ) (places : Places) (lane : PlanLane) (rest : List PlanLane) (faults : List (Option Fault)) (after : List PlanLane) (s : ValueState)
+      → IsClosedAlone node places lane rest faults after → AreLevel plan run places (first_seen (lane ∷ rest)) s
       → IsPermutation (map (option_map fault_text) faults) (faults_of_closes key_limit node (seal_keys key_limit node s))
+
+  -- and where the node's calls ended alike, so does the node
+  abbrev pub ClosesEndLevel : Type 0
+  ClosesEndLevel =
+      (node : ℕ) (is_test : Bool) (places : Places) (lane : PlanLane) (rest : List PlanLane) (outcomes : List Outcome) (faults : List (Option Fault)) (after : List PlanLane) (end : CallsEnd)
+      → IsClosedAlone node places lane rest faults after → AreLevel plan run places (first_seen (lane ∷ rest)) end.state → CallsAlike run places outcomes lane end
+      → ClosesLevel plan run node places is_test outcomes faults (first_seen after) end

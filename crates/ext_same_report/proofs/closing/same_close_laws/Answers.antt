@@ -11,5 +11,5 @@ returns c = record {
   plain = plain_seals_places;
   lanes = lanes_seal_cells;
   told = closes_tell_the_same;
-  closes = λ plan run locks h touched changes changed. closes_end_level plan run locks h touched changes changed ends_tell_one (λ plan node s. seals_of plan key_limit node s);
+  closes = λ plan run locks h touched changes changed shares. closes_end_level plan run locks h touched changes changed shares ends_tell_one (λ plan node s. seals_of plan key_limit node s);
 }

@@ -1,0 +1,22 @@
+-- Lemmas of this crate.
+pub mod OpenCallLists
+pub mod OpenEnds
+pub mod OpenFits
+pub mod OpenGoing
+pub mod OpenLane
+pub mod OpenLists
+pub mod OpenPlain
+pub mod OpenSingles
+pub mod OpenStep
+pub mod OpenTests
+pub mod OwnEvents
+pub mod SharedApart
+pub mod SharedBeside
+pub mod SharedCalls
+pub mod SharedFound
+pub mod SharedFree
+pub mod SharedNodes
+pub mod SharedPlans
+pub mod SharedSteps
+pub mod SharedTouches
+pub mod Standing

@@ -1,0 +1,16 @@
+use Rattle.ext_shared_values.proofs.SharedApart.{apart_shares_nothing, apart_shares_values}
+use Rattle.ext_shared_values.proofs.SharedFree.{race_free_shares_values}
+use Rattle.ext_shared_values.proofs.SharedPlans.{plans_are_shared}
+use Rattle.ext_shared_values.proofs.sharing.sharing_laws.Goals as goal
+
+pub returns-clause-shared : goal.returns-clause-shared
+returns-clause-shared c = plans_are_shared
+
+pub returns-clause-free : goal.returns-clause-free
+returns-clause-free c = race_free_shares_values
+
+pub returns-clause-apart : goal.returns-clause-apart
+returns-clause-apart c = apart_shares_values
+
+pub returns-clause-nothing : goal.returns-clause-nothing
+returns-clause-nothing c = apart_shares_nothing
