@@ -10,7 +10,7 @@ use Rattle.ext_tree.specs.Keys.{KeyValue}
 use Rattle.ext_tree.specs.Trees.{Id, IsParentOf, IsPathOf, id_at}
 use Rattle.ext_lifecycle.specs.declared.call.Call.{Call}
 use Rattle.ext_plan.specs.Plans.{PlanText, StepKeyText, StepText, put, put_closeable, want, nothing, remove, compute, compute_closeable, compute_fail, fail, abort}
-use Rattle.ext_plan.specs.PlanCalls.{concurrent_of, steps_of_call}
+use Rattle.ext_plan.specs.PlanCalls.{steps_of_call}
 use Rattle.ext_plan.specs.ReadPlans.{IsAtOrBelow, IsReadPlan, ids_of_nodes}
 use Rattle.ext_plan.specs.StepCalls.{start_of}
 use Rattle.ext_plan.specs.Steps.{height}
@@ -18,7 +18,6 @@ use Rattle.ext_plan.specs.StoreKeys.{key_of_step, place_of_key}
 use Rattle.ext_races.specs.declared.word.Word.{Word}
 use Rattle.ext_races.specs.declared.word.Word.TheVariants as words
 use Rattle.ext_races.specs.Acts.{ActText, act_of}
-use Rattle.ext_races.specs.Beside.{IsBeside}
 use Rattle.ext_races.specs.MadeSteps.{calls_of, plan_path}
 use Rattle.ext_races.specs.Touches.{TouchText, keys_named, touches_made}
 use Rattle.ext_races.specs.Words.{changes, looks_along}
@@ -28,8 +27,8 @@ use Rattle.ext_plan_cells.specs.PlanCells.{changed_by, changed_of}
 use Rattle.ext_one_report.specs.CallLists.{CallFits}
 use Rattle.ext_one_report.specs.Calls.{StepWithin}
 use Rattle.ext_one_report.specs.Steps.{ActsWithin, LooksWithin}
-use Rattle.ext_plain_places.specs.Covered.{PlansAreApart, PlansAreCovered, changed_in, is_at, is_closed_by, may_change_at, touched_in}
-use Rattle.ext_plain_places.specs.Covers.{KeepsApart, is_within}
+use Rattle.ext_plain_places.specs.Covered.{PlansAreCovered, changed_in, is_at, is_closed_by, may_change_at, touched_in}
+use Rattle.ext_plain_places.specs.Covers.{is_within}
 use Rattle.ext_plain_places.proofs.CoveredCalls.{call_stays, made_path}
 use Rattle.ext_plain_places.proofs.CoveredPaths.{below_below, has_context, holder_within, one_child, passed, path_holds, path_passes, path_starts, path_there, path_up}
 use Rattle.ext_plain_places.proofs.CoveredTouches.{IsTouched, contains_drop, is_made, look_touches, touch_on_path, touches_all, touches_start}
@@ -244,35 +243,6 @@ module _ (plan : PlanText) (read : IsReadPlan plan) where
             (within_up other one.touch.node is'.child_within one.below))
       ]
 
-  -- two nodes below two concurrent children of one parent may run beside one another
-  beside : (parent child other first second : ℕ) → IsParentOf ids parent child → IsParentOf ids parent other → child ≢ other → concurrent_of plan child ≡ true → concurrent_of plan other ≡ true
-      → is_within plan child first ≡ true → is_within plan other second ≡ true → IsBeside plan first second
-  beside parent child other first second is is' differ concurrent concurrent' below below' =
-      let there = within_found plan child first below in
-      let there' = within_found plan other second below' in
-      record {
-        container = parent;
-        child = child;
-        other = other;
-        below = path_passes ids read.runnable.tree first (plan_path plan first) parent child (path_of_context child first is.child_within there) is there;
-        other_below = path_passes ids read.runnable.tree second (plan_path plan second) parent other (path_of_context other second is'.child_within there') is' there';
-        differ = differ;
-        concurrent = concurrent;
-        other_concurrent = concurrent';
-      }
-
-  pub apart : KeepsApart plan → (parent child other context : ℕ) (key : KeyValue) → IsParentOf ids parent child → IsParentOf ids parent other → child ≢ other
-      → concurrent_of plan child ≡ true → concurrent_of plan other ≡ true → changed_in plan child context key ≡ true → touched_in plan other context key ≡ true → ⊥
-  apart keeps parent child other context key is is' differ concurrent concurrent' changed touched =
-      elim (changed_cases plan child context key changed) [
-        | inl own ↦ siblings parent child other context key is is' differ own.below touched
-        | inr one ↦ elim (touched_cases plan other context key touched) [
-          | inl own' ↦ siblings parent other child context key is' is (λ same. differ (sym same)) own'.below (changed_touched plan child context key changed)
-          | inr two ↦ keeps.apart one.touch two.touch one.made two.made (beside parent child other one.touch.node two.touch.node is is' differ concurrent concurrent' one.below two.below) (one.changes refl)
-              (one.context_is ∙ sym two.context_is) (one.key_is ∙ sym two.key_is)
-        ]
-      ]
-
   -- ---- the steps of calls
 
   module _ (node : ℕ) (call : Call) (path : List ℕ) (is : IsPathOf ids node path) (among : Contains (calls_of plan node) call) where
@@ -383,6 +353,3 @@ plans_are_covered plan read = record {
   ];
   siblings = siblings plan read;
 }
-
-pub plans_are_apart : PlansAreApart
-plans_are_apart plan read keeps = record { apart = apart plan read keeps }

@@ -34,7 +34,7 @@ use Rattle.ext_plain_places.specs.WorkedPlans.{AreSteps, ComputesAreNoRace, Comp
 -- ---- tests of all pairs
 
 -- a test that all pass is passed by each,
-passes : {X : Type 0} (p : X → Bool) (xs : List X) (x : X) → list_all p xs ≡ true → Contains xs x → p x ≡ true
+pub passes : {X : Type 0} (p : X → Bool) (xs : List X) (x : X) → list_all p xs ≡ true → Contains xs x → p x ≡ true
 passes p [] x all there = contains_nothing x there
 passes p (y ∷ xs) x all there =
     let parts = both (p y) (list_all p xs) all in

@@ -21,7 +21,7 @@ use Rattle.ext_engine.specs.TreeRun.{TreeSetting}
 use Rattle.ext_alone.specs.Changing.{IsBelow}
 use Rattle.ext_plan_cells.specs.PlanCells.{HaveChanged, changed_by, numbered_setting}
 use Rattle.ext_one_report.specs.Matching.{Places}
-use Rattle.ext_plain_places.specs.Covers.{AreApart, AreCovered, KeepsApart, is_within}
+use Rattle.ext_plain_places.specs.Covers.{AreCovered, KeepsApart, is_within}
 
 -- ---- places
 
@@ -81,10 +81,6 @@ cells plan store numbering node =
 -- these places cover each plan
 abbrev pub PlansAreCovered : Type 0
 PlansAreCovered = (plan : PlanText) → IsReadPlan plan → AreCovered plan (touched_in plan) (changed_in plan)
-
--- and are apart where its nodes keep apart
-abbrev pub PlansAreApart : Type 0
-PlansAreApart = (plan : PlanText) → IsReadPlan plan → KeepsApart plan → AreApart plan (touched_in plan) (changed_in plan)
 
 -- these cells are those that the nodes of the plan change
 abbrev pub CellsAreChanged : Type 0

@@ -1,11 +1,11 @@
 -- Which places the nodes of a plan touch and which they may change, each with the nodes below it; and plans whose nodes keep apart.
 -- Javadoc `ExtensionContext.Store` and JUnit 5 User Guide, "Parallel Execution"; what a step touches is a definition of [ext_races Touches].
-use Rattle.std.specs.Prelude.{ℕ, ◌≡◌, ◌≢◌, ◌<◌, ◌==◌, true, Bool, List, length, drop, map, fold, Contains, Some, false, ◌||◌}
+use Rattle.std.specs.Prelude.{ℕ, ◌≡◌, ◌≢◌, ◌<◌, ◌==◌, true, Bool, List, length, drop, fold, Contains, Some, false, ◌||◌}
 use Rattle.ext_tree.specs.Keys.{KeyValue}
-use Rattle.ext_tree.specs.Trees.{Id, IsParentOf, IsPathOf}
+use Rattle.ext_tree.specs.Trees.{IsParentOf, IsPathOf}
 use Rattle.ext_lifecycle.specs.declared.call.Call.{Call}
 use Rattle.ext_plan.specs.Plans.{PlanText, StepKeyText, StepText}
-use Rattle.ext_plan.specs.PlanCalls.{concurrent_of, steps_of_call}
+use Rattle.ext_plan.specs.PlanCalls.{steps_of_call}
 use Rattle.ext_plan.specs.ReadPlans.{ids_of_nodes}
 use Rattle.ext_plan.specs.StepCalls.{start_of}
 use Rattle.ext_plan.specs.StoreKeys.{key_of_step}
@@ -49,8 +49,3 @@ module _ (plan : PlanText) (touched changes : ℕ → Places) where
     -- no child touches a place in the context of another, or of a node below that
     pub siblings : (parent child other context : ℕ) (key : KeyValue) → IsParentOf (ids_of_nodes plan.nodes) parent child → IsParentOf (ids_of_nodes plan.nodes) parent other → child ≢ other
         → is_within plan child context ≡ true → touched other context key ≡ true → ⊥
-
-  -- no child changes a place that a child touches which may run beside it
-  pub record AreApart : Type 0 where
-    pub apart : (parent child other context : ℕ) (key : KeyValue) → IsParentOf (ids_of_nodes plan.nodes) parent child → IsParentOf (ids_of_nodes plan.nodes) parent other → child ≢ other
-        → concurrent_of plan child ≡ true → concurrent_of plan other ≡ true → changes child context key ≡ true → touched other context key ≡ true → ⊥

@@ -20,3 +20,4 @@ pub mod SharedPlans
 pub mod SharedSteps
 pub mod SharedTouches
 pub mod Standing
+pub mod WorkedSharing

@@ -175,7 +175,7 @@ module _ (plan : PlanText) (read : IsReadPlan plan) (shares : SharesValues plan)
             (also_below plan read parent is.second.touch.node child is.second.beside (within_parent plan read parent child child up (itself child up.child_within))))
       ]
 
-  pub alone : (parent child context : ℕ) (key : KeyValue) (v : ValueText) → IsParentOf ids parent child → concurrent_of plan child ≡ false → shares_in plan child context key ≡ Some v
+  alone : (parent child context : ℕ) (key : KeyValue) (v : ValueText) → IsParentOf ids parent child → concurrent_of plan child ≡ false → shares_in plan child context key ≡ Some v
       → shares_in plan parent context key ≡ Some v
   alone parent child context key v up single e =
       let is = shares_found plan read child context key v e in

@@ -19,7 +19,7 @@ use Rattle.ext_shared_values.specs.OpenCalls.{CallFitsOpen}
 use Rattle.ext_shared_values.specs.Shared.{SharesValues, unshared}
 use Rattle.ext_shared_values.specs.SharedPlans.{PlansAreShared, shares_in}
 use Rattle.ext_shared_values.proofs.SharedCalls.{call_fits_open}
-use Rattle.ext_shared_values.proofs.SharedNodes.{above, alone, below, beside, outside, same, touched_there}
+use Rattle.ext_shared_values.proofs.SharedNodes.{above, below, beside, outside, same, touched_there}
 use Rattle.ext_shared_values.proofs.SharedSteps.{computes_there}
 
 computes : (plan : PlanText) → IsReadPlan plan → SharesValues plan → (node : ℕ) (path : List ℕ) (call : Call) (step : StepText) (key : StepKeyText) (up : ℕ) (v : ValueText)
@@ -46,7 +46,6 @@ plans_are_shared plan run read shares tree = record {
   computes = computes plan read shares;
   calls = calls plan run read shares tree;
   below = below plan read shares;
-  alone = alone plan read shares;
   beside = beside plan read shares;
   same = same plan read shares;
 }

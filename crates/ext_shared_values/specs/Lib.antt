@@ -4,3 +4,4 @@ pub mod OpenCalls
 pub mod OpenSteps
 pub mod Shared
 pub mod SharedPlans
+pub mod WorkedSharing

@@ -62,9 +62,6 @@ module _ (plan : PlanText) (run : RunView) (touched changes : ℕ → Places) (s
     -- a child shares what its parent does, where it touches it
     pub below : (parent child context : ℕ) (key : KeyValue) (v : ValueText) → IsParentOf (ids_of_nodes plan.nodes) parent child → shares parent context key ≡ Some v → touched child context key ≡ true
         → shares child context key ≡ Some v
-    -- a child that runs beside no other shares no more
-    pub alone : (parent child context : ℕ) (key : KeyValue) (v : ValueText) → IsParentOf (ids_of_nodes plan.nodes) parent child → concurrent_of plan child ≡ false → shares child context key ≡ Some v
-        → shares parent context key ≡ Some v
     -- children that run beside one another share each place that one of them changes and another touches
     pub beside : (parent child other context : ℕ) (key : KeyValue) → IsParentOf (ids_of_nodes plan.nodes) parent child → IsParentOf (ids_of_nodes plan.nodes) parent other → child ≢ other
         → concurrent_of plan child ≡ true → concurrent_of plan other ≡ true → changes child context key ≡ true → touched other context key ≡ true
