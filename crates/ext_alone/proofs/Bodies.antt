@@ -36,7 +36,7 @@ use Rattle.ext_alone.proofs.Parts.{first_within, part}
 
 module _ {V A : Type 0} (t : TreeSetting V A) where
   -- a node is run with some lanes
-  some_lanes : (depth node : ℕ) (s : Lanes V) (ran : List Ran) (u : Lanes V) → TreeRun t depth node s ran u → (lane : StoreLane V) × (rest : List (StoreLane V)) × (s.first ≡ lane ∷ rest)
+  pub some_lanes : (depth node : ℕ) (s : Lanes V) (ran : List Ran) (u : Lanes V) → TreeRun t depth node s ran u → (lane : StoreLane V) × (rest : List (StoreLane V)) × (s.first ≡ lane ∷ rest)
   some_lanes zero node s ran u run = absurd run
   some_lanes (suc depth) node s ran u run = elim (bools (t.suite.is_test node)) [
     | inl test ↦ let calls = (run.2 test).calls in (calls.lane, calls.rest, calls.first_was)
@@ -55,7 +55,7 @@ earlier_all later (a ∷ xs) (b ∷ ys) went all =
 themselves : {V : Type 0} (later : List (StoreLane V)) → All (IsEarlierOf later) later
 themselves later = All-weaker (Contains later) (IsEarlierOf later) (λ lane there. (lane, there, goes_same lane)) later (All-contains_itself later)
 
-first_has_seen : {V : Type 0} (since : History) (xs : List (StoreLane V)) (lane : StoreLane V) (rest : List (StoreLane V)) → xs ≡ lane ∷ rest → All (HasSeen since) xs → IsPrefix since (first_seen xs)
+pub first_has_seen : {V : Type 0} (since : History) (xs : List (StoreLane V)) (lane : StoreLane V) (rest : List (StoreLane V)) → xs ≡ lane ∷ rest → All (HasSeen since) xs → IsPrefix since (first_seen xs)
 first_has_seen since xs lane rest is all = subst (λ l. IsPrefix since (first_seen l)) (sym is) (All-head (HasSeen since) lane rest (subst (All (HasSeen since)) is all))
 
 -- ---- bodies

@@ -39,7 +39,7 @@ and_true : (b : Bool) → (b && true) ≡ b
 and_true true = refl
 and_true false = refl
 
-successful_more : (before : List VerdictText) (v : VerdictText) → all_successful (before ++ v ∷ []) ≡ (all_successful before && is_successful v)
+pub successful_more : (before : List VerdictText) (v : VerdictText) → all_successful (before ++ v ∷ []) ≡ (all_successful before && is_successful v)
 successful_more [] v = and_true (is_successful v)
 successful_more (p ∷ before) v = ap (λ b. is_successful p && b) (successful_more before v) ∙ and_assoc (is_successful p) (all_successful before) (is_successful v)
 

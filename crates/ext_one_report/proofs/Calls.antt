@@ -56,7 +56,7 @@ if_some P (Some x) each = each x
 abbrev StepOnPath : StoreView → List ℕ → StepText → Type 0
 StepOnPath store path step = IfSome (step_key step) (λ key. IsPathOf store.tree (start_of (drop (height step) path)) (drop (height step) path))
 
-path_above : (ids : List Id) (path : List ℕ) (node up : ℕ) → IsPathOf ids node path → up < length path → IsPathOf ids (start_of (drop up path)) (drop up path)
+pub path_above : (ids : List Id) (path : List ℕ) (node up : ℕ) → IsPathOf ids node path → up < length path → IsPathOf ids (start_of (drop up path)) (drop up path)
 path_above ids [] node up is within = absurd is
 path_above ids (first ∷ walk) node zero is within = (refl, subst (λ c. IsWalk ids c walk) (sym is.0) is.1)
 path_above ids (first ∷ []) node (suc up) is within = absurd (omega (arith, within))
@@ -163,7 +163,7 @@ told_so (verdicts.Aborted fault) = refl
 told_so (verdicts.Failed fault) = refl
 
 -- a step that is successful found all
-success_finds : (keys : List KeyText) (step : StepText) (o : Outcome) → is_successful (ending_of o.verdict) ≡ true → StepFinds keys o step
+pub success_finds : (keys : List KeyText) (step : StepText) (o : Outcome) → is_successful (ending_of o.verdict) ≡ true → StepFinds keys o step
 success_finds keys step o on =
     let memory : o.verdict ≡ no_memory → ⊥ = λ is. true≢false (sym on ∙ ap (λ v. is_successful (ending_of v)) is) in (
       memory,
@@ -178,7 +178,7 @@ some_weaker P Q None each is = tt
 some_weaker P Q (Some x) each is = each x is
 
 -- what is found is told by the verdict alone
-finds_by : (keys : List KeyText) (step : StepText) (o p : Outcome) → o.verdict ≡ p.verdict → StepFinds keys o step → StepFinds keys p step
+pub finds_by : (keys : List KeyText) (step : StepText) (o p : Outcome) → o.verdict ≡ p.verdict → StepFinds keys o step → StepFinds keys p step
 finds_by keys step o p is finds = (
   λ none. finds.0 (is ∙ none),
   some_weaker (λ key. FindsAll (name_of step) (label_of keys key) o) (λ key. FindsAll (name_of step) (label_of keys key) p) (step_key step)

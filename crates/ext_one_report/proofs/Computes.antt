@@ -140,7 +140,7 @@ on_self cell lane =
 only_claim : (cell lane : ℕ) → OnlyAt cell (by lane (Claim cell) ∷ [])
 only_claim cell lane = λ other off. ap (λ b. cond b (by lane (Claim cell) ∷ []) []) off
 
-only_given_up : (cell lane : ℕ) → OnlyAt cell (by lane (Claim cell) ∷ by lane (Abandon cell) ∷ [])
+pub only_given_up : (cell lane : ℕ) → OnlyAt cell (by lane (Claim cell) ∷ by lane (Abandon cell) ∷ [])
 only_given_up cell lane = λ other off.
     let last : Event ℕ = by lane (Abandon cell) in
     let first : Event ℕ = by lane (Claim cell) in
@@ -152,7 +152,7 @@ on_fill cell lane number =
     let first : Event ℕ = by lane (Claim cell) in
     ap (λ b. cond b (first ∷ cond b (last ∷ []) []) (cond b (last ∷ []) [])) (eq-eqb cell cell refl)
 
-only_fill : (cell lane number : ℕ) → OnlyAt cell (by lane (Claim cell) ∷ by lane (Keep number) ∷ by lane (Fill cell number) ∷ [])
+pub only_fill : (cell lane number : ℕ) → OnlyAt cell (by lane (Claim cell) ∷ by lane (Keep number) ∷ by lane (Fill cell number) ∷ [])
 only_fill cell lane number = λ other off.
     let last : Event ℕ = by lane (Fill cell number) in
     let first : Event ℕ = by lane (Claim cell) in

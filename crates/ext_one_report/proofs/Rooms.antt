@@ -127,7 +127,7 @@ module _ (n : ℕ) where
 keep_values : (value : ValueText) (s : ValueState) → why_refused (next_number s) s ≡ None → HasValues s → HasValues (keep_value value s)
 keep_values value s room h = let longer = one_longer s.values value in let drawn = keep-drawn value s room in omega (arith, longer, drawn, h)
 
-valued : IsKept HasValues
+pub valued : IsKept HasValues
 valued = record {
   finds = λ memory s h. h;
   puts = λ place number s h. act-values (Put place number) s refl h;

@@ -1,10 +1,10 @@
 -- What the lanes of a run know is so in one view of it.
-use Rattle.std.proofs.Common.{◌≡◌, inl, inr, ℕ, zero, suc, ◌<◌, List, [], ◌∷◌, Contains, Option, Some, None, length, map, refl, ap, sym, subst, ◌∙◌, arith}
+use Rattle.std.proofs.Common.{◌≡◌, inl, inr, ℕ, zero, suc, ◌<◌, List, [], ◌∷◌, Contains, Option, Some, None, length, refl, ap, sym, subst, ◌∙◌, arith}
 use Rattle.std.specs.Prelude.{All, AllPairs, slice_index_or}
 use Rattle.std.specs.List.{AllZip}
 use Rattle.std.proofs.lemmas.List.Elements.{All-nil, All-cons, All-head, All-tail, All-contains, All-map, Contains-get_or}
 use Rattle.ext_history.proofs.Lists.{contains_cons, contains_here, contains_later, contains_none}
-use Rattle.ext_history.proofs.Once.{contains-map}
+use Rattle.ext_history.proofs.Once.{contains-from_map, contains-map}
 use Rattle.ext_model.specs.declared.look.Fault.{Fault}
 use Rattle.ext_tree.specs.Keys.{KeepsKeys, KnownPlace, key_places_of, no_key_known}
 use Rattle.ext_tree.proofs.KeyPlacing.{keeps_both, key_places_of-nothing}
@@ -66,14 +66,6 @@ module _ {V : Type 0} where
       by_first None none is later = let r = later is in (r.0, contains_later first more r.0 r.1, r.2)
       by_first (Some v) some is later = (first, contains_here first more, some ∙ is)
 
-from_map : {A B : Type 0} (f : A → B) (xs : List A) (y : B) → Contains (map f xs) y → (x : A) × Contains xs x × (f x ≡ y)
-from_map f [] y there = absurd (contains_none y there)
-from_map f (x ∷ xs) y there =
-    elim (contains_cons (f x) (map f xs) y there) [
-      | inl here ↦ (x, contains_here x xs, here)
-      | inr later ↦ let r = from_map f xs y later in (r.0, contains_later x xs r.0 r.1, r.2)
-    ]
-
 -- ---- what numbers stand for
 
 abbrev view_said : Option StoredValue → Option ValueText
@@ -99,14 +91,14 @@ knows_value : (lanes : List PlanLane) (number : ℕ) (value : ValueText) → (me
 knows_value lanes number value is =
     let said = said_value (first_known (all_known lanes) number) value is in
     let by = known_by (all_known lanes) number said.0 said.1 in
-    let from = from_map (λ (lane : PlanLane). lane.known) lanes by.0 by.1 in
+    let from = contains-from_map (λ (lane : PlanLane). lane.known) lanes by.0 by.1 in
     record { lane = from.0; among = from.1; stored = said.0; known = ap (λ n. known_at n number) from.2 ∙ by.2; is = said.2 }
 
 knows_fault : (lanes : List PlanLane) (number : ℕ) (words : List ℕ) → (meaning_of lanes).faults number ≡ Some words → KnowsFault lanes number words
 knows_fault lanes number words is =
     let said = said_fault (first_known (all_faults lanes) number) words is in
     let by = known_by (all_faults lanes) number said.0 said.1 in
-    let from = from_map (λ (lane : PlanLane). lane.faults) lanes by.0 by.1 in
+    let from = contains-from_map (λ (lane : PlanLane). lane.faults) lanes by.0 by.1 in
     record { lane = from.0; among = from.1; fault = said.0; known = ap (λ n. known_at n number) from.2 ∙ by.2; is = said.2 }
 
 -- ---- the numbers of keys

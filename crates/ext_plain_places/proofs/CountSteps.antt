@@ -1,5 +1,5 @@
 -- A step of a plain run draws a number where it may draw one, and none else. So do the steps of a call.
-use Rattle.std.proofs.Common.{◌≡◌, ◌≤◌, ℕ, zero, suc, ◌+◌, Bool, true, false, cond, List, [], ◌∷◌, ◌++◌, length, length-append, drop, None, count_by, refl, sym, ap, subst, ◌∙◌, arith, inl, inr}
+use Rattle.std.proofs.Common.{◌≡◌, ◌≤◌, ℕ, zero, suc, ◌+◌, Bool, true, false, cond, List, [], ◌∷◌, length, drop, None, count_by, refl, sym, ap, subst, ◌∙◌, arith, inl, inr}
 use Rattle.std.specs.Prelude.{codes}
 use Rattle.std.proofs.lemmas.List.Sums.{sum_by-cons}
 use Rattle.ext_history.proofs.Lists.{bools}
@@ -23,9 +23,9 @@ use Rattle.ext_plain.specs.ValueStates.{Numbering, ValueState, after_act, enough
 use Rattle.ext_plain.proofs.Kept.{IsKept, IsKeptNumbered, node-kept, seals-kept, steps-kept}
 use Rattle.ext_plain.proofs.KeptFaults.{no_fault_stays}
 use Rattle.ext_plain.proofs.Stepping.{steps_run-nil}
-use Rattle.ext_plain.proofs.Values.{act-values, keep-drawn}
+use Rattle.ext_plain.proofs.Values.{keep-drawn}
 use Rattle.ext_one_report.proofs.Calls.{plain_goes, plain_stops, steps_faults, steps_memory}
-use Rattle.ext_one_report.proofs.Rooms.{steps_draw_few}
+use Rattle.ext_one_report.proofs.Rooms.{steps_draw_few, valued}
 
 -- ---- no number is given back
 
@@ -73,30 +73,6 @@ drawn_grows plan levels path r = node-kept (IsDrawn r.state.store.drawn) (drawn_
 
 -- ---- each number has a value
 
-one_more : (values : List ValueText) (value : ValueText) → length (values ++ value ∷ []) ≡ suc (length values)
-one_more values value = let e = length-append values (value ∷ []) in omega (arith, e)
-
-keep_values : (value : ValueText) (s : ValueState) → why_refused (next_number s) s ≡ None → HasValues s → HasValues (keep_value value s)
-keep_values value s room h = one_more s.values value ∙ (ap suc h ∙ sym (keep-drawn value s room))
-
-valued : IsKept HasValues
-valued = record {
-  finds = λ memory s h. h;
-  puts = λ place number s h. act-values (Put place number) s refl h;
-  removes = λ place s h. act-values (Remove place) s refl h;
-  seals = λ place s h. act-values (Seal place) s refl h;
-  keeps = keep_values;
-  abandons = λ place s won h. act-values (Abandon place) (after_act (Claim place) s) refl (act-values (Claim place) s refl h);
-  fills = λ place value s won room h.
-      let claimed = after_act (Claim place) s in
-      let kept = keep_value value claimed in
-      act-values (Fill place kept.store.drawn) kept refl (keep_values value claimed room (act-values (Claim place) s refl h));
-  fails = λ place value s keeps won room h.
-      let claimed = after_act (Claim place) s in
-      let kept = keep_value value claimed in
-      act-values (Fail place kept.store.drawn) kept refl (keep_values value claimed room (act-values (Claim place) s refl h));
-}
-
 valued_numbered : IsKeptNumbered HasValues
 valued_numbered = record { numbers = λ key number s is h. h }
 
@@ -116,7 +92,7 @@ step_goes keeps keys path steps s g = record {
 }
 
 -- one step is made as a list of it is
-single : (keys : List KeyText) (path : List ℕ) (step : StepText) (s : ValueState) → s.memory ≡ [] → (steps_run keys path (step ∷ []) s).state ≡ (step_run keys path step s).state
+pub single : (keys : List KeyText) (path : List ℕ) (step : StepText) (s : ValueState) → s.memory ≡ [] → (steps_run keys path (step ∷ []) s).state ≡ (step_run keys path step s).state
 single keys path step s none = elim (bools (is_successful (step_run keys path step s).verdict)) [
   | inl on ↦ ap (λ (e : StepEnd). e.state) (plain_goes keys path step [] s none on) ∙ ap (λ (e : StepEnd). e.state) (steps_run-nil keys path (step_run keys path step s).state)
   | inr off ↦ ap (λ (e : StepEnd). e.state) (plain_stops keys path step [] s none off)

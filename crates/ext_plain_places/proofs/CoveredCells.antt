@@ -166,7 +166,7 @@ module _ (plan : PlanText) (store : StoreView) (numbering : List KnownPlace) (no
 
 -- ---- nodes change these cells
 
-call_among : (plan : PlanText) (store : StoreView) (locks : LocksView) (numbering : List KnownPlace) (node : ℕ) (call : Call) → IsReadPlan plan → store.tree ≡ ids_of_nodes plan.nodes
+pub call_among : (plan : PlanText) (store : StoreView) (locks : LocksView) (numbering : List KnownPlace) (node : ℕ) (call : Call) → IsReadPlan plan → store.tree ≡ ids_of_nodes plan.nodes
     → IsCallOf (numbered_setting plan store locks numbering) node call → Contains (calls_of plan node) call
 call_among plan store locks numbering node call read tree mine =
     let test = is_some (test_of plan node) in
@@ -186,7 +186,7 @@ cells_are_changed plan store locks numbering read tree = record {
 -- ---- cells are at places
 
 -- a cell tells its context and its number
-cells_apart : (store : StoreView) (a b m n : ℕ) → m < length store.id.keys → n < length store.id.keys → cell_in store m a ≡ cell_in store n b → (a ≡ b) × (m ≡ n)
+pub cells_apart : (store : StoreView) (a b m n : ℕ) → m < length store.id.keys → n < length store.id.keys → cell_in store m a ≡ cell_in store n b → (a ≡ b) × (m ≡ n)
 cells_apart store a b m n less few same =
     let count = length store.id.keys in (
       sym (div-mul-add a count m less) ∙ (ap (λ k. k / count) same ∙ div-mul-add b count n few),

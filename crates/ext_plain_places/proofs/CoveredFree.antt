@@ -8,7 +8,7 @@ use Rattle.ext_races.specs.Touches.{TouchText}
 use Rattle.ext_plain_places.specs.Covered.{FreeKeepsApart}
 
 -- two touches of one place clash, where the first may change it and they don't agree
-clash : (t u : TouchText) → t.changes ≡ true → t.context ≡ u.context → t.key ≡ u.key → agree t u ≡ false → clashes t u ≡ true
+pub clash : (t u : TouchText) → t.changes ≡ true → t.context ≡ u.context → t.key ≡ u.key → agree t u ≡ false → clashes t u ≡ true
 clash t u changing at named none =
     let place = and_from t.changes (t.context == u.context) changing (eq-eqb t.context u.context at) in
     let differ : (if t.key == u.key then not (agree t u) else closes_differ t u) ≡ true =

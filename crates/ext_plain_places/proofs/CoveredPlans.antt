@@ -150,7 +150,7 @@ module _ (plan : PlanText) (node context : ℕ) (key : KeyValue) where
 
 -- ---- acts
 
-abbrev an_act : Word → StepKeyText → List ℕ → ℕ → ActText
+abbrev pub an_act : Word → StepKeyText → List ℕ → ℕ → ActText
 an_act word key text up = record { word = word; key = key; text = text; up = up }
 
 up_of : Option ActText → ℕ
@@ -158,7 +158,7 @@ up_of None = 0
 up_of (Some act) = act.up
 
 -- a step that acts goes up as far as its act
-height_is : (step : StepText) (act : ActText) → act_of step ≡ Some act → height step ≡ act.up
+pub height_is : (step : StepText) (act : ActText) → act_of step ≡ Some act → height step ≡ act.up
 unfolding up_of
 height_is (put key text up) act acts = ap up_of acts
 height_is (put_closeable key text up) act acts = ap up_of acts
@@ -170,6 +170,13 @@ height_is (compute_closeable key text up) act acts = ap up_of acts
 height_is (compute_fail key text up) act acts = ap up_of acts
 height_is (fail text) act acts = absurd (cc acts)
 height_is (abort text) act acts = absurd (cc acts)
+
+-- what holds of each context of a path from here on
+pub from_drop : (P : ℕ → Type 0) (up : ℕ) (path : List ℕ) → ((at : ℕ) → up ≤ at → at < length path → P (get_or path at 0)) → All P (drop up path)
+from_drop P up path each = λ k d less.
+    let long = length-drop up path in
+    let inside : up + k < length path = omega (arith, less, long) in
+    subst P (sym (get_or-drop up path k d ∙ get_or_default path (up + k) d 0 inside)) (each (up + k) (omega arith) inside)
 
 none_is : {A : Type 0} {x : A} → None ≡ Some x → ⊥
 none_is e = absurd (cc e)
@@ -280,13 +287,6 @@ module _ (plan : PlanText) (read : IsReadPlan plan) where
         touched_by plan node (start_of (drop act.up path)) (key_of_step plan.keys act.key)
         (weaker plan node (start_of (drop act.up path)) (key_of_step plan.keys act.key) (acts_changed step act there acts changing up))
 
-    -- what holds of each context of the path from here on
-    from_drop : (P : ℕ → Type 0) (up : ℕ) → ((at : ℕ) → up ≤ at → at < length path → P (get_or path at 0)) → All P (drop up path)
-    from_drop P up each = λ k d less.
-        let long = length-drop up path in
-        let inside : up + k < length path = omega (arith, less, long) in
-        subst P (sym (get_or-drop up path k d ∙ get_or_default path (up + k) d 0 inside)) (each (up + k) (omega arith) inside)
-
     looked : (step : StepText) (act : ActText) → Contains (steps_of_call plan call) step → act_of step ≡ Some act → looks_along act.word ≡ true
         → (at : ℕ) → act.up ≤ at → at < length (plan_path plan node) → IsTouched plan node (get_or (plan_path plan node) at 0) (place_of_key (keys_named plan) (key_of_step plan.keys act.key)) false
     looked step act there acts looks at high less = elim (cases_Bool (changes act.word)) [
@@ -298,7 +298,7 @@ module _ (plan : PlanText) (read : IsReadPlan plan) where
     looks_within : (step : StepText) (act : ActText) → Contains (steps_of_call plan call) step → act_of step ≡ Some act → looks_along act.word ≡ true → LooksWithin plan.keys path (touched_in plan node) act.key act.up
     looks_within step act there acts looks =
         let key = key_of_step plan.keys act.key in
-        from_drop (λ context. touched_in plan node context key ≡ true) act.up (λ at high less.
+        from_drop (λ context. touched_in plan node context key ≡ true) act.up path (λ at high less.
         touched_by plan node (get_or path at 0) key (below_itself (get_or path at 0) key false
         (subst (λ p. IsTouched plan node (get_or p at 0) (place_of_key (keys_named plan) key) false) (sym along) (looked step act there acts looks at high (subst (λ p. at < length p) along less)))))
 

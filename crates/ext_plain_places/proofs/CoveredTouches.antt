@@ -187,7 +187,7 @@ module _ (plan : PlanText) (node : ℕ) (call : Call) where
 -- ---- look-ups behind a compute of their call
 
 -- the step computes a value of the key, no further up than this
-record Computes (declared : List KeyText) (key : KeyValue) (at : ℕ) (act : Option ActText) : Type 0 where
+pub record Computes (declared : List KeyText) (key : KeyValue) (at : ℕ) (act : Option ActText) : Type 0 where
   pub one : ActText
   pub is : act ≡ Some one
   pub gives : gives_value one.word ≡ true
@@ -195,7 +195,7 @@ record Computes (declared : List KeyText) (key : KeyValue) (at : ℕ) (act : Opt
   pub low : one.up ≤ at
 
 -- at this place of the path it is as it was
-abbrev IsKept : List ℕ → List ℕ → ℕ → Type 0
+abbrev pub IsKept : List ℕ → List ℕ → ℕ → Type 0
 IsKept path below at = (at < length below) × (get_or below at 0 ≡ get_or path at 0)
 
 take_keeps : (path : List ℕ) (up at : ℕ) → at < length path → at < up → IsKept path (take up path) at
@@ -215,7 +215,7 @@ module _ (declared : List KeyText) (key : KeyValue) where
         inr (record { one = act; is = refl; gives = parts.0; same = (keys_Decides (key_of_step declared act.key) key).0 parts.1; low = cut.1 })
   ]
 
-  kept_or_computed : (before : List StepText) (path : List ℕ) (at : ℕ) → at < length path
+  pub kept_or_computed : (before : List StepText) (path : List ℕ) (at : ℕ) → at < length path
       → IsKept path (below_computes declared key path before) at ⊎ ((step : StepText) × Contains before step × Computes declared key at (act_of step))
   kept_or_computed [] path at less = inl (less, refl)
   kept_or_computed (step ∷ more) path at less = elim (kept_by_act path (act_of step) at less) [
@@ -226,7 +226,7 @@ module _ (declared : List KeyText) (key : KeyValue) where
     | inr computes ↦ inr (step, contains_first step more, computes)
   ]
 
-computes_all : (word : Word) → gives_value word ≡ true → (changes word ≡ true) × (looks_along word ≡ true)
+pub computes_all : (word : Word) → gives_value word ≡ true → (changes word ≡ true) × (looks_along word ≡ true)
 computes_all words.Put gives = absurd cc
 computes_all words.PutCloseable gives = absurd cc
 computes_all words.Want gives = absurd cc

@@ -9,9 +9,9 @@ use Rattle.ext_plan.specs.Plans.{PlanText}
 use Rattle.ext_plan.specs.Values.{ValueText}
 use Rattle.ext_alone.specs.Changing.{events_at}
 use Rattle.ext_plain.specs.ValueStates.{ValueState, value_of}
-use Rattle.ext_one_report.specs.Matching.{IsNumbered, Matches, Places, RunView, cell_of, plain_meaning, plain_slot, text_of}
+use Rattle.ext_one_report.specs.Matching.{Places, RunView, cell_of, plain_meaning, plain_slot, text_of}
 use Rattle.ext_one_report.specs.Standings.{AreMatched, KnowsMore}
-use Rattle.ext_one_report.proofs.Matching.{knows_itself}
+use Rattle.ext_one_report.proofs.Matching.{knows_itself, matches_at_fewer, numbered_at_fewer}
 use Rattle.ext_one_report.proofs.OnCells.{same_slot}
 use Rattle.ext_one_report.proofs.Standings.{matched_by_more}
 use Rattle.ext_plain_places.specs.Covers.{is_within}
@@ -142,20 +142,11 @@ module _ (changes : Places) (closes : ℕ → Bool) (s t : ValueState) (leaves :
 
 -- ---- fewer places
 
-pub matches_fewer : (run : RunView) (places fewer : Places) (h : History) (s : ValueState) → ((context : ℕ) (key : KeyValue) → fewer context key ≡ true → places context key ≡ true) → Matches run places h s → Matches run fewer h s
-matches_fewer run places fewer h s among matches = record {
-  slots = λ context key number is has. matches.slots context key number (among context key is) has;
-  unnumbered = λ context key is none. matches.unnumbered context key (among context key is) none;
-}
-
-pub numbered_fewer : (places fewer : Places) (s : ValueState) → ((context : ℕ) (key : KeyValue) → fewer context key ≡ true → places context key ≡ true) → IsNumbered places s → IsNumbered fewer s
-numbered_fewer places fewer s among numbered = record { beyond = λ context key number is past. numbered.beyond context key number (among context key is) past; drawn = numbered.drawn }
-
 pub level_fewer : (plan : PlanText) (run : RunView) (places fewer : Places) (h : History) (s : ValueState) → ((context : ℕ) (key : KeyValue) → fewer context key ≡ true → places context key ≡ true) → AreLevel plan run places h s
     → AreLevel plan run fewer h s
 level_fewer plan run places fewer h s among level = record {
-  matches = matches_fewer run places fewer h s among level.matches;
-  numbered = numbered_fewer places fewer s among level.numbered;
+  matches = matches_at_fewer run places fewer h s among level.matches;
+  numbered = numbered_at_fewer places fewer s among level.numbered;
   memory = level.memory;
   keeps = level.keeps;
   gave = level.gave;

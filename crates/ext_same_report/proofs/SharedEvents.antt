@@ -1,6 +1,6 @@
 -- What nodes do at the places that they share, in their calls and in those of the nodes below them.
-use Rattle.std.proofs.Common.{◌≡◌, ℕ, true, false, List, [], ◌∷◌, ◌++◌, Contains, Some, refl, ap, sym, subst, ◌∙◌, arith, append_assoc}
-use Rattle.std.specs.Prelude.{All, Option, is_some, slice_get, slice_index_or}
+use Rattle.std.proofs.Common.{◌≡◌, ℕ, true, false, List, [], Some, refl, ap, sym, subst, ◌∙◌, arith}
+use Rattle.std.specs.Prelude.{All, Option, slice_get, slice_index_or}
 use Rattle.std.proofs.lemmas.List.{length-map}
 use Rattle.ext_history.specs.Histories.{seen_by}
 use Rattle.ext_model.specs.declared.event.Event.{Event}
@@ -11,14 +11,12 @@ use Rattle.ext_tree.specs.Keys.{KeyValue}
 use Rattle.ext_tree.specs.Trees.{Id, IsParentOf, IsPathOf, IsTree}
 use Rattle.ext_lifecycle.specs.declared.call.Call.{Call}
 use Rattle.ext_lifecycle.specs.declared.outcome.Outcome.{Outcome}
-use Rattle.ext_lifecycle.specs.Callbacks.{afters_of, befores_of, test_call}
 use Rattle.ext_locks.specs.Opening.{LocksView}
 use Rattle.ext_locks.specs.Sets.{HeldView}
 use Rattle.ext_plan.specs.Plans.{PlanText}
-use Rattle.ext_plan.specs.PlanCalls.{registered, steps_of_call, test_of}
+use Rattle.ext_plan.specs.PlanCalls.{steps_of_call}
 use Rattle.ext_plan.specs.ReadPlans.{ids_of_nodes}
 use Rattle.ext_plan.specs.Values.{ValueText}
-use Rattle.ext_races.specs.MadeSteps.{calls_of}
 use Rattle.ext_store.specs.Stores.{cell_in}
 use Rattle.ext_engine.specs.Meeting.{HasSeen, HasSeenWithin}
 use Rattle.ext_engine.specs.Order.{CallsGoOn, ChildRun, IsMadeBy, IsMadeIn}
@@ -33,8 +31,7 @@ use Rattle.ext_parallel.specs.declared.steps.stored_value.StoredValue.{StoredVal
 use Rattle.ext_parallel.specs.StoreCalls.{PlanLane}
 use Rattle.ext_one_report.specs.Matching.{HasNumberIn, Places, RunView, cell_of}
 use Rattle.ext_plain_places.specs.Covers.{is_within}
-use Rattle.ext_plain_places.proofs.CoveredCalls.{made_path}
-use Rattle.ext_plain_places.proofs.CoveredCells.{below_told}
+use Rattle.ext_plain_places.proofs.CoveredCells.{below_told, call_among, cells_apart}
 use Rattle.ext_plain_places.proofs.CoveredPaths.{has_context}
 use Rattle.ext_shared_values.specs.Open.{Open}
 use Rattle.ext_same_report.specs.FullRuns.{setting_in}
@@ -42,7 +39,7 @@ use Rattle.ext_same_report.specs.SharedEvents.{OfSharing, SharedIsComputed, Shar
 use Rattle.ext_same_report.specs.SharedNodes.{IsSharedBasis}
 use Rattle.ext_same_report.proofs.LanesAlone.{view_moves}
 use Rattle.ext_same_report.proofs.CallsFrom.{CallsFrom}
-use Rattle.ext_same_report.proofs.SharedEventsActs.{IsComputing, cells_apart, number_within, steps_do}
+use Rattle.ext_same_report.proofs.SharedEventsActs.{IsComputing, number_within, steps_do}
 use Rattle.ext_same_report.proofs.SharedEventsSeen.{tree_seen}
 
 module _ (plan : PlanText) (run : RunView) (locks : LocksView) (h : History) (touched changes : ℕ → Places) (changed : ℕ → List ℕ) (shares : ℕ → Open)
@@ -63,13 +60,6 @@ module _ (plan : PlanText) (run : RunView) (locks : LocksView) (h : History) (to
   in_plan : (node : ℕ) (path : List ℕ) → IsPathOf run.store.tree node path → IsPathOf (ids_of_nodes plan.nodes) node path
   in_plan node path is = subst (λ (l : List Id). IsPathOf l node path) basis.tree is
 
-  call_among : (node : ℕ) (call : Call) → IsCallOf t node call → Contains (calls_of plan node) call
-  call_among node call mine =
-      let test = is_some (test_of plan node) in
-      let along = made_path plan basis.read node mine.path (in_plan node mine.path mine.path_is) in
-      subst (λ p. Contains (befores_of (registered plan) test node p ++ test_call node ∷ [] ++ afters_of (registered plan) test node p) call) along
-      (subst (λ calls. Contains calls call) (sym (append_assoc (befores_of (registered plan) test node mine.path) (test_call node ∷ []) (afters_of (registered plan) test node mine.path))) mine.among)
-
   -- the event at this place is at a place that the node touches, and computes the value where the node shares it
   abbrev On : ℕ → ℕ → Type 0
   On node place =
@@ -80,7 +70,7 @@ module _ (plan : PlanText) (run : RunView) (locks : LocksView) (h : History) (to
       → (place : ℕ) → IsMadeBy h place a b → On node place
   call_on node call mine held a outcome b gives within place made context number key event has there is =
       let makes = gives.0.fully.made in
-      let among = call_among node call mine in
+      let among = call_among plan run.store locks run.numbering node call basis.read basis.tree (record { path = mine.path; path_is = mine.path_is; among = mine.among }) in
       let path_is = in_plan node makes.path makes.path_is in
       let does = steps_do run basis.view run_tree h g (touched node) (shares node) plan.keys makes.path (steps_of_call plan call) a outcome b makes.steps
       (λ step each. record {

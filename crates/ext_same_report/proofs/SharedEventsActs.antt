@@ -1,10 +1,9 @@
 -- The events of a lane in the steps of a call: at the places that its node shares they compute the values of the places, each behind a look-up that was absent.
-use Rattle.std.proofs.Common.{◌≡◌, ℕ, zero, suc, ◌<◌, ◌≤◌, ◌/◌, ◌%◌, inl, inr, true, List, [], ◌∷◌, ◌++◌, Contains, Some, drop, length, refl, ap, sym, subst, ◌∙◌, arith}
+use Rattle.std.proofs.Common.{◌≡◌, ℕ, zero, suc, ◌<◌, ◌≤◌, inl, inr, true, List, [], ◌∷◌, ◌++◌, Contains, Some, drop, length, refl, ap, sym, subst, ◌∙◌, arith}
 use Rattle.std.specs.Prelude.{codes, slice_get, Ok}
 use mathlib.Core.List.{IsPrefix, append_cancel_left}
 use base.Growing.{prefix_refl, prefix_trans}
 use Rattle.std.proofs.lemmas.Bool.{cases_lt}
-use Rattle.std.proofs.lemmas.Nat.{div-mul-add, mod-mul-add}
 use Rattle.std.proofs.lemmas.Option.{slice_get_within}
 use Rattle.ext_history.specs.Histories.{seen_by}
 use Rattle.ext_history.proofs.Composed.{events_past, same_number, seen_goes_on}
@@ -40,7 +39,7 @@ use Rattle.ext_store.specs.declared.fault.KeepFault.{KeepFault}
 use Rattle.ext_store.specs.declared.fault.KeepFault.TheVariants as keep_fault
 use Rattle.ext_store.specs.declared.computed.Compute.{Compute}
 use Rattle.ext_store.specs.declared.computed.Compute.TheVariants as computes
-use Rattle.ext_store.specs.Stores.{StoreView, cell_in, context_cells}
+use Rattle.ext_store.specs.Stores.{context_cells}
 use Rattle.ext_store.specs.Computing.{Computes, ComputesFrom, IsRefused, IsUnkept, Meets, Uses, given_up_events}
 use Rattle.ext_store.specs.Waiting.{ComputesAfterWaits}
 use Rattle.ext_engine.specs.Order.{LaneGoesOn}
@@ -54,6 +53,7 @@ use Rattle.ext_plan_cells.proofs.Going.{steps_go}
 use Rattle.ext_one_report.specs.Matching.{HasNumberIn, IsRunView, Places, RunView, cell_of}
 use Rattle.ext_one_report.specs.Steps.{IsLaneIn}
 use Rattle.ext_one_report.proofs.Calls.{lane_before}
+use Rattle.ext_plain_places.proofs.CoveredCells.{cells_apart}
 use Rattle.ext_shared_values.specs.Open as values
 use Rattle.ext_shared_values.specs.Open.{ComputesOpen, Open}
 use Rattle.ext_same_report.specs.SharedEvents.{IsLookedFor}
@@ -293,14 +293,6 @@ module _ (run : RunView) (h g : History) (tree : IsTree run.store.tree) (number 
       (from run h g tree number context v limits last.0 last.1 m b.cells.view (prefix_trans g (seen_by a.cells.view) (seen_by m) low early.begins) high name label made.result last.2 made.between o b made.ends known)
 
 -- ---- steps
-
--- a cell tells its context and its number
-pub cells_apart : (store : StoreView) (a b m n : ℕ) → m < length store.id.keys → n < length store.id.keys → cell_in store m a ≡ cell_in store n b → (a ≡ b) × (m ≡ n)
-cells_apart store a b m n less few same =
-    let count = length store.id.keys in (
-      sym (div-mul-add a count m less) ∙ (ap (λ k. k / count) same ∙ div-mul-add b count n few),
-      sym (mod-mul-add a count m less) ∙ (ap (λ k. k % count) same ∙ mod-mul-add b count n few),
-    )
 
 -- the number of a key is one of the store
 pub number_within : (run : RunView) → IsRunView run → (key : KeyValue) (number : ℕ) → HasNumberIn run key number → number < length run.store.id.keys

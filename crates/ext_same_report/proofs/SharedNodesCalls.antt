@@ -29,6 +29,7 @@ use Rattle.ext_one_report.specs.CallLists.{CallFits}
 use Rattle.ext_one_report.specs.Matching.{Matches, Places, RunView, cell_of}
 use Rattle.ext_one_report.specs.Steps.{IsLaneIn}
 use Rattle.ext_one_report.proofs.CallLists.{all_alike, befores_first}
+use Rattle.ext_one_report.proofs.Matching.{matches_at_fewer, numbered_at_fewer}
 use Rattle.ext_plain_places.specs.OfPlan.{CallsAreOfPlan}
 use Rattle.ext_shared_values.specs.Open.{AreNear, AreOpenBeside, Open, also, place_of_step, still_open}
 use Rattle.ext_shared_values.specs.OpenCalls.{AllCallsEndNear, BeforesEndNear, CallFitsOpen, CallsNear, LeavesNear, StepsFit, StepsFitLater}
@@ -39,7 +40,7 @@ use Rattle.ext_same_report.specs.SharedNodes.{AreComputed, AreOwn}
 use Rattle.ext_same_report.proofs.Beside.{MakesFully, all_find, all_made, befores_find, befores_made, first_of_all, first_of_befores}
 use Rattle.ext_same_report.proofs.LanesAlone.{first_is_alone, first_is_shown, is_more, is_on_place}
 use Rattle.ext_same_report.proofs.NodeCalls.{each_of, fits_more, step_more}
-use Rattle.ext_same_report.proofs.NodePlaces.{and_of, away, away_first, away_from, away_is, matches_fewer, numbered_fewer, or_either, or_first, or_second, within_any}
+use Rattle.ext_same_report.proofs.NodePlaces.{and_of, away, away_first, away_from, away_is, or_either, or_first, or_second, within_any}
 use Rattle.ext_same_report.proofs.NodeRooms as node_calls
 use Rattle.ext_same_report.proofs.NodeRooms.{all_room, befores_room}
 use Rattle.ext_same_report.proofs.NodeTrees.{path_apart}
@@ -179,8 +180,8 @@ module _ (g : Ground) (calls_of_plan : CallsAreOfPlan) where
         record {
           fewer = λ context key v opens. (still_parts leaves.settled o context key v opens).1;
           level = record {
-            matches = to_ys (λ m. Matches g.run after m t) (matches_fewer g.run (also leaves.settled places) after (seen_by b.cells.view) t fewer leaves.matches);
-            numbered = numbered_fewer (also leaves.settled places) after t fewer leaves.numbered;
+            matches = to_ys (λ m. Matches g.run after m t) (matches_at_fewer g.run (also leaves.settled places) after (seen_by b.cells.view) t fewer leaves.matches);
+            numbered = numbered_at_fewer (also leaves.settled places) after t fewer leaves.numbered;
             memory = held.memory;
             keeps = held.keeps;
             gave = held.gave;

@@ -1,21 +1,21 @@
 -- The runs of the concurrent children of a container, one of each: what the container's lanes make meanwhile, one of these runs made.
-use Rattle.std.proofs.Common.{◌≡◌, inl, inr, ℕ, ◌<◌, zero, suc, min, List, [], ◌∷◌, length, map, ap, refl, sym, subst}
+use Rattle.std.proofs.Common.{◌≡◌, inl, inr, ℕ, ◌<◌, min, List, [], ◌∷◌, length, map, ap, refl, subst}
 use Rattle.std.specs.Prelude.{All, Some, slice_get, slice_index_or}
 use mathlib.Core.List.{IsPrefix}
 use base.Growing.{prefix_trans}
 use Rattle.std.proofs.lemmas.List.Elements.{All-cons, All-drop, All-head, All-nil, All-tail, All-take, All-weaker}
 use Rattle.ext_history.specs.Histories.{seen_by}
-use Rattle.ext_history.proofs.Lists.{bools}
 use Rattle.ext_model.specs.History.{History}
 use Rattle.ext_store.specs.Stores.{StoreLane}
 use Rattle.ext_crew.specs.Dealing.{RunByDealing, Share}
 use Rattle.ext_crew.proofs.Runs.{run-map, run-weaker}
-use Rattle.ext_engine.specs.Meeting.{HasSeen, HasSeenWithin, first_seen}
+use Rattle.ext_engine.specs.Meeting.{HasSeenWithin, first_seen}
 use Rattle.ext_engine.specs.Order.{AllGoOn, CallsGoOn, ChildRun, IsMadeIn, IsWithin, LaneGoesOn}
-use Rattle.ext_engine.specs.TreeRun.{BodyRun, Lanes, Ran, TreeRun, TreeSetting, concurrent_children, with_lanes}
+use Rattle.ext_engine.specs.TreeRun.{BodyRun, Lanes, Ran, TreeSetting, concurrent_children, with_lanes}
 use Rattle.ext_engine.proofs.Acts.{Acts, all_made_then, all_met_made, heads_go}
 use Rattle.ext_engine.proofs.Going.{all_met, children_dealt_go}
 use Rattle.ext_engine.proofs.Order.{came_from, children_within, run-inside}
+use Rattle.ext_alone.proofs.Bodies.{first_has_seen, some_lanes}
 use Rattle.ext_alone.proofs.Containers.{Tree, at, go}
 use Rattle.ext_alone.proofs.Parts.{first_within}
 use Rattle.ext_same_report.proofs.SharedNodesDealt.{AreRuns, dealt_runs}
@@ -36,24 +36,12 @@ standing {A} {B} {O} runs jobs workers s t outcomes run =
 
 -- ---- lanes
 
-module _ {V A : Type 0} (t : TreeSetting V A) where
-  -- a node is run with some lanes
-  some_lanes : (depth node : ℕ) (s : Lanes V) (ran : List Ran) (u : Lanes V) → TreeRun t depth node s ran u → (lane : StoreLane V) × (rest : List (StoreLane V)) × (s.first ≡ lane ∷ rest)
-  some_lanes zero node s ran u run = absurd run
-  some_lanes (suc depth) node s ran u run = elim (bools (t.suite.is_test node)) [
-    | inl test ↦ let calls = (run.2 test).calls in (calls.lane, calls.rest, calls.first_was)
-    | inr container ↦ let befores = (run.3 container).befores_made in (befores.lane, befores.rest, befores.first_was)
-  ]
-
 module _ {V : Type 0} (L : StoreLane V → Type 0) (earlier : (a b : StoreLane V) → LaneGoesOn a b → L b → L a) where
   all_earlier : (xs ys : List (StoreLane V)) → AllGoOn xs ys → All L ys → All L xs
   all_earlier [] [] went all = All-nil L
   all_earlier [] (b ∷ ys) went all = absurd went
   all_earlier (a ∷ xs) [] went all = absurd went
   all_earlier (a ∷ xs) (b ∷ ys) went all = All-cons L a xs (earlier a b went.0 (All-head L b ys all)) (all_earlier xs ys went.1 (All-tail L b ys all))
-
-first_has_seen : {V : Type 0} (since : History) (xs : List (StoreLane V)) (lane : StoreLane V) (rest : List (StoreLane V)) → xs ≡ lane ∷ rest → All (HasSeen since) xs → IsPrefix since (first_seen xs)
-first_has_seen since xs lane rest is all = subst (λ l. IsPrefix since (first_seen l)) (sym is) (All-head (HasSeen since) lane rest (subst (All (HasSeen since)) is all))
 
 -- ---- bodies
 

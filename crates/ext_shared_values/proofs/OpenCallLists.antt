@@ -1,5 +1,5 @@
 -- The calls of a node, some of whose steps compute values at open places, end near those of a plain run.
-use Rattle.std.proofs.Common.{◌≡◌, ℕ, inl, inr, Bool, true, false, List, [], ◌∷◌, ◌++◌, map, refl, ap, sym, subst, ◌∙◌, append_assoc, append-nil, arith}
+use Rattle.std.proofs.Common.{◌≡◌, ℕ, inl, inr, true, false, List, [], ◌∷◌, ◌++◌, map, refl, ap, sym, subst, ◌∙◌, append_assoc, append-nil, arith}
 use Rattle.std.specs.Prelude.{All, ◌&&◌, if◌then◌else◌}
 use Rattle.std.proofs.lemmas.List.{map-append}
 use Rattle.std.proofs.lemmas.List.Sums.{sum_by-append}
@@ -9,7 +9,7 @@ use Rattle.ext_tree.proofs.Walks.{one_path}
 use Rattle.ext_lifecycle.specs.declared.call.Call.{Call}
 use Rattle.ext_lifecycle.specs.declared.outcome.Outcome.{Outcome}
 use Rattle.ext_lifecycle.specs.Endings.{all_successful, is_successful, with_fault}
-use Rattle.ext_lifecycle.specs.FaultTexts.{VerdictText, fault_text}
+use Rattle.ext_lifecycle.specs.FaultTexts.{fault_text}
 use Rattle.ext_lifecycle.specs.Lifecycle.{MakesAll, MakesBefores, ending_of, endings_of}
 use Rattle.ext_plan.specs.Plans.{PlanText}
 use Rattle.ext_plan.specs.PlanCalls.{steps_of_call}
@@ -25,7 +25,7 @@ use Rattle.ext_one_report.specs.Calls.{StepFinds, StepsHaveRoom}
 use Rattle.ext_one_report.specs.CallLists.{BeforesHaveRoom, CallsFind, CallsHaveRoom, Makes}
 use Rattle.ext_one_report.specs.Matching.{Places, RunView}
 use Rattle.ext_one_report.proofs.Calls.{all_first, all_later, steps_faults, steps_go, steps_lane, steps_memory, told_so}
-use Rattle.ext_one_report.proofs.CallLists.{all_go, befores_go, if_made}
+use Rattle.ext_one_report.proofs.CallLists.{all_go, befores_go, if_made, successful_more}
 use Rattle.ext_shared_values.specs.Open.{Open, also, still_open}
 use Rattle.ext_shared_values.specs.OpenSteps.{AreBesideOpen, ComputingKeepsNear, OpenComputesEndNear, StandingStays}
 use Rattle.ext_shared_values.specs.OpenCalls.{CallFitsOpen, CallsNear, LeavesNear}
@@ -35,18 +35,6 @@ use Rattle.ext_shared_values.proofs.OpenEnds.{Near}
 use Rattle.ext_shared_values.proofs.OpenLists.{left_itself, steps_near}
 
 -- ---- whether all were successful
-
-and_assoc : (a b c : Bool) → (a && (b && c)) ≡ ((a && b) && c)
-and_assoc true b c = refl
-and_assoc false b c = refl
-
-and_true : (b : Bool) → (b && true) ≡ b
-and_true true = refl
-and_true false = refl
-
-successful_more : (before : List VerdictText) (v : VerdictText) → all_successful (before ++ v ∷ []) ≡ (all_successful before && is_successful v)
-successful_more [] v = and_true (is_successful v)
-successful_more (p ∷ before) v = ap (λ b. is_successful p && b) (successful_more before v) ∙ and_assoc (is_successful p) (all_successful before) (is_successful v)
 
 stays_ended : (does : Call → ValueState → StepEnd) (calls : List Call) (e : CallsEnd) → all_successful e.calls ≡ false → make_befores does calls e ≡ e
 stays_ended does [] e ends = refl

@@ -45,11 +45,12 @@ use Rattle.ext_parallel.specs.Saying.{Ends, EndsRefused, EndsUnkept}
 use Rattle.ext_parallel.specs.StoreCalls.{ComputesValue, EndsCompute, PlanLane, stored_view}
 use Rattle.ext_one_report.specs.Matching.{HasNumberIn, IsRunView, Matches, Places, RunView, TextMeaning, cell_of, plain_meaning, plain_slot}
 use Rattle.ext_one_report.specs.Steps.{FindsAll, IsAlone, IsLaneIn}
+use Rattle.ext_one_report.proofs.Computes.{only_fill}
 use Rattle.ext_one_report.proofs.Standings.{matched_empty}
 use Rattle.ext_one_report.proofs.StepLooks.{has_room, said}
 use Rattle.ext_shared_values.specs.Open.{AreOpenBeside, MayStand, OnlyComputed, Open, Stands}
 use Rattle.ext_shared_values.proofs.OpenPlain.{look_first}
-use Rattle.ext_shared_values.proofs.OwnEvents.{ActsOn, acts_called, acts_given_up, acts_quiet, acts_then, matches_at, near_at, only_fill, stands_on, vain_acts}
+use Rattle.ext_shared_values.proofs.OwnEvents.{ActsOn, acts_called, acts_given_up, acts_quiet, acts_then, matches_at, near_at, stands_on, vain_acts}
 
 -- ---- what a look-up shows where the value may stand
 

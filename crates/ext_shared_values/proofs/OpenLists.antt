@@ -22,13 +22,13 @@ use Rattle.ext_parallel.specs.StoreCalls.{HasFrame, PlanLane}
 use Rattle.ext_parallel.specs.StoreSteps.{StepRun, StepsRun}
 use Rattle.ext_one_report.specs.Calls.{StepFinds, StepHasRoom, StepsHaveRoom}
 use Rattle.ext_one_report.specs.Matching.{Places, RunView}
-use Rattle.ext_one_report.proofs.Calls.{all_first, all_later, plain_goes, plain_stops, step_memory, steps_faults, steps_go, steps_lane, told_so}
+use Rattle.ext_one_report.proofs.Calls.{all_first, all_later, finds_by, plain_goes, plain_stops, step_memory, steps_faults, steps_go, steps_lane, success_finds, told_so}
 use Rattle.ext_shared_values.specs.Open.{Open, also, still_open}
 use Rattle.ext_shared_values.specs.OpenSteps.{AreBesideOpen, ComputingKeepsNear, OpenComputesEndNear, StandingStays}
 use Rattle.ext_shared_values.specs.OpenCalls.{LeavesNear, StepsFit}
 use Rattle.ext_shared_values.proofs.OpenFits.{fits_later}
 use Rattle.ext_shared_values.proofs.OpenGoing.{beside_first, beside_later, left_then}
-use Rattle.ext_shared_values.proofs.OpenSingles.{finds_by, single_is, single_run, success_finds}
+use Rattle.ext_shared_values.proofs.OpenSingles.{single_is, single_run}
 use Rattle.ext_shared_values.proofs.OpenEnds.{Near, computes_near, computes_settled, left_open, within_near}
 
 -- ---- where nothing happened

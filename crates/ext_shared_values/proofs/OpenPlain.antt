@@ -10,23 +10,22 @@ use Rattle.ext_model.specs.Plain.{Place, under}
 use Rattle.ext_model.specs.State.{State, look_at, look_in, lookup}
 use Rattle.ext_model.proofs.Lookups.{empty_path}
 use Rattle.ext_tree.specs.Keys.{KeyValue}
-use Rattle.ext_lifecycle.specs.Endings.{is_successful, successful}
+use Rattle.ext_lifecycle.specs.Endings.{successful}
 use Rattle.ext_plan.specs.Plans.{KeyText, StepKeyText, StepText}
 use Rattle.ext_plan.specs.StepCalls.{label_of, start_of}
 use Rattle.ext_plan.specs.StoreKeys.{is_there, key_of_step, place_of_key}
 use Rattle.ext_plan.specs.Values.{ValueText}
 use Rattle.ext_plan.proofs.KeyLists.{place_last, not_contained}
 use Rattle.ext_plain.specs.ValueStates.{ValueState, enough, key_limit, run_numbers, with_number}
-use Rattle.ext_plain.specs.StepRuns.{StepEnd, compute_looked, compute_numbered, factory_gave, found_along, keyed_by, number_by, numbered_by, step_run, steps_run}
+use Rattle.ext_plain.specs.StepRuns.{StepEnd, compute_looked, compute_numbered, factory_gave, found_along, keyed_by, number_by, numbered_by, step_run}
 use Rattle.ext_plain.proofs.Numberings.{is_known, is_next, there_then}
-use Rattle.ext_plain.proofs.Stepping.{steps_run-nil}
 use Rattle.ext_plan_cells.specs.PlanCells.{changed_by}
 use Rattle.ext_one_report.specs.Matching.{IsNumbered, Places, plain_meaning, plain_slot}
 use Rattle.ext_one_report.specs.Steps.{HasRoom}
-use Rattle.ext_one_report.proofs.Calls.{plain_goes, plain_stops}
 use Rattle.ext_one_report.proofs.Claimed.{claims_first, factory_gives, filled, filled_numbered, filled_slot, filled_value}
 use Rattle.ext_one_report.proofs.Matching.{plain_there}
 use Rattle.ext_plain_places.specs.PlainFrames.{IsOpen, LeavesElse, no_context}
+use Rattle.ext_plain_places.proofs.CountSteps.{single}
 use Rattle.ext_plain_places.proofs.FrameSlots.{leaves_itself, leaves_named}
 use Rattle.ext_plain_places.proofs.FrameSteps.{steps_leave}
 use Rattle.ext_shared_values.specs.Open.{Stands, StandsOrNot}
@@ -41,18 +40,11 @@ look_first slots context above none (Some y) is =
 
 -- ---- one step leaves all other places
 
-one_step : (keys : List KeyText) (path : List ℕ) (step : StepText) (s : ValueState) → s.memory ≡ [] → (steps_run keys path (step ∷ []) s).state ≡ (step_run keys path step s).state
-one_step keys path step s memory =
-    elim (bools (is_successful (step_run keys path step s).verdict)) [
-      | inl on ↦ ap (λ (e : StepEnd). e.state) (plain_goes keys path step [] s memory on) ∙ ap (λ (e : StepEnd). e.state) (steps_run-nil keys path (step_run keys path step s).state)
-      | inr off ↦ ap (λ (e : StepEnd). e.state) (plain_stops keys path step [] s memory off)
-    ]
-
 pub step_leaves : (keys : List KeyText) (path : List ℕ) (step : StepText) (changes : Places) (s : ValueState)
     → ((key : StepKeyText) (up : ℕ) → changed_by step ≡ Some (key, up) → changes (start_of (drop up path)) (key_of_step keys key) ≡ true)
     → s.memory ≡ [] → LeavesElse changes no_context s (step_run keys path step s).state
 step_leaves keys path step changes s may memory =
-    subst (LeavesElse changes no_context s) (one_step keys path step s memory) (steps_leave keys path (step ∷ []) changes s (λ other key up there is. may key up (of_one other key up there is)) memory)
+    subst (LeavesElse changes no_context s) (single keys path step s memory) (steps_leave keys path (step ∷ []) changes s (λ other key up there is. may key up (of_one other key up there is)) memory)
   where
     of_one : (other : StepText) (key : StepKeyText) (up : ℕ) → Contains (step ∷ []) other → changed_by other ≡ Some (key, up) → changed_by step ≡ Some (key, up)
     of_one other key up there is = elim (contains_cons step [] other there) [

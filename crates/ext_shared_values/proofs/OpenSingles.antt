@@ -1,5 +1,5 @@
 -- One step of a call: as a list of one step, which places it changes, and where its lane makes no events.
-use Rattle.std.proofs.Common.{◌≡◌, ℕ, ◌+◌, ◌<◌, inl, inr, true, false, true≢false, List, [], ◌∷◌, ◌++◌, length, drop, Contains, Option, None, Some, refl, ap, sym, subst, ◌∙◌, arith, nat_eq}
+use Rattle.std.proofs.Common.{◌≡◌, ℕ, ◌+◌, ◌<◌, inl, inr, true, false, List, [], ◌∷◌, ◌++◌, length, drop, Contains, Option, None, Some, refl, ap, sym, subst, ◌∙◌, arith, nat_eq}
 use Rattle.std.specs.Prelude.{All, IfSome, ◌≢◌, slice_get}
 use Rattle.std.proofs.lemmas.Bool.Decides.{nat_tests}
 use Rattle.std.proofs.lemmas.List.{get_or-append-add, length-append, length-drop}
@@ -15,26 +15,25 @@ use Rattle.ext_lifecycle.specs.declared.outcome.Outcome.{Outcome}
 use Rattle.ext_lifecycle.specs.declared.outcome.Verdict.{Verdict}
 use Rattle.ext_lifecycle.specs.declared.outcome.Verdict.TheVariants as verdicts
 use Rattle.ext_lifecycle.specs.Endings.{successful, aborted, failed, is_successful}
-use Rattle.ext_lifecycle.specs.FaultTexts.{VerdictText, verdict_text}
+use Rattle.ext_lifecycle.specs.FaultTexts.{VerdictText}
 use Rattle.ext_lifecycle.specs.Lifecycle.{ending_of}
 use Rattle.ext_plan.specs.Plans.{KeyText, StepKeyText, StepText, put, put_closeable, want, nothing, remove, compute, compute_closeable, compute_fail, fail, abort}
-use Rattle.ext_plan.specs.StepCalls.{label_of, start_of}
-use Rattle.ext_plan.specs.Steps.{height, step_key}
+use Rattle.ext_plan.specs.StepCalls.{start_of}
+use Rattle.ext_plan.specs.Steps.{height}
 use Rattle.ext_plan.specs.StoreKeys.{key_of_step}
 use Rattle.ext_store.specs.Stores.{StoreView}
 use Rattle.ext_engine.specs.Order.{IsMadeBy}
 use Rattle.ext_plain.specs.ValueStates.{ValueState}
 use Rattle.ext_plain.specs.StepRuns.{StepEnd, and_then, ended, step_run, steps_run}
 use Rattle.ext_plain.proofs.Stepping.{steps_run-nil}
-use Rattle.ext_parallel.specs.Saying.{no_memory}
 use Rattle.ext_parallel.specs.StoreCalls.{HasFrame, PlanLane}
 use Rattle.ext_parallel.specs.StoreSteps.{StepRun, StepsRun}
 use Rattle.ext_plan_cells.specs.PlanCells.{IsCellOf, changed_by}
 use Rattle.ext_plan_cells.proofs.Steps.{steps_on}
-use Rattle.ext_one_report.specs.Calls.{StepFinds, StepWithin, name_of}
+use Rattle.ext_one_report.specs.Calls.{StepWithin}
 use Rattle.ext_one_report.specs.Matching.{HasNumberIn, IsRunView, Places, RunView, cell_of}
-use Rattle.ext_one_report.specs.Steps.{FindsAll, IsLaneIn, LooksWithin}
-use Rattle.ext_one_report.proofs.Calls.{plain_goes, plain_stops, told_so}
+use Rattle.ext_one_report.specs.Steps.{IsLaneIn, LooksWithin}
+use Rattle.ext_one_report.proofs.Calls.{plain_goes, plain_stops}
 use Rattle.ext_one_report.proofs.Matching.{cells_apart}
 use Rattle.ext_shared_values.specs.Open.{at_place}
 use Rattle.ext_shared_values.proofs.OpenFits.{at_itself, is_at_place}
@@ -92,35 +91,6 @@ single_run store keys path step a o b ran frame = (
     λ on. (done, (refl, record { says = refl; computed_are = refl; found_are = refl }), record { verdict_is = verdict_is o.verdict on; computed_are = omega arith; found_are = omega arith }),
     λ off. (refl, refl),
   ),
-)
-
--- ---- what is found
-
-if_some : {A : Type 0} (P : A → Type 0) (o : Option A) → ((x : A) → P x) → IfSome o P
-if_some P None each = tt
-if_some P (Some x) each = each x
-
-some_weaker : {A : Type 0} (P Q : A → Type 0) (o : Option A) → ((x : A) → P x → Q x) → IfSome o P → IfSome o Q
-some_weaker P Q None each is = tt
-some_weaker P Q (Some x) each is = each x is
-
--- a step that is successful found all
-pub success_finds : (keys : List KeyText) (step : StepText) (o : Outcome) → is_successful (ending_of o.verdict) ≡ true → StepFinds keys o step
-success_finds keys step o on =
-    let memory : o.verdict ≡ no_memory → ⊥ = λ is. true≢false (sym on ∙ ap (λ v. is_successful (ending_of v)) is) in (
-      memory,
-      if_some (λ key. FindsAll (name_of step) (label_of keys key) o) (step_key step) (λ key. record {
-        memory = memory;
-        room = λ why room is. true≢false (sym (told_so o.verdict ∙ on) ∙ ap is_successful is);
-      }),
-    )
-
--- what is found is told by the verdict alone
-pub finds_by : (keys : List KeyText) (step : StepText) (o p : Outcome) → o.verdict ≡ p.verdict → StepFinds keys o step → StepFinds keys p step
-finds_by keys step o p is finds = (
-  λ none. finds.0 (is ∙ none),
-  some_weaker (λ key. FindsAll (name_of step) (label_of keys key) o) (λ key. FindsAll (name_of step) (label_of keys key) p) (step_key step)
-      (λ key all. record { memory = λ none. all.memory (is ∙ none); room = λ why room said. all.room why room (ap verdict_text is ∙ said) }) finds.1,
 )
 
 -- ---- the place that a step may change

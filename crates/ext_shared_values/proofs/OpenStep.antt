@@ -1,5 +1,5 @@
 -- A step that computes the value of an open place: on a lane and in a plain run the value stands there afterwards, and all else is as before.
-use Rattle.std.proofs.Common.{◌≡◌, ℕ, zero, suc, ◌<◌, ◌⊎◌, inl, inr, Bool, true, false, true≢false, List, [], ◌∷◌, drop, length, refl, ap, sym, subst, ◌∙◌, arith, nat_eq, Option, None, Some}
+use Rattle.std.proofs.Common.{◌≡◌, ℕ, ◌⊎◌, inl, inr, Bool, true, false, true≢false, List, [], ◌∷◌, drop, refl, ap, sym, subst, ◌∙◌, arith, nat_eq, Option, None, Some}
 use Rattle.std.specs.List.{slice_index_or}
 use Rattle.std.specs.Prelude.{All, ◌&&◌, ◌||◌, ◌==◌, codes, if◌then◌else◌}
 use Rattle.std.proofs.lemmas.Bool.Decides.{nat_tests}
@@ -12,7 +12,7 @@ use Rattle.ext_model.specs.declared.slot.Slot.TheVariants as slot
 use Rattle.ext_model.specs.History.{slots_in}
 use Rattle.ext_tree.specs.Keys.{KeyValue}
 use Rattle.ext_tree.specs.Traits.{key_eq}
-use Rattle.ext_tree.specs.Trees.{Id, IsPathOf, IsWalk}
+use Rattle.ext_tree.specs.Trees.{IsPathOf}
 use Rattle.ext_tree.proofs.Equalities.{keys_Decides}
 use Rattle.ext_tree.proofs.KeyPlacing.{number_stays, one_key, one_number}
 use Rattle.ext_lifecycle.specs.declared.outcome.Outcome.{Outcome}
@@ -28,6 +28,7 @@ use Rattle.ext_plan_cells.specs.PlanCells.{changed_by}
 use Rattle.ext_one_report.specs.Standings.{AreMatched, KnowsMore, value, standing_of, value_stands}
 use Rattle.ext_one_report.specs.Matching.{HasNumberIn, IsNumbered, Matches, Places, RunView, TextMeaning, cell_of, plain_meaning, plain_slot, text_of}
 use Rattle.ext_one_report.specs.Steps.{FindsAll, HasRoom}
+use Rattle.ext_one_report.proofs.Calls.{path_above}
 use Rattle.ext_one_report.proofs.Matching.{knows_itself}
 use Rattle.ext_one_report.proofs.Standings.{matched_by_more}
 use Rattle.ext_one_report.proofs.StepLooks.{key_found}
@@ -219,12 +220,6 @@ module _ (run : RunView) (path : List ℕ) (places : Places) (open_at : Open) (a
     }
 
 -- ---- the step
-
-path_above : (ids : List Id) (path : List ℕ) (node up : ℕ) → IsPathOf ids node path → up < length path → IsPathOf ids (start_of (drop up path)) (drop up path)
-path_above ids [] node up is within = absurd is
-path_above ids (first ∷ walk) node zero is within = (refl, subst (λ c. IsWalk ids c walk) (sym is.0) is.1)
-path_above ids (first ∷ []) node (suc up) is within = absurd (omega (arith, within))
-path_above ids (first ∷ parent ∷ rest) node (suc up) is within = path_above ids (parent ∷ rest) parent up (refl, is.1.1) (omega (arith, within))
 
 module _ (run : RunView) (keys : List KeyText) (path : List ℕ) (places : Places) (open_at : Open) (name : List ℕ) (key : StepKeyText) (v : ValueText) (a : PlanLane) (o : Outcome) (b : PlanLane) (s : ValueState)
     (both : AreBesideOpen run path places open_at a b s) (finds : FindsAll name (label_of keys key) o) (room : HasRoom (key_of_step keys key) s) where

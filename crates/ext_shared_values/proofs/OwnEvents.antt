@@ -1,5 +1,5 @@
 -- What a lane does between two moments whose own events are on one cell alone: what stands elsewhere stays, where the lane is alone.
-use Rattle.std.proofs.Common.{◌≡◌, ℕ, zero, suc, Some, inl, inr, true, false, true≢false, cond, List, [], ◌∷◌, ◌++◌, refl, ap, sym, subst, ◌∙◌, arith, nat_eq, append_assoc, append-nil}
+use Rattle.std.proofs.Common.{◌≡◌, ℕ, zero, suc, Some, inl, inr, true, false, true≢false, List, [], ◌++◌, refl, ap, sym, subst, ◌∙◌, arith, nat_eq, append_assoc, append-nil}
 use Rattle.std.proofs.lemmas.Bool.Decides.{nat_tests}
 use Rattle.std.proofs.lemmas.List.Elements.{Contains-append_left, Contains-append_right}
 use mathlib.Core.List.{IsPrefix, append_cancel_left}
@@ -9,10 +9,8 @@ use Rattle.ext_history.proofs.Composed.{same_number, seen_goes_on}
 use Rattle.ext_history.proofs.Lanes.{own_append}
 use Rattle.ext_history.proofs.Lists.{bools}
 use Rattle.ext_model.specs.declared.event.Act.{Act}
-use Rattle.ext_model.specs.declared.event.Act.TheVariants.{Keep, Claim, Fill, Abandon}
-use Rattle.ext_model.specs.declared.event.Event.{Event}
 use Rattle.ext_model.specs.State.{State}
-use Rattle.ext_model.specs.History.{History, IsLegal, IsQuiet, Limits, by, lane_of, own, slots_in, state_after}
+use Rattle.ext_model.specs.History.{History, IsLegal, IsQuiet, Limits, lane_of, own, slots_in, state_after}
 use Rattle.ext_model.specs.CallActs.{Calls, LaneView, events_by}
 use Rattle.ext_model.proofs.Versions.{after-append, slot_stays, version-append}
 use Rattle.ext_tree.specs.Keys.{KeyValue}
@@ -29,25 +27,12 @@ use Rattle.ext_one_report.specs.OnCells.{events_at}
 use Rattle.ext_one_report.specs.Matching.{AreNotAt, HasNumberIn, IsRunView, Matches, Places, RunView, cell_of}
 use Rattle.ext_one_report.specs.Steps.{IsAlone}
 use Rattle.ext_one_report.proofs.Alone.{quiet_to}
+use Rattle.ext_one_report.proofs.Computes.{only_given_up}
 use Rattle.ext_one_report.proofs.Matching.{cells_apart, others_keep_matches}
 use Rattle.ext_one_report.proofs.OnCells.{at-append, quiet_at}
 use Rattle.ext_one_report.proofs.OwnCell.{OnlyAt}
 use Rattle.ext_shared_values.specs.Open.{MayStand, OnlyComputed, Open, Stands}
 use Rattle.ext_shared_values.proofs.Standing.{keeps_near, stays_there}
-
--- ---- events of a claim and of its end, on one cell
-
-only_given_up : (cell lane : ℕ) → OnlyAt cell (by lane (Claim cell) ∷ by lane (Abandon cell) ∷ [])
-only_given_up cell lane = λ other off.
-    let last : Event ℕ = by lane (Abandon cell) in
-    let first : Event ℕ = by lane (Claim cell) in
-    ap (λ b. cond b (first ∷ cond b (last ∷ []) []) (cond b (last ∷ []) [])) off
-
-pub only_fill : (cell lane number : ℕ) → OnlyAt cell (by lane (Claim cell) ∷ by lane (Keep number) ∷ by lane (Fill cell number) ∷ [])
-only_fill cell lane number = λ other off.
-    let last : Event ℕ = by lane (Fill cell number) in
-    let first : Event ℕ = by lane (Claim cell) in
-    ap (λ b. cond b (first ∷ cond b (last ∷ []) []) (cond b (last ∷ []) [])) off
 
 -- ---- a lane between two moments
 

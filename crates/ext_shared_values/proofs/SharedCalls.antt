@@ -1,8 +1,7 @@
 -- The calls of nodes that share values: step by step, what a step touches is not shared or is settled by a compute before it, or the step computes the value itself.
-use Rattle.std.proofs.Common.{◌≡◌, ◌<◌, ◌≤◌, ◌+◌, ◌⊎◌, ℕ, Bool, true, false, List, [], ◌∷◌, ◌++◌, length, get_or, Contains, All, drop, Option, Some, None, refl, ap, sym, subst, ◌∙◌, arith, inl, inr, append_assoc, eq-eqb}
+use Rattle.std.proofs.Common.{◌≡◌, ◌<◌, ◌≤◌, ◌⊎◌, ℕ, Bool, true, false, List, [], ◌∷◌, ◌++◌, length, get_or, Contains, drop, Option, Some, None, refl, ap, sym, subst, ◌∙◌, inl, inr, append_assoc, eq-eqb}
 use Rattle.std.specs.Prelude.{if◌then◌else◌, ◌==◌}
 use Rattle.std.proofs.lemmas.Bool.{and_from, cases_Bool, or_left, or_right, true≢false}
-use Rattle.std.proofs.lemmas.List.{get_or-drop, get_or_default, length-drop}
 use Rattle.std.proofs.lemmas.List.Elements.{All-contains, Contains-append_right, Contains-push_cases}
 use Rattle.ext_tree.specs.Keys.{KeyValue}
 use Rattle.ext_tree.specs.Traits.{key_eq}
@@ -28,15 +27,15 @@ use Rattle.ext_one_report.specs.Matching.{Places, RunView}
 use Rattle.ext_one_report.specs.Steps.{LooksWithin}
 use Rattle.ext_plain_places.specs.Covered.{touched_in}
 use Rattle.ext_plain_places.proofs.CoveredCalls.{call_stays}
-use Rattle.ext_plain_places.proofs.CoveredPlans.{IsTouchedBelow, touched_by, within_itself}
-use Rattle.ext_plain_places.proofs.CoveredTouches.{contains_drop}
+use Rattle.ext_plain_places.proofs.CoveredPlans.{IsTouchedBelow, an_act, from_drop, touched_by, within_itself}
+use Rattle.ext_plain_places.proofs.CoveredTouches.{computes_all, contains_drop, kept_or_computed}
 use Rattle.ext_shared_values.specs.Open.{ComputesOpen, Open, also, at_place, place_of_step, still_open}
 use Rattle.ext_shared_values.specs.OpenCalls.{CallFitsOpen, LeavesAbove, StepsFit}
 use Rattle.ext_shared_values.specs.Shared.{SharesValues, unshared}
 use Rattle.ext_shared_values.specs.SharedPlans.{shares_in}
 use Rattle.ext_shared_values.proofs.SharedNodes.{some_or_none, still_is_unshared, unshared_is}
-use Rattle.ext_shared_values.proofs.SharedSteps.{acts_there, an_act, computes_there, from_start, goes_up, leaves_above, path_is, within}
-use Rattle.ext_shared_values.proofs.SharedTouches.{changes_there, computes_all, kept_or_computed, looked_above, touches_there}
+use Rattle.ext_shared_values.proofs.SharedSteps.{acts_there, computes_there, from_start, goes_up, leaves_above, path_is, within}
+use Rattle.ext_shared_values.proofs.SharedTouches.{changes_there, looked_above, touches_there}
 
 -- ---- places
 
@@ -58,13 +57,6 @@ looked_along node key act (context ∷ above) c still looks there = elim (contai
 
 still_changes : (word : Word) → changes word ≡ false → gives_value word ≡ true → ⊥
 still_changes word still gives = true≢false (sym (computes_all word gives).0 ∙ still)
-
--- what holds of each context of a path from here on
-from_drop : (P : ℕ → Type 0) (up : ℕ) (path : List ℕ) → ((at : ℕ) → up ≤ at → at < length path → P (get_or path at 0)) → All P (drop up path)
-from_drop P up path each = λ k d less.
-    let long = length-drop up path in
-    let inside : up + k < length path = omega (arith, less, long) in
-    subst P (sym (get_or-drop up path k d ∙ get_or_default path (up + k) d 0 inside)) (each (up + k) (omega arith) inside)
 
 one_act : (act other : ActText) → Some act ≡ Some other → act ≡ other
 one_act act other e = cc e

@@ -1,19 +1,10 @@
 -- The nodes of a plan without races share values, where none of them compute the same fault.
-use Rattle.std.proofs.Common.{◌≡◌, Bool, true, false, refl, ap, ◌∙◌, eq-eqb, inl, inr}
-use Rattle.std.specs.Prelude.{◌==◌, ◌&&◌, not, if◌then◌else◌}
-use Rattle.std.proofs.lemmas.Bool.{and_from, cases_Bool}
-use Rattle.ext_races.specs.Clashes.{agree, clashes, closes_differ}
+use Rattle.std.proofs.Common.{refl, inl, inr}
+use Rattle.std.proofs.lemmas.Bool.{cases_Bool}
+use Rattle.ext_races.specs.Clashes.{agree}
 use Rattle.ext_races.specs.Races.{race_of}
-use Rattle.ext_races.specs.Touches.{TouchText}
+use Rattle.ext_plain_places.proofs.CoveredFree.{clash}
 use Rattle.ext_shared_values.specs.SharedPlans.{RaceFreeSharesValues}
-
--- two touches of one place clash, where the first may change it and they don't agree
-clash : (t u : TouchText) → t.changes ≡ true → t.context ≡ u.context → t.key ≡ u.key → agree t u ≡ false → clashes t u ≡ true
-clash t u changing at named none =
-    let place = and_from t.changes (t.context == u.context) changing (eq-eqb t.context u.context at) in
-    let differ : (if t.key == u.key then not (agree t u) else closes_differ t u) ≡ true =
-    ap (λ (b : Bool). if b then not (agree t u) else closes_differ t u) (eq-eqb t.key u.key named) ∙ ap not none in
-    and_from (t.changes && (t.context == u.context)) (if t.key == u.key then not (agree t u) else closes_differ t u) place differ
 
 pub race_free_shares_values : RaceFreeSharesValues
 race_free_shares_values plan free none = record {

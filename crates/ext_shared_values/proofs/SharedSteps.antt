@@ -1,5 +1,5 @@
 -- A step of a call at places that its node shares: where it changes one it computes the value, and it changes none above one.
-use Rattle.std.proofs.Common.{◌≡◌, ◌<◌, ℕ, true, false, List, [], ◌∷◌, ◌++◌, length, Contains, drop, Option, Some, None, refl, ap, sym, subst, ◌∙◌, arith, inl, inr}
+use Rattle.std.proofs.Common.{◌≡◌, ◌<◌, ℕ, true, false, List, [], ◌∷◌, ◌++◌, length, Contains, drop, Some, None, refl, ap, sym, subst, ◌∙◌, arith, inl, inr}
 use Rattle.std.proofs.lemmas.Bool.{true≢false}
 use Rattle.std.proofs.lemmas.List.{length-drop}
 use Rattle.std.proofs.lemmas.List.Elements.{All-contains}
@@ -13,7 +13,6 @@ use Rattle.ext_plan.specs.StepCalls.{start_of}
 use Rattle.ext_plan.specs.Steps.{height}
 use Rattle.ext_plan.specs.StoreKeys.{key_of_step, place_of_key}
 use Rattle.ext_plan.specs.Values.{ValueText}
-use Rattle.ext_races.specs.declared.word.Word.{Word}
 use Rattle.ext_races.specs.declared.word.Word.TheVariants as words
 use Rattle.ext_races.specs.Acts.{ActText, act_of}
 use Rattle.ext_races.specs.MadeSteps.{calls_of, plan_path}
@@ -25,7 +24,7 @@ use Rattle.ext_one_report.specs.Matching.{RunView}
 use Rattle.ext_plain_places.specs.Covered.{changed_in, touched_in}
 use Rattle.ext_plain_places.proofs.CoveredCalls.{call_stays}
 use Rattle.ext_plain_places.proofs.CoveredPaths.{path_there}
-use Rattle.ext_plain_places.proofs.CoveredPlans.{IsTouchedBelow, changed_by_touch, step_changes, within_itself}
+use Rattle.ext_plain_places.proofs.CoveredPlans.{IsTouchedBelow, an_act, changed_by_touch, height_is, step_changes, within_itself}
 use Rattle.ext_shared_values.specs.Open.{ComputesOpen, Open}
 use Rattle.ext_shared_values.specs.OpenCalls.{LeavesAbove}
 use Rattle.ext_shared_values.specs.Shared.{SharesValues}
@@ -51,29 +50,6 @@ from_start (context ∷ above) some = (above, refl)
 first_there : (node key : ℕ) (act : ActText) (path : List ℕ) → 0 < length path → Contains (touches_along node key act path) (touch_of node key act (changes act.word) (start_of path))
 first_there node key act [] some = absurd (omega (arith, some))
 first_there node key act (context ∷ above) some = contains_first (touch_of node key act (changes act.word) context) (touches_above node key act above)
-
--- ---- acts
-
-abbrev pub an_act : Word → StepKeyText → List ℕ → ℕ → ActText
-an_act word key text up = record { word = word; key = key; text = text; up = up }
-
-up_of : Option ActText → ℕ
-up_of None = 0
-up_of (Some act) = act.up
-
--- a step that acts goes up as far as its act
-height_is : (step : StepText) (act : ActText) → act_of step ≡ Some act → height step ≡ act.up
-unfolding up_of
-height_is (put key text up) act acts = ap up_of acts
-height_is (put_closeable key text up) act acts = ap up_of acts
-height_is (want key text up) act acts = ap up_of acts
-height_is (nothing key up) act acts = ap up_of acts
-height_is (remove key up) act acts = ap up_of acts
-height_is (compute key text up) act acts = ap up_of acts
-height_is (compute_closeable key text up) act acts = ap up_of acts
-height_is (compute_fail key text up) act acts = ap up_of acts
-height_is (fail text) act acts = absurd (cc acts)
-height_is (abort text) act acts = absurd (cc acts)
 
 -- ---- steps of a call
 

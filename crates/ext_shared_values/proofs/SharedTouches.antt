@@ -1,43 +1,25 @@
 -- The touches of a plan's steps with what they are: a compute looks at all places of its key above its own, and a step of a call touches what its act does, after the steps before it.
-use Rattle.std.proofs.Common.{◌≡◌, ◌<◌, ◌≤◌, ◌⊎◌, ℕ, zero, suc, Bool, true, false, List, [], ◌∷◌, ◌++◌, length, get_or, Contains, drop, take, map, Option, Some, None, refl, ap, sym, subst, ◌∙◌, arith, inl, inr, append_assoc, append-nil}
-use Rattle.std.specs.Prelude.{◌&&◌, if◌then◌else◌}
+use Rattle.std.proofs.Common.{◌≡◌, ◌<◌, ℕ, zero, suc, Bool, true, false, List, [], ◌∷◌, ◌++◌, length, Contains, drop, map, Option, Some, None, refl, ap, sym, subst, ◌∙◌, arith, inl, inr, append_assoc, append-nil}
+use Rattle.std.specs.Prelude.{if◌then◌else◌}
 use Rattle.std.specs.List.{range_with_len}
-use Rattle.std.proofs.lemmas.Bool.{and_parts, cases_lt, true≢false}
-use Rattle.std.proofs.lemmas.List.{get_or-take, length-take}
+use Rattle.std.proofs.lemmas.Bool.{true≢false}
 use Rattle.std.proofs.lemmas.List.Elements.{All-contains}
-use Rattle.ext_tree.specs.Keys.{KeyValue}
-use Rattle.ext_tree.specs.Traits.{key_eq}
 use Rattle.ext_tree.specs.Trees.{Id, IsPathOf, IsWalk}
-use Rattle.ext_tree.proofs.Equalities.{keys_Decides}
 use Rattle.ext_tree.proofs.Walks.{one_walk}
 use Rattle.ext_lifecycle.specs.declared.call.Call.{Call}
 use Rattle.ext_plan.specs.Plans.{KeyText, PlanText, StepText}
 use Rattle.ext_plan.specs.PlanCalls.{steps_of_call}
 use Rattle.ext_plan.specs.ReadPlans.{IsReadPlan, ids_of_nodes}
 use Rattle.ext_plan.specs.StoreKeys.{key_of_step, place_of_key}
-use Rattle.ext_races.specs.declared.word.Word.{Word}
-use Rattle.ext_races.specs.declared.word.Word.TheVariants as words
 use Rattle.ext_races.specs.Acts.{ActText, act_of}
 use Rattle.ext_races.specs.MadeSteps.{MadeText, calls_of, made_after, made_by, made_of_node, path_of, plan_path, steps_made}
-use Rattle.ext_races.specs.Touches.{TouchText, below_act, below_computes, keys_named, reach, touch_of, touches_above, touches_along, touches_made, touches_of, touches_of_act}
+use Rattle.ext_races.specs.Touches.{TouchText, below_computes, keys_named, reach, touch_of, touches_above, touches_along, touches_made, touches_of, touches_of_act}
 use Rattle.ext_races.specs.Words.{changes, gives_value, looks_along}
 use Rattle.ext_races.proofs.Lists.{contains-flat_map, contains-flat_map_back, contains-map, contains-map_back, contains_cases, contains_first, contains_later, contains_nothing}
 use Rattle.ext_races.proofs.Within.{nodes_within}
 use Rattle.ext_plain_places.proofs.CoveredPaths.{path_there}
-use Rattle.ext_plain_places.proofs.CoveredTouches.{in_range}
+use Rattle.ext_plain_places.proofs.CoveredTouches.{computes_all, in_range}
 use Rattle.ext_shared_values.proofs.SharedFound.{same_count}
-
--- ---- what a compute is
-
-pub computes_all : (word : Word) → gives_value word ≡ true → (changes word ≡ true) × (looks_along word ≡ true)
-computes_all words.Put gives = absurd cc
-computes_all words.PutCloseable gives = absurd cc
-computes_all words.Want gives = absurd cc
-computes_all words.None gives = absurd cc
-computes_all words.Remove gives = absurd cc
-computes_all words.Compute gives = (refl, refl)
-computes_all words.ComputeCloseable gives = (refl, refl)
-computes_all words.ComputeFail gives = absurd cc
 
 -- ---- what a touch looks at above its own context
 
@@ -169,46 +151,3 @@ module _ (plan : PlanText) (node : ℕ) (call : Call) (within : node < length pl
   pub changes_there : changes act.word ≡ true → (t : TouchText) → Contains (touches_along node number_in act (drop act.up (plan_path plan node))) t → Contains (touches_made plan) t
   changes_there changing t there =
       touches_there t (subst (λ p. Contains (touches_along node number_in act (drop act.up p)) t) (sym (reach_all plan.keys front (plan_path plan node) act changing)) there)
-
--- ---- look-ups behind a compute of their call
-
--- the step computes a value of the key, no further up than this
-pub record ComputesUp (declared : List KeyText) (key : KeyValue) (at : ℕ) (act : Option ActText) : Type 0 where
-  pub one : ActText
-  pub is : act ≡ Some one
-  pub gives : gives_value one.word ≡ true
-  pub same : key_of_step declared one.key ≡ key
-  pub low : one.up ≤ at
-
--- at this place of the path it is as it was
-abbrev IsKept : List ℕ → List ℕ → ℕ → Type 0
-IsKept path below at = (at < length below) × (get_or below at 0 ≡ get_or path at 0)
-
-take_keeps : (path : List ℕ) (up at : ℕ) → at < length path → at < up → IsKept path (take up path) at
-take_keeps path up at less low = ((let long = length-take up path in omega (arith, long, less, low)), get_or-take up path at 0 low)
-
-kept_if : (b : Bool) (path : List ℕ) (up at : ℕ) → at < length path → IsKept path (if b then take up path else path) at ⊎ ((b ≡ true) × (up ≤ at))
-kept_if false path up at less = inl (less, refl)
-kept_if true path up at less = elim (cases_lt at up) [ inl low ↦ inl (take_keeps path up at less low) | inr high ↦ inr (refl, high) ]
-
-module _ (declared : List KeyText) (key : KeyValue) where
-  kept_by_act : (path : List ℕ) (act : Option ActText) (at : ℕ) → at < length path → IsKept path (below_act declared key path act) at ⊎ ComputesUp declared key at act
-  kept_by_act path None at less = inl (less, refl)
-  kept_by_act path (Some act) at less = elim (kept_if (gives_value act.word && key_eq (key_of_step declared act.key) key) path act.up at less) [
-    | inl kept ↦ inl kept
-    | inr cut ↦
-        let parts = and_parts (gives_value act.word) (key_eq (key_of_step declared act.key) key) cut.0 in
-        inr (record { one = act; is = refl; gives = parts.0; same = (keys_Decides (key_of_step declared act.key) key).0 parts.1; low = cut.1 })
-  ]
-
-  -- the steps before leave the path as it was there, or one of them computes the key there or below
-  pub kept_or_computed : (before : List StepText) (path : List ℕ) (at : ℕ) → at < length path
-      → IsKept path (below_computes declared key path before) at ⊎ ((step : StepText) × Contains before step × ComputesUp declared key at (act_of step))
-  kept_or_computed [] path at less = inl (less, refl)
-  kept_or_computed (step ∷ more) path at less = elim (kept_by_act path (act_of step) at less) [
-    | inl kept ↦ elim (kept_or_computed more (below_act declared key path (act_of step)) at kept.0) [
-      | inl both ↦ inl (both.0, both.1 ∙ kept.1)
-      | inr one ↦ inr (one.0, contains_later step one.0 more one.1, one.2)
-    ]
-    | inr computes ↦ inr (step, contains_first step more, computes)
-  ]
