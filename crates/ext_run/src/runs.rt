@@ -36,8 +36,8 @@ struct Output {
 /// is refused fails with `no memory`, and one that names a key beside 64 others that were named before with `directory full`. A plain run tells whether there was a step
 /// for which memory was refused (`Summary::lacked`): where there was none, its report is that of the one plain run that the plan has.
 ///
-/// Of a plan whose nodes don't get into each other's way a run on several lanes that lacks nothing tells of each node what the plain run does, but for which node
-/// computed a value that several compute: `ext_same_report::report_laws` has the sentences, and what they ask of the plan.
+/// Of a plan whose nodes don't get into each other's way a run on several lanes that lacks nothing tells of each node what the plain run does, but for the counts of
+/// computed and found values where nodes compute the same beside one another: `ext_same_report::report_laws` has the sentences, and what they ask of the plan.
 ///
 /// The input is read to its end, but at most 1,048,577 bytes of it, and the first read that fails ends the
 /// run. The whole report stands before its first byte is written; at last the writer is flushed.
