@@ -47,7 +47,7 @@ enum {
     EXT_NUMBERS_FULL = 10,  /* all numbers of the store were drawn: nothing more can be stored */
     EXT_NO_MEMORY = 11,     /* an allocation failed */
     EXT_UNPLACED = 12,      /* a place did not take the value or the key; tests show that it never comes */
-    EXT_UNSHOWN = 13,       /* it has happened, but the handle of what was met was not found; tests show that it never comes */
+    EXT_UNSHOWN = 13,       /* the handle of a number that was met was not found; tests show that it never comes */
     EXT_UNJOINED = 14,      /* of ext_close: ask again at once */
     EXT_CLAIMING = 15,      /* the lane has begun a compute: end it first */
     EXT_NO_CLAIM = 16,      /* the lane has begun no compute */
@@ -94,9 +94,9 @@ typedef struct ext_value {
    The lane of the last slot closes contexts, and no other lane does.
 
    EXT_DONE
-   Else all slots are as they were, and nothing is left. Refused in this order: EXT_NOT_EMPTY; EXT_BAD_LENGTHS or EXT_BAD_TEXT, for
-   the first text that is none; EXT_BAD_ID; EXT_TOO_MANY or EXT_BAD_TREE; EXT_BAD_LIMIT. EXT_NO_MEMORY may come at any of these
-   but the first */
+   Else all slots are as they were, and nothing is left. Refused in this order: EXT_NOT_EMPTY; EXT_BAD_LIMIT; EXT_BAD_LENGTHS or
+   EXT_BAD_TEXT, for the first text that is none; EXT_BAD_ID; EXT_TOO_MANY or EXT_BAD_TREE. EXT_NO_MEMORY may come in place of
+   the last three, or after them */
 ext_code ext_open(const uint8_t *bytes, size_t byte_count, const uint32_t *lengths, size_t length_count, uint32_t tries, uint32_t numbers,
                   bool keep_faults, ext_slot *slots, size_t lanes);
 
@@ -180,6 +180,7 @@ ext_code ext_abandon(ext_slot *slot);
    EXT_DONE: values[0] to values[*count - 1] are to be closed, and nothing is found or stored in the context any more
    EXT_UNJOINED: the lane had not yet been shown a value that another lane stored; this call has shown it one more. Ask again at
    once, at most 64 times
+   EXT_UNSHOWN: the lane has not been shown such a value, since the thread did not find it. Not closed: ask again
    EXT_BUSY, EXT_CONTENDED: some of the context's places are sealed already. End the factories that run for it, and ask again
    EXT_CLOSED: it was closed before
    Else nothing has changed: EXT_NO_CLOSER, EXT_TOO_FEW_PLACES, EXT_CLAIMING, EXT_BAD_CONTEXT, EXT_NO_LANE */

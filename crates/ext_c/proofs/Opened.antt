@@ -6,21 +6,16 @@ use Rattle.std.specs.List.{AllZip}
 use Rattle.std.proofs.lemmas.Slice.Zip.{AllZip-long}
 use Rattle.std.proofs.Common.{add-one}
 use Rattle.std.proofs.lemmas.List.{length_push}
-use Rattle.ext_ids.specs.Grammar.{IsIdText}
-use Rattle.ext_tree.specs.Trees.{Id, IsTree}
 use Rattle.ext_cells.specs.Lanes.{CellsId, fresh_lanes}
-use Rattle.ext_store.specs.declared.limits.StoreFault.{StoreFault}
-use Rattle.ext_store.specs.declared.limits.StoreFault.TheVariants as limit
 use Rattle.ext_store.specs.Stores.{AreStoreLimits, CloserView, StoreLane, StoreView, fresh_store_lane}
 use Rattle.ext_c.specs.declared.code.Code.{Code}
 use Rattle.ext_c.specs.declared.code.Code.TheVariants as code
 use Rattle.ext_c.specs.declared.handle.Handle.{Handle}
 use Rattle.ext_c.specs.declared.seat.Seat.{Seat}
 use Rattle.ext_c.specs.declared.slot.ExtSlot.{ExtSlot}
-use Rattle.ext_c.specs.Codes.{open_code}
 use Rattle.ext_c.proofs.Cut.{take_all, zip_push}
 use Rattle.ext_c.specs.Opening.{AreEmpty, AreSeats, HasSeatOf, HaveLanes, IsIn, IsSeatOf, OpenSays, all_closers, lanes_below}
-use Rattle.ext_c.specs.Texts.{AreTexts, NamesNoTree, texts_in}
+use Rattle.ext_c.specs.Texts.{AreTexts, NamesNoTree}
 
 -- ---- slots that have seats
 
@@ -123,26 +118,9 @@ pub left_none : (seats left : List (Box Seat)) (slots : List ExtSlot) (i : ℕ) 
 left_none seats left slots i so_far none lt same =
     let le : length seats ≤ i = drop_more seats i (subst (λ (l : List (Box Seat)). length l ≡ 0) so_far.rest none) in omega (arith, le, lt, same)
 
--- ---- why no store is opened
-
-limit_or_memory : (e : StoreFault) → (e ≡ limit.BadLimit) ⊎ (open_code e ≡ code.NoMemory)
-limit_or_memory limit.BadLimit = inl refl
-limit_or_memory limit.Memory = inr refl
-
-pub not_opened : (lanes tries numbers : ℕ) (e : StoreFault) (said : Code) → (e ≡ limit.BadLimit → ¬ AreStoreLimits lanes tries numbers) → said ≡ open_code e
-    → ((¬ AreStoreLimits lanes tries numbers) × (said ≡ code.BadLimit)) ⊎ (said ≡ code.NoMemory)
-not_opened lanes tries numbers e said bad is =
-    elim (limit_or_memory e) as (λ _. ((¬ AreStoreLimits lanes tries numbers) × (said ≡ code.BadLimit)) ⊎ (said ≡ code.NoMemory))
-    [ inl b ↦ inl (bad b, is ∙ ap open_code b) | inr m ↦ inr (is ∙ m) ]
-
 -- ---- what an opening says that is refused
 
-module _ (bytes lengths : List ℕ) (tries numbers : ℕ) (keeps : Bool) (slots : List ExtSlot) (said : Code) (empty : AreEmpty slots) where
-  pub open_no_tree : NamesNoTree bytes lengths said ⊎ (said ≡ code.NoMemory) → OpenSays bytes lengths tries numbers keeps slots slots said
-  open_no_tree (inl none) = OpenSays.no_tree empty none refl
-  open_no_tree (inr memory) = OpenSays.no_memory empty refl memory
-
-  pub open_no_seats : AreTexts bytes lengths → (ids : List Id) → AllZip IsIdText (texts_in bytes lengths) ids → IsTree ids
-      → ((¬ AreStoreLimits (length slots) tries numbers) × (said ≡ code.BadLimit)) ⊎ (said ≡ code.NoMemory) → OpenSays bytes lengths tries numbers keeps slots slots said
-  open_no_seats well ids spell tree (inl limit) = OpenSays.bad_limit empty well ids spell tree limit.0 refl limit.1
-  open_no_seats well ids spell tree (inr memory) = OpenSays.no_memory empty refl memory
+pub open_no_tree : (bytes lengths : List ℕ) (tries numbers : ℕ) (keeps : Bool) (slots : List ExtSlot) (said : Code) → AreEmpty slots → AreStoreLimits (length slots) tries numbers
+    → NamesNoTree bytes lengths said ⊎ (AreTexts bytes lengths × (said ≡ code.NoMemory)) → OpenSays bytes lengths tries numbers keeps slots slots said
+open_no_tree bytes lengths tries numbers keeps slots said empty limits (inl none) = OpenSays.no_tree empty limits none refl
+open_no_tree bytes lengths tries numbers keeps slots said empty limits (inr memory) = OpenSays.no_memory empty limits memory.0 refl memory.1

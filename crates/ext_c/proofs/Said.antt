@@ -1,13 +1,15 @@
 -- What a call of a seat says of the steps that it made one after the other: what a step leaves as it was is told as of the first state.
-use Rattle.std.proofs.Common.{◌≡◌, ℕ, ◌⊎◌, inl, inr, Some, None, Ok, Err, List, [], ◌∷◌, subst, sym, ap, ◌∙◌, refl}
-use Rattle.std.specs.Prelude.{Option, Result, IfSome, IsSome, is_some, slice_index_or, true}
+use Rattle.std.proofs.Common.{◌≡◌, ◌≢◌, ◌<◌, ◌^◌, ℕ, ◌⊎◌, inl, inr, Some, None, Ok, Err, List, [], ◌∷◌, length, subst, sym, ap, ◌∙◌, refl}
+use Rattle.std.proofs.lemmas.Bool.{cases_eq}
+use Rattle.std.proofs.lemmas.List.{ext_get_or}
+use Rattle.std.specs.Prelude.{Option, Result, IfSome, IsSome, IsTrue, is_some, slice_index_or, true, false}
 use Rattle.std.specs.Arc.{arc_value}
 use Rattle.ext_model.specs.declared.event.Act.TheVariants.{Abandon}
 use Rattle.ext_model.specs.CallActs.{Calls}
 use Rattle.ext_model.specs.declared.look.Look.{Look}
 use Rattle.ext_model.specs.declared.look.Look.TheVariants as look
 use Rattle.ext_model.specs.declared.look.Fault.{Fault}
-use Rattle.ext_values.specs.Known.{Known, Learns}
+use Rattle.ext_values.specs.Known.{Known, Learns, known_at}
 use Rattle.ext_cells.specs.CellCalls.{EndsClaim}
 use Rattle.ext_cells.specs.Lanes.{CellsId, Lane}
 use Rattle.ext_closing.specs.declared.fault.CloseFault.{CloseFault}
@@ -27,13 +29,18 @@ use Rattle.ext_c.specs.declared.value.ExtValue.{ExtValue}
 use Rattle.ext_c.specs.declared.seat.Seat.{Seat}
 use Rattle.ext_c.specs.declared.slot.ExtSlot.{ExtSlot}
 use Rattle.ext_c.specs.declared.written.Written.{Written}
-use Rattle.ext_c.specs.Closing.{CloseSays, NotClosing, WritesOut}
-use Rattle.ext_c.specs.Codes.{close_code, code_number}
+use Rattle.ext_c.specs.Closing.{Asks, CloseSays, KeepsOthers, LosesOnly, NotClosing, TellsRefused, WritesOut}
+use Rattle.ext_c.specs.Codes.{code_number}
+use Rattle.ext_c.specs.Faults.{IsFaultOf}
 use Rattle.ext_c.specs.Slots.{OnSlot}
 use Rattle.ext_c.specs.Writing.{WritesNext}
 use Rattle.ext_c.specs.Answers.{BeginSays, FailSays, GetSays, NotAsked, PutSays, RemoveSays, TellsFault, TellsFound, TellsLook, TellsPut, TellsRemove, TellsStanding, TellsStood, TellsUnused, TellsValue, store_of}
 
 -- ---- told of a lane that knows the same
+
+-- of these notes no fault of the number has a handle
+abbrev NoneKnown : List (Known Fault) → ℕ → Type 0
+NoneKnown notes number = (why : Fault) (own : ℕ) → known_at notes number ≡ Some why → own < 2 ^ 64 → IsFaultOf own why → ⊥
 
 module _ (before mid after : StoreLane Handle) (known : mid.known ≡ before.known) (faults : mid.faults ≡ before.faults) (told : ExtValue) where
   value_as : (context number : ℕ) → TellsValue context number mid after told → TellsValue context number before after told
@@ -57,11 +64,11 @@ module _ (before mid after : StoreLane Handle) (known : mid.known ≡ before.kno
 
   found_as : (context number : ℕ) (said : Code) → TellsFound context number mid after told said → TellsFound context number before after told said
   found_as context number said (inl t) = inl (t.0, value_as context number t.1)
-  found_as context number said (inr t) = inr t
+  found_as context number said (inr t) = inr (t.0, t.1, subst (λ (k : List (Known Handle)). known_at k number ≡ None) known t.2)
 
   standing_as : (context number : ℕ) (said : Code) → TellsStanding context number mid after told said → TellsStanding context number before after told said
   standing_as context number said (inl t) = inl (t.0, fault_as context number t.1)
-  standing_as context number said (inr t) = inr t
+  standing_as context number said (inr t) = inr (t.0, t.1, subst (λ (k : List (Known Fault)). NoneKnown k number) faults t.2)
 
   value_or_fault_as : (context number : ℕ) → (TellsValue context number mid after told ⊎ TellsFault context number mid after told)
       → (TellsValue context number before after told ⊎ TellsFault context number before after told)
@@ -70,7 +77,8 @@ module _ (before mid after : StoreLane Handle) (known : mid.known ≡ before.kno
 
   stood_as : (context number : ℕ) (said : Code) → TellsStood context number mid after told said → TellsStood context number before after told said
   stood_as context number said (inl t) = inl (t.0, value_or_fault_as context number t.1)
-  stood_as context number said (inr t) = inr t
+  stood_as context number said (inr t) =
+      inr (t.0, t.1, subst (λ (k : List (Known Handle)). known_at k number ≡ None) known t.2, subst (λ (k : List (Known Fault)). NoneKnown k number) faults t.3)
 
   module _ (was : ExtValue) where
     look_as : (looked : Result Look Refusal) (said : Code) → TellsLook looked mid after was told said → TellsLook looked before after was told said
@@ -102,54 +110,62 @@ of_some : (m : Option ℕ) → is_some m ≡ true → (claim : ℕ) × (m ≡ So
 of_some None e = absurd (cc)
 of_some (Some claim) e = (claim, refl)
 
+of_none : (m : Option ℕ) → is_some m ≡ false → m ≡ None
+of_none None e = refl
+of_none (Some claim) e = absurd (cc)
+
+-- a lane that has none
+pub has_none : (seat : Seat) → is_some seat.claim ≡ false → seat.claim ≡ None
+has_none seat e = of_none seat.claim e
+
 -- a lane that has a claim
 pub has_claim : (context key : ℕ) (seat : Seat) → is_some seat.claim ≡ true → NotAsked context key seat code.Claiming
 has_claim context key seat e = let own = of_some seat.claim e in NotAsked.claiming own.0 own.1
 
 -- a lane that has just got one
-pub begin_run : (context key : ℕ) (before after : Seat) (was : ExtValue) (m : Option ℕ) → after.claim ≡ m → IsSome m
+pub begin_run : (context key : ℕ) (before after : Seat) (was : ExtValue) (m : Option ℕ) → before.claim ≡ None → after.claim ≡ m → IsSome m
     → IfSome m (λ claim. ClaimsMissing (store_of before) context key before.lane.cells.view after.lane.cells.view (Ok claim)) → BeginSays context key before after was was code.Run
-begin_run context key before after was None e some claims = absurd (cc)
-begin_run context key before after was (Some claim) e some claims = BeginSays.claimed claim claims e refl refl
+begin_run context key before after was None idle e some claims = absurd (cc)
+begin_run context key before after was (Some claim) idle e some claims = BeginSays.claimed idle claim claims e refl refl
 
 -- ---- the calls
 
 module _ (context key : ℕ) (before mid after : Seat) (known : mid.lane.known ≡ before.lane.known) (faults : mid.lane.faults ≡ before.lane.faults)
-    (still : after.lane.cells ≡ mid.lane.cells) (was told : ExtValue) (said : Code) where
+    (still : after.lane.cells ≡ mid.lane.cells) (idle : before.claim ≡ None) (was told : ExtValue) (said : Code) where
   pub get_said : (looked : Result Look Refusal) → Gets (store_of before) context key before.lane.cells mid.lane.cells looked → TellsLook looked mid.lane after.lane was told said
       → GetSays context key before after was told said
   get_said looked gets tells =
-      GetSays.asked looked (subst (λ (l : Lane). Gets (store_of before) context key before.lane.cells l looked) (sym still) gets)
+      GetSays.asked idle looked (subst (λ (l : Lane). Gets (store_of before) context key before.lane.cells l looked) (sym still) gets)
       (look_as before.lane mid.lane after.lane known faults told was looked said tells)
 
   pub remove_said : (result : Result (Option ℕ) Refusal) → Removes (store_of before) context key before.lane.cells mid.lane.cells result
       → TellsRemove context result mid.lane after.lane was told said → RemoveSays context key before after was told said
   remove_said result removes tells =
-      RemoveSays.asked result (subst (λ (l : Lane). Removes (store_of before) context key before.lane.cells l result) (sym still) removes)
+      RemoveSays.asked idle result (subst (λ (l : Lane). Removes (store_of before) context key before.lane.cells l result) (sym still) removes)
       (remove_as before.lane mid.lane after.lane known faults told was context result said tells)
 
   pub begin_said : (why : Unused) → ClaimsMissing (store_of before) context key before.lane.cells.view mid.lane.cells.view (Err why)
-      → TellsUnused why mid.lane after.lane was told said → BeginSays context key before after was told said
-  begin_said why claims tells =
-      BeginSays.unclaimed why (subst (λ (l : Lane). ClaimsMissing (store_of before) context key before.lane.cells.view l.view (Err why)) (sym still) claims)
-      (unused_as before.lane mid.lane after.lane known faults told was why said tells)
+      → TellsUnused why mid.lane after.lane was told said → after.claim ≡ None → BeginSays context key before after was told said
+  begin_said why claims tells unclaimed =
+      BeginSays.unclaimed idle why (subst (λ (l : Lane). ClaimsMissing (store_of before) context key before.lane.cells.view l.view (Err why)) (sym still) claims)
+      (unused_as before.lane mid.lane after.lane known faults told was why said tells) unclaimed
 
 pub put_said : (context key : ℕ) (handle : Handle) (before kept put after : Seat) (was told : ExtValue) (said : Code) (number : ℕ) (result : Result (Option ℕ) (ℕ × Refusal))
-    → kept.store ≡ before.store → KeepsAs handle before.lane kept.lane number → Puts (store_of kept) context key number kept.lane.cells put.lane.cells result
+    → before.claim ≡ None → kept.store ≡ before.store → KeepsAs handle before.lane kept.lane number → Puts (store_of kept) context key number kept.lane.cells put.lane.cells result
     → put.lane.known ≡ kept.lane.known → put.lane.faults ≡ kept.lane.faults → after.lane.cells ≡ put.lane.cells
     → TellsPut context result put.lane after.lane was told said → PutSays context key handle before after was told said
-put_said context key handle before kept put after was told said number result same keeps puts known faults still tells =
-    PutSays.put number kept.lane result keeps
+put_said context key handle before kept put after was told said number result idle same keeps puts known faults still tells =
+    PutSays.put idle number kept.lane result keeps
     (subst (λ (l : Lane). Puts (store_of before) context key number kept.lane.cells l result) (sym still)
     (subst (λ s. Puts (arc_value s) context key number kept.lane.cells put.lane.cells result) same puts))
     (put_as kept.lane put.lane after.lane known faults told was context result said tells)
 
 -- a fault for whose text there was no memory: its claim was given up
-pub fail_without_memory : (handle : ℕ) (before after : Seat) (was claim : ℕ) (said : Code) → before.claim ≡ Some claim → before.lane.cells.cells ≡ (store_of before).id.cells
+pub fail_without_memory : (handle : ℕ) (before after : Seat) (was claim : ℕ) (said : Code) → before.claim ≡ Some claim → IsTrue (store_of before).id.cells.limits.keep_faults → before.lane.cells.cells ≡ (store_of before).id.cells
     → EndsClaim before.lane.cells after.lane.cells (Abandon claim) → said ≡ code.NoMemory → FailSays handle before after was was said
 unfolding IsUnkept
-fail_without_memory handle before after was claim said is fits ends e =
-    FailSays.unkept claim keep.Memory is (subst (λ (id : CellsId). Calls id.limits before.lane.cells.view after.lane.cells.view (Abandon claim ∷ [])) fits ends.calls) refl e
+fail_without_memory handle before after was claim said is keeps fits ends e =
+    FailSays.unkept claim keep.Memory is keeps (subst (λ (id : CellsId). Calls id.limits before.lane.cells.view after.lane.cells.view (Abandon claim ∷ [])) fits ends.calls) refl e
 
 -- ---- closing
 
@@ -157,8 +173,15 @@ fail_without_memory handle before after was claim said is fits ends e =
 pub claim_bars : (context places : ℕ) (seat : Seat) → is_some seat.claim ≡ true → NotClosing context places seat code.Claiming
 claim_bars context places seat e = let own = of_some seat.claim e in NotClosing.claiming own.0 own.1
 
-module _ (context : ℕ) (before mid : Seat) (closer : CloserView) (own : closer.context ≡ context) (same : mid.store ≡ before.store) (lane : mid.lane ≡ before.lane)
-    (first last : Written) where
+-- lists that are the same at one place and at all others
+same_but : (xs ys : List (Option CloserView)) (at : ℕ) → length xs ≡ length ys → slice_index_or xs at None ≡ slice_index_or ys at None
+    → ((k : ℕ) → k ≢ at → slice_index_or xs k None ≡ slice_index_or ys k None) → xs ≡ ys
+same_but xs ys at e here others =
+    ext_get_or None xs ys e (λ k _. elim (cases_eq k at) as (λ _. slice_index_or xs k None ≡ slice_index_or ys k None)
+    [ inl is ↦ subst (λ (n : ℕ). slice_index_or xs n None ≡ slice_index_or ys n None) (sym is) here | inr ne ↦ others k ne ])
+
+module _ (context : ℕ) (before mid : Seat) (closer : CloserView) (was : List ExtValue) (asks : Asks context (length was) before closer) (same : mid.store ≡ before.store)
+    (lane : mid.lane ≡ before.lane) (first last : Written) where
   -- of the seat as it was before the closer was taken from it
   from_before : (result : Result Closed (CloserView × CloseFault)) (after : List (StoreLane Handle))
       → closing.Closes (λ (h : Handle). h.closeable) WritesNext (store_of mid) closer (mid.lane ∷ []) first result after last
@@ -167,21 +190,22 @@ module _ (context : ℕ) (before mid : Seat) (closer : CloserView) (own : closer
       subst (λ s. closing.Closes (λ (h : Handle). h.closeable) WritesNext (arc_value s) closer (before.lane ∷ []) first result after last) same
       (subst (λ (l : StoreLane Handle). closing.Closes (λ (h : Handle). h.closeable) WritesNext (store_of mid) closer (l ∷ []) first result after last) lane happened)
 
-  pub close_done : (after : Seat) (done : Closed) (was values : List ExtValue) (count : ℕ) → first.values.items ≡ [] → first.context ≡ context
+  pub close_done : (after : Seat) (done : Closed) (values : List ExtValue) (count : ℕ) → first.values.items ≡ [] → first.context ≡ context
       → closing.Closes (λ (h : Handle). h.closeable) WritesNext (store_of mid) closer (mid.lane ∷ []) first (Ok done) (after.lane ∷ []) last → WritesOut was values count last.values.items
-      → CloseSays context before after was values count code.Done
-  close_done after done was values count empty place happened writes =
-      CloseSays.closed closer first last done own empty place (from_before (Ok done) (after.lane ∷ []) happened) writes refl
+      → LosesOnly context before after → CloseSays context before after was values count code.Done
+  close_done after done values count empty place happened writes loses =
+      CloseSays.closed closer first last done asks empty place (from_before (Ok done) (after.lane ∷ []) happened) writes refl loses
 
-  pub close_refused : (after : Seat) (asked : StoreLane Handle) (back : CloserView) (why : CloseFault) (said : Code) (was : List ExtValue)
+  pub close_refused : (after : Seat) (asked : StoreLane Handle) (back : CloserView) (why : CloseFault) (said : Code)
       → closing.Closes (λ (h : Handle). h.closeable) WritesNext (store_of mid) closer (mid.lane ∷ []) first (Err (back, why)) (asked ∷ []) last
-      → after.lane.cells ≡ asked.cells → slice_index_or after.closers.items context None ≡ Some back → said ≡ close_code why → CloseSays context before after was was 0 said
-  close_refused after asked back why said was happened still there is =
+      → TellsRefused why asked after.lane said → after.lane.cells ≡ asked.cells → slice_index_or after.closers.items context None ≡ Some back → KeepsOthers context before after
+      → length after.closers.items ≡ length before.closers.items → CloseSays context before after was was 0 said
+  close_refused after asked back why said happened tells still there others places =
       let told = from_before (Err (back, why)) (asked ∷ []) happened in
-      CloseSays.refused closer first why asked own
+      CloseSays.refused closer first why asked asks
       (subst (λ (w : Written). closing.Closes (λ (h : Handle). h.closeable) WritesNext (store_of before) closer (before.lane ∷ []) first (Err (closer, why)) (asked ∷ []) w) told.not_called
       (subst (λ (b : CloserView). closing.Closes (λ (h : Handle). h.closeable) WritesNext (store_of before) closer (before.lane ∷ []) first (Err (b, why)) (asked ∷ []) last) told.handed_back told))
-      still (there ∙ ap Some told.handed_back) refl refl is
+      tells still (same_but after.closers.items before.closers.items context places (there ∙ (ap (λ (c : CloserView). Some c) told.handed_back ∙ sym asks.has)) others) refl refl
 
 -- ---- through a slot
 

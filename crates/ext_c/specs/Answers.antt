@@ -1,13 +1,13 @@
 -- What each call says of its seat, by its code and by what it writes out: what the store's calls say of the lane that sits there.
 -- `before` and `after` are the seat, or the lane, before and after the call; `was` is what stood where the call writes out, and is there still where nothing is said of it. The words of the store are those of `LaneCalls` and `Computing` of ext_store.
-use Rattle.std.specs.Prelude.{ℕ, ◌≡◌, ◌<◌, ◌≤◌, ◌^◌, ◌⊎◌, IsFalse, true, false, List, [], length, Option, None, Some, Result, Ok, Err}
+use Rattle.std.specs.Prelude.{ℕ, ◌≡◌, ◌<◌, ◌≤◌, ◌^◌, ◌⊎◌, IsFalse, IsTrue, true, false, List, [], length, Option, None, Some, Result, Ok, Err}
 use Rattle.std.specs.Arc.{arc_value}
 use Rattle.ext_model.specs.declared.look.Fault.{Fault}
 use Rattle.ext_model.specs.declared.look.Look.{Look}
 use Rattle.ext_model.specs.declared.look.Look.TheVariants as look
 use Rattle.ext_model.specs.declared.event.Act.TheVariants as act_is
 use Rattle.ext_tree.specs.Keys.{KeyValue, IsKeyNumber}
-use Rattle.ext_values.specs.Known.{Learns}
+use Rattle.ext_values.specs.Known.{Learns, known_at}
 use Rattle.ext_cells.specs.CellCalls.{EndsClaim}
 use Rattle.ext_store_cells.specs.declared.fault.Refusal.{Refusal}
 use Rattle.ext_store_cells.specs.declared.fault.Refusal.TheVariants as refusal
@@ -40,6 +40,10 @@ pub record TellsValue (context number : ℕ) (before after : StoreLane Handle) (
   pub value : told.fault ≡ false
   pub learnt : Learns before.known after.known number (record { raw = told.handle; closeable = told.closeable })
 
+-- the lane knows no fault of this number that has a handle
+abbrev pub KnowsNoFault : ℕ → StoreLane Handle → Type 0
+KnowsNoFault number lane = (why : Fault) (own : ℕ) → known_at lane.faults number ≡ Some why → own < 2 ^ 64 → IsFaultOf own why → ⊥
+
 -- the kept fault of this number is told, and the lane knows it from now on
 pub record TellsFault (context number : ℕ) (before after : StoreLane Handle) (told : ExtValue) : Type 0 where
   pub at : told.context ≡ context
@@ -65,26 +69,26 @@ at_context at was = record { handle = was.handle; context = at; number = was.num
 -- a value that was found
 abbrev pub TellsFound : ℕ → ℕ → StoreLane Handle → StoreLane Handle → ExtValue → Code → Type 0
 TellsFound context number before after told said =
-    ((said ≡ code.Done) × TellsValue context number before after told) ⊎ ((said ≡ code.Unshown) × TellsNumber context number told)
+    ((said ≡ code.Done) × TellsValue context number before after told) ⊎ ((said ≡ code.Unshown) × TellsNumber context number told × (known_at before.known number ≡ None))
 
 -- a kept fault that was found
 abbrev pub TellsStanding : ℕ → ℕ → StoreLane Handle → StoreLane Handle → ExtValue → Code → Type 0
 TellsStanding context number before after told said =
-    ((said ≡ code.FaultStands) × TellsFault context number before after told) ⊎ ((said ≡ code.Unshown) × TellsNumber context number told)
+    ((said ≡ code.FaultStands) × TellsFault context number before after told) ⊎ ((said ≡ code.Unshown) × TellsNumber context number told × KnowsNoFault number before)
 
 -- what stood, a value or a kept fault
 abbrev pub TellsStood : ℕ → ℕ → StoreLane Handle → StoreLane Handle → ExtValue → Code → Type 0
 TellsStood context number before after told said =
     ((said ≡ code.Done) × (TellsValue context number before after told ⊎ TellsFault context number before after told))
-    ⊎ ((said ≡ code.Unshown) × TellsNumber context number told)
+    ⊎ ((said ≡ code.Unshown) × TellsNumber context number told × (known_at before.known number ≡ None) × KnowsNoFault number before)
 
 -- ---- calls on the store that are not made
 
 -- the lane has a claim, or there is no such context, or no such key
 pub data NotAsked (context key : ℕ) (seat : Seat) : Code → Type 0 where
   claiming : (claim : ℕ) → seat.claim ≡ Some claim → NotAsked context key seat code.Claiming
-  no_context : length (store_of seat).tree ≤ context → NotAsked context key seat code.BadContext
-  no_key : 64 ≤ key → NotAsked context key seat code.BadKey
+  no_context : seat.claim ≡ None → length (store_of seat).tree ≤ context → NotAsked context key seat code.BadContext
+  no_key : seat.claim ≡ None → 64 ≤ key → NotAsked context key seat code.BadKey
 
 -- ---- get
 
@@ -100,7 +104,7 @@ TellsLook (Err why) before after was found said = (said ≡ refusal_code why) ×
 -- the store looked, and this is told of what it found
 pub data GetSays (context key : ℕ) (before after : Seat) (was found : ExtValue) (said : Code) : Type 0 where
   not_asked : NotAsked context key before said → after ≡ before → found ≡ was → GetSays context key before after was found said
-  asked : (looked : Result Look Refusal) → Gets (store_of before) context key before.lane.cells after.lane.cells looked
+  asked : before.claim ≡ None → (looked : Result Look Refusal) → Gets (store_of before) context key before.lane.cells after.lane.cells looked
       → TellsLook looked before.lane after.lane was found said → GetSays context key before after was found said
 
 -- ---- put and remove
@@ -114,9 +118,9 @@ TellsPut context (Err refused) before after was stood said = (said ≡ refusal_c
 -- the handle was kept under a number, and that number was put; or it was not kept
 pub data PutSays (context key : ℕ) (handle : Handle) (before after : Seat) (was stood : ExtValue) (said : Code) : Type 0 where
   not_asked : NotAsked context key before said → after ≡ before → stood ≡ was → PutSays context key handle before after was stood said
-  unkept : (why : KeepFault) → KeepsNothing (store_of before) handle before.lane after.lane handle why → said ≡ keep_code why → stood ≡ was
+  unkept : before.claim ≡ None → (why : KeepFault) → KeepsNothing (store_of before) handle before.lane after.lane handle why → said ≡ keep_code why → stood ≡ was
       → PutSays context key handle before after was stood said
-  put : (number : ℕ) (kept : StoreLane Handle) (result : Result (Option ℕ) (ℕ × Refusal)) → KeepsAs handle before.lane kept number
+  put : before.claim ≡ None → (number : ℕ) (kept : StoreLane Handle) (result : Result (Option ℕ) (ℕ × Refusal)) → KeepsAs handle before.lane kept number
       → Puts (store_of before) context key number kept.cells after.lane.cells result → TellsPut context result kept after.lane was stood said
       → PutSays context key handle before after was stood said
 
@@ -129,7 +133,7 @@ TellsRemove context (Err why) before after was taken said = (said ≡ refusal_co
 -- the store took what stood, and this is told of it
 pub data RemoveSays (context key : ℕ) (before after : Seat) (was taken : ExtValue) (said : Code) : Type 0 where
   not_asked : NotAsked context key before said → after ≡ before → taken ≡ was → RemoveSays context key before after was taken said
-  asked : (result : Result (Option ℕ) Refusal) → Removes (store_of before) context key before.lane.cells after.lane.cells result
+  asked : before.claim ≡ None → (result : Result (Option ℕ) Refusal) → Removes (store_of before) context key before.lane.cells after.lane.cells result
       → TellsRemove context result before.lane after.lane was taken said → RemoveSays context key before after was taken said
 
 -- ---- a compute
@@ -153,10 +157,10 @@ TellsUnused (unused.Refused why) before after was found said = (said ≡ refusal
 -- the lane has claimed the place, or this is told of why not
 pub data BeginSays (context key : ℕ) (before after : Seat) (was found : ExtValue) (said : Code) : Type 0 where
   not_asked : NotAsked context key before said → after ≡ before → found ≡ was → BeginSays context key before after was found said
-  claimed : (claim : ℕ) → ClaimsMissing (store_of before) context key before.lane.cells.view after.lane.cells.view (Ok claim)
+  claimed : before.claim ≡ None → (claim : ℕ) → ClaimsMissing (store_of before) context key before.lane.cells.view after.lane.cells.view (Ok claim)
       → after.claim ≡ Some claim → found ≡ was → said ≡ code.Run → BeginSays context key before after was found said
-  unclaimed : (why : Unused) → ClaimsMissing (store_of before) context key before.lane.cells.view after.lane.cells.view (Err why)
-      → TellsUnused why before.lane after.lane was found said → BeginSays context key before after was found said
+  unclaimed : before.claim ≡ None → (why : Unused) → ClaimsMissing (store_of before) context key before.lane.cells.view after.lane.cells.view (Err why)
+      → TellsUnused why before.lane after.lane was found said → after.claim ≡ None → BeginSays context key before after was found said
 
 -- the handle is kept, and its number stands in the claimed cell; or it is not kept, and the claim is given up
 pub data FillSays (handle : Handle) (before after : Seat) (was number : ℕ) (said : Code) : Type 0 where
@@ -170,10 +174,10 @@ pub data FillSays (handle : Handle) (before after : Seat) (was number : ℕ) (sa
 -- The fault of the handle is kept, and its number in the claimed cell; or it is not kept, and the claim is given up; or the store keeps no faults
 pub data FailSays (handle : ℕ) (before after : Seat) (was number : ℕ) (said : Code) : Type 0 where
   no_claim : before.claim ≡ None → after ≡ before → number ≡ was → said ≡ code.NoClaim → FailSays handle before after was number said
-  failed : (claim : ℕ) (why : Fault) → before.claim ≡ Some claim → IsFaultOf handle why
+  failed : (claim : ℕ) (why : Fault) → before.claim ≡ Some claim → IsTrue (store_of before).id.cells.limits.keep_faults → IsFaultOf handle why
       → Fails (store_of before).id.cells.limits [] claim before.lane.cells.view after.lane.cells.view number
       → Learns before.lane.faults after.lane.faults number why → said ≡ code.Done → FailSays handle before after was number said
-  unkept : (claim : ℕ) (why : KeepFault) → before.claim ≡ Some claim
+  unkept : (claim : ℕ) (why : KeepFault) → before.claim ≡ Some claim → IsTrue (store_of before).id.cells.limits.keep_faults
       → IsUnkept (store_of before).id.cells.limits (store_of before).tries [] claim before.lane.cells.view after.lane.cells.view why
       → number ≡ was → said ≡ keep_code why → FailSays handle before after was number said
   given_up : (claim : ℕ) → before.claim ≡ Some claim → IsFalse (store_of before).id.cells.limits.keep_faults

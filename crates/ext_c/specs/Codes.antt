@@ -6,8 +6,6 @@ use Rattle.ext_store_cells.specs.declared.fault.Refusal.{Refusal}
 use Rattle.ext_store_cells.specs.declared.fault.Refusal.TheVariants as refusal
 use Rattle.ext_store.specs.declared.fault.KeepFault.{KeepFault}
 use Rattle.ext_store.specs.declared.fault.KeepFault.TheVariants as keep
-use Rattle.ext_store.specs.declared.limits.StoreFault.{StoreFault}
-use Rattle.ext_store.specs.declared.limits.StoreFault.TheVariants as limit
 use Rattle.ext_closing.specs.declared.fault.CloseFault.{CloseFault}
 use Rattle.ext_closing.specs.declared.fault.CloseFault.TheVariants as close
 use Rattle.ext_tree.specs.declared.fault.TreeFault.{TreeFault}
@@ -69,11 +67,6 @@ abbrev pub close_code : CloseFault → Code
 close_code (close.Busy key) = code.Busy
 close_code (close.Contended key) = code.Contended
 close_code (close.Unjoined number) = code.Unjoined
-
--- why a store is not opened
-abbrev pub open_code : StoreFault → Code
-open_code limit.BadLimit = code.BadLimit
-open_code limit.Memory = code.NoMemory
 
 -- why ids are no tree
 abbrev pub tree_code : TreeFault → Code

@@ -88,13 +88,14 @@ pub record AreOpened (ids : List Id) (lanes tries numbers : ℕ) (keeps : Bool) 
 
 -- ---- what the exports say
 
--- A slot has a lane; or the texts name no tree; or a limit is out of its range; or memory was wanted: then nothing has changed. Else there is a store of these ids and limits, and the slots have its lanes
+-- A slot has a lane; or none has, and a limit is out of its range; or none is, and the texts name no tree; or all are texts, and memory was wanted: then nothing has changed. Else there is
+-- a store of these ids and limits, and the slots have its lanes
 pub data OpenSays (bytes lengths : List ℕ) (tries numbers : ℕ) (keeps : Bool) (before after : List ExtSlot) (said : Code) : Type 0 where
   not_empty : ¬ AreEmpty before → after ≡ before → said ≡ code.NotEmpty → OpenSays bytes lengths tries numbers keeps before after said
-  no_tree : AreEmpty before → NamesNoTree bytes lengths said → after ≡ before → OpenSays bytes lengths tries numbers keeps before after said
-  bad_limit : AreEmpty before → AreTexts bytes lengths → (ids : List Id) → AllZip IsIdText (texts_in bytes lengths) ids → IsTree ids
-      → ¬ AreStoreLimits (length before) tries numbers → after ≡ before → said ≡ code.BadLimit → OpenSays bytes lengths tries numbers keeps before after said
-  no_memory : AreEmpty before → after ≡ before → said ≡ code.NoMemory → OpenSays bytes lengths tries numbers keeps before after said
+  bad_limit : AreEmpty before → ¬ AreStoreLimits (length before) tries numbers → after ≡ before → said ≡ code.BadLimit → OpenSays bytes lengths tries numbers keeps before after said
+  no_tree : AreEmpty before → AreStoreLimits (length before) tries numbers → NamesNoTree bytes lengths said → after ≡ before → OpenSays bytes lengths tries numbers keeps before after said
+  no_memory : AreEmpty before → AreStoreLimits (length before) tries numbers → AreTexts bytes lengths → after ≡ before → said ≡ code.NoMemory
+      → OpenSays bytes lengths tries numbers keeps before after said
   opened : AreEmpty before → AreTexts bytes lengths → (ids : List Id) → AllZip IsIdText (texts_in bytes lengths) ids → IsTree ids
       → (store : StoreView) → IsStoreOf ids (length before) tries numbers keeps store → HaveLanes store (lanes_below store (length before)) after
       → said ≡ code.Done → OpenSays bytes lengths tries numbers keeps before after said

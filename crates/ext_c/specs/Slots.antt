@@ -1,5 +1,5 @@
 -- What the exports say: what became of the seat to which a slot leads. `before` and `after` are the slot, and `said` is the number that C gets.
-use Rattle.std.specs.Prelude.{ℕ, ◌≡◌, ◌≢◌, Some}
+use Rattle.std.specs.Prelude.{ℕ, ◌≡◌, ◌≢◌, None, Some}
 use Rattle.ext_c.specs.declared.code.Code.{Code}
 use Rattle.ext_c.specs.declared.code.Code.TheVariants as code
 use Rattle.ext_c.specs.declared.seat.Seat.{Seat}
@@ -10,6 +10,21 @@ use Rattle.ext_c.specs.Codes.{code_number}
 pub record StaysSo (old now : Seat) : Type 0 where
   pub store : now.store ≡ old.store
   pub closers : now.closers ≡ old.closers
+
+-- and it has the claim that it had, or none as before
+pub record KeepsClaim (old now : Seat) : Type 0 where
+  pub so : StaysSo old now
+  pub claim : now.claim ≡ old.claim
+
+-- and it has no claim
+pub record HasNoClaim (old now : Seat) : Type 0 where
+  pub so : StaysSo old now
+  pub unclaimed : now.claim ≡ None
+
+-- the seat is of the same store, and has the claim that it had, or none as before
+pub record StaysButClosers (old now : Seat) : Type 0 where
+  pub store : now.store ≡ old.store
+  pub claim : now.claim ≡ old.claim
 
 -- The slot had no lane, it and what the call writes out are as they were; or it had one, has it still, this holds of its seat whatever is said, and the call says this of it
 pub data OnSlot (Keeps : Seat → Seat → Type 0) (Untold : Type 0) (Says : Seat → Seat → Code → Type 0) (before after : ExtSlot) (said : ℕ) : Type 0 where

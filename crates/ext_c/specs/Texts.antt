@@ -51,11 +51,11 @@ pub record IsNamed (texts : List (List ℕ)) (key : KeyValue) : Type 0 where
   pub splits : texts ≡ parts ++ name ∷ []
   pub is : key ≡ key_of (namespace_named parts) name
 
--- why texts name no key: there is none, or the first that is no text is none for this reason; or memory was wanted
+-- why texts name no key: there is none, or the first that is no text is none for this reason; or each is a text, and memory was wanted
 pub data NamesNoKey (bytes lengths : List ℕ) (said : Code) : Type 0 where
   no_text : lengths ≡ [] → said ≡ code.BadLengths → NamesNoKey bytes lengths said
   unread : IsTextFault bytes lengths said → NamesNoKey bytes lengths said
-  memory : said ≡ code.NoMemory → NamesNoKey bytes lengths said
+  memory : AreTexts bytes lengths → said ≡ code.NoMemory → NamesNoKey bytes lengths said
 
 -- ---- ids
 

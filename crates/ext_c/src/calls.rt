@@ -1,11 +1,11 @@
 //! The store's calls on the lane of a seat, in the store's own words.
 ghost use Rattle.std.specs.Prelude.{◌≡◌, ◌<◌, [], IfErr, IfOk, IfSome, IsSome, IsTrue, MatchResult, None, Ok, Err, Some, false, length, true};
 ghost use Rattle.ext_model.specs.CallActs.{IsHeld};
-ghost use Rattle.ext_values.specs.Known.{Learns};
+ghost use Rattle.ext_values.specs.Known.{Learns, known_at};
 ghost use Rattle.ext_store.specs.Computing.{ClaimsMissing, Fails, IsUnkept};
 ghost use Rattle.ext_store.specs.Stores.{IsKeptBy};
 ghost use Rattle.ext_store.specs.LaneCalls.{Gets, KeepsAs, KeepsNothing, Puts, Removes};
-ghost use Rattle.ext_c.specs.Answers.{NotAsked, TellsFault, TellsNumber, TellsValue, store_of};
+ghost use Rattle.ext_c.specs.Answers.{KnowsNoFault, NotAsked, TellsFault, TellsNumber, TellsValue, store_of};
 
 use crate::code::Code;
 use crate::fault::handle_of;
@@ -161,6 +161,7 @@ impl Seat {
         ensures shown { result ≡ true → TellsValue context number self.old.lane self.new.lane told.new }
         ensures unshown { result ≡ false → TellsNumber context number told.new }
         ensures unchanged { result ≡ false → self.new ≡ self.old }
+        ensures unknown { result ≡ false → known_at self.old.lane.known number ≡ None }
     {
         let shared: &Store<Handle> = &self.store;
         match shared.show(&mut self.lane, number) {
@@ -190,6 +191,7 @@ impl Seat {
         ensures still { self.new.lane.cells ≡ self.old.lane.cells }
         ensures shown { result ≡ true → TellsFault context number self.old.lane self.new.lane told.new }
         ensures unshown { result ≡ false → TellsNumber context number told.new }
+        ensures unknown { result ≡ false → KnowsNoFault number self.old.lane }
     {
         let shared: &Store<Handle> = &self.store;
         let Some(fault) = shared.show_fault(&mut self.lane, number) else {

@@ -3,8 +3,7 @@ ghost use Rattle.std.specs.Prelude.{ℕ, ◌≡◌, ◌≢◌, ◌≤◌, ◌<�
 ghost use Rattle.ext_store.specs.Stores.{IsCloserOf};
 ghost use Rattle.ext_closing.specs.Closes as closing;
 ghost use Rattle.ext_c.specs.Answers.{store_of};
-ghost use Rattle.ext_c.specs.Closing.{CloseSays, NotClosing};
-ghost use Rattle.ext_c.specs.Codes.{close_code};
+ghost use Rattle.ext_c.specs.Closing.{CloseSays, KeepsOthers, NotClosing, TellsRefused};
 ghost use Rattle.ext_c.specs.Writing.{WritesNext};
 
 use crate::code::Code;
@@ -43,6 +42,7 @@ impl Seat {
         count: &mut usize,
     ) -> Code
         ensures store { self.new.store ≡ self.old.store }
+        ensures claim { self.new.claim ≡ self.old.claim }
         ensures says { CloseSays context self.old self.new values.old values.new count.new result }
     {
         *count = 0;
@@ -82,18 +82,21 @@ impl Seat {
         close(shared, closer, slice::from_mut(&mut self.lane), written)
     }
 
-    // Why the close is refused. A value that the lane does not know it is shown, so that the close may be asked again.
+    // Why the close is refused. A value that the lane does not know it is shown, so that the close may be asked again; where the thread
+    // does not find it the answer is another one.
     fn mend(&mut self, why: CloseFault) -> Code
         requires idle { self.old.claim ≡ None }
         ensures store { self.new.store ≡ self.old.store }
         ensures claim { self.new.claim ≡ None }
         ensures closers { self.new.closers ≡ self.old.closers }
         ensures still { self.new.lane.cells ≡ self.old.lane.cells }
-        ensures code { result ≡ close_code why }
+        ensures told { TellsRefused why self.old.lane self.new.lane result }
     {
         if let CloseFault::Unjoined(number) = why {
             let mut shown = ExtValue::unshown(0, number);
-            self.tell_value(0, number, &mut shown);
+            if !self.tell_value(0, number, &mut shown) {
+                return Code::Unshown;
+            }
         }
         Code::of_close(why)
     }
@@ -105,9 +108,14 @@ impl Seat {
         ensures claim { self.new.claim ≡ self.old.claim }
         ensures own { IfOk result (IsCloserOf (store_of self.old)) }
         ensures context { IfOk result (λ c. c.context ≡ context) }
-        ensures refused { IfErr result (λ code. (places : ℕ) → NotClosing context places self.old code) }
+        ensures taken { IfOk result (λ c. slice_index_or self.old.closers.items context None ≡ Some c) }
+        ensures listed { IfOk result (λ _. context < length (store_of self.old).tree) }
+        ensures refused { IfErr result (λ code. (places : ℕ) → self.old.claim ≡ None → 64 ≤ places → NotClosing context places self.old code) }
         ensures unchanged { IfErr result (λ _. self.new ≡ self.old) }
         ensures within { IfOk result (λ _. context < length self.new.closers.items) }
+        ensures gone { IfOk result (λ _. slice_index_or self.new.closers.items context None ≡ None) }
+        ensures others { IfOk result (λ _. KeepsOthers context self.old self.new) }
+        ensures places { IfOk result (λ _. length self.new.closers.items ≡ length self.old.closers.items) }
     {
         let shared: &Store<Handle> = &self.store;
         if context >= shared.tree().len() {
@@ -138,6 +146,8 @@ impl Seat {
         ensures lane { self.new.lane ≡ self.old.lane }
         ensures claim { self.new.claim ≡ self.old.claim }
         ensures there { slice_index_or self.new.closers.items context None ≡ Some closer }
+        ensures others { KeepsOthers context self.old self.new }
+        ensures places { length self.new.closers.items ≡ length self.old.closers.items }
     {
         self.closers[context] = Some(closer);
     }

@@ -1,10 +1,10 @@
 //! What a call answers.
 ghost use Rattle.std.specs.Prelude.{◌≡◌};
-ghost use Rattle.ext_c.specs.Codes.{close_code, code_number, id_code, keep_code, open_code, refusal_code, tree_code};
+ghost use Rattle.ext_c.specs.Codes.{close_code, code_number, id_code, keep_code, refusal_code, tree_code};
 
 use ext_closing::CloseFault;
 use ext_ids::IdFault;
-use ext_store::{KeepFault, Refusal, StoreFault};
+use ext_store::{KeepFault, Refusal};
 use ext_tree::TreeFault;
 
 /// What a call says. C sees its number, which `specs/Codes` has.
@@ -36,10 +36,10 @@ pub enum Code {
     NoMemory,
     /// A place did not take the value or the key. Tests show that it never comes.
     Unplaced,
-    /// What the call is for has happened, but the thread does not find the handle of the number that was met. Tests show
-    /// that it never comes.
+    /// The thread does not find the handle of the number that was met, which the lane did not know. But for a close, which is
+    /// refused, what the call is for has happened. Tests show that it never comes.
     Unshown,
-    /// The lane did not know a value that remains. It has been shown it now: the close is to be asked again.
+    /// The lane did not know a value that remains. It knows it now: the close is to be asked again.
     Unjoined,
     /// The lane has a claim, which is to be ended first.
     Claiming,
@@ -141,15 +141,6 @@ impl Code {
             CloseFault::Busy(_) => Code::Busy,
             CloseFault::Contended(_) => Code::Contended,
             CloseFault::Unjoined(_) => Code::Unjoined,
-        }
-    }
-
-    pub(crate) fn of_store(why: StoreFault) -> Code
-        ensures { result ≡ open_code why }
-    {
-        match why {
-            StoreFault::BadLimit => Code::BadLimit,
-            StoreFault::Memory => Code::NoMemory,
         }
     }
 

@@ -4,13 +4,13 @@ ghost use Rattle.ext_c.specs.declared.code.Code.TheVariants as code;
 ghost use Rattle.ext_c.specs.Answers.{AbandonSays, BeginSays, FailSays, FillSays, GetSays, NamesKey, PutSays, RemoveSays};
 ghost use Rattle.ext_c.specs.Closing.{CloseSays};
 ghost use Rattle.ext_c.specs.Opening.{LeaveSays, OpenSays};
-ghost use Rattle.ext_c.specs.Slots.{ByCode, OnSlot, StaysSo};
+ghost use Rattle.ext_c.specs.Slots.{ByCode, HasNoClaim, KeepsClaim, OnSlot, StaysButClosers, StaysSo};
 
 use crate::code::Code;
 use crate::filling::{are_empty, take_seats};
 use crate::handle::Handle;
 use crate::names::tree_of;
-use crate::opening::open_seats;
+use crate::opening::{are_limits, open_seats};
 use crate::slot::ExtSlot;
 use crate::value::ExtValue;
 use ext_store::Limits;
@@ -19,9 +19,9 @@ use std::alloc::Global;
 /// Opens a store of the contexts whose ids are the texts, with as many lanes as there are slots, all of which are to be empty. The lane
 /// of the last slot closes contexts. Takes memory.
 ///
-/// Refused, in this order, as `NotEmpty`; for the first text that is none as `BadLengths` or `BadText`; as `BadId` where one of them is no
-/// id; for the ids as `TooMany` or `BadTree`; and as `BadLimit`. `NoMemory` may come at any of these but the first. The slots are as they
-/// were then.
+/// Refused, in this order, as `NotEmpty`; as `BadLimit` unless there are 1 to 16 slots, 1 to 64 tries and 1 to 65,535 numbers; for the first
+/// text that is none as `BadLengths` or `BadText`; as `BadId` where one of them is no id; and for the ids as `TooMany` or `BadTree`.
+/// `NoMemory` may come in place of the last three, or after them. The slots are as they were then.
 #[unsafe(no_mangle)]
 pub extern "C" fn ext_open(
     alloc: Global,
@@ -53,22 +53,25 @@ fn open(
     if !are_empty(slots) {
         return Code::NotEmpty;
     }
-    let tree = match tree_of(alloc, bytes, lengths) {
-        Ok(tree) => tree,
-        Err(code) => return code,
-    };
     let limits = Limits {
         lanes: slots.len(),
         tries,
         numbers,
         keep_faults,
     };
+    if !are_limits(limits) {
+        return Code::BadLimit;
+    }
+    let tree = match tree_of(alloc, bytes, lengths) {
+        Ok(tree) => tree,
+        Err(code) => return code,
+    };
     match open_seats(alloc, tree, limits) {
-        Ok(seats) => {
+        Some(seats) => {
             take_seats(slots, seats);
             Code::Done
         }
-        Err(code) => code,
+        None => Code::NoMemory,
     }
 }
 
@@ -100,7 +103,7 @@ pub extern "C" fn ext_key(
     lengths: &[u32],
     key: &mut usize,
 ) -> u32
-    ensures says { OnSlot StaysSo (key.new ≡ key.old) (λ before after. NamesKey bytes.now lengths.now before after key.old key.new) slot.old slot.new result }
+    ensures says { OnSlot KeepsClaim (key.new ≡ key.old) (λ before after. NamesKey bytes.now lengths.now before after key.old key.new) slot.old slot.new result }
 {
     let Some(mut seat) = slot.take(alloc) else {
         return Code::NoLane.number();
@@ -121,7 +124,7 @@ pub extern "C" fn ext_put(
     closeable: bool,
     stood: &mut ExtValue,
 ) -> u32
-    ensures says { OnSlot StaysSo (stood.new ≡ stood.old) (λ before after. PutSays context key (record { raw = handle; closeable = closeable }) before after stood.old stood.new) slot.old slot.new result }
+    ensures says { OnSlot KeepsClaim (stood.new ≡ stood.old) (λ before after. PutSays context key (record { raw = handle; closeable = closeable }) before after stood.old stood.new) slot.old slot.new result }
 {
     let Some(mut seat) = slot.take(alloc) else {
         return Code::NoLane.number();
@@ -135,7 +138,8 @@ pub extern "C" fn ext_put(
     code.number()
 }
 
-/// Looks for the key in the context and its ancestors, the nearest first.
+/// Looks for the key in the context and its ancestors, the nearest first. A number that the lane knows is told with its handle. Makes no
+/// step where the lane has a claim. Takes no memory.
 #[unsafe(no_mangle)]
 pub extern "C" fn ext_get(
     alloc: Global,
@@ -144,7 +148,7 @@ pub extern "C" fn ext_get(
     key: usize,
     found: &mut ExtValue,
 ) -> u32
-    ensures says { OnSlot StaysSo (found.new ≡ found.old) (λ before after. GetSays context key before after found.old found.new) slot.old slot.new result }
+    ensures says { OnSlot KeepsClaim (found.new ≡ found.old) (λ before after. GetSays context key before after found.old found.new) slot.old slot.new result }
 {
     let Some(mut seat) = slot.take(alloc) else {
         return Code::NoLane.number();
@@ -163,7 +167,7 @@ pub extern "C" fn ext_remove(
     key: usize,
     taken: &mut ExtValue,
 ) -> u32
-    ensures says { OnSlot StaysSo (taken.new ≡ taken.old) (λ before after. RemoveSays context key before after taken.old taken.new) slot.old slot.new result }
+    ensures says { OnSlot KeepsClaim (taken.new ≡ taken.old) (λ before after. RemoveSays context key before after taken.old taken.new) slot.old slot.new result }
 {
     let Some(mut seat) = slot.take(alloc) else {
         return Code::NoLane.number();
@@ -201,7 +205,7 @@ pub extern "C" fn ext_fill(
     closeable: bool,
     number: &mut u32,
 ) -> u32
-    ensures says { OnSlot StaysSo (number.new ≡ number.old) (λ before after. FillSays (record { raw = handle; closeable = closeable }) before after number.old number.new) slot.old slot.new result }
+    ensures says { OnSlot HasNoClaim (number.new ≡ number.old) (λ before after. FillSays (record { raw = handle; closeable = closeable }) before after number.old number.new) slot.old slot.new result }
 {
     let Some(mut seat) = slot.take(alloc) else {
         return Code::NoLane.number();
@@ -215,10 +219,11 @@ pub extern "C" fn ext_fill(
     code.number()
 }
 
-/// Ends a compute whose factory failed: where the store keeps faults this one's handle is kept at the place; else the claim is given up.
+/// Ends a compute whose factory failed: where the store keeps faults this one's handle is kept at the place; where it keeps none the claim is
+/// given up, as `GivenUp`. Where the fault is not kept the claim is given up, too. Takes memory where the store keeps faults.
 #[unsafe(no_mangle)]
 pub extern "C" fn ext_fail(alloc: Global, slot: &mut ExtSlot, handle: u64, number: &mut u32) -> u32
-    ensures says { OnSlot StaysSo (number.new ≡ number.old) (λ before after. FailSays handle before after number.old number.new) slot.old slot.new result }
+    ensures says { OnSlot HasNoClaim (number.new ≡ number.old) (λ before after. FailSays handle before after number.old number.new) slot.old slot.new result }
 {
     let Some(mut seat) = slot.take(alloc) else {
         return Code::NoLane.number();
@@ -231,7 +236,7 @@ pub extern "C" fn ext_fail(alloc: Global, slot: &mut ExtSlot, handle: u64, numbe
 /// Ends a compute without a value.
 #[unsafe(no_mangle)]
 pub extern "C" fn ext_abandon(alloc: Global, slot: &mut ExtSlot) -> u32
-    ensures says { OnSlot StaysSo (Unit {0}) AbandonSays slot.old slot.new result }
+    ensures says { OnSlot HasNoClaim (Unit {0}) AbandonSays slot.old slot.new result }
 {
     let Some(mut seat) = slot.take(alloc) else {
         return Code::NoLane.number();
@@ -242,7 +247,12 @@ pub extern "C" fn ext_abandon(alloc: Global, slot: &mut ExtSlot) -> u32
 }
 
 /// Closes the context: seals its places for keys, and writes out the closeable values that remain, the latest first, for the caller to close.
-/// There is to be room for 64. Asked again where it is refused as `Unjoined`.
+/// There is to be room for 64.
+///
+/// Not asked of the store, with nothing changed, in this order as `Claiming`, `TooFewPlaces`, `BadContext`, `NoCloser`, or `Closed` where it
+/// was closed before. Refused as `Busy` or `Contended` while others are in the way, and as `Unjoined` where the lane did not know a value that
+/// remains: it knows it then, and the close is to be asked again. `Unshown` in its place where the thread does not find that value. The lane
+/// keeps its closers then. Takes no memory.
 #[unsafe(no_mangle)]
 pub extern "C" fn ext_close(
     alloc: Global,
@@ -251,7 +261,7 @@ pub extern "C" fn ext_close(
     values: &mut [ExtValue],
     count: &mut usize,
 ) -> u32
-    ensures says { OnSlot (λ old now. now.store ≡ old.store) ((count.new ≡ 0) × (values.new ≡ values.old)) (λ before after. CloseSays context before after values.old values.new count.new) slot.old slot.new result }
+    ensures says { OnSlot StaysButClosers ((count.new ≡ 0) × (values.new ≡ values.old)) (λ before after. CloseSays context before after values.old values.new count.new) slot.old slot.new result }
 {
     *count = 0;
     let Some(mut seat) = slot.take(alloc) else {

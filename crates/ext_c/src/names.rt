@@ -18,7 +18,7 @@ pub(crate) fn tree_of(alloc: Global, bytes: &[u8], lengths: &[u32]) -> Result<Tr
     ensures texts { IfOk result (λ _. AreTexts bytes.now lengths.now) }
     ensures ids { IfOk result (λ tree. AllZip IsIdText (texts_in bytes.now lengths.now) tree) }
     ensures tree { IfOk result IsTree }
-    ensures refused { IfErr result (λ said. NamesNoTree bytes.now lengths.now said ⊎ (said ≡ code.NoMemory)) }
+    ensures refused { IfErr result (λ said. NamesNoTree bytes.now lengths.now said ⊎ (AreTexts bytes.now lengths.now × (said ≡ code.NoMemory))) }
 {
     let texts = read_texts(alloc, bytes, lengths)?;
     let ids = ids_of(alloc, texts.as_slice())?;

@@ -1,16 +1,14 @@
 //! The seats of a store that is opened.
-ghost use Rattle.std.specs.Prelude.{◌≡◌, ◌⊎◌, [], All, IfErr, IfOk, IfSome, Some, map};
+ghost use Rattle.std.specs.Prelude.{◌≡◌, ◌↔◌, [], All, IfSome, IsTrue, Some, map};
 ghost use Rattle.std.specs.Arc.{arc_value};
 ghost use Rattle.std.specs.List.{AllZip};
 ghost use Rattle.ext_store.specs.Stores.{AreStoreLimits, CloserView, IsCloserOf, IsLaneOf};
-ghost use Rattle.ext_c.specs.declared.code.Code.TheVariants as code;
 ghost use Rattle.ext_c.specs.Opening.{AreOpened, AreSeats, IsSeatOf};
 
-use crate::code::Code;
 use crate::crossing::parts_cross;
 use crate::handle::Handle;
 use crate::seat::Seat;
-use ext_store::{Closer, Lane, Limits, Store};
+use ext_store::{Closer, Lane, Limits, Store, StoreFault};
 use ext_tree::Tree;
 use std::alloc::Global;
 use std::sync::Arc;
@@ -114,22 +112,32 @@ fn seats(
     Some(seats)
 }
 
-// The seats of a new store.
-pub(crate) fn open_seats(alloc: Global, tree: Tree, limits: Limits) -> Result<Vec<Box<Seat>>, Code>
-    ensures opened { IfOk result (λ seats. AreOpened tree limits.lanes limits.tries limits.numbers limits.keep_faults seats.items) }
-    ensures refused { IfErr result (λ said. ((¬ AreStoreLimits limits.lanes limits.tries limits.numbers) × (said ≡ code.BadLimit)) ⊎ (said ≡ code.NoMemory)) }
+// Whether a store can be of these limits.
+pub(crate) fn are_limits(limits: Limits) -> bool
+    ensures { IsTrue result ↔ AreStoreLimits limits.lanes limits.tries limits.numbers }
+{
+    1 <= limits.lanes
+        && limits.lanes <= 16
+        && 1 <= limits.tries
+        && limits.tries <= 64
+        && 1 <= limits.numbers
+        && limits.numbers <= 65_535
+}
+
+// The seats of a new store, if there is memory.
+pub(crate) fn open_seats(alloc: Global, tree: Tree, limits: Limits) -> Option<Vec<Box<Seat>>>
+    requires limits { AreStoreLimits limits.lanes limits.tries limits.numbers }
+    ensures { IfSome result (λ seats. AreOpened tree limits.lanes limits.tries limits.numbers limits.keep_faults seats.items) }
 {
     parts_cross();
     match Store::<Handle>::open(alloc, tree, limits) {
         Ok((store, lanes, closers)) => {
             let Ok(shared) = Arc::new(alloc, store) else {
-                return Err(Code::NoMemory);
+                return None;
             };
-            match seats(alloc, &shared, lanes, closers) {
-                Some(seats) => Ok(seats),
-                None => Err(Code::NoMemory),
-            }
+            seats(alloc, &shared, lanes, closers)
         }
-        Err(fault) => Err(Code::of_store(fault)),
+        Err(StoreFault::Memory) => None,
+        Err(StoreFault::BadLimit) => unreachable!(),
     }
 }

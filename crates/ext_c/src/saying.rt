@@ -18,6 +18,7 @@ impl Seat {
     pub(crate) fn get(&mut self, context: usize, key: usize, found: &mut ExtValue) -> Code
         ensures store { self.new.store ≡ self.old.store }
         ensures closers { self.new.closers ≡ self.old.closers }
+        ensures claim { self.new.claim ≡ self.old.claim }
         ensures says { GetSays context key self.old self.new found.old found.new result }
     {
         if let Some(code) = self.bar(context, key) {
@@ -37,6 +38,7 @@ impl Seat {
     ) -> Code
         ensures store { self.new.store ≡ self.old.store }
         ensures closers { self.new.closers ≡ self.old.closers }
+        ensures claim { self.new.claim ≡ self.old.claim }
         ensures says { PutSays context key handle self.old self.new stood.old stood.new result }
     {
         if let Some(code) = self.bar(context, key) {
@@ -54,6 +56,7 @@ impl Seat {
     pub(crate) fn remove(&mut self, context: usize, key: usize, taken: &mut ExtValue) -> Code
         ensures store { self.new.store ≡ self.old.store }
         ensures closers { self.new.closers ≡ self.old.closers }
+        ensures claim { self.new.claim ≡ self.old.claim }
         ensures says { RemoveSays context key self.old self.new taken.old taken.new result }
     {
         if let Some(code) = self.bar(context, key) {
@@ -82,6 +85,7 @@ impl Seat {
     pub(crate) fn fill(&mut self, handle: Handle, number: &mut u32) -> Code
         ensures store { self.new.store ≡ self.old.store }
         ensures closers { self.new.closers ≡ self.old.closers }
+        ensures claim { self.new.claim ≡ None }
         ensures says { FillSays handle self.old self.new number.old number.new result }
     {
         let Some(claim) = mem::replace(&mut self.claim, None) else {
@@ -101,6 +105,7 @@ impl Seat {
     pub(crate) fn fail(&mut self, alloc: Global, handle: u64, number: &mut u32) -> Code
         ensures store { self.new.store ≡ self.old.store }
         ensures closers { self.new.closers ≡ self.old.closers }
+        ensures claim { self.new.claim ≡ None }
         ensures says { FailSays handle self.old self.new number.old number.new result }
     {
         let Some(claim) = mem::replace(&mut self.claim, None) else {
@@ -128,6 +133,7 @@ impl Seat {
     pub(crate) fn abandon(&mut self) -> Code
         ensures store { self.new.store ≡ self.old.store }
         ensures closers { self.new.closers ≡ self.old.closers }
+        ensures claim { self.new.claim ≡ None }
         ensures says { AbandonSays self.old self.new result }
     {
         let Some(claim) = mem::replace(&mut self.claim, None) else {
@@ -148,6 +154,7 @@ impl Seat {
     ) -> Code
         ensures store { self.new.store ≡ self.old.store }
         ensures closers { self.new.closers ≡ self.old.closers }
+        ensures claim { self.new.claim ≡ self.old.claim }
         ensures says { NamesKey bytes.now lengths.now self.old self.new number.old number.new result }
     {
         match key_of(alloc, bytes, lengths) {

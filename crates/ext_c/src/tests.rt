@@ -172,7 +172,7 @@ fn a_refused_opening_tells_why(rt: HostRuntime) {
         Code::BadId.number()
     );
     assert_eq!(rt;
-        refused(&rt, alloc, b"[engine:x][engine:x]", &[10, 10], 0, 100),
+        refused(&rt, alloc, b"[engine:x][engine:x]", &[10, 10], 8, 100),
         Code::BadTree.number()
     );
     assert_eq!(rt;
@@ -184,7 +184,7 @@ fn a_refused_opening_tells_why(rt: HostRuntime) {
         Code::BadLimit.number()
     );
     assert_eq!(rt;
-        refused(&rt, alloc, IDS, &LENGTHS, 8, 0),
+        refused(&rt, alloc, b"[engine:\xff]", &[99], 8, 0),
         Code::BadLimit.number()
     );
     let mut slots = open_one(&rt, alloc, true);
@@ -234,5 +234,84 @@ fn a_lane_that_leaves_gives_its_claim_up(rt: HostRuntime) {
     assert_eq!(rt;
         ext_begin(alloc, &mut slots[1], 0, 3, &mut found),
         Code::Run.number()
+    );
+}
+
+// Closes the context, and tells the code, the count and the first handle.
+fn closed(alloc: Global, slot: &mut ExtSlot, context: usize) -> (u32, usize, u64) {
+    let mut values = [no_value(); 64];
+    let mut count = 9;
+    let code = ext_close(alloc, slot, context, &mut values, &mut count);
+    (code, count, values[0].handle)
+}
+
+#[test]
+fn two_contexts_are_closed_one_after_the_other(rt: HostRuntime) {
+    let alloc = rt.alloc();
+    let mut slots = open_one(&rt, alloc, false);
+    let slot = &mut slots[0];
+    let mut value = no_value();
+    assert_eq!(rt; ext_put(alloc, slot, 1, 0, 71, true, &mut value), 0);
+    assert_eq!(rt; ext_put(alloc, slot, 0, 0, 70, true, &mut value), 0);
+    assert_eq!(rt; ext_put(alloc, slot, 0, 1, 72, false, &mut value), 0);
+    assert_eq!(rt; ext_get(alloc, slot, 1, 1, &mut value), 0);
+    assert_eq!(rt; (value.handle, value.number), (72, 3));
+    assert_eq!(rt; closed(alloc, slot, 1), (0, 1, 71));
+    assert_eq!(rt; closed(alloc, slot, 0), (0, 1, 70));
+    assert_eq!(rt; closed(alloc, slot, 1), (Code::Closed.number(), 0, 0));
+}
+
+#[test]
+fn a_refused_close_is_asked_again(rt: HostRuntime) {
+    let alloc = rt.alloc();
+    let mut slots = [empty_slot(), empty_slot()];
+    assert_eq!(rt;
+        ext_open(alloc, IDS, &LENGTHS, 8, 100, false, &mut slots),
+        0
+    );
+    let mut value = no_value();
+    assert_eq!(rt;
+        ext_put(alloc, &mut slots[0], 1, 0, 71, true, &mut value),
+        0
+    );
+    assert_eq!(rt;
+        ext_begin(alloc, &mut slots[0], 1, 1, &mut value),
+        Code::Run.number()
+    );
+    assert_eq!(rt;
+        closed(alloc, &mut slots[1], 1),
+        (Code::Busy.number(), 0, 0)
+    );
+    assert_eq!(rt; ext_abandon(alloc, &mut slots[0]), 0);
+    assert_eq!(rt;
+        closed(alloc, &mut slots[1], 1),
+        (Code::Unjoined.number(), 0, 0)
+    );
+    assert_eq!(rt; closed(alloc, &mut slots[1], 1), (0, 1, 71));
+    assert_eq!(rt;
+        closed(alloc, &mut slots[0], 1),
+        (Code::NoCloser.number(), 0, 0)
+    );
+}
+
+#[test]
+fn a_store_that_keeps_no_faults_gives_the_claim_up(rt: HostRuntime) {
+    let alloc = rt.alloc();
+    let mut slots = open_one(&rt, alloc, false);
+    let slot = &mut slots[0];
+    let mut value = no_value();
+    let mut number = 7;
+    assert_eq!(rt;
+        ext_begin(alloc, slot, 1, 3, &mut value),
+        Code::Run.number()
+    );
+    assert_eq!(rt;
+        ext_fail(alloc, slot, 5, &mut number),
+        Code::GivenUp.number()
+    );
+    assert_eq!(rt; number, 7);
+    assert_eq!(rt;
+        ext_get(alloc, slot, 1, 3, &mut value),
+        Code::Absent.number()
     );
 }

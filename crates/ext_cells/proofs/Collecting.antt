@@ -17,7 +17,7 @@ use Rattle.ext_history.proofs.Lanes.{own_append, own_past}
 use Rattle.ext_history.proofs.Composed.{calls_moved}
 use Rattle.ext_model.proofs.Versions.{versions, version-append, versions-append, versions_within, same_word, same_word_between}
 use Rattle.ext_cells.specs.Lanes.{Lane}
-use Rattle.ext_cells.specs.CellCalls.{StoodTogether, before_last_pass}
+use Rattle.ext_cells.specs.CellCalls.{IsOvertakenOn, StoodTogether, before_last_pass}
 use Rattle.ext_cells.specs.InnerSteps.{Finds}
 use Rattle.ext_cells.specs.InnerPasses.{EachRead, ReadPass}
 
@@ -355,6 +355,16 @@ module _ (limits : Limits) (before now : LaneView) (cells words : List ℕ) (cou
 
       own_rest : (x m last : History) → seen_by before ++ (x ++ m) ≡ last → own before.number last ≡ own before.number (seen_by before) → own before.number m ≡ []
       own_rest x m last is same = nil_right (own before.number x) (own before.number m) (sym (own_append lane_of before.number x m) ∙ own_past lane_of before.number (seen_by before) (x ++ m) (ap (own before.number) is ∙ same))
+
+  -- and all of these were on the cells
+  pub passes_on : (tries : ℕ) → tries ≤ count → IsOvertakenOn tries cells before now
+  passes_on tries all =
+      let last : History = last_after (seen_by before) added in
+      let last_is : last ≡ last_after (last_after (seen_by before) t.earlier) t.fronts = last_append (seen_by before) t.earlier t.fronts in
+      let counted = t.counted in
+      let high : read_versions cells t.fronts ≤ versions last cells = versions_to cells words t.fronts last t.latest.read (subst (AllBegin t.fronts) (sym last_is) (follow_begin (last_after (seen_by before) t.earlier) t.fronts t.latest.follow)) in
+      subst (λ z. IsOvertakenOn tries cells before z) (sym t.latest.is)
+      (subst (λ (z : History × History). versions z.0 cells + tries ≤ versions z.1 cells) (λ i. (ap (λ fs. first_or (seen_by before) fs) (sym (moved_fronts before added)) i, sym (moved_seen before added) i)) (omega (arith, counted, high, all)))
 
   pub steps_all : (tries : ℕ) → count ≤ tries → length (call_fronts before now) ≤ length cells * (tries + 1)
   steps_all tries within =

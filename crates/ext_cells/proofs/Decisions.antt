@@ -1,5 +1,5 @@
 -- What the word after an act, or its refusal, tells of the reply of one thread.
-use Rattle.std.proofs.Common.{◌≡◌, ℕ, ◌≤◌, Bool, true, false, arith, refl, ap, sym, Option, None, Some}
+use Rattle.std.proofs.Common.{◌≡◌, ℕ, ◌+◌, ◌^◌, ◌<◌, ◌≤◌, Bool, true, false, arith, refl, ap, sym, subst, Option, None, Some}
 use Rattle.std.specs.Prelude.{Result, Ok, Err, if◌then◌else◌}
 use Rattle.std.proofs.lemmas.Bool.{ne_eqb}
 use Rattle.ext_model.specs.declared.event.Act.{Act}
@@ -8,16 +8,16 @@ use Rattle.ext_model.specs.declared.slot.Slot.{Slot}
 use Rattle.ext_model.specs.declared.slot.Slot.TheVariants as slot
 use Rattle.ext_model.specs.Events as events
 use Rattle.ext_model.specs.Plain.{what_stood}
-use Rattle.ext_model.specs.Words.{number_code}
+use Rattle.ext_model.specs.Words.{number_code, slot_word}
 use Rattle.ext_cells.specs.declared.refusal.CellRefusal.{CellRefusal}
 use Rattle.ext_cells.specs.declared.refusal.CellRefusal.TheVariants.{Exhausted}
 use Rattle.ext_cells.specs.declared.decision.Decision.TheVariants.{Change, Done}
-use Rattle.ext_cells.specs.Words.{exhausted_if, unless, after_word}
+use Rattle.ext_cells.specs.Words.{IsEmptyWord, exhausted_if, unless, after_word}
 use Rattle.ext_cells.specs.CellCalls.{result_of}
 use Rattle.ext_cells.specs.declared.cell_state.CellState.TheVariants.{Sealed}
 use Rattle.ext_cells.specs.declared.stood.Stood.TheVariants.{Nothing, Value}
 use Rattle.ext_cells.specs.InnerSteps.{value_of, idle_reply}
-use Rattle.ext_cells.specs.InnerDeciding.{state_of, IsNumbered, stood_in, is_settled, IsChange, reply_on, Decides}
+use Rattle.ext_cells.specs.InnerDeciding.{state_of, IsNumbered, IsCellWord, IsSeal, stood_in, is_settled, IsChange, reply_on, Decides}
 
 some_stood : (n : ℕ) → 1 ≤ n → stood_in Sealed n ≡ Value n
 some_stood n l = ap (λ b. if b then Nothing else Value n) (ne_eqb n 0 (λ e. absurd (omega (arith, e, l))))
@@ -123,3 +123,39 @@ refuses (Seal at) (Some (slot.Entry m)) v why change idle e = no_refusal _ why e
 refuses (Seal at) (Some (slot.Fault m)) v why change idle e = no_refusal _ why e
 refuses (Seal at) (Some (slot.Claim lane)) v why change idle e = same_err _ why e
 refuses (Seal at) (Some (slot.Sealed kept)) v why change idle e = absurd (cc idle)
+
+-- ---- a seal of a cell where nothing stands
+
+-- its word says so
+nothing_stands : (s : Option Slot) (version word : ℕ) → IsCellWord s version word → IsEmptyWord word → s ≡ None
+nothing_stands None v w is e = refl
+nothing_stands (Some (slot.Entry n)) v w is e = let f = is.is in absurd (omega (arith, f, e))
+nothing_stands (Some (slot.Fault n)) v w is e = let f = is.is in absurd (omega (arith, f, e))
+nothing_stands (Some (slot.Claim lane)) v w is e = let f = is.is in absurd (omega (arith, f, e))
+nothing_stands (Some (slot.Sealed kept)) v w is e = let f = is.is in absurd (omega (arith, f, e))
+
+next_is : (version word : ℕ) → IsCellWord None version word → word + 16777219 ≡ slot_word (Some (slot.Sealed None)) (version + 1)
+next_is v w is = let f = is.is in omega (arith, f)
+
+at_nothing : (act : Act ℕ) (version word : ℕ) → IsSeal act → IsCellWord None version word → Decides act None version (Change (word + 16777219) Nothing)
+at_nothing (Keep n) v w seal is = absurd seal
+at_nothing (Put at n) v w seal is = absurd seal
+at_nothing (Remove at) v w seal is = absurd seal
+at_nothing (Claim at) v w seal is = absurd seal
+at_nothing (Fill at n) v w seal is = absurd seal
+at_nothing (Fail at n) v w seal is = absurd seal
+at_nothing (Abandon at) v w seal is = absurd seal
+at_nothing (Seal at) v w seal is = (refl, λ lane. next_is v w is)
+
+pub seals_nothing : (act : Act ℕ) (s : Option Slot) (version word : ℕ) → IsSeal act → IsEmptyWord word → IsCellWord s version word → Decides act s version (Change (word + 16777219) Nothing)
+seals_nothing act s v w seal e is =
+    let none = nothing_stands s v w is e in
+    subst (λ t. Decides act t v (Change (w + 16777219) Nothing)) (sym none) (at_nothing act v w seal (subst (λ t. IsCellWord t v w) none is))
+
+-- there is room for the word of the seal
+pub room_for_seal : (s : Option Slot) (version word : ℕ) → IsEmptyWord word → IsCellWord s version word → word + 16777219 < 2 ^ 64
+room_for_seal s v w e is = room s is (nothing_stands s v w is e)
+  where
+    room : (t : Option Slot) → IsCellWord t v w → t ≡ None → w + 16777219 < 2 ^ 64
+    room None of none = let f = of.is in let r = of.room (λ same. cc same) in omega (arith, f, r)
+    room (Some x) of none = absurd (cc none)

@@ -1,6 +1,6 @@
 -- What the contract of each call says of its result. `CallActs` of ext_model has the words: the events that a call made, its fronts, and the points at
 -- which its answer may be that of one thread. Here stand, for each call, what one thread is answered at a point, and which events an answer means.
-use Rattle.std.specs.Prelude.{ℕ, ◌≡◌, ◌<◌, ◌≤◌, ◌+◌, ◌-◌, All, slice_index, List, [], ◌∷◌, length, map, take, Option, None, Some, Result, Ok, Err}
+use Rattle.std.specs.Prelude.{ℕ, ◌≡◌, ◌<◌, ◌≤◌, ◌+◌, ◌-◌, All, slice_index, sum_by, List, [], ◌∷◌, length, map, take, Option, None, Some, Result, Ok, Err}
 use Rattle.ext_model.specs.declared.event.Act.{Act}
 use Rattle.ext_model.specs.declared.event.Act.TheVariants.{Keep, Put, Remove, Claim, Seal}
 use Rattle.ext_model.specs.declared.slot.Slot.{Slot}
@@ -138,6 +138,10 @@ pub record StoodTogether (before after : Lane) (cells words : List ℕ) : Type 0
 -- The point at which they did: a collect reads each cell once in every pass, and this is the front after the last read of the pass before its last
 abbrev pub before_last_pass : ℕ → LaneView → LaneView → History
 before_last_pass cells before after = last_after (seen_by before) (take (length (call_fronts before after) - cells) (call_fronts before after))
+
+-- Of looks: past the call's first front at least so many events were on these cells
+abbrev pub IsOvertakenOn : ℕ → List ℕ → LaneView → LaneView → Type 0
+IsOvertakenOn tries cells before after = sum_by (version_of (first_front before after)) cells + tries ≤ sum_by (version_of (seen_by after)) cells
 
 -- the result of a collect: such words, or other lanes were in the way
 abbrev pub Collects : ℕ → Lane → Lane → List ℕ → Result (List ℕ) CellRefusal → Type 0

@@ -77,3 +77,14 @@ abbrev pub Decides : Act ℕ → Option Slot → ℕ → Decision → Type 0
 Decides act stands version (Change next stood) = (reply_on act stands version ≡ events.Happens (answer_to act stood)) × ((lane : ℕ) → next ≡ slot_word (events.slot_after lane act stands) (version + 1))
 Decides act stands version (Done (Ok stood)) = reply_on act stands version ≡ idle_reply act stood
 Decides act stands version (Done (Err why)) = (result_of what_stood (reply_on act stands version) ≡ Err why)
+
+-- a seal, of whichever cell
+abbrev pub IsSeal : Act ℕ → Type 0
+IsSeal (Keep number) = ⊥
+IsSeal (Put at number) = ⊥
+IsSeal (Remove at) = ⊥
+IsSeal (Claim at) = ⊥
+IsSeal (Fill at number) = ⊥
+IsSeal (Fail at number) = ⊥
+IsSeal (Abandon at) = ⊥
+IsSeal (Seal at) = Unit {0}

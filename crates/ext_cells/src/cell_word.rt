@@ -1,6 +1,6 @@
 //! A cell in one word of 64 bits: its state, the number that stands there, and how many events it has had. No other module takes a
 //! word apart.
-ghost use Rattle.std.specs.Prelude.{◌≡◌, ℕ, ◌+◌, ◌*◌, ◌-◌, ◌^◌, ◌<◌, IfNone};
+ghost use Rattle.std.specs.Prelude.{◌≡◌, ◌↔◌, ℕ, ◌+◌, ◌*◌, ◌-◌, ◌^◌, ◌<◌, IsTrue, IfNone};
 ghost use Rattle.ext_cells.specs.Words.{word_with, sealed_number as sealed_number_of, next_word as next_word_of, ends_claim as ends_claim_of, is_worn_by, refusal_in, after_word, version_in, HasState, IsEmptyWord, Suits};
 ghost use Rattle.ext_cells.specs.InnerPasses.{Says};
 
@@ -67,6 +67,17 @@ pub(crate) fn version(word: u64) -> u64
     ensures within { result < 2 ^ 40 }
 {
     word / 16_777_216
+}
+
+// What the seal of a cell where nothing stands adds to its word: a version, and the state of a seal that keeps no number.
+pub(crate) const SEAL_OF_NOTHING: u64 = 16_777_216 + 3;
+
+// Whether nothing stands at the cell of this word.
+#[inline(always)]
+pub(crate) fn is_empty(word: u64) -> bool
+    ensures { IsTrue result ↔ IsEmptyWord word }
+{
+    word % 16 == 0
 }
 
 // The greatest versions at which a cell takes a put or a remove, and a claim.

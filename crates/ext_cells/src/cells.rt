@@ -1,5 +1,5 @@
 //! The cells that lanes share, and all calls on them.
-ghost use Rattle.std.specs.Prelude.{◌≡◌, ◌≢◌, ◌≤◌, ◌<◌, ◌+◌, ◌*◌, ◌^◌, ◌↔◌, ℕ, nat_eq, [], ◌∷◌, ◌++◌, length, map, Some, All, Contains, IfOk, IfErr, IfSome, IsTrue, true, Err};
+ghost use Rattle.std.specs.Prelude.{◌≡◌, ◌≢◌, ◌≤◌, ◌<◌, ◌+◌, ◌*◌, ◌^◌, ◌↔◌, ℕ, nat_eq, [], ◌∷◌, ◌++◌, length, map, Some, All, Contains, IfOk, IfErr, IfSome, IsTrue, OnErr, true, Err};
 ghost use Rattle.std.specs.List.{IsDistinct};
 ghost use mathlib.Core.List.{IsPrefix};
 ghost use Rattle.ext_model.specs.History.{History, by, stored_number, fault_number, IsLegal};
@@ -9,7 +9,7 @@ ghost use Rattle.ext_model.specs.CallActs.{Calls, IsHeld, MayStoreNow};
 ghost use Rattle.ext_model.specs.declared.event.Act.TheVariants as act_is;
 ghost use Rattle.ext_cells.specs.Lanes.{AreLimits, fresh_lanes};
 ghost use Rattle.ext_cells.specs.InnerRule.{place_in};
-ghost use Rattle.ext_cells.specs.CellCalls.{Answers, SealAnswers, ComesLast, EndsClaim, Collects, before_last_pass, IfWon, change_reply, claim_reply, number_reply, number_acts, put_acts, remove_acts, claim_acts};
+ghost use Rattle.ext_cells.specs.CellCalls.{Answers, SealAnswers, ComesLast, EndsClaim, Collects, IsOvertakenOn, before_last_pass, IfWon, change_reply, claim_reply, number_reply, number_acts, put_acts, remove_acts, claim_acts};
 ghost use Rattle.ext_cells.specs.InnerSteps.{stepped, Finds, MayGoOn, IsChangeOf, IsEndOf, Changes};
 ghost use Rattle.ext_cells.specs.InnerPasses.{ReadPass};
 ghost use Rattle.ext_cells.specs.Words.{HasState};
@@ -148,8 +148,8 @@ impl Cells {
     /// A pass reads each cell once, and the answer is the first pass that equals the pass before it: then no event on
     /// these cells came between the two, since each event raises the version of its cell, and the words stood
     /// together after the last read of the earlier one. Refused as `Contended` alone, where so many passes as there
-    /// are tries differed from the ones before them: other lanes made at least as many events meanwhile. A collect of
-    /// no cells is no step.
+    /// are tries differed from the ones before them: other lanes made at least as many events on these cells meanwhile. A
+    /// collect of no cells is no step.
     pub fn collect(&self, lane: &mut CellLane, cells: &[CellNo]) -> Result<Words, CellRefusal>
         requires lane { lane.old.cells ≡ self.now.id }
         requires few { length cells.now ≤ 16 }
@@ -159,6 +159,7 @@ impl Cells {
         ensures words { Collects self.now.tries lane.old lane.new cells.now result }
         ensures moment { IfOk result (λ words. words ≡ map (word_of (before_last_pass (length cells.now) lane.old.view lane.new.view)) cells.now) }
         ensures steps { length (call_fronts lane.old.view lane.new.view) ≤ length cells.now * (self.now.tries + 1) }
+        ensures contended { OnErr result (IsOvertakenOn self.now.tries cells.now lane.old.view lane.new.view) }
     {
         lane.recall();
         let mut words = self.pass(lane, cells);
@@ -350,6 +351,7 @@ impl Cells {
 
     /// A put, a remove, a claim or a seal of the cell. It answers what stood there, or what the seal keeps that stands
     /// there: a claim is won where that is nothing.
+    #[inline(always)]
     fn change(
         &self,
         lane: &mut CellLane,

@@ -1,9 +1,10 @@
 //! What a call does next, by the word that it found.
-ghost use Rattle.std.specs.Prelude.{◌≡◌, ℕ, ◌%◌, ◌<◌, Option};
+ghost use Rattle.std.specs.Prelude.{◌≡◌, ℕ, ◌<◌, IsTrue, Option};
 ghost use Rattle.ext_model.specs.declared.slot.Slot.{Slot};
-ghost use Rattle.ext_cells.specs.InnerDeciding.{IsCellWord, IsChange, is_settled as is_settled_of, Decides};
+ghost use Rattle.ext_cells.specs.Words.{IsEmptyWord};
+ghost use Rattle.ext_cells.specs.InnerDeciding.{IsCellWord, IsChange, IsSeal, is_settled as is_settled_of, Decides};
 
-use crate::cell_word::{after, parts};
+use crate::cell_word::{SEAL_OF_NOTHING, after, is_empty, parts};
 use crate::stood::Stood;
 use crate::{CellRefusal, CellState};
 use ext_model::{Act, CellNo};
@@ -30,12 +31,28 @@ fn is_settled(act: Act<CellNo>, state: CellState) -> bool
     }
 }
 
-// Decides on a put, a remove, a claim or a seal of the cell whose word this is.
+// Whether the act is a seal of a cell where nothing stands: so are most of those in a context that is closed.
+#[inline(always)]
+fn seals_nothing(word: u64, act: Act<CellNo>) -> bool
+    ensures { IsTrue result → IsSeal act × IsEmptyWord word }
+{
+    matches!(act, Act::Seal(_)) && is_empty(word)
+}
+
+// Decides on a put, a remove, a claim or a seal of the cell whose word this is. In each caller the act is a constant, so that the
+// compiler leaves no test of it.
+#[inline(always)]
 pub(crate) fn decide(word: u64, act: Act<CellNo>) -> Decision
     requires word { (stands : Option Slot) × (version : ℕ) × IsCellWord stands version word }
     requires act { IsChange act }
     ensures { (stands : Option Slot) (version : ℕ) → IsCellWord stands version word → Decides act stands version result }
 {
+    if seals_nothing(word, act) {
+        return Decision::Change {
+            next: word + SEAL_OF_NOTHING,
+            stood: Stood::Nothing,
+        };
+    }
     let (state, number, _) = parts(word);
     let stood = Stood::of(state, number);
     if is_settled(act, state) {

@@ -1,8 +1,8 @@
 //! The look-up of the nearest of some cells where anything stands.
-ghost use Rattle.std.specs.Prelude.{ℕ, List, ◌≡◌, ◌≤◌, ◌<◌, ◌+◌, ◌*◌, ◌^◌, [], ◌∷◌, ◌++◌, length, nat_eq, All, IfNone, IfSome, None, Some};
+ghost use Rattle.std.specs.Prelude.{ℕ, List, ◌≡◌, ◌≤◌, ◌<◌, ◌+◌, ◌*◌, ◌^◌, [], ◌∷◌, ◌++◌, length, nat_eq, All, IfNone, IfSome, None, OnErr, Some};
 ghost use Rattle.std.specs.List.{IsDistinct};
 ghost use Rattle.ext_history.specs.Histories.{call_fronts};
-ghost use Rattle.ext_cells.specs.CellCalls.{FindsNearest};
+ghost use Rattle.ext_cells.specs.CellCalls.{FindsNearest, IsOvertakenOn};
 ghost use Rattle.ext_cells.specs.InnerPasses.{FirstPass, IsReading, ReadPass, Says};
 ghost use Rattle.ext_cells.specs.Words.{HasState, IsEmptyWord};
 
@@ -83,7 +83,7 @@ impl Cells {
     /// It reads the cells up to the first where anything stands, and then those before it once more: where none of them has
     /// had an event meanwhile, that is the answer, and a first cell that is not empty is read once and no other. Else it
     /// reads all cells, pass after pass, as `collect` does. Refused as `Contended` alone, where other lanes made at least
-    /// as many events meanwhile as there are tries.
+    /// as many events on these cells meanwhile as there are tries.
     pub fn nearest(
         &self,
         lane: &mut CellLane,
@@ -96,6 +96,7 @@ impl Cells {
         ensures lane { lane.new.cells ≡ lane.old.cells }
         ensures nearest { FindsNearest self.now.tries lane.old lane.new cells.now result }
         ensures steps { length (call_fronts lane.old.view lane.new.view) ≤ length cells.now * (self.now.tries + 1) }
+        ensures contended { OnErr result (IsOvertakenOn self.now.tries cells.now lane.old.view lane.new.view) }
     {
         self.recall();
         let (empty, stands) = self.read_empty(lane, cells);

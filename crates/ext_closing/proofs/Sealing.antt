@@ -23,8 +23,8 @@ use Rattle.ext_model.proofs.Composed.{calls_compose}
 use Rattle.ext_model.proofs.Remaining.{stays_closed, remaining_stays}
 use Rattle.ext_cells.specs.Lanes.{CellsId, Lane}
 use Rattle.ext_store.specs.Stores.{StoreView, cell_in}
-use Rattle.ext_store.specs.ContextCalls.{SealsCell, IsBusyThere, IsInTheWay}
-use Rattle.ext_closing.specs.Sealing.{slots_seen, AreSealed, seals_of, MakesSeals}
+use Rattle.ext_store.specs.ContextCalls.{SealsCell, IsBusyThere}
+use Rattle.ext_closing.specs.Sealing.{slots_seen, AreSealed, SealOvertaken, seals_of, MakesSeals}
 use Rattle.ext_closing.specs.declared.fault.CloseFault.{CloseFault}
 use Rattle.ext_closing.specs.declared.fault.CloseFault.TheVariants.{Busy, Contended, Unjoined}
 use Rattle.ext_closing.specs.InnerSteps.{SealsNext, SealedSoFar, SealingEnds}
@@ -164,8 +164,8 @@ module _ (store : StoreView) (context : ℕ) (before between after : Lane) (same
     busy_end : IsBusyThere store context key between after → SealingEnds store context before after (Some (Busy key))
     busy_end busy = let e = quiet_end busy.calls in record { seals = (below, (between, so_far.seals, busy)); sealed = e.0; made = e.1 }
 
-    contended_end : IsInTheWay store between after → SealingEnds store context before after (Some (Contended key))
-    contended_end over = let e = quiet_end over.calls in record { seals = (below, (between, so_far.seals, over)); sealed = e.0; made = e.1 }
+    contended_end : SealOvertaken store context key between after → SealingEnds store context before after (Some (Contended key))
+    contended_end over = let e = quiet_end over.in_the_way.calls in record { seals = (below, (between, so_far.seals, over)); sealed = e.0; made = e.1 }
 
     pub refused_end : (why : CloseFault) → SealsNext store context key between after (Err why) → SealingEnds store context before after (Some why)
     refused_end (Busy at) next = subst (λ k. SealingEnds store context before after (Some (Busy k))) (sym next.0) (busy_end next.1)

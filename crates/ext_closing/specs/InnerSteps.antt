@@ -3,16 +3,16 @@ use Rattle.std.specs.Prelude.{ℕ, ◌≡◌, List, Option, Result, Ok, Err}
 use Rattle.ext_model.specs.Closing.{remaining}
 use Rattle.ext_cells.specs.Lanes.{Lane}
 use Rattle.ext_store.specs.Stores.{StoreView}
-use Rattle.ext_store.specs.ContextCalls.{SealsCell, IsBusyThere, IsInTheWay}
+use Rattle.ext_store.specs.ContextCalls.{SealsCell, IsBusyThere}
 use Rattle.ext_closing.specs.declared.fault.CloseFault.{CloseFault}
 use Rattle.ext_closing.specs.declared.fault.CloseFault.TheVariants.{Busy, Contended, Unjoined}
-use Rattle.ext_closing.specs.Sealing.{slots_seen, AreSealed, SealsAll, MakesSeals, SealsUntil, keys_sealed}
+use Rattle.ext_closing.specs.Sealing.{slots_seen, AreSealed, SealOvertaken, SealsAll, MakesSeals, SealsUntil, keys_sealed}
 
 -- what the seal of one key answers, with the key at which it is refused
 abbrev pub SealsNext : StoreView → ℕ → ℕ → Lane → Lane → Result (Option ℕ) CloseFault → Type 0
 SealsNext store context key before after (Ok kept) = SealsCell store context key before after kept
 SealsNext store context key before after (Err (Busy at)) = (at ≡ key) × IsBusyThere store context key before after
-SealsNext store context key before after (Err (Contended at)) = (at ≡ key) × IsInTheWay store before after
+SealsNext store context key before after (Err (Contended at)) = (at ≡ key) × SealOvertaken store context key before after
 SealsNext store context key before after (Err (Unjoined number)) = ⊥
 
 -- how it stands when the first so many keys are sealed: the numbers are those that their seals keep

@@ -9,6 +9,7 @@ use Rattle.ext_history.specs.Histories.{seen_by}
 use Rattle.ext_model.specs.CallActs.{Calls}
 use Rattle.ext_model.specs.Closing.{IsClosed, remaining}
 use Rattle.ext_cells.specs.Lanes.{Lane}
+use Rattle.ext_cells.specs.CellCalls.{IsOvertakenAt}
 use Rattle.ext_store.specs.Stores.{StoreView, cell_in}
 use Rattle.ext_store.specs.ContextCalls.{SealsCell, IsBusyThere, IsInTheWay}
 use Rattle.ext_closing.specs.declared.fault.CloseFault.{CloseFault}
@@ -60,12 +61,18 @@ keys_sealed store (Some (Busy key)) = key
 keys_sealed store (Some (Contended key)) = key
 keys_sealed store (Some (Unjoined number)) = length store.id.keys
 
+-- The seal of the key was refused, as other lanes were in the way. That comes last: by what the lane has seen then the seal would happen, and at least as many
+-- events as a call has tries were in its way, on this cell alone
+pub record SealOvertaken (store : StoreView) (context key : ℕ) (before after : Lane) : Type 0 where
+  pub in_the_way : IsInTheWay store before after
+  pub last : IsOvertakenAt store.tries before after (Seal (cell_in store key context))
+
 -- All keys were sealed; or those before one, whose own seal was refused: as a lane computed a value for the context at a point of that seal, or as other
 -- lanes were in the way
 abbrev pub SealsUntil : StoreView → ℕ → Lane → Lane → Option CloseFault → Type 0
 SealsUntil store context before after None = SealsAll store context (length store.id.keys) before after
 SealsUntil store context before after (Some (Busy key)) = (key < length store.id.keys) × ((between : Lane) × SealsAll store context key before between × IsBusyThere store context key between after)
-SealsUntil store context before after (Some (Contended key)) = (key < length store.id.keys) × ((between : Lane) × SealsAll store context key before between × IsInTheWay store between after)
+SealsUntil store context before after (Some (Contended key)) = (key < length store.id.keys) × ((between : Lane) × SealsAll store context key before between × SealOvertaken store context key between after)
 SealsUntil store context before after (Some (Unjoined number)) = SealsAll store context (length store.id.keys) before after
 
 -- the fault of a result, if it is one

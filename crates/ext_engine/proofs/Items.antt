@@ -1,18 +1,24 @@
--- The children of a node, one after another, with the closers of each and those that are left.
-use Rattle.std.proofs.Common.{◌≡◌, ℕ, ◌<◌, ◌≤◌, Bool, true, false, zero, suc, List, [], ◌∷◌, ◌++◌, length, map, filter, ap, ◌∙◌, sym, refl, subst, arith, append_assoc}
-use Rattle.std.specs.Prelude.{All, AllPairs, Contains, cond, not, slice_index_or}
+-- The children of a node, each with the closers of its subtree.
+use Rattle.std.proofs.Common.{◌≡◌, ℕ, ◌-◌, ◌<◌, ◌≤◌, Bool, true, false, zero, suc, List, [], ◌∷◌, ◌++◌, length, map, filter, get_or, set, length-set, get_or-set_same, get_or-set_other, ap, ◌∙◌, sym, refl, subst, arith, inl, inr, Option, Some, None}
+use Rattle.std.specs.Prelude.{All, AllPairs, Contains, cond, not, slice_index_or, Result, Ok, Err}
 use Rattle.std.specs.Bool.{if◌then◌else◌}
-use Rattle.std.proofs.lemmas.List.{length_push, length-append, length-map, map_push}
-use Rattle.std.proofs.lemmas.List.Elements.{All-head, All-nil, All-tail, All-contains, All-push, All-same, Contains-get_or}
+use Rattle.std.specs.Result.{result_ok}
+use Rattle.std.specs.Ordering.{nat_cmp}
+use Rattle.std.specs.List.Sorted.{IsBinarySearchResult}
+use Rattle.std.proofs.lemmas.Bool.{cases_eq, cases_lt, cases_order}
+use Rattle.std.proofs.lemmas.List.{length_push, length-map, get_or-map}
+use Rattle.std.proofs.lemmas.List.Elements.{All-push, All-same, Contains-get_or}
 use Rattle.std.proofs.lemmas.List.Filters.{length-filter_both}
+use Rattle.std.proofs.lemmas.List.Sorted.{searched}
 use Rattle.ext_ids.specs.Ids.{is_parent}
-use Rattle.ext_tree.specs.Trees.{Id, id_at, IsTree, IsParentOf, children_of, children_below}
-use Rattle.ext_tree.proofs.TreeFacts.{longer, one_context}
+use Rattle.ext_tree.specs.Trees.{Id, id_at, IsTree, IsParentOf, IsPathOf, children_of, children_below}
+use Rattle.ext_tree.proofs.TreeFacts.{longer}
 use Rattle.ext_tree.proofs.TreeLaws.{parents_list_children}
-use Rattle.ext_store.specs.Stores.{CloserView, StoreView}
+use Rattle.ext_store.specs.Stores.{CloserView, StoreView, IsCloserOf}
 use Rattle.ext_engine.specs.declared.node.closers.Item.{Item}
-use Rattle.ext_engine.specs.InnerClosers.{IsWithin, IsItem, OfStore, HasBelow, HasClosers, contexts}
-use Rattle.ext_engine.proofs.Within.{apart, below-child}
+use Rattle.ext_engine.specs.InnerClosers.{IsWithin, IsItem, OfStore, HasBelow, HasClosers, HasTaken, contexts}
+use Rattle.ext_engine.proofs.Contexts.{keeps-in, keeps-out}
+use Rattle.ext_engine.proofs.Within.{shown, at-within, too-deep, below-child}
 
 -- ---- children
 
@@ -24,114 +30,169 @@ few-below : (ids : List Id) (node n : ℕ) → length (children_below ids node n
 few-below ids node zero = omega arith
 few-below ids node (suc n) = few-by (is_parent (id_at ids node) (id_at ids n)) (children_below ids node n) n (few-below ids node n)
 
--- ---- the closers that are left
+-- there are no more of them than contexts
+pub few-children : (ids : List Id) (node : ℕ) → length (children_of ids node) ≤ length ids
+few-children ids node = few-below ids node (length ids)
 
--- the children still to come, in order, and closers of all that is within them
-pub record IsLeft (store : StoreView) (node : ℕ) (rest : List ℕ) (closers : List CloserView) : Type 0 where
-  pub own : OfStore store closers
-  pub children : All (IsParentOf store.tree node) rest
-  pub order : AllPairs (λ a b. a < b) rest
-  pub has : (child : ℕ) → Contains rest child → HasClosers store child closers
+-- each is one
+pub a-child : (ids : List Id) (node at : ℕ) → node < length ids → at < length (children_of ids node) → IsParentOf ids node (slice_index_or (children_of ids node) at 0)
+a-child ids node at less l = (parents_list_children ids node less).child (slice_index_or (children_of ids node) at 0) (Contains-get_or (children_of ids node) at 0 l)
 
--- at first all children
-pub left-first : (store : StoreView) (node : ℕ) (rest : List ℕ) (closers : List CloserView) → node < length store.tree → rest ≡ children_of store.tree node → OfStore store closers → HasBelow store node closers → IsLeft store node rest closers
-left-first store node rest closers less is own below =
-    let listed = parents_list_children store.tree node less in
-    record {
-      own = own;
-      children = λ i d l. listed.child (slice_index_or rest i d) (subst (λ xs. Contains xs (slice_index_or rest i d)) is (Contains-get_or rest i d l));
-      order = subst (AllPairs (λ a b. a < b)) (sym is) listed.order;
-      has = λ child at. record {
-        each = λ k inside within.
-            let b = below-child store.tree node child k (listed.child child (subst (λ xs. Contains xs child) is at)) within in
-            below.each k inside b.0 b.1;
-      };
-    }
+-- ---- where one stands among them
 
-module _ (store : StoreView) (node child : ℕ) (rest more : List ℕ) (closers : List CloserView) (is : rest ≡ child ∷ more) (left : IsLeft store node rest closers) where
-  children : All (IsParentOf store.tree node) (child ∷ more)
-  children = subst (λ xs. All (IsParentOf store.tree node) xs) is left.children
+module _ (xs : List ℕ) (order : AllPairs (λ a b. a < b) xs) where
+  rises : (i j : ℕ) → i ≤ j → j < length xs → get_or xs i 0 ≤ get_or xs j 0
+  rises i j l m = elim (cases_order i j) [
+    | inl same ↦ let e = ap (λ n. get_or xs n 0) same in omega (arith, e)
+    | inr (inl less) ↦ let e = order i j 0 less m in omega (arith, e)
+    | inr (inr more) ↦ absurd (omega (arith, l, more))
+  ]
 
-  order : AllPairs (λ a b. a < b) (child ∷ more)
-  order = subst (AllPairs (λ a b. a < b)) is left.order
+  one-place : (i j : ℕ) → i < length xs → j < length xs → get_or xs i 0 ≡ get_or xs j 0 → i ≡ j
+  one-place i j l m is = elim (cases_order i j) [
+    | inl same ↦ same
+    | inr (inl less) ↦ let e = order i j 0 less m in absurd (omega (arith, e, is))
+    | inr (inr more) ↦ let e = order j i 0 more l in absurd (omega (arith, e, is))
+  ]
 
-  has : (c : ℕ) → Contains (child ∷ more) c → HasClosers store c closers
-  has c at = left.has c (subst (λ xs. Contains xs c) (sym is) at)
+  -- a search finds it there
+  pub finds-place : (x at : ℕ) (r : Result ℕ ℕ) → IsBinarySearchResult (λ y. nat_cmp y x) xs r → at < length xs → get_or xs at 0 ≡ x → result_ok r ≡ Some at
+  finds-place x at (Ok i) found l is = let f = searched xs x (Ok i) found rises in ap Some (one-place i at f.0 l (f.1 ∙ sym is))
+  finds-place x at (Err i) found l is =
+      let f = searched xs x (Err i) found rises in
+      elim (cases_lt at i) [
+        | inl before ↦ let e = f.1 at before in absurd (omega (arith, e, is))
+        | inr behind ↦ let e = f.2 at behind l in absurd (omega (arith, e, is))
+      ]
 
-  -- the next child with the closers within it
-  pub left-item : (item : Item) → item.node ≡ child → OfStore store item.closers.items
-      → ((k : ℕ) → IsWithin store.tree child k → Contains (contexts closers) k → Contains (contexts item.closers.items) k) → IsItem store node item
-  left-item item named own mine =
-      let its : HasClosers store child item.closers.items = record { each = λ k less within. mine k within ((has child (0, omega arith, refl)).each k less within) } in
-      record {
-        child = subst (IsParentOf store.tree node) (sym named) (All-head (IsParentOf store.tree node) child more children);
-        own = own;
-        closers = subst (λ c. HasClosers store c item.closers.items) (sym named) its;
-      }
+module _ (ids : List Id) (node at context : ℕ) (less : node < length ids) (l : at < length (children_of ids node)) (within : IsWithin ids (slice_index_or (children_of ids node) at 0) context)
+    (path node_path p q : List ℕ) (e : path ≡ p) (f : node_path ≡ q) (path_is : IsPathOf ids context p) (long : length p ≡ length (id_at ids context)) (deep : length q ≡ length (id_at ids node)) where
+  abbrev pub child : ℕ
+  child = slice_index_or (children_of ids node) at 0
 
-  -- what is within a later child isn't within this one
-  later-apart : IsTree store.tree → (c k : ℕ) → Contains more c → IsWithin store.tree c k → ¬ IsWithin store.tree child k
-  later-apart tree c k at within mine =
-      let P = IsParentOf store.tree node in
-      let first : P child = All-head P child more children in
-      let later : P c = All-contains P more c (All-tail P child more children) at in
-      let long = longer (id_at store.tree node) (id_at store.tree child) first.ids_are ∙ sym (longer (id_at store.tree node) (id_at store.tree c) later.ids_are) in
-      let same = one_context store.tree tree child c first.child_within later.child_within (apart store.tree child c k long mine within) in
-      let less : child < c = subst (λ x. child < x) at.2 (order 0 (suc at.0) c (omega arith) (let l = at.1 in omega (arith, l))) in
-      omega (arith, same, less)
+  -- the path of a context within a child is longer than the node's
+  pub too-short : length path ≤ length node_path → ⊥
+  too-short short =
+      let n = longer (id_at ids node) (id_at ids child) (a-child ids node at less l).ids_are in
+      let a = ap length e in let b = ap length f in
+      too-deep ids context child (length (id_at ids child)) (length p) long refl (omega (arith, n, a, b, deep, short)) within
 
-  -- and the later children with the other closers
-  pub left-more : (others : List CloserView) → IsTree store.tree → OfStore store others
-      → ((k : ℕ) → ¬ IsWithin store.tree child k → Contains (contexts closers) k → Contains (contexts others) k) → IsLeft store node more others
-  left-more others tree own kept = record {
-    own = own;
-    children = All-tail (IsParentOf store.tree node) child more children;
-    order = λ i j d l m. order (suc i) (suc j) d (omega (arith, l)) (omega (arith, m));
-    has = λ c at. record {
-      each = λ k less within. kept k (later-apart tree c k at within) ((has c (suc at.0, (let l = at.1 in omega (arith, l)), at.2)).each k less within);
-    };
-  }
+  -- and has the child next to the node
+  pub passes-child : IsTree ids → All (λ x. x < length ids) p → length node_path < length path → slice_index_or path (length path - length node_path - 1) 0 ≡ child
+  passes-child tree inside more =
+      let one = a-child ids node at less l in
+      let h = shown ids context node child path node_path p q e f path_is long deep one more in
+      let n : length path - length node_path - 1 ≡ length path - suc (length node_path) = omega arith in
+      ap (λ i. slice_index_or path i 0) n ∙ at-within ids context child (suc (length node_path)) path h tree one.child_within (subst (All (λ x. x < length ids)) (sym e) inside) within
 
--- ---- the items of the children that pass
+-- ---- an item for each
 
 abbrev nodes_of : List Item → List ℕ
 nodes_of items = map (λ i. i.node) items
 
--- the items so far, and those to come, are those of all children that pass
-pub record AreItems (store : StoreView) (node : ℕ) (passes : ℕ → Bool) (rest : List ℕ) (items : List Item) : Type 0 where
-  pub nodes : map (λ i. i.node) items ++ filter passes rest ≡ filter passes (children_of store.tree node)
-  pub each : All (IsItem store node) items
+module _ (ids : List Id) (node : ℕ) (items : List Item) (nodes : map (λ i. i.node) items ≡ children_of ids node) where
+  -- an item stands where its node does
+  pub node-at : (i : ℕ) (d : Item) → i < length items → slice_index_or (children_of ids node) i 0 ≡ (slice_index_or items i d).node
+  node-at i d l = sym (ap (λ xs. slice_index_or xs i 0) nodes) ∙ get_or-map (λ (x : Item). x.node) items i d 0 l
 
-module _ (store : StoreView) (node : ℕ) (passes : ℕ → Bool) where
-  pub items-first : (rest : List ℕ) (items : List Item) → rest ≡ children_of store.tree node → items ≡ [] → AreItems store node passes rest items
-  items-first rest items is empty = record {
-    nodes = ap (λ l. nodes_of l ++ filter passes rest) empty ∙ ap (filter passes) is;
-    each = All-same (IsItem store node) items [] empty (All-nil (IsItem store node));
-  }
+  -- and there are as many
+  pub as-many : length (children_of ids node) ≡ length items
+  as-many = sym (ap length nodes) ∙ length-map items (λ (x : Item). x.node)
 
-  -- one more child that passes
-  pub items-in : (rest more : List ℕ) (items next : List Item) (item : Item) → rest ≡ item.node ∷ more → passes item.node ≡ true → IsItem store node item → next ≡ items ++ item ∷ []
-      → AreItems store node passes rest items → AreItems store node passes more next
-  items-in rest more items next item is good own pushed so_far =
-      let e = ap (λ b. nodes_of items ++ cond b (item.node ∷ filter passes more) (filter passes more)) good in
-      let f = append_assoc (nodes_of items) (item.node ∷ []) (filter passes more) in
-      let all = ap (λ l. l ++ filter passes more) (map_push (λ (i : Item). i.node) items item) ∙ (f ∙ (sym e ∙ (sym (ap (λ l. nodes_of items ++ filter passes l) is) ∙ so_far.nodes))) in
+-- ---- the closers that are handed out
+
+nothing-taken : {A : Type 0} (k : ℕ) → Contains (contexts []) k → A
+nothing-taken k h = absurd (let l = h.1 in omega (arith, l))
+
+none-of-store : (store : StoreView) (closers : List CloserView) → closers ≡ [] → OfStore store closers
+none-of-store store closers is = subst (OfStore store) (sym is) (λ i d l. absurd (omega (arith, l)))
+
+-- at first none
+pub taken-none : (store : StoreView) (items : List Item) → All (λ i. i.closers.items ≡ []) items → All (HasTaken store []) items
+taken-none store items empty = λ i d l. record {
+  own = none-of-store store (slice_index_or items i d).closers.items (empty i d l);
+  each = λ k within h. nothing-taken k h;
+}
+
+module _ (store : StoreView) (seen : List CloserView) (c : CloserView) where
+  -- one more of them
+  pub taken-in : (item next : Item) → next.node ≡ item.node → next.closers.items ≡ item.closers.items ++ c ∷ [] → IsCloserOf store c → HasTaken store seen item → HasTaken store (seen ++ c ∷ []) next
+  taken-in item next named pushed own taken =
+      let all = keeps-in (IsWithin store.tree item.node) seen item.closers.items c (record { each = taken.each }) next.closers.items pushed in
       record {
-        nodes = ap (λ l. nodes_of l ++ filter passes more) pushed ∙ all;
-        each = All-same (IsItem store node) next (items ++ item ∷ []) pushed (All-push (IsItem store node) items item so_far.each own);
+        own = All-same (IsCloserOf store) next.closers.items (item.closers.items ++ c ∷ []) pushed (All-push (IsCloserOf store) item.closers.items c taken.own own);
+        each = λ k within h. all.each k (subst (λ n. IsWithin store.tree n k) named within) h;
       }
 
-  -- and one that doesn't
-  pub items-out : (child : ℕ) (rest more : List ℕ) (items : List Item) → rest ≡ child ∷ more → passes child ≡ false → AreItems store node passes rest items → AreItems store node passes more items
-  items-out child rest more items is bad so_far =
-      let e = ap (λ b. nodes_of items ++ cond b (child ∷ filter passes more) (filter passes more)) bad in
-      record { nodes = sym e ∙ (sym (ap (λ l. nodes_of items ++ filter passes l) is) ∙ so_far.nodes); each = so_far.each }
+  -- and one for another item
+  pub taken-out : (item : Item) → (IsWithin store.tree item.node c.context → ⊥) → HasTaken store seen item → HasTaken store (seen ++ c ∷ []) item
+  taken-out item outside taken = record {
+    own = taken.own;
+    each = (keeps-out (IsWithin store.tree item.node) seen item.closers.items c (record { each = taken.each }) outside).each;
+  }
 
-  -- there are no more of them than contexts
-  pub items-few : (rest : List ℕ) (items : List Item) → AreItems store node passes rest items → length items ≤ length store.tree
-  items-few rest items are =
-      let a = sym (length-map items (λ (i : Item). i.node)) in
-      let b = sym (length-append (nodes_of items) (filter passes rest)) ∙ ap length are.nodes in
-      let c = length-filter_both passes (λ x. not (passes x)) (λ x. refl) (children_of store.tree node) in
-      let d = few-below store.tree node (length store.tree) in
-      omega (arith, a, b, c, d)
+  module _ (node : ℕ) (items : List Item) (less : node < length store.tree) (nodes : map (λ i. i.node) items ≡ children_of store.tree node) (taken : All (HasTaken store seen) items) where
+    -- what is within an item's node is within the child of its place
+    at-child : (i : ℕ) (d : Item) (l : i < length items) → IsWithin store.tree (slice_index_or items i d).node c.context → IsWithin store.tree (slice_index_or (children_of store.tree node) i 0) c.context
+    at-child i d l = subst (λ n. IsWithin store.tree n c.context) (sym (node-at store.tree node items nodes i d l))
+
+    outside : (place : Option ℕ) → ((i : ℕ) → i < length (children_of store.tree node) → IsWithin store.tree (slice_index_or (children_of store.tree node) i 0) c.context → place ≡ Some i)
+        → (i : ℕ) (d : Item) → i < length items → (place ≡ Some i → ⊥) → HasTaken store (seen ++ c ∷ []) (slice_index_or items i d)
+    outside place found i d l other =
+        let many = as-many store.tree node items nodes in
+        taken-out (slice_index_or items i d) (λ within. other (found i (omega (arith, l, many)) (at-child i d l within))) (taken i d l)
+
+    -- it is for none
+    pub handed-to-none : ((i : ℕ) → i < length (children_of store.tree node) → IsWithin store.tree (slice_index_or (children_of store.tree node) i 0) c.context → (let none : Option ℕ = None in none ≡ Some i))
+        → All (HasTaken store (seen ++ c ∷ [])) items
+    handed-to-none found = λ i d l. outside None found i d l (λ e. cc e)
+
+    -- or for the item at this place
+    pub handed-to : (at : ℕ) (was next : Item) → at < length items → was ≡ slice_index_or items at was → next.node ≡ was.node → next.closers.items ≡ was.closers.items ++ c ∷ [] → IsCloserOf store c
+        → ((i : ℕ) → i < length (children_of store.tree node) → IsWithin store.tree (slice_index_or (children_of store.tree node) i 0) c.context → (let place : Option ℕ = Some at in place ≡ Some i))
+        → All (HasTaken store (seen ++ c ∷ [])) (set items at next)
+    handed-to at was next inside is named pushed own found = λ i d l.
+        let n = length-set items at next in
+        elim (cases_eq i at) [
+          | inl same ↦
+              let there : slice_index_or (set items at next) i d ≡ next = ap (λ k. slice_index_or (set items at next) k d) same ∙ get_or-set_same items at next d inside in
+              subst (HasTaken store (seen ++ c ∷ [])) (sym there) (taken-in was next named pushed own (subst (HasTaken store seen) (sym is) (taken at was inside)))
+          | inr other ↦ subst (HasTaken store (seen ++ c ∷ [])) (sym (get_or-set_other items at i next d other)) (outside (Some at) found i d (omega (arith, l, n)) (λ e. other (sym (same-place e))))
+        ]
+      where
+        same-place : {i : ℕ} → (let place : Option ℕ = Some at in place ≡ Some i) → at ≡ i
+        same-place e = cc e
+
+-- ---- the items of the children
+
+-- with all closers handed out each child has those of its subtree
+pub are-items : (store : StoreView) (node : ℕ) (closers : List CloserView) (items : List Item) → node < length store.tree → map (λ i. i.node) items ≡ children_of store.tree node → HasBelow store node closers
+    → All (HasTaken store closers) items → All (IsItem store node) items
+are-items store node closers items less nodes below taken = λ i d l.
+    let item = slice_index_or items i d in
+    let many = as-many store.tree node items nodes in
+    let child : IsParentOf store.tree node item.node = subst (IsParentOf store.tree node) (node-at store.tree node items nodes i d l) (a-child store.tree node i less (omega (arith, l, many))) in
+    let mine = taken i d l in
+    record {
+      child = child;
+      own = mine.own;
+      closers = record {
+        each = λ k inside within.
+            let b = below-child store.tree node item.node k child within in
+            mine.each k within (below.each k inside b.0 b.1);
+      };
+    }
+
+-- those that pass have the nodes that do
+pub filtered-nodes : (passes : ℕ → Bool) (items : List Item) → map (λ i. i.node) (filter (λ i. passes i.node) items) ≡ filter passes (map (λ i. i.node) items)
+filtered-nodes passes [] = refl
+filtered-nodes passes (item ∷ items) = one (passes item.node) ∙ ap (λ xs. cond (passes item.node) (item.node ∷ xs) xs) (filtered-nodes passes items)
+  where
+    one : (b : Bool) → nodes_of (cond b (item ∷ filter (λ i. passes i.node) items) (filter (λ i. passes i.node) items))
+        ≡ cond b (item.node ∷ nodes_of (filter (λ i. passes i.node) items)) (nodes_of (filter (λ i. passes i.node) items))
+    one true = refl
+    one false = refl
+
+-- and there are no more of them
+pub few-pass : (passes : Item → Bool) (items : List Item) → length (filter passes items) ≤ length items
+few-pass passes items = let n = length-filter_both passes (λ x. not (passes x)) (λ x. refl) items in omega (arith, n)

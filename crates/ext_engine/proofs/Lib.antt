@@ -4,7 +4,7 @@ pub mod Acts
 pub mod Below
 pub mod Between
 pub mod Contexts
-pub mod Failures
+pub mod Early
 pub mod Finer
 pub mod Firsts
 pub mod Fresh
@@ -26,6 +26,7 @@ pub mod Read
 pub mod Refusals
 pub mod Relates
 pub mod Requests
+pub mod Room
 pub mod Roots
 pub mod RunLaws
 pub mod Seen

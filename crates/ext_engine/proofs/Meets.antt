@@ -1,5 +1,5 @@
 -- Lanes of a share that met.
-use Rattle.std.proofs.Common.{◌≡◌, List, [], ◌∷◌, length, arith, refl, subst, sym, ◌∙◌}
+use Rattle.std.proofs.Common.{◌≡◌, List, [], ◌∷◌, length, ap, arith, refl, subst, sym, ◌∙◌}
 use Rattle.std.specs.Prelude.{All}
 use Rattle.std.specs.List.{AllZip}
 use mathlib.Core.List.{IsPrefix}
@@ -10,6 +10,7 @@ use Rattle.ext_history.proofs.Composed.{calls_none, seen_goes_on}
 use Rattle.ext_model.specs.History.{History, IsLegal, lane_of}
 use Rattle.ext_model.specs.CallActs.{Calls}
 use Rattle.ext_model.proofs.Composed.{calls_compose}
+use Rattle.ext_tree.specs.Keys.{PlacesNone, placed_at}
 use Rattle.ext_tree.proofs.KeyPlacing.{keeps_all, keeps_both}
 use Rattle.ext_store.specs.Stores.{StoreView, StoreLane, IsLaneOf}
 use Rattle.ext_store.specs.LaneCalls.{Frame}
@@ -25,13 +26,18 @@ module _ {V : Type 0} (store : StoreView) where
     known = refl;
     faults = refl;
     keys = keeps_all lane.keys;
+    placed = λ number. refl;
   }
+
+  -- one whose notes of keys are as before
+  pub none_placed : (a b : StoreLane V) → b.keys ≡ a.keys → PlacesNone a.keys b.keys
+  none_placed a b same number = ap (λ notes. placed_at notes number) same
 
   -- one that met one lane
   pub met_once : (a b : StoreLane V) → IsLaneOf store.id a → IsLaneOf store.id b → Calls a.cells.cells.limits a.cells.view b.cells.view [] → b.known ≡ a.known
-      → b.faults ≡ a.faults → Frame store.id [] a b → OnlyMeets store a b
-  met_once a b mine still one known faults frame =
-      record { lane = still; calls = subst (λ cells. Calls cells.limits a.cells.view b.cells.view []) mine.cells one; known = known; faults = faults; keys = frame_keys store.id [] a b frame }
+      → b.faults ≡ a.faults → Frame store.id [] a b → PlacesNone a.keys b.keys → OnlyMeets store a b
+  met_once a b mine still one known faults frame placed =
+      record { lane = still; calls = subst (λ cells. Calls cells.limits a.cells.view b.cells.view []) mine.cells one; known = known; faults = faults; keys = frame_keys store.id [] a b frame; placed = placed }
 
   pub met_then : (a b c : StoreLane V) → OnlyMeets store a b → OnlyMeets store b c → OnlyMeets store a c
   met_then a b c one two = record {
@@ -40,6 +46,7 @@ module _ {V : Type 0} (store : StoreView) where
     known = two.known ∙ one.known;
     faults = two.faults ∙ one.faults;
     keys = keeps_both a.keys b.keys c.keys one.keys two.keys;
+    placed = λ number. two.placed number ∙ one.placed number;
   }
 
   pub seen_more : (a b : StoreLane V) → OnlyMeets store a b → IsPrefix (seen_by a.cells.view) (seen_by b.cells.view)

@@ -114,6 +114,21 @@ ran-push Run items item before between after ran more all so_far run is = record
   ran_are = is ∙ (ap (λ l. l ++ more) so_far.ran_are ∙ (ap (λ l. flat_map (λ d. d.1) so_far.done ++ l) (sym (append-nil more)) ∙ sym (flat_map-append (λ d. d.1) so_far.done ((item.node, more) ∷ []))));
 }
 
+-- ---- children beside one another
+
+-- what children gave that came to their ends, as what ran
+pub beside-of : {V E : Type 0} (Child : ℕ → Lanes V → List Ran → Lanes V → Type 0) (runs : ℕ → Lanes V → Result (Vec RanNode Global) E → Lanes V → Type 0) (nodes children : List ℕ) (before between : Lanes V) (outcomes : List (Result (Vec RanNode Global) E)) (count : ℕ)
+    → ((job : ℕ) (s : Lanes V) (r : Result (Vec RanNode Global) E) (u : Lanes V) → runs job s r u → IfOk r (λ l. Child (slice_index_or nodes job 0) s (map ran_view l.items) u))
+    → length nodes ≡ count → nodes ≡ children → RunByDealing runs count (min (length before.first) count) before outcomes between → All IsOk outcomes
+    → (beside : List (List Ran)) × RunByDealing (λ i s rs u. Child (slice_index_or children i 0) s rs u) (length children) (min (length before.first) (length children)) before beside between
+    × (flat_map ran_in outcomes ≡ flat_map (λ ran. ran) beside)
+beside-of {V} {E} Child runs nodes children before between outcomes count says size same run all =
+    let S : ℕ → Lanes V → List Ran → Lanes V → Type 0 = λ i s rs u. Child (slice_index_or nodes i 0) s rs u in
+    let lists = run-map ran_in runs S outcomes (λ job s r u at h. answer-ok (λ l. Child (slice_index_or nodes job 0) s l u) outcomes job r all at (says job s r u h)) count (min (length before.first) count) before between run in
+    let C : ℕ → Type 0 = λ n. RunByDealing S n (min (length before.first) n) before (map ran_in outcomes) between in
+    let D : List ℕ → Type 0 = λ l. RunByDealing (λ i s rs u. Child (slice_index_or l i 0) s rs u) (length l) (min (length before.first) (length l)) before (map ran_in outcomes) between in
+    (map ran_in outcomes, subst D same (subst C (sym size) lists), flat-lists outcomes)
+
 -- ---- parts of the definition
 
 module _ {V A : Type 0} (t : TreeSetting V A) where
@@ -136,28 +151,25 @@ module _ {V A : Type 0} (t : TreeSetting V A) where
 
   module _ (Child : ℕ → Lanes V → List Ran → Lanes V → Type 0) where
     -- the children beside one another, and then the others
-    pub body-of : {E : Type 0} (node : ℕ) (nodes others : List ℕ) (before : Lanes V) (forked : List (StoreLane V)) (between : Lanes V) (joined : List (StoreLane V)) (u : Lanes V) (outcomes : List (Result (Vec RanNode Global) E)) (alone ran first : List Ran) (count : ℕ)
+    pub body-of : {E : Type 0} (runs : ℕ → Lanes V → Result (Vec RanNode Global) E → Lanes V → Type 0) (node : ℕ) (nodes others : List ℕ) (before : Lanes V) (forked : List (StoreLane V)) (between : Lanes V) (joined : List (StoreLane V)) (u : Lanes V) (outcomes : List (Result (Vec RanNode Global) E)) (alone : List Ran) (count : ℕ)
+        → ((job : ℕ) (s : Lanes V) (r : Result (Vec RanNode Global) E) (w : Lanes V) → runs job s r w → IfOk r (λ l. Child (slice_index_or nodes job 0) s (map ran_view l.items) w))
         → Forks t.store before.first forked → Joins t.store between.first joined → length nodes ≡ count
         → nodes ≡ filter t.suite.is_concurrent (children_of t.store.tree node) → others ≡ filter (λ c. not (t.suite.is_concurrent c)) (children_of t.store.tree node)
-        → RunByDealing (λ i v r w. IfOk r (λ l. Child (slice_index_or nodes i 0) v (map ran_view l.items) w)) count (min (length forked) count) (with_lanes forked before) outcomes between
-        → All IsOk outcomes → first ≡ flat_map ran_in outcomes → RanInTurn Child others (with_lanes joined between) alone u → ran ≡ first ++ alone
-        → BodyRun t Child node before ran u
-    body-of {E} node nodes others before forked between joined u outcomes alone ran first count forks joins size conc same run all are turn is =
-        let R : ℕ → Lanes V → Result (Vec RanNode Global) E → Lanes V → Type 0 = λ i v r w. IfOk r (λ l. Child (slice_index_or nodes i 0) v (map ran_view l.items) w) in
-        let S : ℕ → Lanes V → List Ran → Lanes V → Type 0 = λ i v rs w. Child (slice_index_or nodes i 0) v rs w in
-        let lists = run-map ran_in R S outcomes (λ job v r w at h. answer-ok (λ l. Child (slice_index_or nodes job 0) v l w) outcomes job r all at h) count (min (length forked) count) (with_lanes forked before) between run in
-        let C : ℕ → Type 0 = λ n. RunByDealing S n (min (length forked) n) (with_lanes forked before) (map ran_in outcomes) between in
-        let D : List ℕ → Type 0 = λ l. RunByDealing (λ i v rs w. Child (slice_index_or l i 0) v rs w) (length l) (min (length forked) (length l)) (with_lanes forked before) (map ran_in outcomes) between in
+        → RunByDealing runs count (min (length forked) count) (with_lanes forked before) outcomes between
+        → All IsOk outcomes → RanInTurn Child others (with_lanes joined between) alone u
+        → BodyRun t Child node before (flat_map ran_in outcomes ++ alone) u
+    body-of runs node nodes others before forked between joined u outcomes alone count says forks joins size conc same run all turn =
+        let b = beside-of Child runs nodes (filter t.suite.is_concurrent (children_of t.store.tree node)) (with_lanes forked before) between outcomes count says size conc run all in
         let T : List ℕ → Type 0 = λ l. RanInTurn Child l (with_lanes joined between) alone u in
         record {
           forked = forked;
           forks = forks;
           joined = joined;
           joins = joins;
-          beside = map ran_in outcomes;
+          beside = b.0;
           between = between;
-          dealt = subst D conc (subst C (sym size) lists);
+          dealt = b.1;
           alone = alone;
           in_turn = subst T same turn;
-          below_are = is ∙ ap (λ l. l ++ alone) (are ∙ flat-lists outcomes);
+          below_are = ap (λ l. l ++ alone) b.2;
         }

@@ -42,11 +42,7 @@ at-depth ids k c depth path h =
     let n : length (id_at ids k) - (length path - depth) ≡ length (id_at ids c) = omega (arith, long, deep, fits) in
     path-ids ids k path (length path - depth) h.path_is (omega (arith, some_depth, fits)) ∙ ap (λ m. take m (id_at ids k)) n
 
--- where the path has the node at the node's own depth, the context is within it
-pub within-of : (ids : List Id) (k c depth : ℕ) (path : List ℕ) → AtDepth ids k c depth path → slice_index_or path (length path - depth) 0 ≡ c → IsWithin ids c k
-within-of ids k c depth path h at = sym (at-depth ids k c depth path h) ∙ ap (λ m. id_at ids m) at
-
--- and else not
+-- and for a context within the node it is the node
 pub at-within : (ids : List Id) (k c depth : ℕ) (path : List ℕ) → AtDepth ids k c depth path → IsTree ids → c < length ids → All (λ x. x < length ids) path → IsWithin ids c k → slice_index_or path (length path - depth) 0 ≡ c
 at-within ids k c depth path h tree less all within =
     let i = length path - depth in
@@ -58,10 +54,6 @@ pub too-deep : (ids : List Id) (k c depth n : ℕ) → n ≡ length (id_at ids k
 too-deep ids k c depth n long deep less within =
     let e = ap length within in let f = length-take (length (id_at ids c)) (id_at ids k) in
     omega (arith, long, deep, less, e, f)
-
--- a context that is below one child is below no other of the same depth
-pub apart : (ids : List Id) (a b k : ℕ) → length (id_at ids a) ≡ length (id_at ids b) → IsWithin ids a k → IsWithin ids b k → id_at ids a ≡ id_at ids b
-apart ids a b k same p q = sym p ∙ (ap (λ n. take n (id_at ids k)) same ∙ q)
 
 pub within-self : (ids : List Id) (c : ℕ) → IsWithin ids c c
 within-self ids c = take-length (id_at ids c)
@@ -84,13 +76,13 @@ below-child ids node child k parent within =
       (λ same. too-deep ids k child (length y) (length (id_at ids k)) refl refl (let g = ap (λ z. length (id_at ids z)) same in omega (arith, n, g)) within),
     )
 
--- as slices show the paths of both
-pub shown : (ids : List Id) (k c : ℕ) (path node_path p q : List ℕ) → path ≡ p → node_path ≡ q → IsPathOf ids k p → length p ≡ length (id_at ids k) → length q ≡ length (id_at ids c) → 0 < length q → length node_path ≤ length path
-    → AtDepth ids k c (length node_path) path
-shown ids k c path node_path p q e f path_is long deep some_depth fits = record {
+-- as slices show the paths of a context and of a node, for a child of the node
+pub shown : (ids : List Id) (k node c : ℕ) (path node_path p q : List ℕ) → path ≡ p → node_path ≡ q → IsPathOf ids k p → length p ≡ length (id_at ids k) → length q ≡ length (id_at ids node) → IsParentOf ids node c → length node_path < length path
+    → AtDepth ids k c (suc (length node_path)) path
+shown ids k node c path node_path p q e f path_is long deep parent fits = record {
   path_is = subst (λ l. IsPathOf ids k l) (sym e) path_is;
   long = ap length e ∙ long;
-  deep = ap length f ∙ deep;
-  some_depth = (let n = ap length f in omega (arith, n, some_depth));
-  fits = fits;
+  deep = (let n = ap length f in let m = longer (id_at ids node) (id_at ids c) parent.ids_are in omega (arith, n, deep, m));
+  some_depth = omega arith;
+  fits = omega (arith, fits);
 }

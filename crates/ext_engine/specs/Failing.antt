@@ -1,61 +1,109 @@
--- Where the run of a tree ends that does not come to its end, as a context in it can't be closed: which lanes do not know the value that remained there. A lane of another
--- share may know that value, if a call of another node has put it there; and a lane that ran another concurrent child afterwards may have been shown it by then. So of the
--- lanes of a concurrent child it is said as that child left them.
-use Rattle.std.specs.Prelude.{◌≡◌, ◌⊎◌, ℕ, zero, suc, false, List, length, min, Contains, Result, Ok, Err, slice_index_or}
+-- How the run of a node and of those below it ends early: what was done till then, on which lanes, and why it did not go on. Memory is refused before anything of a node was
+-- done, or before any of its concurrent children was begun, and never later. Of several refused children the first one is told, in their order. What is said of one node
+-- alone stands in `NodeFailing`, whose names are passed on.
+-- Own rule, for JUnit 5 User Guide, "Relative Execution Order of User Code and Extensions", "Parallel Execution" and "Keeping State in Extensions".
+use Rattle.std.specs.Prelude.{◌≡◌, ◌≢◌, ◌⊎◌, ℕ, zero, suc, Bool, true, false, List, [], ◌∷◌, ◌++◌, length, min, Result, Ok, Err, slice_index_or}
+use Rattle.ext_lifecycle.specs.declared.outcome.Outcome.{Outcome}
+use Rattle.ext_lifecycle.specs.Endings.{all_successful}
+use Rattle.ext_lifecycle.specs.Lifecycle.{endings_of}
+use Rattle.ext_tree.specs.Trees.{IsPathOf}
+use Rattle.ext_store.specs.Stores.{StoreLane}
 use Rattle.ext_closing.specs.Lanes.{IsUnknown}
 use Rattle.ext_crew.specs.Dealing.{RunByDealing}
 use Rattle.ext_engine.specs.declared.node.fault.EngineFault.{EngineFault}
 use Rattle.ext_engine.specs.declared.node.fault.EngineFault.TheVariants as faults
-use Rattle.ext_engine.specs.NodeRun.{IsRefusedClose}
-use Rattle.ext_engine.specs.TreeRun.{Ran, TreeSetting, Lanes, TreeRun, concurrent_children, same_thread_children}
-
--- memory ran out, or a context could not be closed and this holds of it and of the number that remained in it
-abbrev pub OnUnjoined : (ℕ → ℕ → Type 0) → EngineFault → Type 0
-OnUnjoined Fact faults.Memory = Unit {0}
-OnUnjoined Fact faults.NoThread = ⊥
-OnUnjoined Fact (faults.Unjoined context number) = Fact context number
+use Rattle.ext_engine.specs.Meeting.{Forks, Joins}
+use Rattle.ext_engine.specs.TreeRun.{Ran, TreeSetting, Lanes, CallsBefores, IsRefusedClose, IsFault, TreeRun, BodyMade, RanInTurn, concurrent_children, same_thread_children, with_lanes}
+pub use Rattle.ext_engine.specs.NodeFailing.{IsFirstRefusal, IsLeftOpen, IsLeftUnclosed, IsNotBegun, LeavesOpen, TestEndsEarly}
 
 -- ---- children
 
--- `Child` says what the run of a child does, and `Unknown` what is said of its share, as it left it, where a context could not be closed
-module _ {V : Type 0} (Child : ℕ → Lanes V → List Ran → Lanes V → Type 0) (Unknown : ℕ → ℕ → ℕ → Lanes V → Type 0) where
-  -- a child was run to its end, or not
+-- `Child` says what the run of a child does that comes to its end, and `Early` what one does that ends early
+module _ {V : Type 0} (Child : ℕ → Lanes V → List Ran → Lanes V → Type 0) (Early : ℕ → Lanes V → EngineFault → Lanes V → Type 0) where
+  -- a child was run to its end, or ended early
   abbrev pub EndsAs : ℕ → Lanes V → Result (List Ran) EngineFault → Lanes V → Type 0
   EndsAs node before (Ok ran) after = Child node before ran after
-  EndsAs node before (Err why) after = OnUnjoined (λ context number. Unknown node context number after) why
+  EndsAs node before (Err why) after = Early node before why after
 
-  -- These children ran beside one another, each with a share of the lanes, and the run of one of them ended so
-  pub record IsUnknownBeside (nodes : List ℕ) (context number : ℕ) (after : Lanes V) : Type 0 where
-    pub before : Lanes V
+  -- These children were run beside one another, all of them; some ended early, of which the first is told
+  pub record EndsBeside (nodes : List ℕ) (before : Lanes V) (why : EngineFault) (after : Lanes V) : Type 0 where
     pub outcomes : List (Result (List Ran) EngineFault)
     pub dealt : RunByDealing (λ i s outcome u. EndsAs (slice_index_or nodes i 0) s outcome u) (length nodes) (min (length before.first) (length nodes)) before outcomes after
-    pub among : Contains outcomes (Err (faults.Unjoined context number))
+    pub told : IsFirstRefusal outcomes why
 
-  -- One of these children was run with all lanes, and its run ended so: none was run after it
-  abbrev pub IsUnknownInTurn : List ℕ → ℕ → ℕ → Lanes V → Type 0
-  IsUnknownInTurn nodes context number after = (child : ℕ) × Contains nodes child × Unknown child context number after
+  -- These children were run one after another, each with the whole share, up to one that ended early; the rest of them were not run
+  pub record EndsInTurn (nodes : List ℕ) (before : Lanes V) (why : EngineFault) (after : Lanes V) : Type 0 where
+    pub done : List ℕ
+    pub ran : List Ran
+    pub reached : Lanes V
+    pub in_turn : RanInTurn Child done before ran reached
+    pub child : ℕ
+    pub ends : Early child reached why after
+    pub rest : List ℕ
+    pub nodes_are : nodes ≡ done ++ child ∷ rest
+
+-- ---- containers
+
+-- memory for the workers of a container's concurrent children was refused: none of its children was run
+pub record HasNoWorkers {V A : Type 0} (t : TreeSetting V A) (node : ℕ) (before : Lanes V) (why : EngineFault) (after : Lanes V) : Type 0 where
+  pub some_beside : concurrent_children t node ≢ []
+  pub told : why ≡ faults.Memory
+  pub untouched : after ≡ before
+
+module _ {V A : Type 0} (t : TreeSetting V A) (Child : ℕ → Lanes V → List Ran → Lanes V → Type 0) (Early : ℕ → Lanes V → EngineFault → Lanes V → Type 0) where
+  -- its concurrent children were run to their ends, the first lane was shown what all have seen, and of the others one ended early
+  pub record EndsBehind (node : ℕ) (before : Lanes V) (why : EngineFault) (after : Lanes V) : Type 0 where
+    pub beside : List (List Ran)
+    pub between : Lanes V
+    pub dealt : RunByDealing (λ i s ran u. Child (slice_index_or (concurrent_children t node) i 0) s ran u)
+        (length (concurrent_children t node)) (min (length before.first) (length (concurrent_children t node))) before beside between
+    pub joined : List (StoreLane V)
+    pub joins : Joins t.store between.first joined
+    pub in_turn : EndsInTurn Child Early (same_thread_children t node) (with_lanes joined between) why after
+
+  -- The body of a container ended early: all lanes were shown what the first has seen, and then one of these
+  pub record BodyEndsEarly (node : ℕ) (before : Lanes V) (why : EngineFault) (after : Lanes V) : Type 0 where
+    pub forked : List (StoreLane V)
+    pub forks : Forks t.store before.first forked
+    pub ends : HasNoWorkers t node (with_lanes forked before) why after
+        ⊎ (EndsBeside Child Early (concurrent_children t node) (with_lanes forked before) why after
+        ⊎ EndsBehind node (with_lanes forked before) why after)
+
+  -- Its body was run where it was to be, all of its after-callbacks were made, and its context could not be closed
+  pub record EndsUnclosed (node : ℕ) (path : List ℕ) (go : Bool) (before : Lanes V) (why : EngineFault) (after : Lanes V) : Type 0 where
+    pub body : Lanes V
+    pub below : List Ran
+    pub body_made : BodyMade t Child go node before below body
+    pub unclosed : IsLeftUnclosed t node path body.first why after.first
+    pub no_locks : after.second ≡ body.second
+
+  -- A container: its before-callbacks were made. Then its body ended early, and no after-callback was made, and its context was not closed; or its context could not be closed
+  pub record ContainerEndsEarly (node : ℕ) (path : List ℕ) (before : Lanes V) (why : EngineFault) (after : Lanes V) : Type 0 where
+    pub befores : List Outcome
+    pub opened : List (StoreLane V)
+    pub befores_made : CallsBefores t node path before.first befores opened
+    pub ends : ((all_successful (endings_of befores) ≡ true) × BodyEndsEarly node (with_lanes opened before) why after)
+        ⊎ EndsUnclosed node path (all_successful (endings_of befores)) (with_lanes opened before) why after
 
 -- ---- nodes
 
 module _ {V A : Type 0} (t : TreeSetting V A) where
-  -- The run of a node, and of those below it to so many levels, ended as this context could not be closed, in which this number remained, and left its share so. It is the
-  -- node's own context, and then no lane of the share knows the value of the number; or one below it
-  abbrev pub NamesUnknown : ℕ → ℕ → ℕ → ℕ → Lanes V → Type 0
-  NamesUnknown zero node context number after = ⊥
-  NamesUnknown (suc depth) node context number after =
-      ((context ≡ node) × IsRefusedClose t context number after.first × IsUnknown after.first number)
-      ⊎ (IsUnknownBeside (λ child s ran u. TreeRun t depth child s ran u) (λ child c n u. NamesUnknown depth child c n u) (concurrent_children t node) context number after
-      ⊎ IsUnknownInTurn (λ child s ran u. TreeRun t depth child s ran u) (λ child c n u. NamesUnknown depth child c n u) (same_thread_children t node) context number after)
+  -- The run of a node, and of those below it to so many levels, ended early
+  abbrev pub EndsEarly : ℕ → ℕ → Lanes V → EngineFault → Lanes V → Type 0
+  EndsEarly zero node before why after = IsNotBegun before why after
+  EndsEarly (suc depth) node before why after =
+      IsNotBegun before why after
+      ⊎ ((path : List ℕ) × IsPathOf t.store.tree node path
+      × (t.suite.is_test node ≡ true → TestEndsEarly t node path before why after)
+      × (t.suite.is_test node ≡ false → ContainerEndsEarly t (λ child s below u. TreeRun t depth child s below u) (λ child s y u. EndsEarly depth child s y u) node path before why after))
 
-  -- a context below the node could not be closed
-  abbrev pub NamesBelow : ℕ → ℕ → ℕ → ℕ → Lanes V → Type 0
-  NamesBelow depth node context number after =
-      IsUnknownBeside (TreeRun t depth) (NamesUnknown depth) (concurrent_children t node) context number after
-      ⊎ IsUnknownInTurn (TreeRun t depth) (NamesUnknown depth) (same_thread_children t node) context number after
+  -- ---- laws
 
--- ---- the law
+  -- it ended early for want of memory, or as a context could not be closed
+  abbrev pub EndsByFault : Type 0
+  EndsByFault = (depth node : ℕ) (before : Lanes V) (why : EngineFault) (after : Lanes V) → EndsEarly depth node before why after → IsFault t why
 
--- where no node runs beside others, no lane of the run knows the value of the number, as they are after it
-abbrev pub UnknownToAll : {V A : Type 0} → TreeSetting V A → Type 0
-UnknownToAll {V} {A} t = (depth top context number : ℕ) (after : Lanes V) → ((node : ℕ) → t.suite.is_concurrent node ≡ false) → NamesUnknown t depth top context number after
-    → IsRefusedClose t context number after.first × IsUnknown after.first number
+  -- where no node runs beside others, no lane of the run knows the value of the number that is told, as they are after it
+  abbrev pub UnknownToAll : Type 0
+  UnknownToAll = (depth top : ℕ) (before : Lanes V) (context number : ℕ) (after : Lanes V) → ((node : ℕ) → t.suite.is_concurrent node ≡ false)
+      → EndsEarly depth top before (faults.Unjoined context number) after → IsRefusedClose t context number after.first × IsUnknown after.first number

@@ -29,6 +29,11 @@ pub record IsItem (store : StoreView) (parent : ℕ) (item : Item) : Type 0 wher
   pub own : OfStore store item.closers.items
   pub closers : HasClosers store item.node item.closers.items
 
+-- of these closers an item has one of each context within its node, and all that it has are of the store
+pub record HasTaken (store : StoreView) (closers : List CloserView) (item : Item) : Type 0 where
+  pub own : OfStore store item.closers.items
+  pub each : (k : ℕ) → IsWithin store.tree item.node k → Contains (contexts closers) k → Contains (contexts item.closers.items) k
+
 -- an item is a node with the closers of its subtree; its context has so many levels at most with those below it
 pub record IsNode (store : StoreView) (depth : ℕ) (item : Item) : Type 0 where
   pub within : item.node < length store.tree

@@ -1,5 +1,6 @@
 -- What the contracts of private functions cite, and nothing else: no public clause needs it.
-use Rattle.std.specs.Prelude.{◌≡◌, ◌⊎◌, ℕ, ◌+◌, ◌<◌, ◌≤◌, true, List, [], ◌∷◌, length, map, Contains, Result, Ok, Err, IfOk, IfErr, Vec, vec_len, vec_capacity}
+use Rattle.std.specs.Prelude.{◌≡◌, ℕ, ◌+◌, ◌<◌, ◌≤◌, true, List, [], ◌∷◌, ◌++◌, length, map, Result, Ok, Err, IfOk, IfErr, Vec, vec_len, vec_capacity}
+use Rattle.std.specs.List.{flat_map}
 use Rattle.std.specs.declared.alloc.Global.{Global}
 use Rattle.ext_lifecycle.specs.declared.node_result.NodeResult.{NodeResult}
 use Rattle.ext_lifecycle.specs.Callbacks.{befores_of, afters_of}
@@ -8,10 +9,11 @@ use Rattle.ext_tree.specs.Trees.{IsPathOf}
 use Rattle.ext_locks.specs.Sets.{AllBelow}
 use Rattle.ext_engine.specs.Suites.{locks_on, IsSetOf}
 use Rattle.ext_engine.specs.declared.node.fault.EngineFault.{EngineFault}
-use Rattle.ext_engine.specs.declared.node.fault.EngineFault.TheVariants as faults
+use Rattle.ext_engine.specs.declared.node.results.Below.{Below}
 use Rattle.ext_engine.specs.declared.node.results.RanNode.{RanNode}
 use Rattle.ext_engine.specs.declared.node.node_runner.TestParts.{TestParts}
-use Rattle.ext_engine.specs.NodeRun.{Ran, TreeSetting, Lanes, TestRun, IsUsable, IsFault, IsUnjoinedNode}
+use Rattle.ext_engine.specs.NodeRun.{Ran, TreeSetting, Lanes, TestRun, IsUsable}
+use Rattle.ext_engine.specs.NodeFailing.{TestEndsEarly}
 
 abbrev pub ran_view : RanNode → Ran
 ran_view r = record { result = told r.result; went_on = r.went_on }
@@ -21,9 +23,14 @@ abbrev pub ran_in : {E : Type 0} → Result (Vec RanNode Global) E → List Ran
 ran_in (Ok v) = map ran_view v.items
 ran_in (Err e) = []
 
--- the fault is that of one of the answers, or memory ran out
-abbrev pub HasErr : List (Result (Vec RanNode Global) EngineFault) → EngineFault → Type 0
-HasErr answers fault = Contains answers (Err fault) ⊎ (fault ≡ faults.Memory)
+-- what ran below a container: what its concurrent children gave, and the others
+abbrev pub rans_below : Below → List Ran
+rans_below below = flat_map ran_in below.beside.items ++ flat_map ran_in below.in_turn.items
+
+-- what is told of the nodes in an answer
+abbrev pub answer_of : Result (Vec RanNode Global) EngineFault → Result (List Ran) EngineFault
+answer_of (Ok v) = Ok (map ran_view v.items)
+answer_of (Err why) = Err why
 
 -- what ran, where it is a test
 abbrev pub of_test : NodeResult → List Ran
@@ -48,5 +55,4 @@ module _ {V A : Type 0} (t : TreeSetting V A) where
     pub lanes : IsUsable t.store t.locks after
     pub count : length after.first ≡ length before.first
     pub run : IfOk result (λ x. (path : List ℕ) × IsPathOf t.store.tree node path × TestRun t node path before (view x) after)
-    pub fault : IfErr result (IsFault t)
-    pub unjoined : IfErr result (IsUnjoinedNode t node after.first)
+    pub early : IfErr result (λ why. (path : List ℕ) × IsPathOf t.store.tree node path × TestEndsEarly t node path before why after)

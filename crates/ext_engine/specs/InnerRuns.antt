@@ -1,15 +1,17 @@
 -- How the parts of a run of a tree end, in the contracts of private functions; no public clause needs it. The lanes are usable again and as many as before; and it is said
 -- what ran, or why the run did not come to its end and what is then said of the share.
-use Rattle.std.specs.Prelude.{◌≡◌, ℕ, Bool, List, length, map, min, All, Result, IfOk, IfErr, Vec, slice_index_or}
+use Rattle.std.specs.Prelude.{◌≡◌, ◌≢◌, ℕ, Bool, true, List, [], length, map, min, Result, IfOk, IfErr, Vec, slice_index_or}
+use Rattle.std.specs.List.{flat_map}
 use Rattle.std.specs.declared.alloc.Global.{Global}
 use Rattle.ext_crew.specs.Dealing.{RunByDealing}
 use Rattle.ext_engine.specs.declared.node.closers.Item.{Item}
 use Rattle.ext_engine.specs.declared.node.fault.EngineFault.{EngineFault}
 use Rattle.ext_engine.specs.declared.node.fault.EngineFault.TheVariants as faults
 use Rattle.ext_engine.specs.declared.node.results.RanNode.{RanNode}
-use Rattle.ext_engine.specs.InnerHelpers.{ran_view}
-use Rattle.ext_engine.specs.TreeRun.{Ran, TreeSetting, Lanes, IsUsable, IsFault, TreeRun, BodyMade, RanInTurn}
-use Rattle.ext_engine.specs.Failing.{OnUnjoined, NamesUnknown, NamesBelow, IsUnknownInTurn}
+use Rattle.ext_engine.specs.InnerHelpers.{ran_view, ran_in, rans_below, answer_of}
+use Rattle.ext_engine.specs.declared.node.results.Below.{Below}
+use Rattle.ext_engine.specs.TreeRun.{Ran, TreeSetting, Lanes, IsUsable, TreeRun, BodyMade, RanInTurn}
+use Rattle.ext_engine.specs.Failing.{EndsAs, EndsInTurn, BodyEndsEarly, EndsEarly}
 
 -- the nodes of items
 abbrev pub nodes_in : Vec Item Global → List ℕ
@@ -25,33 +27,27 @@ module _ {V A : Type 0} (t : TreeSetting V A) where
   NodeEnds depth node before result after =
       IsUsable t.store t.locks after × (length after.first ≡ length before.first)
       × IfOk result (λ ran. TreeRun t depth node before (rans_in ran) after)
-      × IfErr result (IsFault t)
-      × IfErr result (OnUnjoined (λ context number. NamesUnknown t depth node context number after))
+      × IfErr result (λ why. EndsEarly t depth node before why after)
 
   -- the body of a container, where it is to be run
-  abbrev pub BodyEnds : ℕ → Bool → ℕ → Lanes V → Result (Vec RanNode Global) EngineFault → Lanes V → Type 0
+  abbrev pub BodyEnds : ℕ → Bool → ℕ → Lanes V → Result Below EngineFault → Lanes V → Type 0
   BodyEnds depth go node before result after =
       IsUsable t.store t.locks after × (length after.first ≡ length before.first)
-      × IfOk result (λ ran. BodyMade t (TreeRun t depth) go node before (rans_in ran) after)
-      × IfErr result (IsFault t)
-      × IfErr result (OnUnjoined (λ context number. NamesBelow t depth node context number after))
+      × IfOk result (λ below. BodyMade t (TreeRun t depth) go node before (rans_below below) after)
+      × IfErr result (λ why. (go ≡ true) × BodyEndsEarly t (TreeRun t depth) (EndsEarly t depth) node before why after)
 
   -- children, one after another
-  abbrev pub TurnEnds : ℕ → List ℕ → Lanes V → Result (Vec RanNode Global) EngineFault → Lanes V → Type 0
+  abbrev pub TurnEnds : ℕ → List ℕ → Lanes V → Result (Vec (Result (Vec RanNode Global) EngineFault) Global) EngineFault → Lanes V → Type 0
   TurnEnds depth nodes before result after =
       IsUsable t.store t.locks after × (length after.first ≡ length before.first)
-      × IfOk result (λ ran. RanInTurn (TreeRun t depth) nodes before (rans_in ran) after)
-      × IfErr result (IsFault t)
-      × IfErr result (OnUnjoined (λ context number. IsUnknownInTurn (TreeRun t depth) (NamesUnknown t depth) nodes context number after))
+      × IfOk result (λ outcomes. RanInTurn (TreeRun t depth) nodes before (flat_map ran_in outcomes.items) after)
+      × IfErr result (λ why. EndsInTurn (TreeRun t depth) (EndsEarly t depth) nodes before why after)
 
   -- children, beside one another: each of them came to its end, or not
   abbrev pub BesideEnds : ℕ → Vec Item Global → Lanes V → Result (Vec (Result (Vec RanNode Global) EngineFault) Global) EngineFault → Lanes V → Type 0
   BesideEnds depth items before result after =
       IsUsable t.store t.locks after × (length after.first ≡ length before.first)
       × IfOk result (λ outcomes. RunByDealing
-      (λ i s ran u. IfOk ran (λ v. TreeRun t depth (slice_index_or (nodes_in items) i 0) s (rans_in v) u)
-      × IfErr ran (OnUnjoined (λ context number. NamesUnknown t depth (slice_index_or (nodes_in items) i 0) context number u)))
+      (λ i s answer u. EndsAs (TreeRun t depth) (EndsEarly t depth) (slice_index_or (nodes_in items) i 0) s (answer_of answer) u)
       (length items.items) (min (length before.first) (length items.items)) before outcomes.items after)
-      × IfOk result (λ outcomes. All (λ ran. IfErr ran (IsFault t)) outcomes.items)
-      × IfErr result (IsFault t)
-      × IfErr result (λ why. why ≡ faults.Memory)
+      × IfErr result (λ why. (items.items ≢ []) × (why ≡ faults.Memory) × (after ≡ before))

@@ -7,6 +7,7 @@ pub mod InnerRuns
 pub mod Laws
 pub mod Leaves
 pub mod Meeting
+pub mod NodeFailing
 pub mod NodeRun
 pub mod Opening
 pub mod Order

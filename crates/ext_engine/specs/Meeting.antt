@@ -6,16 +6,17 @@ use mathlib.Core.List.{IsPrefix}
 use Rattle.ext_history.specs.Histories.{seen_by}
 use Rattle.ext_model.specs.History.{History}
 use Rattle.ext_model.specs.CallActs.{Calls}
-use Rattle.ext_tree.specs.Keys.{KeepsKeys}
+use Rattle.ext_tree.specs.Keys.{KeepsKeys, PlacesNone}
 use Rattle.ext_store.specs.Stores.{StoreView, StoreLane, IsLaneOf}
 
--- the lane stayed one of the store, made no event, and knows the values and the faults that it knew, and the keys that it knew or more
+-- the lane stayed one of the store, made no event, and knows the values and the faults that it knew, and the keys that it knew or more; it put no key at a place
 pub record OnlyMeets {V : Type 0} (store : StoreView) (before after : StoreLane V) : Type 0 where
   pub lane : IsLaneOf store.id after
   pub calls : Calls store.id.cells.limits before.cells.view after.cells.view []
   pub known : after.known ≡ before.known
   pub faults : after.faults ≡ before.faults
   pub keys : KeepsKeys before.keys after.keys
+  pub placed : PlacesNone before.keys after.keys
 
 -- what the first of the lanes has seen
 abbrev pub first_seen : {V : Type 0} → List (StoreLane V) → History

@@ -16,7 +16,6 @@ use Rattle.ext_store.specs.Stores.{StoreView, StoreLane, CloserView, IsLaneOf, I
 use Rattle.ext_model.specs.declared.closed.Closed.{Closed}
 use Rattle.ext_closing.specs.Closing.{Answer, fault_in}
 use Rattle.ext_closing.specs.Closes.{IsClosedBy, IsLeftUnjoined}
-use Rattle.ext_closing.specs.Lanes.{IsUnknown}
 use Rattle.ext_locks.specs.declared.event.LockMode.{LockMode}
 use Rattle.ext_locks.specs.Opening.{LocksView}
 use Rattle.ext_locks.specs.Views.{Lane}
@@ -191,7 +190,3 @@ module _ {V A : Type 0} (t : TreeSetting V A) where
   IsFault faults.Memory = Unit {0}
   IsFault faults.NoThread = ⊥
   IsFault (faults.Unjoined context number) = IsUnjoined context number
-
-  -- the node's own context could not be closed, and none of these lanes, which the refused close has left, knows the value that remained in it
-  abbrev pub IsUnjoinedNode : ℕ → List (StoreLane V) → EngineFault → Type 0
-  IsUnjoinedNode node lanes why = (number : ℕ) × (why ≡ faults.Unjoined node number) × IsRefusedClose node number lanes × IsUnknown lanes number

@@ -1,5 +1,5 @@
 //! What is true of all runs of trees, as the contract of a function that does nothing.
-ghost use Rattle.ext_engine.specs.Failing.{UnknownToAll};
+ghost use Rattle.ext_engine.specs.Failing.{EndsByFault, UnknownToAll};
 ghost use Rattle.ext_engine.specs.Laws.{OfRuns, RunsOnce, SkipsExactly, OneResultEach, SkippedBelow, KeepsLanes};
 ghost use Rattle.ext_engine.specs.NodeRun.{setting_of};
 ghost use Rattle.ext_engine.specs.Order.{ContainersAreMadeInOrder, ContainersAreSeenInOrder, NodesAreSeen, NodesGoOn, OfSuites};
@@ -9,8 +9,9 @@ use ext_store::StoreValue;
 
 /// Proves the laws of runs of trees, for any suite of this type. In a run each node runs at most once, and no node that isn't at or
 /// below the one that was to be run does. A node is skipped exactly where one above it ran and did not run its children. There is one
-/// result a node, in order. The lanes stay those of the store, and no lock lane holds anything afterwards. Where a context could not be
-/// closed and no node runs beside others, no lane knows the value that remained there. It does nothing when it runs.
+/// result a node, in order. The lanes stay those of the store, and no lock lane holds anything afterwards. A run ends early for want of memory, or
+/// where a context can't be closed; and there, where no node runs beside others, no lane knows the value that remained in it. It does nothing
+/// when it runs.
 ///
 /// JUnit 5 User Guide, section "Relative Execution Order of User Code and Extensions"; when a node is skipped is an own rule.
 pub fn engine_laws<V: StoreValue + Drop, S: Suite<V>>()
@@ -19,6 +20,7 @@ pub fn engine_laws<V: StoreValue + Drop, S: Suite<V>>()
     ensures results { OfRuns (setting_of V.is_closeable S.suite_view S.registered S.call_gives S.action_gives S.Action.close_gives) OneResultEach }
     ensures results_skipped { OfRuns (setting_of V.is_closeable S.suite_view S.registered S.call_gives S.action_gives S.Action.close_gives) SkippedBelow }
     ensures lanes { OfRuns (setting_of V.is_closeable S.suite_view S.registered S.call_gives S.action_gives S.Action.close_gives) KeepsLanes }
+    ensures faults { OfRuns (setting_of V.is_closeable S.suite_view S.registered S.call_gives S.action_gives S.Action.close_gives) EndsByFault }
     ensures unknown { OfRuns (setting_of V.is_closeable S.suite_view S.registered S.call_gives S.action_gives S.Action.close_gives) UnknownToAll }
 {}
 

@@ -21,4 +21,4 @@ pub use fault::EngineFault;
 pub(crate) use node_calls::{call_afters, call_befores};
 pub(crate) use node_runner::NodeRunner;
 pub(crate) use parts::Children;
-pub(crate) use results::{RanNode, all_skipped, gathered, place};
+pub(crate) use results::{Below, RanNode, all_skipped, first_refusal, gathered, place};

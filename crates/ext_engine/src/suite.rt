@@ -62,7 +62,7 @@ pub trait Suite<V: StoreValue + Drop>: Callbacks {
         ensures { action_gives self.now node result };
 
     /// The node starts. Told once for each node that is not skipped, by the thread that runs it, before the first of its calls and before a test
-    /// waits for its locks; not where memory for the lists of its calls or for its locks is refused. `lane` is the number of the first lane of its
+    /// waits for its locks; not where memory for its lists or for its locks is refused. `lane` is the number of the first lane of its
     /// share, on which its calls are made. Does nothing, unless the suite says otherwise. JUnit Platform, Javadoc `EngineExecutionListener`,
     /// `executionStarted`; that lanes are told is an own rule.
     fn started(&self, _node: ContextNo, _lane: LaneNo) {}

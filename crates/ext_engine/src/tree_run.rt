@@ -1,18 +1,18 @@
 //! The run of a tree.
-ghost use Rattle.std.specs.Prelude.{◌≡◌, ◌+◌, ◌-◌, ◌<◌, ◌≤◌, List, length, map, IfOk, IfErr, All, vec_len};
+ghost use Rattle.std.specs.Prelude.{◌≡◌, ◌+◌, ◌-◌, ◌<◌, ◌≤◌, List, length, map, IfOk, IfErr, All, [], vec_capacity, vec_len};
 ghost use denote.Param.Send.{IsSync, IsSend};
 ghost use Rattle.ext_lifecycle.specs.Results.{told};
 ghost use Rattle.ext_store.specs.Stores.{closers_below};
 ghost use Rattle.ext_engine.specs.InnerClosers.{IsNode};
 ghost use Rattle.ext_engine.specs.InnerContainers.{AreChildren};
-ghost use Rattle.ext_engine.specs.TreeRun.{Ran, setting_of, IsUsable, IsRunnable, IsFault, TreeRun, all_results};
-ghost use Rattle.ext_engine.specs.Failing.{OnUnjoined, NamesUnknown};
+ghost use Rattle.ext_engine.specs.TreeRun.{Ran, setting_of, IsUsable, IsRunnable, TreeRun, all_results};
+ghost use Rattle.ext_engine.specs.Failing.{EndsEarly};
 ghost use Rattle.ext_engine.specs.InnerRuns.{nodes_in, NodeEnds, BodyEnds, TurnEnds, BesideEnds};
 
 use crate::meeting::{fork, join};
 use crate::node::{
-    Children, Item, NodeRunner, RanNode, all_skipped, close_container, gathered, open_container,
-    place,
+    Below, Children, Item, NodeRunner, RanNode, all_skipped, close_container, first_refusal,
+    gathered, open_container, place,
 };
 use crate::runner::TreeRunner;
 use crate::{EngineFault, Suite};
@@ -45,12 +45,17 @@ const LEVELS: usize = 16;
 /// order. The locks have every name that a node asks for, and no node is below a test. The store is one that the suite may be run
 /// over.
 ///
-/// Refused as `Memory` where memory for the lists of a run is refused, and as `Unjoined`, with its context and the number, where a context
-/// can't be closed, as no lane of its node's share knows a value that remains in it. Of the root's context, and of those of same-thread
-/// children of such nodes, these are all lanes, as they are after the run. Else they are the lanes of the concurrent child in which that
-/// happened, as it left them: lanes of another share may know the value, and a lane that ran another child afterwards may have been shown
-/// it since. Nodes may have run then, contexts that are not closed stay open, and their closers are dropped; the lock lanes hold nothing.
-/// `NoThread` is never answered. Takes memory, and may wait: it promises its clauses if it returns.
+/// Refused as `Memory` where memory is refused for the lists of a node, of which nothing was done then, or for the workers of a
+/// container's concurrent children, of which none was begun then; and as `Unjoined`, with its context and the number, where a context
+/// can't be closed, as no lane of its node's share knows a value that remains in it. All calls of that node were made then, its close
+/// action was not called, and a test's locks are given back. Of the root's context, and of those of same-thread children of such
+/// nodes, these are all lanes, as they are after the run. Else they are the lanes of the concurrent child in which that happened, as it
+/// left them: lanes of another share may know the value, and a lane that ran another child afterwards may have been shown it since.
+///
+/// A container ends early where a child does. Its concurrent children are all run then, and the first of them in their order that was
+/// refused is told; of the others none is run after one that is refused. No after-callback of the container is called, and its context
+/// is not closed. Contexts that are not closed stay open, and their closers are dropped; the lock lanes hold nothing. `NoThread` is
+/// never answered. Takes memory, and may wait: it promises its clauses if it returns.
 ///
 /// JUnit 5 User Guide, sections "Relative Execution Order of User Code and Extensions", "Parallel Execution" and "Synchronization"; shares,
 /// lanes, modes and locks of ancestors are own rules.
@@ -81,10 +86,9 @@ pub fn run_tree<
         16 0 (record { first = lanes.old; second = lock_lanes.old }) ran (record { first = lanes.new; second = lock_lanes.new })
         × (map told results.items ≡ all_results (S.suite_view suite.now) (length store.now.tree) ran)) }
     ensures nodes { IfOk result (λ results. All (λ r. r.node < length store.now.tree) results.items) }
-    ensures fault { IfErr result (IsFault (setting_of V.is_closeable S.suite_view S.registered S.call_gives S.action_gives S.Action.close_gives suite.now store.now locks.now)) }
-    ensures unjoined { IfErr result (OnUnjoined (λ context number.
-        NamesUnknown (setting_of V.is_closeable S.suite_view S.registered S.call_gives S.action_gives S.Action.close_gives suite.now store.now locks.now)
-        16 0 context number (record { first = lanes.new; second = lock_lanes.new }))) }
+    ensures early { IfErr result (λ why.
+        EndsEarly (setting_of V.is_closeable S.suite_view S.registered S.call_gives S.action_gives S.Action.close_gives suite.now store.now locks.now)
+        16 0 (record { first = lanes.old; second = lock_lanes.old }) why (record { first = lanes.new; second = lock_lanes.new })) }
 {
     let nodes = NodeRunner {
         rt,
@@ -126,30 +130,23 @@ impl<
             self.now.nodes.suite.now self.now.nodes.store.now self.now.nodes.locks.now) depth item.node
             (record { first = lanes.old; second = lock_lanes.old }) result (record { first = lanes.new; second = lock_lanes.new }) }
     {
+        let tree = self.nodes.store.tree();
+        let _count = tree.len();
         if self.nodes.suite.is_test(item.node) {
-            let _path = self.nodes.store.tree().path(item.node);
+            let _path = tree.path(item.node);
             return self.nodes.run_test(alloc, depth, item, lanes, lock_lanes);
         }
         let node = item.node;
-        let mut ran = Vec::with_capacity(alloc, 1)?;
+        let ran = Vec::with_capacity(alloc, item.closers.len())?;
         let (begun, children) = open_container(&self.nodes, alloc, depth, item, lanes)?;
         let went_on = begun.went_on;
-        let mut below = self.run_body(
-            alloc,
-            depth - 1,
-            went_on,
-            node,
-            children,
-            lanes,
-            lock_lanes,
-        )?;
+        let below = self.run_body(alloc, depth - 1, went_on, node, children, lanes, lock_lanes)?;
         let own = close_container(&self.nodes, node, begun, lanes)?;
-        ran.push_reserved(own);
-        ran.append(&mut below)?;
-        Ok(ran)
+        Ok(gathered(ran, own, below))
     }
 
-    /// The children of a container, where they are to be run: those that run beside one another, and then the others.
+    /// The children of a container, where they are to be run: those that run beside one another, and then the others, where none of those was
+    /// refused.
     #[cycle(tree)]
     fn run_body(
         &self,
@@ -160,7 +157,7 @@ impl<
         children: Children,
         lanes: &mut [Lane<V>],
         lock_lanes: &mut [LockLane],
-    ) -> Result<Vec<RanNode>, EngineFault>
+    ) -> Result<Below, EngineFault>
         requires children { AreChildren self.now.nodes.store.now (S.suite_view self.now.nodes.suite.now) depth node children }
         requires ready { IsRunnable self.now.nodes.store.now self.now.nodes.locks.now (S.suite_view self.now.nodes.suite.now)
             × S.fits self.now.nodes.suite.now self.now.nodes.store.now
@@ -169,30 +166,41 @@ impl<
             self.now.nodes.suite.now self.now.nodes.store.now self.now.nodes.locks.now) depth go node
             (record { first = lanes.old; second = lock_lanes.old }) result (record { first = lanes.new; second = lock_lanes.new }) }
     {
+        let Children {
+            beside,
+            in_turn,
+            outcomes,
+        } = children;
         if !go {
-            return Ok(Vec::new(alloc));
+            return Ok(Below {
+                beside: Vec::new(alloc),
+                in_turn: outcomes,
+            });
         }
-        let Children { beside, in_turn } = children;
         fork(self.nodes.store, lanes);
-        let outcomes = self.run_beside(alloc, depth, beside, lanes, lock_lanes)?;
-        let mut ran = gathered(alloc, outcomes)?;
+        let first = self.run_beside(alloc, depth, beside, lanes, lock_lanes)?;
+        first_refusal(first.as_slice())?;
         join(self.nodes.store, lanes);
-        let mut others = self.run_in_turn(alloc, depth, in_turn, lanes, lock_lanes)?;
-        ran.append(&mut others)?;
-        Ok(ran)
+        let others = self.run_in_turn(alloc, depth, in_turn, outcomes, lanes, lock_lanes)?;
+        Ok(Below {
+            beside: first,
+            in_turn: others,
+        })
     }
 
-    /// The children that run one after another, each with the whole share of the lanes.
+    /// The children that run one after another, each with the whole share of the lanes, up to one that is refused. There is room for what they give.
     #[cycle(tree)]
     fn run_in_turn(
         &self,
         alloc: Global,
         depth: usize,
         items: Vec<Item>,
+        mut outcomes: Vec<Result<Vec<RanNode>, EngineFault>>,
         lanes: &mut [Lane<V>],
         lock_lanes: &mut [LockLane],
-    ) -> Result<Vec<RanNode>, EngineFault>
+    ) -> Result<Vec<Result<Vec<RanNode>, EngineFault>>, EngineFault>
         requires items { All (IsNode self.now.nodes.store.now depth) items.items }
+        requires room { (outcomes.items ≡ []) × (vec_len items ≤ vec_capacity outcomes) }
         requires ready { IsRunnable self.now.nodes.store.now self.now.nodes.locks.now (S.suite_view self.now.nodes.suite.now)
             × S.fits self.now.nodes.suite.now self.now.nodes.store.now
             × IsUsable self.now.nodes.store.now self.now.nodes.locks.now (record { first = lanes.old; second = lock_lanes.old }) }
@@ -200,12 +208,11 @@ impl<
             self.now.nodes.suite.now self.now.nodes.store.now self.now.nodes.locks.now) depth (nodes_in items)
             (record { first = lanes.old; second = lock_lanes.old }) result (record { first = lanes.new; second = lock_lanes.new }) }
     {
-        let mut ran = Vec::new(alloc);
         for item in items {
-            let mut below = self.run_node(alloc, depth, item, lanes, lock_lanes)?;
-            ran.append(&mut below)?;
+            let below = self.run_node(alloc, depth, item, lanes, lock_lanes)?;
+            outcomes.push_reserved(Ok(below));
         }
-        Ok(ran)
+        Ok(outcomes)
     }
 
     /// The children that run beside one another, each with a share of the lanes.

@@ -1,5 +1,6 @@
 pub mod Grammar
 pub mod Faults
+pub mod FaultLines
 pub mod Ids
 pub mod Laws
 pub mod Reading

@@ -3,41 +3,54 @@ ghost use Rattle.std.specs.Prelude.{◌≡◌};
 ghost use Rattle.ext_ids.specs.declared.fault.IdFault.TheVariants.{Memory};
 
 use std::alloc::{AllocError, AllocFailed};
+use std::fmt;
 use thiserror::Error;
 
 /// The first fault of a text, from the left, or want of memory.
 ///
 /// A place is a byte offset in the text, from 0; where the text ended too early it is the text's length.
-/// Each variant prints as its code, as `id: I6 at 9`.
+/// Each variant prints as its code and its place, as `id: I6 at 9`.
 #[derive(Clone, Copy, Debug, PartialEq, Eq, Error)]
 pub enum IdFault {
     /// I1: the text is empty.
-    #[error("id: I1")]
     Empty,
     /// I2: where a segment begins stands no `[`.
-    #[error("id: I2 at {0}")]
     NoOpen(usize),
     /// I3: a type ends, at a `]` or with the text, before its `:`.
-    #[error("id: I3 at {0}")]
     NoSeparator(usize),
     /// I4: the text ends within a value.
-    #[error("id: I4 at {0}")]
     NoClose(usize),
     /// I5: the `%` at this place begins none of the six escapes.
-    #[error("id: I5 at {0}")]
     BadEscape(usize),
     /// I6: a mark stands here unescaped, or what follows a segment is no `/`.
-    #[error("id: I6 at {0}")]
     RawCharacter(usize),
     /// I7: the type or the value that ends here is empty.
-    #[error("id: I7 at {0}")]
     EmptyPart(usize),
     /// I8: a `/` follows the 16th segment.
-    #[error("id: I8")]
     TooDeep,
     /// I9: an allocation failed.
-    #[error("id: I9")]
     Memory,
+}
+
+impl fmt::Display for IdFault {
+    ghost use Rattle.std.specs.Prelude.{Some};
+    ghost use Rattle.ext_ids.specs.FaultLines.{line_of};
+
+    ghost output = { λ fault. Some (line_of fault) };
+
+    fn fmt<W: fmt::Write>(&self, f: &mut fmt::Formatter<W>) -> fmt::Result {
+        match self {
+            IdFault::Empty => f.write_str("id: I1"),
+            IdFault::NoOpen(at) => write!(f, "id: I2 at {at}"),
+            IdFault::NoSeparator(at) => write!(f, "id: I3 at {at}"),
+            IdFault::NoClose(at) => write!(f, "id: I4 at {at}"),
+            IdFault::BadEscape(at) => write!(f, "id: I5 at {at}"),
+            IdFault::RawCharacter(at) => write!(f, "id: I6 at {at}"),
+            IdFault::EmptyPart(at) => write!(f, "id: I7 at {at}"),
+            IdFault::TooDeep => f.write_str("id: I8"),
+            IdFault::Memory => f.write_str("id: I9"),
+        }
+    }
 }
 
 impl From<AllocError> for IdFault {

@@ -10,7 +10,7 @@ use crate::rule::LaneSeat;
 use crate::steps::LockSteps;
 use crate::taking::take_lock;
 use crate::{LockMode, LockNo, LockRefusal};
-use ext_waiters::{Waiters, Waiting};
+use ext_waiters::Waiters;
 use std::sync::Wait;
 
 /// What all lanes share: the words of the locks, who waits for one, and how many exchanges a try makes at most.
@@ -19,16 +19,6 @@ pub(crate) struct SharedLocks<'a> {
     pub words: &'a LockSteps,
     pub waiters: &'a Waiters,
     pub tries: u32,
-}
-
-/// What a lane does that met another holder, before it tries again: it announces that it waits, or, where it has announced
-/// that and has tried once more since, it sleeps.
-fn pause<R: Wait>(rt: &R, waiting: &mut Waiting<'_>) {
-    if waiting.is_announced() {
-        waiting.sleep(rt);
-    } else {
-        waiting.announce();
-    }
 }
 
 /// Takes a lock, however often it has to try: what met another holder is done again after a wake, and what other lanes
@@ -51,7 +41,7 @@ fn wait_for_lock<R: Wait>(
     for _ in rt.forever() {
         match take_lock(locks.words, seat, lane, lock, mode, locks.tries) {
             Ok(()) => return,
-            Err(LockRefusal::Taken(_)) => pause(rt, &mut waiting),
+            Err(LockRefusal::Taken(_)) => waiting.pause(rt),
             Err(LockRefusal::Contended(_)) => {}
         }
     }

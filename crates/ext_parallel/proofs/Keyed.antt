@@ -1,16 +1,18 @@
 -- What a step does by its call, from what the store answers a call by a key.
 use Rattle.std.proofs.Common.{◌≡◌, ◌⊎◌, inl, inr, ℕ, List, Option, codes, drop, refl, ap, ◌∙◌, subst, sym}
-use Rattle.std.specs.Prelude.{Result, Ok, Err, String, string_bytes}
+use Rattle.std.specs.Prelude.{Some, None, Result, Ok, Err, String, string_bytes}
 use Rattle.ext_model.specs.declared.look.Fault.{Fault}
 use Rattle.ext_model.specs.declared.look.Fault.TheVariants as faults
 use Rattle.ext_lifecycle.specs.declared.outcome.Outcome.{Outcome}
 use Rattle.ext_lifecycle.specs.FaultTexts.{VerdictText}
-use Rattle.ext_tree.specs.Keys.{KeyValue, KnownPlace, IsKeyFault, IsKeyNumber}
+use Rattle.ext_tree.specs.Keys.{KeyValue, KnownPlace, IsKeyFault, IsKeyNumber, PlacesOnly}
+use Rattle.ext_tree.proofs.KeyPlacing.{places_nothing}
 use Rattle.ext_cells.specs.Lanes.{Lane}
 use Rattle.ext_store_cells.specs.declared.fault.Refusal.{Refusal}
 use Rattle.ext_store.specs.declared.computed.Compute.{Compute}
 use Rattle.ext_store.specs.declared.computed.Compute.TheVariants as computes
 use Rattle.ext_store.specs.Stores.{StoreView, StoreLane}
+use Rattle.ext_store.proofs.Numbered.{placed_still}
 use Rattle.ext_store.specs.LaneCalls.{Puts, Removes, KeepsAs, IsKeyRefused, OfKey}
 use Rattle.ext_store.specs.Computing.{Uses}
 use Rattle.ext_store.specs.Waiting.{ComputesAfterWaits}
@@ -23,7 +25,7 @@ use Rattle.std.specs.declared.alloc.Global.{Global}
 use Rattle.ext_parallel.specs.declared.steps.stored_value.StoredValue.{StoredValue}
 use Rattle.ext_parallel.specs.Saying.{Ends, EndsRefused}
 use Rattle.ext_parallel.specs.StoreCalls.{KnowsTheSame, PlanLane, EndsChange, EndsCompute, EndsComputeFail, EndsPut, Sees, stored_view}
-use Rattle.ext_parallel.specs.StoreSteps.{FindsNoMemory, PutsKept, StepComputes, StepFails, StepLooks, StepRemoves, call_of}
+use Rattle.ext_parallel.specs.StoreSteps.{FindsNoMemory, PlacesItsKey, PutsKept, StepComputes, StepFails, StepLooks, StepRemoves, call_of}
 
 -- what is said of a number and of a refusal may be said otherwise
 pub of_key : {V : Type 0} (a b : StoreLane V) (key : KeyValue) (Refuses Ending : Refusal → Type 0) (Holds Does : ℕ → Type 0) → ((why : Refusal) → Refuses why → Ending why) → ((number : ℕ) → Holds number → Does number)
@@ -50,6 +52,25 @@ pub of_answer : {A : Type 0} (a b : PlanLane) (key : KeyValue) (answer : A) (Hol
     → (number : ℕ) × IsKeyNumber b.keys key number × Holds number
 of_answer a b key answer Holds (inl named) = named
 of_answer a b key answer Holds (inr refused) = absurd (cc refused.2)
+
+-- ---- places of keys
+
+-- a call that leaves what the lane knows of keys puts no key at a place
+pub placed_same : (key : KeyValue) (a b : PlanLane) → b.keys ≡ a.keys → PlacesOnly key a.keys b.keys
+placed_same key a b same = placed_still key a.keys a.keys b.keys (places_nothing key a.keys) same
+
+-- nor does one before the call that names the key
+pub placed_after : (key : KeyValue) (a b c : PlanLane) → b.keys ≡ a.keys → PlacesOnly key b.keys c.keys → PlacesOnly key a.keys c.keys
+placed_after key a b c same placed = subst (λ (notes : List KnownPlace). PlacesOnly key notes c.keys) same placed
+
+-- the key may be said otherwise
+pub placed_as : (key other : KeyValue) (a b : PlanLane) → key ≡ other → PlacesOnly key a.keys b.keys → PlacesOnly other a.keys b.keys
+placed_as key other a b same placed = subst (λ k. PlacesOnly k a.keys b.keys) same placed
+
+-- a step that makes no call puts none, whichever key it names
+pub places_itself : (keys : List KeyText) (named : Option StepKeyText) (a : PlanLane) → PlacesItsKey keys named a a
+places_itself keys (Some key) a = λ number. inl refl
+places_itself keys None a = λ number. refl
 
 -- ---- steps
 

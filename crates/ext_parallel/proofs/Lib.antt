@@ -4,7 +4,7 @@ mod Locks
 mod Mapped
 mod Moves
 mod Names
-mod Refusals
+mod PlacedKeys
 mod StepValues
 mod Turning
 mod Values

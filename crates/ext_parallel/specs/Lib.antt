@@ -2,6 +2,7 @@ pub mod Finding
 pub mod InnerHelpers
 pub mod InnerKeys
 pub mod InnerMeeting
+pub mod Lacking
 pub mod Opened
 pub mod ParallelRun
 pub mod PlanActions

@@ -1,13 +1,17 @@
 -- The store and the locks that a run of a plan opens, and the one history of lanes that met.
 -- Own rule. JUnit 5 User Guide, "Keeping State in Extensions" and "Synchronization", for stores and locks.
-use Rattle.std.specs.Prelude.{◌≡◌, ℕ, ◌*◌, List, length, map, All, AllPairs, IsPermutation}
+use Rattle.std.specs.Prelude.{◌≡◌, ℕ, ◌*◌, true, List, length, map, Some, All, AllPairs, Contains, IsPermutation}
 use mathlib.Core.List.{IsPrefix}
 use Rattle.ext_model.specs.declared.look.Fault.{Fault}
 use Rattle.ext_model.specs.History.{History, IsLegal, own}
-use Rattle.ext_plan.specs.Plans.{PlanText}
+use Rattle.ext_lifecycle.specs.declared.call.Call.{Call}
+use Rattle.ext_plan.specs.Plans.{PlanText, StepKeyText, StepText}
+use Rattle.ext_plan.specs.PlanCalls.{steps_of_call}
+use Rattle.ext_plan.specs.Steps.{step_key}
+use Rattle.ext_plan.specs.StoreKeys.{key_of_step}
 use Rattle.ext_plan.specs.ReadPlans.{ids_of_nodes}
 use Rattle.ext_plan.specs.LockNames.{lock_names}
-use Rattle.ext_tree.specs.Keys.{KnownPlace, KeepsKeys}
+use Rattle.ext_tree.specs.Keys.{KeyValue, KnownPlace, IsKeyNumber, KeepsKeys, placed_at}
 use Rattle.ext_history.specs.Histories.{seen_by}
 use Rattle.ext_values.specs.Known.{Known, AllAgree}
 use Rattle.ext_store.specs.Opening.{fault_count}
@@ -59,3 +63,21 @@ pub record ShareHistory {V : Type 0} (store : StoreView) (lanes : List (StoreLan
 pub record ShareKeys {V : Type 0} (lanes : List (StoreLane V)) : Type 0 where
   pub numbering : List KnownPlace
   pub parts : All (λ lane. KeepsKeys lane.keys numbering) lanes
+
+-- a step of the plan names this key, by a label of it or by its name
+pub record IsNamedByPlan (plan : PlanText) (key : KeyValue) : Type 0 where
+  pub call : Call
+  pub step : StepText
+  pub among : Contains (steps_of_call plan call) step
+  pub names : StepKeyText
+  pub step_names : step_key step ≡ Some names
+  pub key_is : key_of_step plan.keys names ≡ key
+
+-- the place with this number is that of a key which a step of the plan names
+abbrev pub IsPlaceOfPlan : PlanText → List KnownPlace → ℕ → Type 0
+IsPlaceOfPlan plan notes number = (key : KeyValue) × IsKeyNumber notes key number × IsNamedByPlan plan key
+
+-- Each lane of a run put a key that a step of the plan names at each place that it set: so all of them together set no more places than the plan names keys, since they number
+-- keys alike. That a place was set by one of the lanes is not told
+abbrev pub PlaceKeysOfPlan : {V : Type 0} → PlanText → List (StoreLane V) → Type 0
+PlaceKeysOfPlan plan lanes = All (λ lane. (number : ℕ) → placed_at lane.keys number ≡ true → IsPlaceOfPlan plan lane.keys number) lanes

@@ -3,7 +3,7 @@
 --
 -- JUnit 5 User Guide, "Parallel Execution", "Synchronization" and "Keeping State in Extensions", by the definitions of the engine. What numbers and tries a run's
 -- store has, and that lanes meet at its end, are own rules.
-use Rattle.std.specs.Prelude.{◌≡◌, ℕ, List, length, map, Option, Result}
+use Rattle.std.specs.Prelude.{◌≡◌, ◌⊎◌, ℕ, List, length, map, Option, Result}
 use Rattle.ext_model.specs.declared.look.Fault.{Fault}
 use Rattle.ext_lifecycle.specs.declared.call.Call.{Call}
 use Rattle.ext_lifecycle.specs.declared.outcome.Outcome.{Outcome}
@@ -17,9 +17,10 @@ use Rattle.ext_locks.specs.Opening.{LocksView}
 use Rattle.ext_locks.specs.Sets.{HeldView}
 use Rattle.ext_engine.specs.declared.node.fault.EngineFault.{EngineFault}
 use Rattle.ext_engine.specs.declared.node.fault.EngineFault.TheVariants as faults
-use Rattle.ext_engine.specs.TreeRun.{IsUnjoined, Lanes, Ran, TreeRun, TreeSetting, all_results}
+use Rattle.ext_engine.specs.Failing.{EndsEarly}
+use Rattle.ext_engine.specs.TreeRun.{Lanes, Ran, TreeRun, TreeSetting, all_results}
 use Rattle.ext_parallel.specs.declared.steps.stored_value.StoredValue.{StoredValue}
-use Rattle.ext_parallel.specs.Opened.{IsStoreOf, IsLocksOf, ShareHistory, ShareKeys}
+use Rattle.ext_parallel.specs.Opened.{IsStoreOf, IsLocksOf, PlaceKeysOfPlan, ShareHistory, ShareKeys}
 use Rattle.ext_plan.specs.Values.{close_fault}
 use Rattle.ext_parallel.specs.StoreCalls.{PlanLane, stored_view}
 use Rattle.ext_parallel.specs.PlanActions.{AnswersClose}
@@ -69,19 +70,29 @@ pub record ParallelRun (plan : PlanText) (lanes : ℕ) (results : List (ResultOf
   pub shared : ShareHistory store after.first
   -- and a key that two of them know has one number in both
   pub numbered : ShareKeys after.first
+  -- and none of them put a key at a place that no step of the plan names
+  pub placed : PlaceKeysOfPlan plan after.first
 
 -- ---- refusals
 
--- A context of such a store could not be closed: this number remained in it, and no lane in hand knew its value
-pub record CannotClose (plan : PlanText) (lanes context number : ℕ) : Type 0 where
+-- A run of the plan's tree over this store and these locks ended early, and why. The lanes, as it left them, have seen one history, and have numbered keys alike
+pub record EndsOver (plan : PlanText) (store : StoreView) (locks : LocksView) (first : Lanes StoredValue) (why : EngineFault) : Type 0 where
+  pub after : Lanes StoredValue
+  pub early : EndsEarly (setting_of_plan plan store locks) 16 0 first why after
+  pub shared : ShareHistory store after.first
+  pub numbered : ShareKeys after.first
+
+-- A run of the plan on so many lanes ended early, over the store and the locks that were opened for it, on lanes that had seen nothing before it
+pub record ParallelEndsEarly (plan : PlanText) (lanes : ℕ) (why : EngineFault) : Type 0 where
   pub store : StoreView
   pub store_is : IsStoreOf plan lanes store
   pub locks : LocksView
   pub locks_are : IsLocksOf plan lanes locks
-  pub unjoined : IsUnjoined (setting_of_plan plan store locks) context number
+  pub first : Lanes StoredValue
+  pub fresh : first.first ≡ map (fresh_store_lane store.id.places store.id.fault_places store.id.keys) (fresh_lanes store.id.cells 0 lanes)
+  pub fresh_locks : first.second ≡ locking.fresh_lanes locks.table lanes lanes
+  pub ends : EndsOver plan store locks first why
 
--- why a run gives no results: memory ran out, or a context could not be closed
+-- why a run gives no results: memory for its suite, its locks or its store was refused, and nothing was run; or it ended early
 abbrev pub IsRefusedRun : PlanText → ℕ → EngineFault → Type 0
-IsRefusedRun plan lanes faults.Memory = Unit {0}
-IsRefusedRun plan lanes faults.NoThread = ⊥
-IsRefusedRun plan lanes (faults.Unjoined context number) = CannotClose plan lanes context number
+IsRefusedRun plan lanes why = (why ≡ faults.Memory) ⊎ ParallelEndsEarly plan lanes why

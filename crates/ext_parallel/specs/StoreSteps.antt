@@ -2,15 +2,17 @@
 --
 -- Javadoc `ExtensionContext.Store`. A step acts on the first context of the path that it is given, or on the context so many levels up. Its key gets a number where
 -- the lane names it first. The steps and what they say are an own rule; their names and texts are those of [ext_plan Plans] and [ext_plan Verdicts].
-use Rattle.std.specs.Prelude.{◌≡◌, ◌⊎◌, ℕ, ◌+◌, codes, true, false, List, [], ◌∷◌, drop}
+use Rattle.std.specs.Prelude.{◌≡◌, ◌⊎◌, ℕ, ◌+◌, codes, true, false, List, [], ◌∷◌, drop, Option, Some, None}
 use Rattle.ext_lifecycle.specs.declared.outcome.Outcome.{Outcome}
 use Rattle.ext_lifecycle.specs.Endings.{successful, aborted, failed, is_successful}
 use Rattle.ext_lifecycle.specs.FaultTexts.{VerdictText}
 use Rattle.ext_lifecycle.specs.Lifecycle.{ending_of}
 use Rattle.ext_plan.specs.Plans.{KeyText, StepKeyText, StepText, put, put_closeable, want, nothing, remove, compute, compute_closeable, compute_fail, fail, abort}
+use Rattle.ext_plan.specs.Steps.{step_key}
 use Rattle.ext_plan.specs.StoreKeys.{key_of_step}
 use Rattle.ext_store.specs.LaneCalls.{KeepsAs, OfKey}
 use Rattle.ext_store.specs.Stores.{StoreView}
+use Rattle.ext_tree.specs.Keys.{PlacesNone, PlacesOnly}
 use Rattle.ext_plan.specs.StepCalls.{CallText, is_made, label_of, start_of}
 use Rattle.ext_plan.specs.Values.{ValueText}
 use Rattle.ext_plan.specs.Verdicts.{SeenText, want_verdict, none_verdict}
@@ -63,6 +65,12 @@ pub record FindsNoMemory (before : PlanLane) (outcome : Outcome) (after : PlanLa
   pub unchanged : after ≡ before
   pub ends : EndsNoMemory outcome
 
+-- The lane put no key at a place but the one that the step names, and none where it names none
+module _ (keys : List KeyText) where
+  abbrev pub PlacesItsKey : Option StepKeyText → PlanLane → PlanLane → Type 0
+  PlacesItsKey (Some key) before after = PlacesOnly (key_of_step keys key) before.keys after.keys
+  PlacesItsKey None before after = PlacesNone before.keys after.keys
+
 -- ---- a step in the first context of the path
 
 module _ (keys : List KeyText) (path : List ℕ) where
@@ -103,10 +111,11 @@ module _ (store : StoreView) (keys : List KeyText) (path : List ℕ) where
     pub computed_are : outcome.computed ≡ first.computed + rest.computed
     pub found_are : outcome.found ≡ first.found + rest.found
 
-  -- The steps are made in order, up to the first that isn't successful, with it. Each leaves its lane what it knew and what it kept
+  -- The steps are made in order, up to the first that isn't successful, with it. Each leaves its lane what it knew and what it kept, and puts no key at a place but its own
   unfoldable pub StepsRun : List StepText → PlanLane → Outcome → PlanLane → Type 0
   StepsRun [] before outcome after = (after ≡ before) × Ends successful 0 0 outcome
   StepsRun (step ∷ more) before outcome after =
       (first : Outcome) × (between : PlanLane) × StepRun step before first between × HasFrame store before between
       × ((is_successful (ending_of first.verdict) ≡ true → (rest : Outcome) × StepsRun more between rest after × AddsUp first rest outcome)
       × (is_successful (ending_of first.verdict) ≡ false → (outcome ≡ first) × (after ≡ between)))
+      × PlacesItsKey keys (step_key step) before between

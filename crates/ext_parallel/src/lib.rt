@@ -2,7 +2,7 @@
 //!
 //! `parallel_results` opens a store with a plan's contexts and locks with its names, runs the tree of its nodes over them, and gives
 //! one result a node. What such a run is stands in `specs/ParallelRun`, by the definitions of `ext_engine`, and what its steps find
-//! in `specs/Finding`.
+//! in `specs/Finding`. `may_have_lacked` tells from the results whether a step may have lacked something (`specs/Lacking`).
 //!
 //! `PlanSuite` is what the nodes of a plan are to the engine: a call of a node makes the steps of the plan on a lane of the store
 //! (module `steps`). `PlanAction` closes the values of a context. `specs/PlanSuites` says what the nodes are and what a call does,
@@ -12,6 +12,7 @@
 //! names no source in JUnit is an own rule.
 #![tactic(auto)]
 
+mod lacks;
 mod laws;
 mod meeting;
 mod opening;
@@ -21,6 +22,7 @@ mod plan_suite;
 mod steps;
 
 pub use ext_engine::EngineFault;
+pub use lacks::may_have_lacked;
 pub use laws::parallel_laws;
 pub use parallel::parallel_results;
 pub use plan_action::PlanAction;

@@ -1,20 +1,25 @@
 //! The run of a plan on several lanes.
-ghost use Rattle.std.specs.Prelude.{◌≡◌, ◌<◌, ◌≤◌, All, length, map, IfOk, IfErr};
+ghost use Rattle.std.specs.Prelude.{◌≡◌, ◌<◌, ◌≤◌, All, List, length, map, IfOk, IfErr};
 ghost use Rattle.ext_lifecycle.specs.Results.{told};
 ghost use Rattle.ext_plan.specs.Plans.{plan_view};
-ghost use Rattle.ext_plan.specs.ReadPlans.{IsRunnablePlan, NodesAreTree, TestsHaveNoChildren};
-ghost use Rattle.ext_locks.specs.Opening as locking;
-ghost use Rattle.ext_parallel.specs.Opened.{IsLocksOf};
-ghost use Rattle.ext_parallel.specs.ParallelRun.{IsRefusedRun, ParallelRun};
+ghost use Rattle.ext_plan.specs.ReadPlans.{IsRunnablePlan};
+ghost use Rattle.ext_store.specs.Stores.{closers_below};
+ghost use Rattle.ext_engine.specs.TreeRun.{IsRunnable, IsUsable, Lanes, Ran, TreeRun, all_results};
+ghost use Rattle.ext_parallel.specs.Opened.{ShareHistory, ShareKeys};
+ghost use Rattle.ext_parallel.specs.ParallelRun.{EndsOver, IsRefusedRun, ParallelRun, setting_of_plan};
+ghost use Rattle.ext_parallel.specs.PlanSuites.{suite_of};
+ghost use Rattle.ext_parallel.specs.declared.steps.stored_value.StoredValue.{StoredValue};
 
 use crate::PlanSuite;
 use crate::meeting::meet_all;
 use crate::opening::{open_locks, open_store};
+use crate::steps::StoredValue;
 use ext_crew::OpenGate;
 use ext_engine::{EngineFault, run_tree};
 use ext_lifecycle::{NodeResult, RunListener};
 use ext_locks::{LockLane, Locks};
 use ext_plan::Plan;
+use ext_store::{Closer, Lane, Store};
 use std::alloc::Global;
 use std::sync::Wait;
 use std::thread::Threads;
@@ -25,8 +30,9 @@ use std::thread::Threads;
 /// `ext_engine::run_tree`. A key gets its number where a lane first names it, the same in all lanes. The listener is told when a node starts, with its lane, of each fault of its calls
 /// and of its closes as they come, and that it has ended. Steps make the calls of the store that wait. Each plan that `ext_plan_reading::read_plan` gives is runnable.
 ///
-/// Refused as `Memory`, where memory that the run itself needs is refused, and as `Unjoined`, where a context can't be closed, as no lane in
-/// hand knows a value that remains in it; no plan is known for which it comes. `NoThread` is never answered. Want of memory in a step is the step's own fault. Takes memory, and may wait: it promises its clauses if it returns.
+/// Refused as `Memory` where memory for the suite, the locks or the store is refused, and nothing was run; or where the run ended early for want of memory, as
+/// `run_tree` says, which takes none of a node that ran. Refused as `Unjoined` where a context can't be closed, as no lane in hand knows a value that remains in it: then the run ended early, too; no plan is known for which it comes.
+/// `NoThread` is never answered. Want of memory in a step is the step's own fault, and `may_have_lacked` tells whether there may have been such a step. Takes memory, and may wait: it promises its clauses if it returns.
 ///
 /// JUnit 5 User Guide, section "Parallel Execution"; lanes are an own rule.
 pub fn parallel_results<R: Threads + Wait + Sync, L: RunListener + Sync>(
@@ -44,42 +50,38 @@ pub fn parallel_results<R: Threads + Wait + Sync, L: RunListener + Sync>(
 {
     let suite = PlanSuite::new(alloc, plan, listener)?;
     let (locks, mut lock_lanes) = open_locks(alloc, plan, lanes)?;
+    let (store, mut store_lanes, closers) = open_store(alloc, plan, lanes)?;
+    let all_lanes = store_lanes.as_mut_slice();
+    let all_locks = lock_lanes.as_mut_slice();
     results_of(
-        rt,
-        alloc,
-        plan,
-        lanes,
-        &suite,
-        &locks,
-        lock_lanes.as_mut_slice(),
+        rt, alloc, &suite, &store, &locks, all_lanes, all_locks, closers,
     )
 }
 
-/// The same, of a suite and locks that are opened already: opens the store, runs the tree over it, and lets all lanes meet.
-fn results_of<R: Threads + Wait + Sync, L: RunListener + Sync>(
+/// Runs the tree of the suite over this store and these locks, and then lets all lanes meet, whatever came of it.
+fn results_of<'a, R: Threads + Wait + Sync, L: RunListener + Sync>(
     rt: &R,
     alloc: Global,
-    plan: &Plan,
-    lanes: usize,
-    suite: &PlanSuite<'_, L>,
+    suite: &PlanSuite<'a, L>,
+    store: &Store<StoredValue<'a>>,
     locks: &Locks,
+    lanes: &mut [Lane<StoredValue<'a>>],
     lock_lanes: &mut [LockLane],
+    closers: Vec<Closer>,
 ) -> Result<Vec<NodeResult>, EngineFault>
-    requires lanes { (1 ≤ lanes) × (lanes ≤ 16) }
-    requires tree { NodesAreTree (plan_view plan.now) }
-    requires tests { TestsHaveNoChildren (plan_view plan.now) }
-    requires suite { suite.now ≡ plan_view plan.now }
-    requires locks { IsLocksOf (plan_view plan.now) lanes locks.now }
-    requires lock_lanes { lock_lanes.old ≡ locking.fresh_lanes locks.now.table lanes lanes }
-    ensures run { IfOk result (λ results. ParallelRun (plan_view plan.now) lanes (map told results.items)) }
-    ensures in_tree { IfOk result (λ results. All (λ r. r.node < length plan.now.nodes.items) results.items) }
-    ensures fault { IfErr result (IsRefusedRun (plan_view plan.now) lanes) }
+    requires lanes { IsUsable store.now locks.now (record { first = lanes.old; second = lock_lanes.old }) }
+    requires closers { closers.items ≡ closers_below store.now.id.cells (length store.now.tree) }
+    requires runnable { IsRunnable store.now locks.now (suite_of suite.now) }
+    ensures run { IfOk result (λ results. (ran : List Ran) × (after : Lanes StoredValue)
+        × TreeRun (setting_of_plan suite.now store.now locks.now) 16 0 (record { first = lanes.old; second = lock_lanes.old }) ran after
+        × (map told results.items ≡ all_results (suite_of suite.now) (length store.now.tree) ran)
+        × ShareHistory store.now after.first × ShareKeys after.first) }
+    ensures in_tree { IfOk result (λ results. All (λ r. r.node < length store.now.tree) results.items) }
+    ensures early { IfErr result (EndsOver suite.now store.now locks.now (record { first = lanes.old; second = lock_lanes.old })) }
 {
-    let (store, mut store_lanes, closers) = open_store(alloc, plan, lanes)?;
-    let all_lanes = store_lanes.as_mut_slice();
     let ran = run_tree(
-        rt, alloc, suite, &store, locks, all_lanes, lock_lanes, closers, &OpenGate,
+        rt, alloc, suite, store, locks, lanes, lock_lanes, closers, &OpenGate,
     );
-    meet_all(&store, all_lanes);
+    meet_all(store, lanes);
     ran
 }

@@ -56,7 +56,7 @@ all-cond : (P : ℕ → Type 0) (b : Bool) (x : ℕ) (xs : List ℕ) → P x →
 all-cond P true x xs p all = (p, all)
 all-cond P false x xs p all = all
 
-all-filter : (P : ℕ → Type 0) (test : ℕ → Bool) (xs : List ℕ) → AllByRecursion P xs → AllByRecursion P (filter test xs)
+pub all-filter : (P : ℕ → Type 0) (test : ℕ → Bool) (xs : List ℕ) → AllByRecursion P xs → AllByRecursion P (filter test xs)
 all-filter P test [] all = tt
 all-filter P test (x ∷ xs) all = all-cond P (test x) x (filter test xs) all.0 (all-filter P test xs all.1)
 
@@ -64,9 +64,12 @@ all-append : (P : ℕ → Type 0) (xs ys : List ℕ) → AllByRecursion P xs →
 all-append P [] ys p q = q
 all-append P (x ∷ xs) ys p q = (p.0, all-append P xs ys p.1 q)
 
+pub parents-all : (ids : List Id) (at : ℕ) → at < length ids → AllByRecursion (IsParentOf ids at) (children_of ids at)
+parents-all ids at within = all-from (IsParentOf ids at) (children_of ids at) (λ k less. child_is ids at (children_of ids at) k 0 within refl less)
+
 pub children-all : (ids : List Id) (test : ℕ → Bool) (at : ℕ) → at < length ids → AllByRecursion (IsParentOf ids at) (in_run_order test (children_of ids at))
 children-all ids test at within =
-    let all = all-from (IsParentOf ids at) (children_of ids at) (λ k less. child_is ids at (children_of ids at) k 0 within refl less) in
+    let all = parents-all ids at within in
     all-append (IsParentOf ids at) (filter test (children_of ids at)) (filter (λ x. not (test x)) (children_of ids at)) (all-filter (IsParentOf ids at) test (children_of ids at) all) (all-filter (IsParentOf ids at) (λ x. not (test x)) (children_of ids at) all)
 
 -- ---- each node

@@ -10,6 +10,8 @@ pub mod Named
 pub mod Rooms
 pub mod Few
 pub mod Telling
+pub mod FaultsTold
+pub mod Spared
 pub mod NodeCalls
 pub mod CallsDone
 pub mod Nodes
@@ -24,4 +26,5 @@ pub mod Reached
 pub mod Below
 pub mod Skipping
 pub mod Lacking
+pub mod Elsewhere
 pub mod Unfailed

@@ -1,19 +1,20 @@
 -- The calls of a node that were made leave what the definition of the plain run has, where each call did.
-use Rattle.std.proofs.Common.{◌≡◌, ℕ, Bool, true, false, List, [], ◌∷◌, ◌++◌, map, refl, ap, sym, subst, ◌∙◌, arith, append_assoc, append-nil}
+use Rattle.std.proofs.Common.{◌≡◌, ◌≢◌, ℕ, Bool, true, false, List, [], ◌∷◌, ◌++◌, map, refl, ap, sym, subst, ◌∙◌, arith, append_assoc, append-nil}
 use Rattle.std.specs.Prelude.{◌&&◌, if◌then◌else◌}
 use Rattle.std.proofs.lemmas.List.{map-append}
 use Rattle.std.proofs.lemmas.List.Sums.{sum_by-append}
 use Rattle.ext_lifecycle.specs.declared.call.Call.{Call}
 use Rattle.ext_lifecycle.specs.declared.outcome.Outcome.{Outcome}
 use Rattle.ext_lifecycle.specs.Endings.{Ending, all_successful, is_successful, with_fault}
-use Rattle.ext_lifecycle.specs.FaultTexts.{VerdictText, fault_text}
+use Rattle.ext_lifecycle.specs.FaultTexts.{VerdictText, fault_text, verdict_text}
 use Rattle.ext_lifecycle.specs.Lifecycle.{MakesAll, MakesBefores, MakesIf, MakesCalls, ending_of, endings_of}
 use Rattle.ext_lifecycle.proofs.OtherFaults.{is_successful-to}
 use Rattle.ext_plain.specs.InnerHelpers.{TellsLacks, calls_end, step_end}
 use Rattle.ext_plain.specs.NodeCalls.{CallsEnd, and_call, make, make_all, make_befores, make_if_successful}
-use Rattle.ext_plain.specs.StepRuns.{StepEnd}
+use Rattle.ext_plain.specs.StepRuns.{StepEnd, no_memory}
 use Rattle.ext_plain.specs.ValueStates.{Memory, ValueState}
-use Rattle.ext_plain.proofs.Telling.{tells-after, tells-both, tells-none}
+use Rattle.ext_plain.proofs.Spared.{Spares, spared-first, spared-last, texts_of}
+use Rattle.ext_plain.proofs.Telling.{tells-both, tells-none, tells-same}
 
 -- ---- one call more
 
@@ -65,7 +66,7 @@ module _ (run : Call → ValueState → StepEnd) where
 pub record Does {S : Type 0} (makes : S → Call → Outcome → S → Type 0) (Holds : S → Type 0) (view : List Memory → S → ValueState) (lacked : S → Bool) (run : Call → ValueState → StepEnd) : Type 0 where
   pub keeps : (c : S) (call : Call) (o : Outcome) (d : S) → makes c call o d → Holds c → Holds d
   pub exact : (c : S) (call : Call) (o : Outcome) (d : S) → makes c call o d → Holds c → (later : List Memory)
-      → (memory : List Memory) × (step_end (view later d) o ≡ run call (view memory c)) × TellsLacks (lacked c) (lacked d) memory later
+      → (memory : List Memory) × (step_end (view later d) o ≡ run call (view memory c)) × TellsLacks (lacked c) (lacked d) memory later (verdict_text o.verdict ≢ no_memory)
 
 module _ {S : Type 0} (makes : S → Call → Outcome → S → Type 0) (Holds : S → Type 0) (view : List Memory → S → ValueState) (lacked : S → Bool) (run : Call → ValueState → StepEnd) (does : Does makes Holds view lacked run) where
   -- ---- what holds after calls
@@ -99,29 +100,41 @@ module _ {S : Type 0} (makes : S → Call → Outcome → S → Type 0) (Holds :
 
   -- for what later steps find there is something that earlier ones found, so that this makes that, and whether these lacked some is told
   abbrev pub Leaves : (CallsEnd → CallsEnd) → S → List Outcome → S → List Outcome → Type 0
-  Leaves made c before d after = (later : List Memory) → (memory : List Memory) × (made (calls_end (view memory c) before) ≡ calls_end (view later d) after) × TellsLacks (lacked c) (lacked d) memory later
+  Leaves made c before d after = (later : List Memory) → (memory : List Memory) × (made (calls_end (view memory c) before) ≡ calls_end (view later d) after) × TellsLacks (lacked c) (lacked d) memory later (Spares (texts_of after))
 
   one_call : (c : S) (call : Call) (o : Outcome) (d : S) (before : List Outcome) → makes c call o d → Holds c → Leaves (λ e. make run e call) c before d (before ++ o ∷ [])
   one_call c call o d before made holds later =
       let one = does.exact c call o d made holds later in
-      (one.0, ap (and_call (calls_end (view one.0 c) before)) (sym one.1) ∙ one_more (view one.0 c) (view later d) before o, one.2)
+      let told = tells-same (lacked c) (lacked c) (lacked d) (lacked d) one.0 later (verdict_text o.verdict ≢ no_memory) (Spares (texts_of (before ++ o ∷ []))) refl refl (spared-last before o) one.2 in
+      (one.0, ap (and_call (calls_end (view one.0 c) before)) (sym one.1) ∙ one_more (view one.0 c) (view later d) before o, told)
 
   none_left : (c d : S) (before os : List Outcome) → os ≡ [] → d ≡ c → Leaves (λ e. e) c before d (before ++ os)
   none_left c d before os none same later = (
     later,
     ap (λ x. calls_end (view later x) before) (sym same) ∙ ap (calls_end (view later d)) (sym (ap (λ l. before ++ l) none ∙ append-nil before)),
-    tells-after (lacked c) (lacked c) (lacked d) later later (ap lacked same) (tells-none (lacked c) later),
+    tells-same (lacked c) (lacked c) (lacked c) (lacked d) later later (Spares (texts_of (before ++ os))) (Spares (texts_of (before ++ os))) refl (ap lacked same) (λ spared. spared) (tells-none (lacked c) later (Spares (texts_of (before ++ os)))),
   )
 
+  same-list : (before rest os : List Outcome) (o : Outcome) → os ≡ o ∷ rest → (before ++ o ∷ []) ++ rest ≡ before ++ os
+  same-list before rest os o is = append_assoc before (o ∷ []) rest ∙ ap (λ l. before ++ l) (sym is)
+
   joined : (s : ValueState) (before rest os : List Outcome) (o : Outcome) → os ≡ o ∷ rest → calls_end s ((before ++ o ∷ []) ++ rest) ≡ calls_end s (before ++ os)
-  joined s before rest os o is = ap (calls_end s) (append_assoc before (o ∷ []) rest ∙ ap (λ l. before ++ l) (sym is))
+  joined s before rest os o is = ap (calls_end s) (same-list before rest os o is)
+
+  told-on : (c between d : S) (before rest os : List Outcome) (o : Outcome) (first second later : List Memory) → os ≡ o ∷ rest
+      → TellsLacks (lacked c) (lacked between) first second (Spares (texts_of (before ++ o ∷ []))) → TellsLacks (lacked between) (lacked d) second later (Spares (texts_of ((before ++ o ∷ []) ++ rest)))
+      → TellsLacks (lacked c) (lacked d) first later (Spares (texts_of (before ++ os)))
+  told-on c between d before rest os o first second later is one two =
+      let whole : Spares (texts_of (before ++ os)) → Spares (texts_of ((before ++ o ∷ []) ++ rest)) = λ spared. subst (λ l. Spares (texts_of l)) (sym (same-list before rest os o is)) spared in
+      tells-both (lacked c) (lacked between) (lacked d) first second later (Spares (texts_of (before ++ o ∷ []))) (Spares (texts_of ((before ++ o ∷ []) ++ rest))) (Spares (texts_of (before ++ os)))
+      (λ spared. spared-first (before ++ o ∷ []) rest (whole spared)) whole one two
 
   pub all-exact : (calls : List Call) (c : S) (os : List Outcome) (d : S) (before : List Outcome) → MakesAll makes calls c os d → Holds c → Leaves (make_all run calls) c before d (before ++ os)
   all-exact [] c os d before made holds later = none_left c d before os made.0 made.1 later
   all-exact (call ∷ calls) c os d before made holds later =
       let rest = all-exact calls made.2 made.1 d (before ++ made.0 ∷ []) made.5 (does.keeps c call made.0 made.2 made.4 holds) later in
       let first = one_call c call made.0 made.2 before made.4 holds rest.0 in
-      (first.0, ap (make_all run calls) first.1 ∙ rest.1 ∙ joined (view later d) before made.1 os made.0 made.3, tells-both (lacked c) (lacked made.2) (lacked d) first.0 rest.0 later first.2 rest.2)
+      (first.0, ap (make_all run calls) first.1 ∙ rest.1 ∙ joined (view later d) before made.1 os made.0 made.3, told-on c made.2 d before made.1 os made.0 first.0 rest.0 later made.3 first.2 rest.2)
 
   befores-rest : (good : Bool) (calls : List Call) (call : Call) (c : S) (os : List Outcome) (d : S) (before : List Outcome) (made : MakesBefores makes (call ∷ calls) c os d) → is_successful (ending_of made.0.verdict) ≡ good
       → all_successful (endings_of before) ≡ true → Holds made.2
@@ -142,7 +155,7 @@ module _ {S : Type 0} (makes : S → Call → Outcome → S → Type 0) (Holds :
       let good = is_successful (ending_of made.0.verdict) in
       let rest = befores-rest good calls call c os d before made refl all (does.keeps c call made.0 made.2 made.4 holds) (befores-exact calls) later in
       let first = one_call c call made.0 made.2 before made.4 holds rest.0 in
-      (first.0, ap (make_befores run calls) (if-made run (view first.0 c) before call true all ∙ first.1) ∙ rest.1 ∙ joined (view later d) before made.1 os made.0 made.3, tells-both (lacked c) (lacked made.2) (lacked d) first.0 rest.0 later first.2 rest.2)
+      (first.0, ap (make_befores run calls) (if-made run (view first.0 c) before call true all ∙ first.1) ∙ rest.1 ∙ joined (view later d) before made.1 os made.0 made.3, told-on c made.2 d before made.1 os made.0 first.0 rest.0 later made.3 first.2 rest.2)
 
   pub if-exact : (go : Bool) (call : Call) (c : S) (os : List Outcome) (d : S) (before : List Outcome) → all_successful (endings_of before) ≡ go → MakesIf makes go call c os d → Holds c
       → Leaves (λ e. make_if_successful run e call) c before d (before ++ os)
@@ -162,11 +175,15 @@ module _ {S : Type 0} (makes : S → Call → Outcome → S → Type 0) (Holds :
       let closing = if-holds go body made.opened made.second made.closing made.body_made opened in
       let third = all-exact afters made.closing made.third d (made.first ++ made.second) made.afters_made closing later in
       let second = if-exact go body made.opened made.second made.closing made.first refl made.body_made opened third.0 in
-      let first = befores-exact befores c made.first made.opened [] refl made.befores_made holds second.0 in (
+      let first = befores-exact befores c made.first made.opened [] refl made.befores_made holds second.0 in
+      let all_of : Spares (texts_of os) → Spares (texts_of ((made.first ++ made.second) ++ made.third)) = λ spared. subst (λ l. Spares (texts_of l)) made.all spared in (
         first.0,
         ap (λ e. make_all run afters (make_if_successful run e body)) first.1
             ∙ ap (make_all run afters) second.1
             ∙ third.1
             ∙ ap (calls_end (view later d)) (sym made.all),
-        tells-both (lacked c) (lacked made.opened) (lacked d) first.0 second.0 later first.2 (tells-both (lacked made.opened) (lacked made.closing) (lacked d) second.0 third.0 later second.2 third.2),
+        tells-both (lacked c) (lacked made.opened) (lacked d) first.0 second.0 later (Spares (texts_of made.first)) (Spares (texts_of os)) (Spares (texts_of os))
+            (λ spared. spared-first made.first made.second (spared-first (made.first ++ made.second) made.third (all_of spared))) (λ spared. spared) first.2
+            (tells-both (lacked made.opened) (lacked made.closing) (lacked d) second.0 third.0 later (Spares (texts_of (made.first ++ made.second))) (Spares (texts_of ((made.first ++ made.second) ++ made.third))) (Spares (texts_of os))
+            (λ spared. spared-first (made.first ++ made.second) made.third (all_of spared)) all_of second.2 third.2),
       )

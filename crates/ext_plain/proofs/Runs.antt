@@ -1,11 +1,12 @@
 -- A node that was run became what the definition of the plain run makes of it: a test by its calls, a container by its calls and its body.
-use Rattle.std.proofs.Common.{◌≡◌, ◌≢◌, ℕ, ◌+◌, ◌-◌, ◌<◌, Bool, true, false, List, [], ◌∷◌, ◌++◌, drop, length, get_or, refl, ap, sym, subst, ◌∙◌}
-use Rattle.std.specs.Prelude.{cond, fold, filter, is_some, not, if◌then◌else◌}
+use Rattle.std.proofs.Common.{◌≡◌, ◌≢◌, ℕ, zero, suc, ◌+◌, ◌-◌, ◌<◌, Bool, true, false, List, [], ◌∷◌, ◌++◌, drop, length, get_or, refl, ap, sym, subst, ◌∙◌, arith, append_assoc}
+use Rattle.std.specs.Prelude.{cond, fold, filter, is_some, not, slice_get, slice_set, IsSomeAnd, if◌then◌else◌}
+use Rattle.std.specs.List.{AllByRecursion}
 use mathlib.Core.Bool.{beq}
 use Rattle.std.proofs.lemmas.Grind.{fold-append}
 use Rattle.std.proofs.lemmas.List.{drop_more}
 use Rattle.ext_plan.specs.Plans.{PlanText}
-use Rattle.ext_tree.specs.Trees.{IsTree, IsParentOf, IsPathOf, children_of}
+use Rattle.ext_tree.specs.Trees.{IsTree, IsParentOf, IsPathOf, IsWalk, children_of}
 use Rattle.ext_tree.proofs.TreeLaws.{paths_are_unique}
 use Rattle.ext_lifecycle.specs.declared.call.Call.{Call}
 use Rattle.ext_lifecycle.specs.declared.outcome.Outcome.{Outcome}
@@ -16,16 +17,22 @@ use Rattle.ext_lifecycle.specs.FaultTexts.{NodeOutcome}
 use Rattle.ext_lifecycle.specs.Lifecycle.{MakesAll, MakesBefores, MakesCalls, endings_of, tally_of}
 use Rattle.ext_plain.specs.declared.callers.NodeCaller.{NodeCaller}
 use Rattle.ext_plain.specs.declared.setting.Setting.{Setting}
-use Rattle.ext_plain.specs.InnerHelpers.{DoesCall, EndsNode, RunSoFar, RunsAs, TellsLacks, calls_end, chosen, plan_in, run_with, state_view}
+use Rattle.ext_plain.specs.InnerHelpers.{ChildrenRun, ChildrenSpared, DoesCall, EndsNode, IsSpared, NodeRuns, NodeSpared, RunSoFar, TellsLacks, any_child, calls_end, chosen, plan_in, run_with, state_view}
 use Rattle.ext_plan.specs.PlanCalls.{registered, test_of, concurrent_of}
 use Rattle.ext_plain.specs.NodeCalls.{CallsEnd, afters_run, befores_run, call_run, make_all, make_befores, make_if_successful}
-use Rattle.ext_plain.specs.PlainRun.{RunState, body_run, container_run, node_end, node_run, test_node_run}
-use Rattle.ext_plain.specs.ValueStates.{Memory, ValueState, with_memory}
+use Rattle.ext_plain.specs.ContextEnds.{faults_of_closes, seal_keys}
+use Rattle.ext_plain.specs.PlainRun.{RunState, body_run, container_run, node_end, node_run, outcome_of, test_node_run}
+use Rattle.ext_plain.specs.ValueStates.{Memory, ValueState, key_limit, with_memory}
 use Rattle.ext_lifecycle.specs.Modes.{in_run_order}
 use Rattle.ext_plan.specs.ReadPlans.{ids_of_nodes}
 use Rattle.ext_plan.proofs.NodeIds.{ids-map}
 use Rattle.ext_plain.proofs.Nodes.{child_path, node_run-more, node_run-zero, start_is}
-use Rattle.ext_plain.proofs.Telling.{tells-after, tells-before, tells-both, tells-none}
+use Rattle.ext_plain.proofs.Below.{all-filter, parents-all}
+use Rattle.ext_plain.proofs.Elsewhere.{longer, set-at, siblings-keep}
+use Rattle.ext_plain.proofs.Reached.{Stands, set-elsewhere}
+use Rattle.ext_plain.proofs.Skipping.{Distinct, distinct-below, not_twice, stands-filter}
+use Rattle.ext_plain.proofs.Spared.{Spares, calls-spared, spared-first, texts-are, texts_of}
+use Rattle.ext_plain.proofs.Telling.{tells-both, tells-none, tells-same}
 use Rattle.ext_plain.proofs.NodeCalls.{Does, all-exact, all-holds, befores-exact, befores-hold, calls-exact, calls-hold, texts-successful}
 
 -- the children of a path's first context, so many levels deep
@@ -59,10 +66,66 @@ does-calls setting at path is = record {
       (one.0, one.1 ∙ ap (λ (s : Setting). call_run (plan_in s) path call (store_of one.0 c)) here.setting_is, one.2);
 }
 
+-- ---- nodes that are spared want of memory
+
+-- the result of a node that is spared, which was put in its place last, so that its calls were spared too
+own-spared : (setting : Setting) (at : ℕ) (is_test : Bool) (os : List Outcome) (s : ValueState) (results : List NodeOutcome) (new : RunSoFar) (path : List ℕ) → IsPathOf setting.tree.now at path
+    → new.results ≡ (node_end at is_test (calls_end s os) results).results → NodeSpared setting.tree.now path new.results → Spares (texts_of os)
+own-spared setting at is_test os s results new path is_path is spared =
+    let end = calls_end s os in
+    let closed = faults_of_closes key_limit at (seal_keys key_limit at end.state) in
+    let own = subst (λ rs. IsSomeAnd (slice_get rs at) IsSpared) is (spared.each at [] is_path) in
+    subst Spares (texts-are os) (calls-spared at is_test end closed (set-at IsSpared results at (outcome_of at is_test end closed) own))
+
+-- the plan's nodes are those of the tree
+tree-is : (setting : Setting) → setting.tree.now ≡ ids_of_nodes (plan_in setting).nodes
+tree-is setting = setting.planted ∙ ids-map setting.plan.now.nodes.items
+
+-- what is put in a node's place changes nothing below it
+children-keep : (setting : Setting) (at child : ℕ) (path : List ℕ) (results : List NodeOutcome) (x : NodeOutcome) → IsTree setting.tree.now → IsPathOf setting.tree.now at path → IsParentOf setting.tree.now at child
+    → NodeSpared setting.tree.now path (slice_set results at x) → NodeSpared setting.tree.now (child ∷ path) results
+children-keep setting at child path results x tree is_path parent spared = record {
+  each = λ k below under.
+      let whole = subst (IsPathOf setting.tree.now k) (sym (append_assoc below (child ∷ []) path)) under in
+      let differ : k ≢ at = λ same. longer below child path (paths_are_unique.one_path setting.tree.now k (below ++ child ∷ path) path tree under (subst (λ n. IsPathOf setting.tree.now n path) (sym same) is_path)) in
+      subst (λ o. IsSomeAnd o IsSpared) (set-elsewhere results at k x differ) (spared.each k (below ++ child ∷ []) whole);
+}
+
+-- nor do its other children, run one after another
+others-keep : (setting : Setting) (at levels child : ℕ) (path others : List ℕ) (run : RunState) → IsTree setting.tree.now → IsPathOf setting.tree.now at path → AllByRecursion (IsParentOf setting.tree.now at) others → (¬ Stands child others)
+    → NodeSpared setting.tree.now (child ∷ path) (each_child (plan_in setting) levels path run others).results → NodeSpared setting.tree.now (child ∷ path) run.results
+others-keep setting at levels child [] others run tree is_path all fresh spared = absurd is_path
+others-keep setting at levels child (first ∷ above) others run tree is_path all fresh spared =
+    let plan = plan_in setting in
+    let same = tree-is setting in
+    let walk : IsWalk (ids_of_nodes plan.nodes) first above = subst (λ is. IsWalk is first above) same (subst (λ n. IsWalk setting.tree.now n above) (sym is_path.0) is_path.1) in
+    let parents : AllByRecursion (IsParentOf (ids_of_nodes plan.nodes) first) others = subst (λ n. AllByRecursion (IsParentOf (ids_of_nodes plan.nodes) n) others) (sym is_path.0) (subst (λ is. AllByRecursion (IsParentOf is at) others) same all) in
+    subst (λ is. NodeSpared is (child ∷ first ∷ above) run.results) (sym same)
+    (siblings-keep plan (subst IsTree same tree) IsSpared levels first child above others run walk parents fresh
+    (subst (λ is. NodeSpared is (child ∷ first ∷ above) (each_child plan levels (first ∷ above) run others).results) same spared))
+
+-- the children that are chosen
+parents-chosen : (setting : Setting) (at : ℕ) (concurrent : Bool) (children : List ℕ) → AllByRecursion (IsParentOf setting.tree.now at) children → AllByRecursion (IsParentOf setting.tree.now at) (chosen_of setting concurrent children)
+parents-chosen setting at concurrent children all = all-filter (IsParentOf setting.tree.now at) (chosen concurrent (concurrent_of (plan_in setting))) children all
+
+all-drop : (P : ℕ → Type 0) (n : ℕ) (xs : List ℕ) → AllByRecursion P xs → AllByRecursion P (drop n xs)
+all-drop P zero xs all = all
+all-drop P (suc n) [] all = tt
+all-drop P (suc n) (x ∷ xs) all = all-drop P n xs all.1
+
+-- a child does not stand among those after it
+once-after : (i : ℕ) (xs : List ℕ) → i < length xs → Distinct xs → ¬ Stands (get_or xs i 0) (drop (suc i) xs)
+once-after i [] within distinct = absurd (omega (arith, within))
+once-after zero (x ∷ xs) within distinct = distinct.0
+once-after (suc i) (x ∷ xs) within distinct = once-after i xs (omega (arith, within)) distinct.1
+
+once : (i : ℕ) (xs : List ℕ) → i < length xs → Distinct xs → ¬ Stands (get_or xs i 0) (drop (i + 1) xs)
+once i xs within distinct = let e : suc i ≡ i + 1 = omega arith in subst (λ n. ¬ Stands (get_or xs i 0) (drop n xs)) e (once-after i xs within distinct)
+
 pub test-runs : {L : Type 0} (setting : Setting) (at : ℕ) (p one two : List ℕ) (befores afters : List Call) (c d : NodeCaller L) (os : List Outcome) (tally : Tally) (results : List NodeOutcome) (new : RunSoFar)
     → IsTree setting.tree.now → IsPathOf setting.tree.now at p → one ≡ p → two ≡ p → befores ≡ befores_of (registered (plan_in setting)) true at one → afters ≡ afters_of (registered (plan_in setting)) true at two
     → IsAt setting at c → MakesCalls DoesCall befores (test_call at) afters c os d → tally ≡ tally_of os → EndsNode d.setting at true tally (between d results) new
-    → RunsAs setting at (test_node_run (plan_in setting) at) (between c results) new
+    → NodeRuns setting at (test_node_run (plan_in setting) at) (between c results) new
 test-runs setting at p one two befores afters c d os tally results new tree is_p one_is two_is befores_are afters_are here made tallied ended = record {
   each = λ path is_path later.
       let plan = plan_in setting in
@@ -80,7 +143,8 @@ test-runs setting at p one two befores afters c d os tally results new tree is_p
         exact.0,
         ended.each os tallied later
             ∙ ap (λ e. node_end at true e results) calls,
-        tells-after c.lacked d.lacked new.lacked exact.0 later ended.same exact.2,
+        tells-same c.lacked c.lacked d.lacked new.lacked exact.0 later (Spares (texts_of os)) (NodeSpared setting.tree.now path new.results) refl ended.same
+            (own-spared setting at true os (store_of later d) results new path is_path (ap (λ (r : RunState). r.results) (ended.each os tallied later))) exact.2,
       );
 }
 
@@ -88,10 +152,10 @@ pub container-runs : {L : Type 0} (setting : Setting) (at : ℕ) (p one two : Li
     (path_run : Setting → List ℕ → RunState → RunState) (new : RunSoFar)
     → IsTree setting.tree.now → IsPathOf setting.tree.now at p → one ≡ p → two ≡ p → befores ≡ befores_of (registered (plan_in setting)) false at one → afters ≡ afters_of (registered (plan_in setting)) false at two
     → IsAt setting at c → MakesBefores DoesCall befores c first d
-    → go ≡ all_successful (endings_of first) → RunsAs d.setting at (body_run (plan_in d.setting) (path_run d.setting) go) (between d results) (between e left) → e.setting ≡ d.setting
+    → go ≡ all_successful (endings_of first) → ChildrenRun d.setting at any_child (body_run (plan_in d.setting) (path_run d.setting) go) (between d results) (between e left) → e.setting ≡ d.setting
     → f.store ≡ e.store → f.setting ≡ e.setting → f.lacked ≡ e.lacked → f.node ≡ at
     → MakesAll DoesCall afters f third g → tally ≡ tally_of (first ++ third) → EndsNode g.setting at false tally (between g left) new
-    → RunsAs setting at (container_run (plan_in setting) (path_run setting) at) (between c results) new
+    → NodeRuns setting at (container_run (plan_in setting) (path_run setting) at) (between c results) new
 container-runs setting at p one two befores afters c d e f g first third tally results left go path_run new tree is_p one_is two_is befores_are afters_are here made going body kept stored setting_kept lacked_kept there closing tallied ended = record {
   each = λ path is_path later.
       let plan = plan_in setting in
@@ -115,6 +179,13 @@ container-runs setting at p one two befores afters c d e f g first third tally r
       ∙ ap (λ b. body_run plan (path_run setting) b path (run_with middle.0 (between d results))) (sym go_on) in
       let ends : CallsEnd → RunState → RunState = λ before b. node_end at false (afters_run plan false at path (record { state = b.state; calls = before.calls; computed = before.computed; found = before.found })) b.results in
       let whole : CallsEnd → RunState = λ before. ends before (body_run plan (path_run setting) (all_successful before.calls) path (record { state = before.state; results = results })) in
+      let whole_spared : Type 0 = NodeSpared setting.tree.now path new.results in
+      let new_is : new.results ≡ (node_end at false (calls_end (store_of later g) (first ++ third)) left).results = ap (λ (r : RunState). r.results) (ended.each (first ++ third) tallied later) in
+      let all_spared : whole_spared → Spares (texts_of (first ++ third)) = own-spared setting at false (first ++ third) (store_of later g) left new path is_path new_is in
+      let own = outcome_of at false (calls_end (store_of later g) (first ++ third)) (faults_of_closes key_limit at (seal_keys key_limit at (calls_end (store_of later g) (first ++ third)).state)) in
+      let below_spared : whole_spared → ChildrenSpared d.setting.tree.now at any_child path left =
+      λ spared. subst (λ (s : Setting). ChildrenSpared s.tree.now at any_child path left) (sym opened.setting_is)
+      (λ child parent among. children-keep setting at child path left own tree is_path parent (subst (NodeSpared setting.tree.now path) new_is spared)) in
       let calls : calls_end (store_of later g) (first ++ third) ≡ make_all run (afters_of (registered plan) false at path) (calls_end (store_of closed.0 e) first) =
       sym closed.1
       ∙ ap (λ l. make_all run l (calls_end (store_of closed.0 f) first)) lasts ∙ ap (λ st. make_all run (afters_of (registered plan) false at path) (calls_end (with_memory closed.0 (state_view st)) first)) stored in (
@@ -123,9 +194,10 @@ container-runs setting at p one two befores afters c d e f g first third tally r
             ∙ ap (λ x. node_end at false x left) calls
             ∙ ap (ends (calls_end (store_of middle.0 d) first)) bodied
             ∙ ap whole begun,
-        tells-after c.lacked g.lacked new.lacked begin.0 later ended.same
-            (tells-both c.lacked d.lacked g.lacked begin.0 middle.0 later begin.2
-            (tells-both d.lacked e.lacked g.lacked middle.0 closed.0 later middle.2 (tells-before e.lacked f.lacked g.lacked closed.0 later (sym lacked_kept) closed.2))),
+        tells-same c.lacked c.lacked g.lacked new.lacked begin.0 later whole_spared whole_spared refl ended.same (λ spared. spared)
+            (tells-both c.lacked d.lacked g.lacked begin.0 middle.0 later (Spares (texts_of first)) whole_spared whole_spared (λ spared. spared-first first third (all_spared spared)) (λ spared. spared) begin.2
+            (tells-both d.lacked e.lacked g.lacked middle.0 closed.0 later (ChildrenSpared d.setting.tree.now at any_child path left) whole_spared whole_spared below_spared (λ spared. spared) middle.2
+            (tells-same f.lacked e.lacked g.lacked g.lacked closed.0 later (Spares (texts_of (first ++ third))) whole_spared (sym lacked_kept) refl all_spared closed.2))),
       );
 }
 
@@ -146,14 +218,19 @@ afters-setting setting at p afters c d os is here made =
 
 -- ---- children, one after another
 
+-- the chosen children are spared, once those are run that are still to be run
+abbrev pub SparedIn : Setting → ℕ → ℕ → Bool → List ℕ → List ℕ → RunState → Type 0
+SparedIn setting at levels concurrent rest path run =
+    ChildrenSpared setting.tree.now at (chosen concurrent (concurrent_of (plan_in setting))) path (each_child (plan_in setting) levels path run (chosen_of setting concurrent rest)).results
+
 -- what is still to be run of the children makes the run of all of them
 pub record StillRuns (setting : Setting) (at levels : ℕ) (concurrent : Bool) (children rest : List ℕ) (old now : RunSoFar) : Type 0 where
   pub each : (path : List ℕ) → IsPathOf setting.tree.now at path → (later : List Memory)
       → (memory : List Memory) × (each_child (plan_in setting) levels path (run_with memory old) (chosen_of setting concurrent children) ≡ each_child (plan_in setting) levels path (run_with later now) (chosen_of setting concurrent rest))
-      × TellsLacks old.lacked now.lacked memory later
+      × TellsLacks old.lacked now.lacked memory later (SparedIn setting at levels concurrent rest path (run_with later now))
 
 pub none-run : (setting : Setting) (at levels : ℕ) (concurrent : Bool) (children rest : List ℕ) (old : RunSoFar) → children ≡ rest → StillRuns setting at levels concurrent children rest old old
-none-run setting at levels concurrent children rest old same = record { each = λ path is_path later. (later, ap (λ cs. each_child (plan_in setting) levels path (run_with later old) (chosen_of setting concurrent cs)) same, tells-none old.lacked later) }
+none-run setting at levels concurrent children rest old same = record { each = λ path is_path later. (later, ap (λ cs. each_child (plan_in setting) levels path (run_with later old) (chosen_of setting concurrent cs)) same, tells-none old.lacked later (SparedIn setting at levels concurrent rest path (run_with later old))) }
 
 chosen-is : (concurrent x b : Bool) (f : ℕ → Bool) (child : ℕ) → x ≡ f child → beq x concurrent ≡ b → chosen concurrent f child ≡ b
 chosen-is true true b f child is same = sym is ∙ same
@@ -162,22 +239,31 @@ chosen-is false true b f child is same = ap not (sym is) ∙ same
 chosen-is false false b f child is same = ap not (sym is) ∙ same
 
 -- a child that is run now
-pub still-run : (setting : Setting) (at levels : ℕ) (concurrent x : Bool) (children : List ℕ) (i : ℕ) (old now next : RunSoFar) → i < length children → IsParentOf setting.tree.now at (get_or children i 0)
-    → x ≡ concurrent_of (plan_in setting) (get_or children i 0) → beq x concurrent ≡ true → RunsAs setting (get_or children i 0) (node_run (plan_in setting) levels) now next
+pub still-run : (setting : Setting) (at levels : ℕ) (concurrent x : Bool) (children : List ℕ) (i : ℕ) (old now next : RunSoFar) → IsTree setting.tree.now → children ≡ children_of setting.tree.now at → i < length children → IsParentOf setting.tree.now at (get_or children i 0)
+    → x ≡ concurrent_of (plan_in setting) (get_or children i 0) → beq x concurrent ≡ true → NodeRuns setting (get_or children i 0) (node_run (plan_in setting) levels) now next
     → StillRuns setting at levels concurrent children (drop i children) old now → StillRuns setting at levels concurrent children (drop (i + 1) children) old next
-still-run setting at levels concurrent x children i old now next within parent is same ran still = record {
+still-run setting at levels concurrent x children i old now next tree children_are within parent is same ran still = record {
   each = λ path is_path later.
       let child = get_or children i 0 in
       let rest = chosen_of setting concurrent (drop (i + 1) children) in
       let chosen_one : chosen concurrent (concurrent_of (plan_in setting)) child ≡ true = chosen-is concurrent x true (concurrent_of (plan_in setting)) child is same in
       let one = ran.each (child ∷ path) (child_path setting.tree.now at child path is_path parent) later in
-      let before = still.each path is_path one.0 in (
+      let before = still.each path is_path one.0 in
+      let moved : each_child (plan_in setting) levels path (run_with one.0 now) (chosen_of setting concurrent (drop i children)) ≡ each_child (plan_in setting) levels path (run_with later next) rest =
+      ap (λ cs. each_child (plan_in setting) levels path (run_with one.0 now) (chosen_of setting concurrent cs)) (drop_more children i 0 within)
+      ∙ ap (λ b. each_child (plan_in setting) levels path (run_with one.0 now) (cond b (child ∷ rest) rest)) chosen_one
+      ∙ ap (λ r. each_child (plan_in setting) levels path r rest) (sym one.1) in
+      let among = chosen concurrent (concurrent_of (plan_in setting)) in
+      let parents = all-drop (IsParentOf setting.tree.now at) (i + 1) children (subst (AllByRecursion (IsParentOf setting.tree.now at)) (sym children_are) (parents-all setting.tree.now at parent.parent_within)) in
+      let fresh : ¬ Stands child rest = λ there. once i children within (subst Distinct (sym children_are) (distinct-below setting.tree.now at (length setting.tree.now))) (stands-filter among (drop (i + 1) children) child there).0 in
+      let after : Type 0 = SparedIn setting at levels concurrent (drop (i + 1) children) path (run_with later next) in
+      let earlier : after → SparedIn setting at levels concurrent (drop i children) path (run_with one.0 now) =
+      λ spared other is_parent is_among. subst (λ (r : RunState). NodeSpared setting.tree.now (other ∷ path) r.results) (sym moved) (spared other is_parent is_among) in
+      let own : after → NodeSpared setting.tree.now (child ∷ path) next.results =
+      λ spared. others-keep setting at levels child path rest (run_with later next) tree is_path (parents-chosen setting at concurrent (drop (i + 1) children) parents) fresh (spared child parent chosen_one) in (
         before.0,
-        before.1
-            ∙ ap (λ cs. each_child (plan_in setting) levels path (run_with one.0 now) (chosen_of setting concurrent cs)) (drop_more children i 0 within)
-            ∙ ap (λ b. each_child (plan_in setting) levels path (run_with one.0 now) (cond b (child ∷ rest) rest)) chosen_one
-            ∙ ap (λ r. each_child (plan_in setting) levels path r rest) (sym one.1),
-        tells-both old.lacked now.lacked next.lacked before.0 one.0 later before.2 one.2,
+        before.1 ∙ moved,
+        tells-both old.lacked now.lacked next.lacked before.0 one.0 later (SparedIn setting at levels concurrent (drop i children) path (run_with one.0 now)) (NodeSpared setting.tree.now (child ∷ path) next.results) after earlier own before.2 one.2,
       );
 }
 
@@ -190,62 +276,73 @@ still-waits setting at levels concurrent x children i old now within is same sti
       let child = get_or children i 0 in
       let rest = chosen_of setting concurrent (drop (i + 1) children) in
       let chosen_one : chosen concurrent (concurrent_of (plan_in setting)) child ≡ false = chosen-is concurrent x false (concurrent_of (plan_in setting)) child is same in
-      let before = still.each path is_path later in (
+      let before = still.each path is_path later in
+      let moved : each_child (plan_in setting) levels path (run_with later now) (chosen_of setting concurrent (drop i children)) ≡ each_child (plan_in setting) levels path (run_with later now) rest =
+      ap (λ cs. each_child (plan_in setting) levels path (run_with later now) (chosen_of setting concurrent cs)) (drop_more children i 0 within)
+      ∙ ap (λ b. each_child (plan_in setting) levels path (run_with later now) (cond b (child ∷ rest) rest)) chosen_one in
+      let earlier : SparedIn setting at levels concurrent (drop (i + 1) children) path (run_with later now) → SparedIn setting at levels concurrent (drop i children) path (run_with later now) =
+      λ spared other is_parent is_among. subst (λ (r : RunState). NodeSpared setting.tree.now (other ∷ path) r.results) (sym moved) (spared other is_parent is_among) in (
         before.0,
-        before.1
-            ∙ ap (λ cs. each_child (plan_in setting) levels path (run_with later now) (chosen_of setting concurrent cs)) (drop_more children i 0 within)
-            ∙ ap (λ b. each_child (plan_in setting) levels path (run_with later now) (cond b (child ∷ rest) rest)) chosen_one,
-        before.2,
+        before.1 ∙ moved,
+        tells-same old.lacked old.lacked now.lacked now.lacked before.0 later (SparedIn setting at levels concurrent (drop i children) path (run_with later now)) (SparedIn setting at levels concurrent (drop (i + 1) children) path (run_with later now)) refl refl earlier before.2,
       );
 }
 
 -- the concurrent ones and then the others
-pub both-run : (setting other : Setting) (at levels : ℕ) (old mid new : RunSoFar) → other ≡ setting
-    → RunsAs setting at (λ path run. each_child (plan_in setting) levels path run (chosen_of setting true (children_of setting.tree.now at))) old mid
-    → RunsAs other at (λ path run. each_child (plan_in other) levels path run (chosen_of other false (children_of other.tree.now at))) mid new
-    → RunsAs setting at (body_run (plan_in setting) (node_run (plan_in setting) levels) true) old new
-both-run setting other at levels old mid new same first second = record {
+pub both-run : (setting other : Setting) (at levels : ℕ) (old mid new : RunSoFar) → IsTree setting.tree.now → at < length setting.tree.now → other ≡ setting
+    → ChildrenRun setting at (chosen true (concurrent_of (plan_in setting))) (λ path run. each_child (plan_in setting) levels path run (chosen_of setting true (children_of setting.tree.now at))) old mid
+    → ChildrenRun other at (chosen false (concurrent_of (plan_in other))) (λ path run. each_child (plan_in other) levels path run (chosen_of other false (children_of other.tree.now at))) mid new
+    → ChildrenRun setting at any_child (body_run (plan_in setting) (node_run (plan_in setting) levels) true) old new
+both-run setting other at levels old mid new tree within same first second = record {
   each = λ path is_path later.
       let plan = plan_in setting in
       let ids = children_of setting.tree.now at in
-      let two = (subst (λ (s : Setting). RunsAs s at (λ path run. each_child (plan_in s) levels path run (chosen_of s false (children_of s.tree.now at))) mid new) same second).each path is_path later in
+      let two = (subst (λ (s : Setting). ChildrenRun s at (chosen false (concurrent_of (plan_in s))) (λ path run. each_child (plan_in s) levels path run (chosen_of s false (children_of s.tree.now at))) mid new) same second).each path is_path later in
       let one = first.each path is_path two.0 in
       let start = start_is setting.tree.now at path is_path in
       let whole : each_child plan levels path (run_with one.0 old) (chosen_of setting true ids ++ chosen_of setting false ids) ≡ each_child plan levels path (each_child plan levels path (run_with one.0 old) (chosen_of setting true ids)) (chosen_of setting false ids) =
-      fold-append (λ r child. node_run plan levels (child ∷ path) r) (run_with one.0 old) (chosen_of setting true ids) (chosen_of setting false ids) in (
+      fold-append (λ r child. node_run plan levels (child ∷ path) r) (run_with one.0 old) (chosen_of setting true ids) (chosen_of setting false ids) in
+      let whole_spared : Type 0 = ChildrenSpared setting.tree.now at any_child path new.results in
+      let firsts : whole_spared → ChildrenSpared setting.tree.now at (chosen true (concurrent_of plan)) path mid.results =
+      λ spared child parent is_concurrent.
+      let fresh : ¬ Stands child (chosen_of setting false ids) = λ there. not_twice (concurrent_of plan child) is_concurrent (stands-filter (chosen false (concurrent_of plan)) ids child there).1 in
+      others-keep setting at levels child path (chosen_of setting false ids) (run_with two.0 mid) tree is_path (parents-chosen setting at false ids (parents-all setting.tree.now at within)) fresh
+      (subst (λ (r : RunState). NodeSpared setting.tree.now (child ∷ path) r.results) two.1 (spared child parent refl)) in
+      let seconds : whole_spared → ChildrenSpared setting.tree.now at (chosen false (concurrent_of plan)) path new.results = λ spared child parent is_other. spared child parent refl in (
         one.0,
         two.1 ∙ ap (λ r. each_child plan levels path r (chosen_of setting false ids)) one.1 ∙ sym whole
             ∙ ap (λ cs. each_child plan levels path (run_with one.0 old) (in_run_order (concurrent_of plan) cs)) (ap (λ is. children_of is at) (setting.planted ∙ ids-map setting.plan.now.nodes.items) ∙ ap (children_of (ids_of_nodes plan.nodes)) (sym start)),
-        tells-both old.lacked mid.lacked new.lacked one.0 two.0 later one.2 two.2,
+        tells-both old.lacked mid.lacked new.lacked one.0 two.0 later (ChildrenSpared setting.tree.now at (chosen true (concurrent_of plan)) path mid.results) (ChildrenSpared setting.tree.now at (chosen false (concurrent_of plan)) path new.results) whole_spared firsts seconds one.2 two.2,
       );
 }
 
 -- or none of them, where the body is skipped
-pub none-runs : (setting : Setting) (at levels : ℕ) (go : Bool) (old : RunSoFar) → go ≡ false → RunsAs setting at (body_run (plan_in setting) (node_run (plan_in setting) levels) go) old old
-none-runs setting at levels go old stop = record { each = λ path is_path later. (later, sym (ap (λ b. body_run (plan_in setting) (node_run (plan_in setting) levels) b path (run_with later old)) stop), tells-none old.lacked later) }
+pub none-runs : (setting : Setting) (at levels : ℕ) (go : Bool) (old : RunSoFar) → go ≡ false → ChildrenRun setting at any_child (body_run (plan_in setting) (node_run (plan_in setting) levels) go) old old
+none-runs setting at levels go old stop = record { each = λ path is_path later. (later, sym (ap (λ b. body_run (plan_in setting) (node_run (plan_in setting) levels) b path (run_with later old)) stop), tells-none old.lacked later (ChildrenSpared setting.tree.now at any_child path old.results)) }
 
 pub all-run : (setting : Setting) (at levels : ℕ) (concurrent : Bool) (children rest : List ℕ) (old now : RunSoFar) → children ≡ children_of setting.tree.now at → rest ≡ [] → StillRuns setting at levels concurrent children rest old now
-    → RunsAs setting at (λ path run. each_child (plan_in setting) levels path run (chosen_of setting concurrent (children_of setting.tree.now at))) old now
+    → ChildrenRun setting at (chosen concurrent (concurrent_of (plan_in setting))) (λ path run. each_child (plan_in setting) levels path run (chosen_of setting concurrent (children_of setting.tree.now at))) old now
 all-run setting at levels concurrent children rest old now are none still = record {
   each = λ path is_path later.
       let before = still.each path is_path later in (
         before.0,
         sym (ap (λ cs. each_child (plan_in setting) levels path (run_with before.0 old) (chosen_of setting concurrent cs)) (sym are) ∙ before.1
             ∙ ap (λ cs. each_child (plan_in setting) levels path (run_with later now) (chosen_of setting concurrent cs)) none),
-        before.2,
+        tells-same old.lacked old.lacked now.lacked now.lacked before.0 later (SparedIn setting at levels concurrent rest path (run_with later now)) (ChildrenSpared setting.tree.now at (chosen concurrent (concurrent_of (plan_in setting))) path now.results) refl refl
+            (subst (λ cs. ChildrenSpared setting.tree.now at (chosen concurrent (concurrent_of (plan_in setting))) path now.results → SparedIn setting at levels concurrent cs path (run_with later now)) (sym none) (λ spared. spared)) before.2,
       );
 }
 
 -- ---- a node, a test or a container
 
-pub no_levels-run : (setting : Setting) (at levels : ℕ) (old : RunSoFar) → levels ≡ 0 → RunsAs setting at (node_run (plan_in setting) levels) old old
+pub no_levels-run : (setting : Setting) (at levels : ℕ) (old : RunSoFar) → levels ≡ 0 → NodeRuns setting at (node_run (plan_in setting) levels) old old
 no_levels-run setting at levels old none = record {
-  each = λ path is_path later. (later, sym (ap (λ n. node_run (plan_in setting) n path (run_with later old)) none ∙ node_run-zero (plan_in setting) path (run_with later old)), tells-none old.lacked later);
+  each = λ path is_path later. (later, sym (ap (λ n. node_run (plan_in setting) n path (run_with later old)) none ∙ node_run-zero (plan_in setting) path (run_with later old)), tells-none old.lacked later (NodeSpared setting.tree.now path old.results));
 }
 
 pub node-by : (setting : Setting) (at levels : ℕ) (is_test : Bool) (old new : RunSoFar) → levels ≢ 0 → is_some (test_of (plan_in setting) at) ≡ is_test
-    → RunsAs setting at (λ path run. if is_test then test_node_run (plan_in setting) at path run else container_run (plan_in setting) (node_run (plan_in setting) (levels - 1)) at path run) old new
-    → RunsAs setting at (node_run (plan_in setting) levels) old new
+    → NodeRuns setting at (λ path run. if is_test then test_node_run (plan_in setting) at path run else container_run (plan_in setting) (node_run (plan_in setting) (levels - 1)) at path run) old new
+    → NodeRuns setting at (node_run (plan_in setting) levels) old new
 node-by setting at levels is_test old new some is ran = record {
   each = λ path is_path later.
       let one = ran.each path is_path later in

@@ -69,7 +69,7 @@ filter-by : (test : ℕ → Bool) (y : ℕ) (ys : List ℕ) (x : ℕ) (b : Bool)
 filter-by test y ys x true is h more = ⊎_elim (λ same. (inl same, ap test same ∙ is)) (λ later. let m = more later in (inr m.0, m.1)) h
 filter-by test y ys x false is h more = let m = more h in (inr m.0, m.1)
 
-stands-filter : (test : ℕ → Bool) (xs : List ℕ) (x : ℕ) → Stands x (filter test xs) → Stands x xs × (test x ≡ true)
+pub stands-filter : (test : ℕ → Bool) (xs : List ℕ) (x : ℕ) → Stands x (filter test xs) → Stands x xs × (test x ≡ true)
 stands-filter test [] x h = absurd h
 stands-filter test (y ∷ ys) x h = filter-by test y ys x (test y) refl h (stands-filter test ys x)
 
@@ -81,7 +81,7 @@ distinct-filter : (test : ℕ → Bool) (xs : List ℕ) → Distinct xs → Dist
 distinct-filter test [] distinct = tt
 distinct-filter test (x ∷ xs) distinct = distinct-cond (test x) x (filter test xs) (λ there. distinct.0 (stands-filter test xs x there).0) (distinct-filter test xs distinct.1)
 
-not_twice : (b : Bool) → b ≡ true → not b ≡ true → ⊥
+pub not_twice : (b : Bool) → b ≡ true → not b ≡ true → ⊥
 not_twice true is other = cc
 not_twice false is other = cc
 

@@ -1,11 +1,9 @@
 -- Where no node failed no step lacked memory, so that the run is the one whose steps all find enough.
 use Rattle.std.proofs.Common.{◌≡◌, ◌≢◌, ◌<◌, ℕ, zero, suc, Bool, true, false, List, [], ◌∷◌, ◌++◌, length, map, get_or, Option, Some, None, is_some, refl, ap, sym, subst, ◌∙◌, arith, append_assoc, length-append, ⊎_elim, inl, inr, ◌⊎◌}
 use Rattle.std.specs.Prelude.{fold, slice_get, slice_set, IsSomeAnd, if◌then◌else◌}
-use Rattle.std.specs.List.{AllByRecursion}
-use Rattle.std.proofs.lemmas.Bool.{cases_eq}
+use Rattle.std.specs.List.{AllByRecursion, list_any}
 use Rattle.std.proofs.lemmas.List.{length-map}
 use Rattle.ext_tree.specs.Trees.{Id, IsTree, IsParentOf, IsPathOf, IsWalk, children_of}
-use Rattle.ext_tree.proofs.TreeLaws.{paths_are_unique}
 use Rattle.ext_lifecycle.specs.declared.call.Call.{Call}
 use Rattle.ext_lifecycle.specs.declared.status.Status.TheVariants as statuses
 use Rattle.ext_lifecycle.specs.Callbacks.{afters_of, befores_of, test_call}
@@ -21,14 +19,17 @@ use Rattle.ext_plain.specs.ValueStates.{key_limit, Memory, ValueState, enough, f
 use Rattle.ext_plain.specs.StepRuns.{StepEnd, and_then, next_step, no_memory, step_by, step_run, steps_run, unless_ended}
 use Rattle.ext_plain.specs.NodeCalls.{CallsEnd, and_call, befores_run, call_run, make, make_all, make_befores, make_if_successful, no_calls, test_run}
 use Rattle.ext_plain.specs.ContextEnds.{seal_keys, faults_of_closes}
-use Rattle.ext_plain.specs.PlainRun.{HasNoFailed, RunState, body_run, container_run, node_end, node_run, outcome_of, plain_run, plain_run_by, run_opening, test_node_run}
+use Rattle.ext_plain.specs.InnerHelpers.{AllBelow, NodeSpared}
+use Rattle.ext_plain.specs.PlainRun.{HasNoFailed, RunState, body_run, container_run, may_lack_memory, node_end, node_run, outcome_of, plain_run, plain_run_by, run_opening, test_node_run}
 use Rattle.ext_plain.proofs.Below.{children-all}
+use Rattle.ext_plain.proofs.Elsewhere.{longer, one-path, set-at, siblings-keep}
 use Rattle.ext_plain.proofs.Ends.{body_end, container_end, test_end}
 use Rattle.ext_plain.proofs.Lacking.{does_or_lacks}
 use Rattle.ext_plain.proofs.Memories.{end_with, seal_keys-with, step_by-with}
-use Rattle.ext_plain.proofs.Reached.{Stands, set-elsewhere}
+use Rattle.ext_plain.proofs.Reached.{set-elsewhere}
 use Rattle.ext_plain.proofs.Skipping.{Distinct, distinct-below, distinct-ordered, walk_within}
 use Rattle.ext_plain.proofs.Sound.{tests_of_plan}
+use Rattle.ext_plain.proofs.Spared.{some-spared}
 
 -- ---- faults of calls
 
@@ -157,148 +158,45 @@ end-forgets at is_test end results =
 abbrev Unfailed : NodeOutcome → Type 0
 Unfailed r = r.status ≢ statuses.Failed
 
-set-at : (results : List NodeOutcome) (at : ℕ) (x : NodeOutcome) → IsSomeAnd (slice_get (slice_set results at x) at) Unfailed → Unfailed x
-set-at [] at x h = absurd h
-set-at (y ∷ ys) zero x h = h
-set-at (y ∷ ys) (suc at) x h = set-at ys at x h
-
--- ---- which results a node changes: its own, and those of the nodes below it
-
-same-end : (xs ys : List ℕ) (x y : ℕ) (above : List ℕ) → xs ++ x ∷ above ≡ ys ++ y ∷ above → x ≡ y
-same-end [] [] x y above is = cc
-same-end [] (b ∷ ys) x y above is =
-    let lengths : length (x ∷ above) ≡ length (b ∷ (ys ++ y ∷ above)) = ap length is in
-    let more = length-append ys (y ∷ above) in
-    absurd (omega (arith, lengths, more))
-same-end (a ∷ xs) [] x y above is =
-    let lengths : length (a ∷ (xs ++ x ∷ above)) ≡ length (y ∷ above) = ap length is in
-    let more = length-append xs (x ∷ above) in
-    absurd (omega (arith, lengths, more))
-same-end (a ∷ xs) (b ∷ ys) x y above is =
-    let rest : xs ++ x ∷ above ≡ ys ++ y ∷ above = cc in
-    same-end xs ys x y above rest
-
-longer : (xs : List ℕ) (x : ℕ) (above : List ℕ) → xs ++ x ∷ above ≡ above → ⊥
-longer xs x above is =
-    let lengths : length (xs ++ x ∷ above) ≡ length above = ap length is in
-    let more = length-append xs (x ∷ above) in
-    omega (arith, lengths, more)
-
--- the result of this node is the same in both, or the node stands at the end of this path or below
-abbrev Elsewhere : List Id → List ℕ → List NodeOutcome → List NodeOutcome → ℕ → Type 0
-Elsewhere ids path new old k = (slice_get new k ≡ slice_get old k) ⊎ ((below : List ℕ) × IsPathOf ids k (below ++ path))
-
--- no node at the end of this path or below has failed
-record AreUnfailed (ids : List Id) (path : List ℕ) (results : List NodeOutcome) : Type 0 where
-  each : (k : ℕ) (below : List ℕ) → IsPathOf ids k (below ++ path) → IsSomeAnd (slice_get results k) Unfailed
-
-set-outside : (ids : List Id) (at : ℕ) (above : List ℕ) (results : List NodeOutcome) (x : NodeOutcome) (k : ℕ) → IsWalk ids at above → Elsewhere ids (at ∷ above) (slice_set results at x) results k
-set-outside ids at above results x k walk =
-    ⊎_elim (λ same. inr ([], (sym same, subst (λ c. IsWalk ids c above) (sym same) walk))) (λ differ. inl (set-elsewhere results at k x differ)) (cases_eq k at)
-
-then-outside : (ids : List Id) (path : List ℕ) (new between old : List NodeOutcome) (k : ℕ) → Elsewhere ids path new between k → Elsewhere ids path between old k → Elsewhere ids path new old k
-then-outside ids path new between old k first second = ⊎_elim (λ same. ⊎_elim (λ also. inl (same ∙ also)) (λ under. inr under) second) (λ under. inr under) first
-
-fold-outside : (ids : List Id) (path : List ℕ) (k : ℕ) (P : ℕ → Type 0) (each : RunState → ℕ → RunState) → ((run : RunState) (child : ℕ) → P child → Elsewhere ids path (each run child).results run.results k)
-    → (children : List ℕ) (run : RunState) → AllByRecursion P children → Elsewhere ids path (fold each run children).results run.results k
-fold-outside ids path k P each one [] run all = inl refl
-fold-outside ids path k P each one (child ∷ more) run all =
-    then-outside ids path (fold each (each run child) more).results (each run child).results run.results k (fold-outside ids path k P each one more (each run child) all.1) (one run child all.0)
-
-under-parent : (ids : List Id) (child : ℕ) (path : List ℕ) (new old : List NodeOutcome) (k : ℕ) → Elsewhere ids (child ∷ path) new old k → Elsewhere ids path new old k
-under-parent ids child path new old k is =
-    ⊎_elim (λ same. inl same) (λ under. inr (under.0 ++ child ∷ [], subst (IsPathOf ids k) (sym (append_assoc under.0 (child ∷ []) path)) under.1)) is
-
 module _ (plan : PlanText) (tree : NodesAreTree plan) where
   abbrev ids : List Id
   ids = ids_of_nodes plan.nodes
-
-  either-outside : (path : List ℕ) (old : List NodeOutcome) (k : ℕ) (b : Bool) (x y : RunState) → Elsewhere ids path x.results old k → Elsewhere ids path y.results old k → Elsewhere ids path (if b then x else y).results old k
-  either-outside path old k true x y p q = p
-  either-outside path old k false x y p q = q
-
-  body-outside : (levels at : ℕ) (above : List ℕ) (k : ℕ) → at < length ids
-      → ((run : RunState) (child : ℕ) → IsParentOf ids at child → Elsewhere ids (at ∷ above) (node_run plan levels (child ∷ at ∷ above) run).results run.results k)
-      → (go : Bool) (run : RunState) → Elsewhere ids (at ∷ above) (body_run plan (node_run plan levels) go (at ∷ above) run).results run.results k
-  body-outside levels at above k within one true run =
-      fold-outside ids (at ∷ above) k (IsParentOf ids at) (λ r child. node_run plan levels (child ∷ at ∷ above) r) one (in_run_order (concurrent_of plan) (children_of ids at)) run (children-all ids (concurrent_of plan) at within)
-  body-outside levels at above k within one false run = inl refl
-
-  outside : (levels at : ℕ) (above : List ℕ) (k : ℕ) (run : RunState) → IsWalk ids at above → at < length ids → Elsewhere ids (at ∷ above) (node_run plan levels (at ∷ above) run).results run.results k
-  unfolding node_run
-  outside zero at above k run walk within = inl refl
-  outside (suc levels) at above k run walk within =
-      let path = at ∷ above in
-      let tested = test_end plan at path run in
-      let contained = container_end plan (node_run plan levels) at path run in
-      let before = befores_run plan false at path run.state in
-      let opened : RunState = record { state = before.state; results = run.results } in
-      let body = body_end plan (node_run plan levels) at path run in
-      let x = outcome_of at true tested (faults_of_closes key_limit at (seal_keys key_limit at tested.state)) in
-      let y = outcome_of at false contained (faults_of_closes key_limit at (seal_keys key_limit at contained.state)) in
-      let one : (r : RunState) (child : ℕ) → IsParentOf ids at child → Elsewhere ids path (node_run plan levels (child ∷ path) r).results r.results k =
-      λ r child is. under-parent ids child path (node_run plan levels (child ∷ path) r).results r.results k (outside levels child path k r (is, walk) is.child_within) in
-      either-outside path run.results k (is_some (test_of plan at)) (test_node_run plan at path run) (container_run plan (node_run plan levels) at path run)
-      (set-outside ids at above run.results x k walk)
-      (then-outside ids path (slice_set body.results at y) body.results run.results k (set-outside ids at above body.results y k walk) (body-outside levels at above k within one (all_successful before.calls) opened))
-
-  -- ---- siblings change no result below one another
-
-  one-path : (k : ℕ) (path other : List ℕ) → IsPathOf ids k path → IsPathOf ids k other → path ≡ other
-  one-path k path other is also = paths_are_unique.one_path ids k path other tree is also
-
-  sibling-keeps : (levels at other child : ℕ) (above : List ℕ) (run : RunState) → IsWalk ids at above → IsParentOf ids at other → child ≢ other
-      → AreUnfailed ids (child ∷ at ∷ above) (node_run plan levels (other ∷ at ∷ above) run).results → AreUnfailed ids (child ∷ at ∷ above) run.results
-  sibling-keeps levels at other child above run walk parent differ after = record {
-    each = λ k below is.
-        let path = at ∷ above in
-        ⊎_elim (λ same. subst (λ o. IsSomeAnd o Unfailed) same (after.each k below is))
-        (λ under. absurd (differ (same-end below under.0 child other path (one-path k (below ++ child ∷ path) (under.0 ++ other ∷ path) is under.1))))
-        (outside levels other path k run (parent, walk) parent.child_within);
-  }
-
-  siblings-keep : (levels at child : ℕ) (above others : List ℕ) (run : RunState) → IsWalk ids at above → AllByRecursion (IsParentOf ids at) others → (¬ Stands child others)
-      → AreUnfailed ids (child ∷ at ∷ above) (fold (λ r other. node_run plan levels (other ∷ at ∷ above) r) run others).results → AreUnfailed ids (child ∷ at ∷ above) run.results
-  siblings-keep levels at child above [] run walk all fresh after = after
-  siblings-keep levels at child above (other ∷ more) run walk all fresh after =
-      sibling-keeps levels at other child above run walk all.0 (λ same. fresh (inl same))
-      (siblings-keep levels at child above more (node_run plan levels (other ∷ at ∷ above) run) walk all.1 (λ there. fresh (inr there)) after)
 
   -- ---- each node
 
   abbrev Forgets : ℕ → ℕ → List ℕ → Type 0
   Forgets levels at above =
-      (run : RunState) → AreUnfailed ids (at ∷ above) (node_run plan levels (at ∷ above) run).results → run_forgotten (node_run plan levels (at ∷ above) run) ≡ node_run plan levels (at ∷ above) (run_forgotten run)
+      (run : RunState) → AllBelow Unfailed ids (at ∷ above) (node_run plan levels (at ∷ above) run).results → run_forgotten (node_run plan levels (at ∷ above) run) ≡ node_run plan levels (at ∷ above) (run_forgotten run)
 
   fold-forgets : (levels at : ℕ) (above children : List ℕ) (run : RunState) → IsWalk ids at above → ((child : ℕ) → IsParentOf ids at child → Forgets levels child (at ∷ above))
       → Distinct children → AllByRecursion (IsParentOf ids at) children
-      → ((child : ℕ) → IsParentOf ids at child → AreUnfailed ids (child ∷ at ∷ above) (fold (λ r other. node_run plan levels (other ∷ at ∷ above) r) run children).results)
+      → ((child : ℕ) → IsParentOf ids at child → AllBelow Unfailed ids (child ∷ at ∷ above) (fold (λ r other. node_run plan levels (other ∷ at ∷ above) r) run children).results)
       → run_forgotten (fold (λ r other. node_run plan levels (other ∷ at ∷ above) r) run children) ≡ fold (λ r other. node_run plan levels (other ∷ at ∷ above) r) (run_forgotten run) children
   fold-forgets levels at above [] run walk one distinct all after = refl
   fold-forgets levels at above (child ∷ more) run walk one distinct all after =
       let next = node_run plan levels (child ∷ at ∷ above) run in
       fold-forgets levels at above more next walk one distinct.1 all.1 after
-      ∙ ap (λ r. fold (λ r other. node_run plan levels (other ∷ at ∷ above) r) r more) (one child all.0 run (siblings-keep levels at child above more next walk all.1 distinct.0 (after child all.0)))
+      ∙ ap (λ r. fold (λ r other. node_run plan levels (other ∷ at ∷ above) r) r more) (one child all.0 run (siblings-keep plan tree Unfailed levels at child above more next walk all.1 distinct.0 (after child all.0)))
 
   body-forgets : (levels at : ℕ) (above : List ℕ) (go : Bool) (run : RunState) → IsWalk ids at above → at < length ids → ((child : ℕ) → IsParentOf ids at child → Forgets levels child (at ∷ above))
-      → ((child : ℕ) → IsParentOf ids at child → AreUnfailed ids (child ∷ at ∷ above) (body_run plan (node_run plan levels) go (at ∷ above) run).results)
+      → ((child : ℕ) → IsParentOf ids at child → AllBelow Unfailed ids (child ∷ at ∷ above) (body_run plan (node_run plan levels) go (at ∷ above) run).results)
       → run_forgotten (body_run plan (node_run plan levels) go (at ∷ above) run) ≡ body_run plan (node_run plan levels) go (at ∷ above) (run_forgotten run)
   body-forgets levels at above true run walk within one after =
       let children = children_of ids at in
       fold-forgets levels at above (in_run_order (concurrent_of plan) children) run walk one (distinct-ordered (concurrent_of plan) children (distinct-below ids at (length ids))) (children-all ids (concurrent_of plan) at within) after
   body-forgets levels at above false run walk within one after = refl
 
-  test-node-forgets : (at : ℕ) (above : List ℕ) (run : RunState) → IsWalk ids at above → AreUnfailed ids (at ∷ above) (test_node_run plan at (at ∷ above) run).results
+  test-node-forgets : (at : ℕ) (above : List ℕ) (run : RunState) → IsWalk ids at above → AllBelow Unfailed ids (at ∷ above) (test_node_run plan at (at ∷ above) run).results
       → run_forgotten (test_node_run plan at (at ∷ above) run) ≡ test_node_run plan at (at ∷ above) (run_forgotten run)
   test-node-forgets at above run walk after =
       let path = at ∷ above in
       let end = test_end plan at path run in
       let closed = faults_of_closes key_limit at (seal_keys key_limit at end.state) in
-      let none = outcome-unfailed at true end closed (set-at run.results at (outcome_of at true end closed) (after.each at [] (refl, walk))) in
+      let none = outcome-unfailed at true end closed (set-at Unfailed run.results at (outcome_of at true end closed) (after.each at [] (refl, walk))) in
       end-forgets at true end run.results ∙ ap (λ e. node_end at true e run.results) (test-forgets plan path at run none)
 
   container-forgets : (levels at : ℕ) (above : List ℕ) (run : RunState) → IsWalk ids at above → at < length ids → ((child : ℕ) → IsParentOf ids at child → Forgets levels child (at ∷ above))
-      → AreUnfailed ids (at ∷ above) (container_run plan (node_run plan levels) at (at ∷ above) run).results
+      → AllBelow Unfailed ids (at ∷ above) (container_run plan (node_run plan levels) at (at ∷ above) run).results
       → run_forgotten (container_run plan (node_run plan levels) at (at ∷ above) run) ≡ container_run plan (node_run plan levels) at (at ∷ above) (run_forgotten run)
   container-forgets levels at above run walk within one after =
       let path = at ∷ above in
@@ -310,16 +208,16 @@ module _ (plan : PlanText) (tree : NodesAreTree plan) where
       let opened : RunState = record { state = before.state; results = run.results } in
       let closed = faults_of_closes key_limit at (seal_keys key_limit at end.state) in
       let outcome = outcome_of at false end closed in
-      let none = outcome-unfailed at false end closed (set-at body.results at outcome (after.each at [] (refl, walk))) in
+      let none = outcome-unfailed at false end closed (set-at Unfailed body.results at outcome (after.each at [] (refl, walk))) in
       let closing : CallsEnd = record before { state = body.state } in
       let before_none : first_fault before.calls ≡ None = all-earlier plan path lasts closing none in
       let clean = befores_run plan false at path (with_memory [] run.state) in
       let before_is : forgotten before ≡ clean = befores-forget plan path (befores_of (registered plan) false at path) (no_calls run.state) before_none in
-      let in_body : (child : ℕ) → IsParentOf ids at child → AreUnfailed ids (child ∷ path) body.results =
+      let in_body : (child : ℕ) → IsParentOf ids at child → AllBelow Unfailed ids (child ∷ path) body.results =
       λ child is. record {
         each = λ k below under.
             let whole = subst (IsPathOf ids k) (sym (append_assoc below (child ∷ []) path)) under in
-            let differ : k ≢ at = λ same. longer below child path (one-path k (below ++ child ∷ path) path under (sym same, subst (λ c. IsWalk ids c above) (sym same) walk)) in
+            let differ : k ≢ at = λ same. longer below child path (one-path plan tree k (below ++ child ∷ path) path under (sym same, subst (λ c. IsWalk ids c above) (sym same) walk)) in
             subst (λ o. IsSomeAnd o Unfailed) (set-elsewhere body.results at k outcome differ) (after.each k (below ++ child ∷ []) whole);
       } in
       let body_is : run_forgotten body ≡ body_end plan path_run at path (run_forgotten run) =
@@ -332,8 +230,8 @@ module _ (plan : PlanText) (tree : NodesAreTree plan) where
       ∙ ap (λ e. node_end at false e body.results) end_is
       ∙ ap (λ (r : RunState). node_end at false (container_end plan path_run at path (run_forgotten run)) r.results) body_is
 
-  either-forgets : (path : List ℕ) (b : Bool) (x y clean other : RunState) → (AreUnfailed ids path x.results → run_forgotten x ≡ clean) → (AreUnfailed ids path y.results → run_forgotten y ≡ other)
-      → AreUnfailed ids path (if b then x else y).results → run_forgotten (if b then x else y) ≡ (if b then clean else other)
+  either-forgets : (path : List ℕ) (b : Bool) (x y clean other : RunState) → (AllBelow Unfailed ids path x.results → run_forgotten x ≡ clean) → (AllBelow Unfailed ids path y.results → run_forgotten y ≡ other)
+      → AllBelow Unfailed ids path (if b then x else y).results → run_forgotten (if b then x else y) ≡ (if b then clean else other)
   either-forgets path true x y clean other p q after = p after
   either-forgets path false x y clean other p q after = q after
 
@@ -359,10 +257,25 @@ path-within : (contexts : List Id) (k : ℕ) (path : List ℕ) → IsTree contex
 path-within contexts k [] tree is = absurd is
 path-within contexts k (first ∷ walk) tree is = walk_within contexts k walk tree is.1
 
+pub results_count : (memory : List Memory) (plan : PlanText) → length (plain_run_by memory plan) ≡ length plan.nodes
+results_count memory plan = sym (length-map (plain_run_by memory plan) (λ r. r.is_test)) ∙ ap length (tests_of_plan memory plan) ∙ length-map plan.nodes (λ n. is_some n.test)
+
 pub runs_as_planned : (memory : List Memory) (plan : PlanText) → NodesAreTree plan → HasNoFailed (plain_run_by memory plan) → plain_run_by memory plan ≡ plain_run plan
 runs_as_planned memory plan tree unfailed =
     let nodes : length (ids_of_nodes plan.nodes) ≡ length plan.nodes = length-map plan.nodes (λ n. n.id) in
-    let results : length (plain_run_by memory plan) ≡ length plan.nodes = sym (length-map (plain_run_by memory plan) (λ r. r.is_test)) ∙ ap length (tests_of_plan memory plan) ∙ length-map plan.nodes (λ n. is_some n.test) in
+    let results = results_count memory plan in
     ap (λ (r : RunState). r.results)
     (node-forgets plan tree (length plan.nodes) 0 [] refl tree.first.some (run_opening memory plan)
     (record { each = λ k below is. (let inside = path-within (ids_of_nodes plan.nodes) k (below ++ 0 ∷ []) tree is in let within : k < length (plain_run_by memory plan) = omega (arith, nodes, results, inside) in some-at (plain_run_by memory plan) k within (λ d. unfailed k d within)) }))
+
+-- where no node is told to have lacked memory, no step is
+any-by : (b lacked : Bool) → (b ≡ false → lacked ≡ false) → lacked ≡ true → b ≡ true
+any-by true lacked h is = refl
+any-by false lacked h is = let bad : false ≡ true = sym (h refl) ∙ is in absurd cc
+
+pub told_by_nodes : (results : List NodeOutcome) (lacked : Bool) (ids : List Id) → IsTree ids → length results ≡ length ids → (NodeSpared ids (0 ∷ []) results → false ≡ false → lacked ≡ false)
+    → lacked ≡ true → list_any may_lack_memory results ≡ true
+told_by_nodes results lacked ids tree count told is =
+    any-by (list_any may_lack_memory results) lacked
+    (λ none. told (record { each = λ k below under. (let inside = path-within ids k (below ++ 0 ∷ []) tree under in some-spared results k none (omega (arith, inside, count))) }) refl)
+    is

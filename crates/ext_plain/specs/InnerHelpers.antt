@@ -1,5 +1,5 @@
 -- What the contracts of private functions cite, and nothing else: no public clause needs it.
-use Rattle.std.specs.Prelude.{◌≡◌, ◌<◌, ◌≤◌, ◌⊎◌, ℕ, Bool, true, false, not, List, [], drop, length, map, Option, Some, None, option_map, Result, Ok, Err, if◌then◌else◌}
+use Rattle.std.specs.Prelude.{◌≡◌, ◌≢◌, ◌<◌, ◌≤◌, ◌⊎◌, ℕ, Bool, true, false, not, List, [], ◌∷◌, ◌++◌, drop, length, map, Option, Some, None, option_map, slice_get, IsSomeAnd, Result, Ok, Err, if◌then◌else◌}
 use Rattle.ext_model.specs.declared.look.Fault.{Fault}
 use Rattle.ext_model.specs.declared.event.Act.TheVariants.{Abandon}
 use Rattle.ext_model.specs.declared.plain_fault.PlainFault.{PlainFault}
@@ -31,8 +31,8 @@ use Rattle.ext_plain.specs.declared.plain.PlainRunner.{PlainRunner}
 use Rattle.ext_plain.specs.declared.setting.Setting.{Setting}
 use Rattle.ext_plain.specs.declared.value_store.ValueStore.{ValueStore}
 use Rattle.ext_plain.specs.NodeCalls.{CallsEnd, call_run}
-use Rattle.ext_tree.specs.Trees.{IsTree, IsPathOf}
-use Rattle.ext_plain.specs.PlainRun.{RunState, node_end}
+use Rattle.ext_tree.specs.Trees.{Id, IsTree, IsParentOf, IsPathOf}
+use Rattle.ext_plain.specs.PlainRun.{RunState, may_lack_memory, node_end}
 use Rattle.ext_plain.specs.StepRuns.{StepEnd, ended, factory_gave, factory_failed, no_memory, said_by}
 use Rattle.ext_plain.specs.ValueStates.{Memory, enough, no_key, no_value, no_number, no_place, no_words, ValueState, after_act, reason, why_refused, next_number, keep_value, with_memory, known, next, full, numbering_of, with_number}
 
@@ -213,10 +213,11 @@ pub record AreFew (o : Outcome) : Type 0 where
 -- ---- whether a step lacked memory
 
 -- By whether a step is told to have lacked memory before and after some steps, what these found of memory, and what those after them find: where none is told to have, none
--- of them lacked any. A list that says nothing says that all find enough
-pub record TellsLacks (before after : Bool) (memory later : List Memory) : Type 0 where
+-- of them lacked any; and where they were spared that, by how they ended, none of them is told to have. A list that says nothing says that all find enough
+pub record TellsLacks (before after : Bool) (memory later : List Memory) (Spared : Type 0) : Type 0 where
   pub kept : after ≡ false → before ≡ false
   pub nothing : after ≡ false → later ≡ [] → memory ≡ []
+  pub spared : Spared → before ≡ false → after ≡ false
 
 -- ---- the calls of a node
 
@@ -235,7 +236,7 @@ pub record DoesCall {L : Type 0} (before : NodeCaller L) (call : Call) (outcome 
   pub node : after.node ≡ before.node
   pub end : (path : List ℕ) → IsPathOf before.setting.tree.now before.node path → (later : List Memory)
       → (memory : List Memory) × (step_end (with_memory later (state_view after.store)) outcome ≡ call_run (plan_in before.setting) path call (with_memory memory (state_view before.store)))
-      × TellsLacks before.lacked after.lacked memory later
+      × TellsLacks before.lacked after.lacked memory later (verdict_text outcome.verdict ≢ no_memory)
 
 -- what calls with these outcomes leave
 abbrev pub calls_end : ValueState → List Outcome → CallsEnd
@@ -273,11 +274,39 @@ abbrev pub chosen : Bool → (ℕ → Bool) → ℕ → Bool
 chosen true concurrent = concurrent
 chosen false concurrent = λ child. not (concurrent child)
 
+-- this holds of the results of the node that a path begins with, and of those of all nodes below it
+pub record AllBelow (P : NodeOutcome → Type 0) (ids : List Id) (path : List ℕ) (results : List NodeOutcome) : Type 0 where
+  pub each : (k : ℕ) (below : List ℕ) → IsPathOf ids k (below ++ path) → IsSomeAnd (slice_get results k) P
+
+-- a node that is not told to have lacked memory, and can't have
+abbrev pub IsSpared : NodeOutcome → Type 0
+IsSpared r = may_lack_memory r ≡ false
+
+-- so the node that a path begins with, and all below it
+abbrev pub NodeSpared : List Id → List ℕ → List NodeOutcome → Type 0
+NodeSpared ids path results = AllBelow IsSpared ids path results
+
+-- so those children of a node that are chosen, and all below them
+abbrev pub ChildrenSpared : List Id → ℕ → (ℕ → Bool) → List ℕ → List NodeOutcome → Type 0
+ChildrenSpared ids at among path results = (child : ℕ) → IsParentOf ids at child → among child ≡ true → NodeSpared ids (child ∷ path) results
+
 -- For the node of this number, whose path it goes by, the run became what this makes of it. Whatever later steps find of memory, there is something that those between
--- found; and whether they lacked some is told
-pub record RunsAs (setting : Setting) (at : ℕ) (by : List ℕ → RunState → RunState) (old new : RunSoFar) : Type 0 where
+-- found; and whether they lacked some is told, by which nodes were spared it
+pub record RunsAs (setting : Setting) (at : ℕ) (spared : List ℕ → List NodeOutcome → Type 0) (by : List ℕ → RunState → RunState) (old new : RunSoFar) : Type 0 where
   pub each : (path : List ℕ) → IsPathOf setting.tree.now at path → (later : List Memory)
-      → (memory : List Memory) × (run_with later new ≡ by path (run_with memory old)) × TellsLacks old.lacked new.lacked memory later
+      → (memory : List Memory) × (run_with later new ≡ by path (run_with memory old)) × TellsLacks old.lacked new.lacked memory later (spared path new.results)
+
+-- the node and all below it are run
+abbrev pub NodeRuns : Setting → ℕ → (List ℕ → RunState → RunState) → RunSoFar → RunSoFar → Type 0
+NodeRuns setting at by old new = RunsAs setting at (NodeSpared setting.tree.now) by old new
+
+-- those of its children that are chosen, with all below them
+abbrev pub ChildrenRun : Setting → ℕ → (ℕ → Bool) → (List ℕ → RunState → RunState) → RunSoFar → RunSoFar → Type 0
+ChildrenRun setting at among by old new = RunsAs setting at (ChildrenSpared setting.tree.now at among) by old new
+
+-- all children
+abbrev pub any_child : ℕ → Bool
+any_child child = true
 
 -- the end of a node whose calls came to this tally, whatever later steps find of memory
 pub record EndsNode (setting : Setting) (at : ℕ) (is_test : Bool) (tally : Tally) (old new : RunSoFar) : Type 0 where

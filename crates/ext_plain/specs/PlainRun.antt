@@ -5,7 +5,10 @@
 -- JUnit 5 User Guide, "Relative Execution Order of User Code and Extensions", and "Keeping State in Extensions": a store is bound to the life of its context, and
 -- is closed when that ends, so after the contexts below it. Which statuses there are, that the nodes below a body that is skipped run nothing, aren't closed and are
 -- skipped, and that a container's status does not depend on its children's, are own rules.
-use Rattle.std.specs.Prelude.{◌≡◌, ◌≢◌, ℕ, zero, suc, ◌+◌, Bool, true, false, List, [], ◌∷◌, length, fold, Option, is_some, slice_set, All, if◌then◌else◌}
+use Rattle.std.specs.Prelude.{◌≡◌, ◌≢◌, ℕ, zero, suc, ◌+◌, codes, nat_lt, Bool, true, false, ◌||◌, List, [], ◌∷◌, length, fold, Option, Some, None, is_some, slice_set, All, if◌then◌else◌}
+use Rattle.std.specs.List.{list_any}
+use Rattle.std.specs.Str.{bytes_eq}
+use Rattle.ext_lifecycle.specs.declared.status.Status.{Status}
 use Rattle.ext_lifecycle.specs.declared.status.Status.TheVariants as statuses
 use Rattle.ext_lifecycle.specs.Endings.{all_successful}
 use Rattle.ext_lifecycle.specs.FaultTexts.{NodeOutcome}
@@ -92,10 +95,29 @@ plain_run plan = plain_run_by [] plan
 abbrev pub HasNoFailed : List NodeOutcome → Type 0
 HasNoFailed results = All (λ r. r.status ≢ statuses.Failed) results
 
+-- ---- want of memory that is told
+
+-- the text of a fault is that of want of memory
+abbrev pub says_no_memory : Option (List ℕ) → Bool
+says_no_memory None = false
+says_no_memory (Some text) = bytes_eq text (codes "no memory")
+
+-- a node of this status, this fault and so many further ones failed for want of memory, or one of the further ones, whose texts are not told, may be that
+abbrev pub may_lack : Status → Option (List ℕ) → ℕ → Bool
+may_lack statuses.Successful fault more = false
+may_lack statuses.Aborted fault more = false
+may_lack statuses.Failed fault more = says_no_memory fault || nat_lt 0 more
+may_lack statuses.Skipped fault more = false
+
+abbrev pub may_lack_memory : NodeOutcome → Bool
+may_lack_memory r = may_lack r.status r.fault r.more
+
 -- They are those of a plain run of the plan: for each step that was made there is one answer to what memory it found, and all the rest follows from the plan. Where no
--- node failed no step lacked memory, and they are those of the one run that the plan has; and so they are where none is told to have lacked any
+-- node failed no step lacked memory, and they are those of the one run that the plan has; and so they are where none is told to have lacked any. Where one is told to have, a node
+-- is told to have failed with `no memory`, or with further faults besides the one that is told
 pub record ArePlain (plan : PlanText) (results : List NodeOutcome) (lacked : Bool) : Type 0 where
   pub memory : List Memory
   pub exact : results ≡ plain_run_by memory plan
   pub planned : HasNoFailed results → results ≡ plain_run plan
   pub unlacked : lacked ≡ false → results ≡ plain_run plan
+  pub lacking : lacked ≡ true → list_any may_lack_memory results ≡ true

@@ -25,6 +25,7 @@ impl<L> NodeCaller<'_, L> {
     fn has_lacked(&self, now: bool) -> bool
         ensures before { result ≡ false → self.now.lacked ≡ false }
         ensures now { result ≡ false → now ≡ false }
+        ensures neither { self.now.lacked ≡ false → now ≡ false → result ≡ false }
     {
         self.lacked || now
     }

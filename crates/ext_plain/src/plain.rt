@@ -28,10 +28,12 @@ pub struct PlainRunner<'a, L> {
     pub results: Vec<NodeResult>,
 }
 
-/// What a plain run tells: the results of the nodes, in the order of the plan, and whether a step lacked memory.
+/// What a plain run tells.
 #[derive(Drop)]
 pub struct PlainRun {
+    /// The results of the nodes, in the order of the plan.
     pub results: Vec<NodeResult>,
+    /// Whether a step lacked memory. Where it is false none did; where it is true a node failed with `no memory`, or with further faults besides the one that is told.
     pub lacked: bool,
 }
 
@@ -46,7 +48,7 @@ pub struct PlainRun {
 ///
 /// Takes memory for the keys, the lists of calls, the store, the values, the texts of faults and the results. A step that finds none
 /// fails with `Fault::Memory`, and the run goes on: the results are those of the plain run in which these steps found none. Whether there was such a step
-/// is told as `lacked`: where there was none, the results are those of the one plain run that the plan has.
+/// is told as `lacked`: where it is false there was none, and the results are those of the one plain run that the plan has.
 /// `AllocError` comes only where memory is refused elsewhere, as for the declared keys, for results or for the end of a context. Source: JUnit 5 User Guide, sections "Keeping State in Extensions" and "Relative
 /// Execution Order of User Code and Extensions"; what is run in which order, and what is told of a node, are own rules.
 pub fn run_plain<'x, L: RunListener>(
@@ -88,14 +90,14 @@ pub fn run_plain<'x, L: RunListener>(
 impl<'a, L: RunListener> PlainRunner<'a, L> {
     ghost use Rattle.ext_plan.specs.PlanCalls.{test_of, concurrent_of};
     ghost use Rattle.ext_plain.specs.PlainRun.{body_run, container_run, node_run, test_node_run, with_result};
-    ghost use Rattle.ext_plain.specs.InnerHelpers.{EndsNode, RunsAs, chosen, plan_in, run_view};
+    ghost use Rattle.ext_plain.specs.InnerHelpers.{ChildrenRun, EndsNode, NodeRuns, any_child, chosen, plan_in, run_view};
 
     /// Runs a node and what is below it, so many levels deep.
     #[cycle(nodes)]
     fn run_node(&mut self, alloc: Global, levels: usize, at: ContextNo) -> Result<(), AllocError>
         requires within { at < length self.old.caller.setting.tree.now }
         requires tree { IsTree self.old.caller.setting.tree.now }
-        ensures run { OnOk result (RunsAs self.old.caller.setting at (node_run (plan_in self.old.caller.setting) levels) (run_view self.old) (run_view self.new)) }
+        ensures run { OnOk result (NodeRuns self.old.caller.setting at (node_run (plan_in self.old.caller.setting) levels) (run_view self.old) (run_view self.new)) }
         ensures setting { OnOk result (self.new.caller.setting ≡ self.old.caller.setting) }
     {
         if levels == 0 {
@@ -111,7 +113,7 @@ impl<'a, L: RunListener> PlainRunner<'a, L> {
     fn run_test(&mut self, alloc: Global, at: ContextNo) -> Result<(), AllocError>
         requires within { at < length self.old.caller.setting.tree.now }
         requires tree { IsTree self.old.caller.setting.tree.now }
-        ensures run { OnOk result (RunsAs self.old.caller.setting at (test_node_run (plan_in self.old.caller.setting) at) (run_view self.old) (run_view self.new)) }
+        ensures run { OnOk result (NodeRuns self.old.caller.setting at (test_node_run (plan_in self.old.caller.setting) at) (run_view self.old) (run_view self.new)) }
         ensures setting { OnOk result (self.new.caller.setting ≡ self.old.caller.setting) }
     {
         let path = self.caller.setting.tree.path(at);
@@ -144,7 +146,7 @@ impl<'a, L: RunListener> PlainRunner<'a, L> {
     ) -> Result<(), AllocError>
         requires within { at < length self.old.caller.setting.tree.now }
         requires tree { IsTree self.old.caller.setting.tree.now }
-        ensures run { OnOk result (RunsAs self.old.caller.setting at (container_run (plan_in self.old.caller.setting) (node_run (plan_in self.old.caller.setting) levels) at) (run_view self.old) (run_view self.new)) }
+        ensures run { OnOk result (NodeRuns self.old.caller.setting at (container_run (plan_in self.old.caller.setting) (node_run (plan_in self.old.caller.setting) levels) at) (run_view self.old) (run_view self.new)) }
         ensures setting { OnOk result (self.new.caller.setting ≡ self.old.caller.setting) }
     {
         let path = self.caller.setting.tree.path(at);
@@ -171,7 +173,7 @@ impl<'a, L: RunListener> PlainRunner<'a, L> {
     ) -> Result<(), AllocError>
         requires within { at < length self.old.caller.setting.tree.now }
         requires tree { IsTree self.old.caller.setting.tree.now }
-        ensures run { OnOk result (RunsAs self.old.caller.setting at (body_run (plan_in self.old.caller.setting) (node_run (plan_in self.old.caller.setting) levels) go) (run_view self.old) (run_view self.new)) }
+        ensures run { OnOk result (ChildrenRun self.old.caller.setting at any_child (body_run (plan_in self.old.caller.setting) (node_run (plan_in self.old.caller.setting) levels) go) (run_view self.old) (run_view self.new)) }
         ensures setting { OnOk result (self.new.caller.setting ≡ self.old.caller.setting) }
     {
         if !go {
@@ -192,7 +194,7 @@ impl<'a, L: RunListener> PlainRunner<'a, L> {
     ) -> Result<(), AllocError>
         requires within { at < length self.old.caller.setting.tree.now }
         requires tree { IsTree self.old.caller.setting.tree.now }
-        ensures run { OnOk result (RunsAs self.old.caller.setting at
+        ensures run { OnOk result (ChildrenRun self.old.caller.setting at (chosen concurrent (concurrent_of (plan_in self.old.caller.setting)))
             (λ path run. fold (λ r child. node_run (plan_in self.old.caller.setting) levels (child ∷ path) r) run
             (filter (chosen concurrent (concurrent_of (plan_in self.old.caller.setting))) (children_of self.old.caller.setting.tree.now at)))
             (run_view self.old) (run_view self.new)) }

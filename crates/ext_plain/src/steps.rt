@@ -1,11 +1,10 @@
 //! The steps of a test or of a callback.
-ghost use Rattle.std.specs.Prelude.{◌≡◌, ◌≤◌, true, false, List, [], length, map};
-ghost use Rattle.ext_lifecycle.specs.Endings.{is_successful};
-ghost use Rattle.ext_lifecycle.specs.Lifecycle.{ending_of};
+ghost use Rattle.std.specs.Prelude.{◌≡◌, ◌≢◌, ◌≤◌, false, List, [], length, map};
+ghost use Rattle.ext_lifecycle.specs.FaultTexts.{verdict_text};
 ghost use Rattle.ext_plan.specs.Plans.{step_view};
 ghost use Rattle.ext_plan.specs.StepCalls.{keys_in};
 ghost use Rattle.ext_plain.specs.ValueStates.{Memory, enough, with_memory};
-ghost use Rattle.ext_plain.specs.StepRuns.{step_by, steps_run};
+ghost use Rattle.ext_plain.specs.StepRuns.{no_memory, step_by, steps_run};
 ghost use Rattle.ext_plain.specs.InnerHelpers.{end_of_step, end_view, memory_of_step, state_view, step_end, AreFew};
 
 use crate::keyed_step::KeyedStep;
@@ -34,9 +33,10 @@ impl<'a> ValueStore<'a> {
         steps: &'a [Step],
     ) -> StepsOutcome
         requires { length steps.now ≤ 4294967295 }
-        ensures { (later : List Memory) → (memory : List Memory)
+        ensures end { (later : List Memory) → (memory : List Memory)
             × (step_end (with_memory later (state_view self.new)) result.outcome ≡ steps_run (keys_in keys.now) path.now (map step_view steps.now) (with_memory memory (state_view self.old)))
             × (result.lacked ≡ false → later ≡ [] → memory ≡ []) }
+        ensures told { verdict_text result.outcome.verdict ≢ no_memory → result.lacked ≡ false }
     {
         let mut computed = 0;
         let mut found = 0;
@@ -77,7 +77,7 @@ impl<'a> ValueStore<'a> {
             × (end_view self.new result.outcome ≡ step_by (keys_in keys.now) memory path.now (step_view step.now) (state_view self.old))
             × (result.lacked ≡ false → memory ≡ enough) }
         ensures few { AreFew result.outcome }
-        ensures going { is_successful (ending_of result.outcome.verdict) ≡ true → result.lacked ≡ false }
+        ensures told { verdict_text result.outcome.verdict ≢ no_memory → result.lacked ≡ false }
     {
         match self.run_step(alloc, keys, path, step) {
             Ok(outcome) => StepsOutcome {

@@ -1,4 +1,6 @@
--- Where in a plan a fault is.
+-- Where in a plan a fault is, and the line of a fault: its code, and behind it where it is. Texts are lists of bytes, numbers are decimal.
+use Rattle.std.specs.Prelude.{ℕ, codes, List, [], ◌++◌}
+use Rattle.std.specs.Fmt.{decimal}
 use Rattle.ext_plan_reading.specs.declared.fault.PlanFault.{PlanFault}
 use Rattle.ext_plan_reading.specs.declared.fault.PlanFault.TheVariants as faults
 use Rattle.ext_plan_reading.specs.declared.fault.Place.{Place}
@@ -18,3 +20,28 @@ place_of (faults.BadLock node) = places.Node node
 place_of (faults.BadTest node) = places.Node node
 place_of faults.TooMany = places.Whole
 place_of faults.Memory = places.Whole
+
+-- the number of its code
+abbrev pub code_of : PlanFault → ℕ
+code_of faults.NotUtf8 = 1
+code_of faults.NotToml = 2
+code_of (faults.UnknownField place) = 3
+code_of (faults.BadField place) = 4
+code_of (faults.BadLabel key) = 5
+code_of (faults.BadId node) = 6
+code_of faults.BadTree = 7
+code_of (faults.BadStep node) = 8
+code_of (faults.BadLock node) = 9
+code_of (faults.BadTest node) = 10
+code_of faults.TooMany = 11
+code_of faults.Memory = 12
+
+-- a place behind a code: nothing for the plan as a whole
+abbrev pub place_text : Place → List ℕ
+place_text places.Whole = []
+place_text (places.Key key) = codes " key " ++ decimal key
+place_text (places.Node node) = codes " node " ++ decimal node
+
+-- `plan: P5 key 1`
+abbrev pub line_of : PlanFault → List ℕ
+line_of fault = codes "plan: P" ++ decimal (code_of fault) ++ place_text (place_of fault)

@@ -1,6 +1,7 @@
 pub mod CallbackReading
 pub mod Depths
 pub mod Explaining
+pub mod ExplainingIds
 pub mod FaultPlaces
 pub mod Faults
 pub mod Fields

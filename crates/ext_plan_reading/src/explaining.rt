@@ -23,7 +23,7 @@ use words::said;
 /// What is meant by the fault for which the bytes of a plan are refused, in a line without its line feed: `the plan`, `key 1` or `node 2`, which is what
 /// the fault names, a colon, and then the field, the label, the id with its own fault, the lock or the step that is meant, or the place in the text.
 /// Texts of the plan stand in quotes, with a line feed as `\n`. Of a key or a node the line ends with the line of the plan where its table begins, if it has a header of
-/// its own there, and of a node with its id, if it has one.
+/// its own there, and of a node with its id, if it has one. The contract speaks of the place that the fault names alone.
 ///
 /// The fault is the one that `read_plan` answered to this text, or `NotUtf8` where it is none. Of any other fault the line says that the plan has another
 /// one, or none.

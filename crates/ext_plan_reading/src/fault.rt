@@ -1,6 +1,6 @@
 //! Why a text is no plan.
 ghost use Rattle.std.specs.Prelude.{◌≡◌};
-ghost use Rattle.ext_plan_reading.specs.FaultPlaces.{place_of};
+ghost use Rattle.ext_plan_reading.specs.FaultPlaces.{code_of, place_of};
 ghost use Rattle.ext_plan_reading.specs.declared.fault.PlanFault.TheVariants.{Memory};
 
 use std::alloc::{AllocError, AllocFailed};
@@ -21,6 +21,11 @@ pub enum Place {
 }
 
 impl fmt::Display for Place {
+    ghost use Rattle.std.specs.Prelude.{Some};
+    ghost use Rattle.ext_plan_reading.specs.FaultPlaces.{place_text};
+
+    ghost output = { λ place. Some (place_text place) };
+
     fn fmt<W: fmt::Write>(&self, f: &mut fmt::Formatter<W>) -> fmt::Result {
         match self {
             Place::Whole => Ok(()),
@@ -98,7 +103,9 @@ impl PlanFault {
     }
 
     /// The number behind the `P` of the fault's text.
-    fn code(self) -> u8 {
+    fn code(self) -> u8
+        ensures { result ≡ code_of self }
+    {
         match self {
             PlanFault::NotUtf8 => 1,
             PlanFault::NotToml => 2,
@@ -117,6 +124,11 @@ impl PlanFault {
 }
 
 impl fmt::Display for PlanFault {
+    ghost use Rattle.std.specs.Prelude.{Some};
+    ghost use Rattle.ext_plan_reading.specs.FaultPlaces.{line_of};
+
+    ghost output = { λ fault. Some (line_of fault) };
+
     fn fmt<W: fmt::Write>(&self, f: &mut fmt::Formatter<W>) -> fmt::Result {
         write!(f, "plan: P{}{}", self.code(), self.place())
     }

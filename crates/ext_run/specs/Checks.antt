@@ -1,5 +1,9 @@
 -- What is written of a plan that was read and is not run: how many nodes it has, how many of them are tests, and how many `[[key]]` tables. Numbers are decimal.
-use Rattle.std.specs.Prelude.{◌≡◌, ℕ, true, codes, List, ◌++◌, length, is_some, Result, Ok, Err}
+use Rattle.std.specs.Prelude.{◌≡◌, ℕ, Bool, true, false, not, ◌==◌, codes, List, ◌++◌, length, is_some, Result, Ok, Err}
+use Rattle.ext_races.specs.declared.found.Found.{Found}
+use Rattle.ext_races.specs.declared.found.Found.TheVariants as found
+use Rattle.ext_races.specs.RaceLines.{found_text}
+use Rattle.ext_races.specs.Races.{IsFound}
 use Rattle.std.specs.Fmt.{decimal}
 use Rattle.std.specs.List.{count_by}
 use Rattle.ext_plan_reading.specs.Plans.{NodeText, PlanText}
@@ -24,3 +28,25 @@ IsCountsOf (Err fault) line = ⊥
 -- it is refused as a plain run of it would be
 abbrev pub RefusedUnrun : RunFault → Result PlanText RunFault → Type 0
 RefusedUnrun fault read = RefusedAs (record { lanes = 1; plain = true; form = forms.Text }) fault read
+
+-- how many races are looked for: one more than are told in lines
+abbrev pub race_limit : ℕ
+race_limit = 21
+
+-- no race was found, and no limit is passed
+abbrev pub is_free : Found → Bool
+is_free found.TooManyKeys = false
+is_free found.TooManyNumbers = false
+is_free (found.Races races names) = length races.items == 0
+
+-- what is told of the races of a plan: their text, and whether there is one or a limit is passed
+pub record TellsRaces (plan : PlanText) (text : List ℕ) (failed : Bool) : Type 0 where
+  pub told : Found
+  pub races : IsFound plan race_limit told
+  pub text_is : text ≡ found_text plan told
+  pub failed_is : failed ≡ not (is_free told)
+
+-- of what was read; a plan that is refused has none
+abbrev pub IsRacesOf : Result PlanText RunFault → List ℕ → Bool → Type 0
+IsRacesOf (Ok plan) text failed = TellsRaces plan text failed
+IsRacesOf (Err fault) text failed = ⊥

@@ -44,3 +44,11 @@ failures_of ids faults = failures_below ids faults (length ids)
 
 abbrev pub failures_in : List NodeFault → PlanText → List ℕ
 failures_in faults plan = failures_of (ids_of_nodes plan.nodes) faults
+
+-- a last line where faults were lost
+abbrev pub lost_line : Bool → List ℕ
+lost_line are_lost = if are_lost then codes "further faults were lost: no memory\n" else []
+
+-- all that was told
+abbrev pub told_in : ToldFaults → PlanText → List ℕ
+told_in told plan = failures_in told.faults.items plan ++ lost_line told.lost

@@ -15,6 +15,7 @@ use Rattle.ext_report.specs.Forms.{report_in}
 use Rattle.ext_report.specs.declared.form.ReportForm.{ReportForm}
 use Rattle.ext_plain.specs.PlainRun.{ArePlain}
 use Rattle.ext_parallel.specs.EngineFault.{EngineFault}
+use Rattle.ext_parallel.specs.Lacking.{may_have_lacked}
 use Rattle.ext_parallel.specs.ParallelRun.{IsRefusedRun, ParallelRun}
 use Rattle.ext_run.specs.declared.fault.RunFault.{RunFault}
 use Rattle.ext_run.specs.declared.fault.RunFault.TheVariants as faults
@@ -47,15 +48,15 @@ pub record RunsOnLanes (plan : PlanText) (lanes : ℕ) (results : List NodeOutco
   pub run : ParallelRun plan lanes ran
   pub told : results ≡ map (with_fault_told fault_text) ran
 
--- What is told of the nodes, and whether a step may have lacked memory, by a plain run, or by some run on several lanes, of which that none did isn't told
+-- What is told of the nodes, and whether a step may have lacked something: of memory, by a plain run; or of anything, as the results tell it, by some run on several lanes
 abbrev pub IsRunBy : Bool → ℕ → PlanText → List NodeOutcome → Bool → Type 0
 IsRunBy true lanes plan results lacked = ArePlain plan results lacked
-IsRunBy false lanes plan results lacked = RunsOnLanes plan lanes results × (lacked ≡ true)
+IsRunBy false lanes plan results lacked = RunsOnLanes plan lanes results × (lacked ≡ may_have_lacked results)
 
 abbrev pub IsRunAs : Options → PlanText → List NodeOutcome → Bool → Type 0
 IsRunAs options plan results lacked = IsRunBy options.plain options.lanes plan results lacked
 
--- what a run gives: a report, whether a node failed, and whether a step may have lacked memory
+-- what a run gives: a report, whether a node failed, and whether a step may have lacked something
 pub record RunReport : Type 0 where
   pub report : List ℕ
   pub failed : Bool

@@ -1,8 +1,11 @@
--- What a request to a program over this crate ends with, and its exit status. It is 0 where the request was done and no node failed, 1 where one did; 2 where the command line, the plan or the id is
--- refused, and 3 where the work itself failed.
-use Rattle.std.specs.Prelude.{◌≡◌, ◌≢◌, ℕ, List, Result, Ok, Err, if◌then◌else◌}
+-- What a request to a program over this crate ends with: its exit status, and the line of the fault of a run. The status is 0 where the request was done and no node failed, 1 where one
+-- did; 2 where the command line, the plan or the id is refused, and 3 where the work itself failed. Texts are lists of bytes.
+use Rattle.std.specs.Prelude.{◌≡◌, ◌≢◌, ℕ, codes, List, ◌++◌, Result, Ok, Err, if◌then◌else◌}
 use Rattle.ext_ids.specs.declared.fault.IdFault.TheVariants as ids
 use Rattle.ext_ids.specs.Faults.{HasFault}
+use Rattle.ext_parallel.specs.EngineFault.{EngineFault}
+use Rattle.ext_parallel.specs.EngineFault.TheVariants as engine
+use Rattle.ext_plan_reading.specs.FaultPlaces.{line_of as plan_line}
 use Rattle.ext_run.specs.declared.fault.RunFault.{RunFault}
 use Rattle.ext_run.specs.declared.fault.RunFault.TheVariants as runs
 use Rattle.ext_run.specs.declared.options.Summary.{Summary}
@@ -28,6 +31,22 @@ status_of_fault (faults.Run fault) = status_of_run_fault fault
 abbrev pub status_of : Result Summary RequestFault → ℕ
 status_of (Ok summary) = if summary.failed then 1 else 0
 status_of (Err fault) = status_of_fault fault
+
+-- ---- the line of a fault
+
+-- the code of a fault of the engine
+abbrev pub code_of : EngineFault → List ℕ
+code_of engine.Memory = codes "E1"
+code_of engine.NoThread = codes "E2"
+code_of (engine.Unjoined context number) = codes "E3"
+
+abbrev pub line_of : RunFault → List ℕ
+line_of runs.Read = codes "read failed"
+line_of runs.Write = codes "write failed"
+line_of runs.TooLong = codes "plan too long"
+line_of (runs.Plan fault) = plan_line fault
+line_of (runs.Engine fault) = codes "run: " ++ code_of fault
+line_of runs.Memory = codes "run: no memory"
 
 -- ---- the request to read an id
 

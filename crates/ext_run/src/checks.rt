@@ -1,9 +1,10 @@
 //! Reading a plan without running it.
-ghost use Rattle.std.specs.Prelude.{◌≡◌, ◌≢◌, ◌≤◌, ◌+◌, ℕ, List, length, string_bytes, IfOk, IfErr, IfSome, OnOk};
+ghost use Rattle.std.specs.Prelude.{◌≡◌, ◌≢◌, ◌≤◌, ◌+◌, ℕ, List, false, length, string_bytes, IfOk, IfErr, IfSome, OnOk};
 ghost use Rattle.std.specs.Io.KnownBytes.{Consumes, Appends};
 ghost use Rattle.ext_plan_reading.specs.Plans.{nodes_view, plan_view};
 ghost use Rattle.ext_run.specs.Reports.{input_limit, plan_of_bytes, plan_of_input};
-ghost use Rattle.ext_run.specs.Checks.{counts_line, IsCountsOf, RefusedUnrun, test_count};
+ghost use Rattle.ext_plan_reading.specs.ReadPlans.{IsRunnablePlan};
+ghost use Rattle.ext_run.specs.Checks.{counts_line, IsCountsOf, IsRacesOf, RefusedUnrun, TellsRaces, is_free, test_count};
 ghost use Rattle.ext_run.specs.InnerHelpers.{ChecksAs};
 
 use crate::fault::RunFault;
@@ -51,11 +52,18 @@ pub fn check<I: Read, W: Write>(
 /// It reads as `run` does, and is refused as `check` is.
 ///
 /// Takes memory for the input, the plan, its steps, what they touch and the lines, and gives all of it back. It waits where the reader and the writer do.
+#[tactic(auto, unfolding(crate::specs::Reports::plan_of_input))]
 pub fn check_races<I: Read, W: Write>(
     alloc: Global,
     reader: &mut I,
     writer: &mut W,
 ) -> Result<Summary, RunFault>
+    ensures written { IfOk result (λ summary. IfSome (I.remaining reader.old) (λ input. (text : List ℕ)
+        × IsRacesOf (plan_of_input input) text summary.failed
+        × Appends (W.contents writer.old) (W.contents writer.new) text)) }
+    ensures unrun { IfOk result (λ summary. summary.lacked ≡ false) }
+    ensures refused { IfErr result (λ fault. IfSome (I.remaining reader.old)
+        (λ input. RefusedUnrun fault (plan_of_input input))) }
     ensures unwritten { IfErr result (λ fault. fault ≢ RunFault.Write → writer.new ≡ writer.old) }
     ensures taken { (bytes : List ℕ) × (length bytes ≤ input_limit + 1)
         × Consumes (I.remaining reader.old) (I.remaining reader.new) bytes }
@@ -69,9 +77,12 @@ pub fn check_races<I: Read, W: Write>(
     })
 }
 
-/// What is found of the races of the plan that the bytes write, in lines, and whether it is free of them.
+/// What is found of the races of the plan that the bytes write, in lines, and whether there is one or a limit is passed.
+#[tactic(auto, unfolding(crate::specs::Reports::plan_of_bytes))]
 fn races_of(alloc: Global, input: &[u8]) -> Result<(String, bool), RunFault>
-    ensures { IfErr result (λ fault. fault ≢ RunFault.Write) }
+    ensures told { IfOk result (λ told. IsRacesOf (plan_of_bytes input.now) (string_bytes told.0) told.1) }
+    ensures refused { IfErr result (λ fault. RefusedUnrun fault (plan_of_bytes input.now)) }
+    ensures unwritten { IfErr result (λ fault. fault ≢ RunFault.Write) }
 {
     let Ok(text) = std::str::from_utf8(input) else {
         return Err(RunFault::Plan(PlanFault::NotUtf8));
@@ -80,12 +91,22 @@ fn races_of(alloc: Global, input: &[u8]) -> Result<(String, bool), RunFault>
         Ok(plan) => plan,
         Err(fault) => return Err(RunFault::Plan(fault)),
     };
-    let found = races(alloc, &plan, RACES)?;
-    Ok((races_text(alloc, &plan, &found)?, !is_free(&found)))
+    Ok(races_in(alloc, &plan)?)
+}
+
+/// What is found of the races of a plan, in lines, and whether there is one or a limit is passed.
+fn races_in(alloc: Global, plan: &Plan) -> Result<(String, bool), AllocError>
+    requires { IsRunnablePlan (plan_view plan.now) }
+    ensures { IfOk result (λ told. TellsRaces (plan_view plan.now) (string_bytes told.0) told.1) }
+{
+    let found = races(alloc, plan, RACES)?;
+    Ok((races_text(alloc, plan, &found)?, !is_free(&found)))
 }
 
 /// Whether no race was found.
-fn is_free(found: &Found<'_>) -> bool {
+fn is_free(found: &Found<'_>) -> bool
+    ensures { result ≡ is_free found.now }
+{
     match found {
         Found::Races { races, .. } => races.is_empty(),
         Found::TooManyKeys | Found::TooManyNumbers => false,

@@ -1,10 +1,10 @@
 //! What failed and what was aborted in a run, told once more at its end.
-ghost use Rattle.std.specs.Prelude.{◌≡◌, ◌++◌, [], string_bytes, IfOk, OnOk, OnErr};
+ghost use Rattle.std.specs.Prelude.{◌≡◌, ◌++◌, [], false, string_bytes, IfOk, OnOk, OnErr};
 ghost use Rattle.ext_lifecycle.specs.FaultTexts.{fault_text};
 ghost use Rattle.ext_plan_reading.specs.Plans.{plan_view};
 ghost use Rattle.ext_plan_reading.specs.ReadPlans.{IsRunnablePlan};
 ghost use Rattle.ext_run.specs.Reports.{plan_of_bytes};
-ghost use Rattle.ext_run.specs.Failures.{IsAdded, NotesFault, failure_at, failure_line, failures_at, failures_in, failures_of};
+ghost use Rattle.ext_run.specs.Failures.{IsAdded, NotesFault, failure_at, failure_line, failures_at, failures_in, failures_of, lost_line, told_in};
 ghost use Rattle.ext_run.specs.Drawings.{TextAs};
 
 use crate::fault::RunFault;
@@ -37,7 +37,8 @@ pub struct ToldFaults {
 impl ToldFaults {
     /// No fault. Takes no memory.
     pub fn new(alloc: Global) -> ToldFaults
-        ensures { result.faults.items ≡ [] }
+        ensures none { result.faults.items ≡ [] }
+        ensures lost { result.lost ≡ false }
     {
         ToldFaults {
             faults: Vec::new(alloc),
@@ -76,7 +77,7 @@ fn text_of(alloc: Global, fault: &Fault) -> Result<String, AllocError>
     }
 }
 
-/// Keeps the faults of all nodes of a run, and passes on all that it is told to another listener.
+/// Keeps the faults of all nodes of a run, and passes on all that it is told to another listener. Tests say so, and no contract: none can say what a lock guards.
 ///
 /// Its lock is held for as long as a fault is added, and while nothing else is waited for.
 #[derive(Drop)]
@@ -122,12 +123,31 @@ impl<R: Wait, L: RunListener> RunListener for Failures<'_, R, L> {
     }
 }
 
-/// The faults of the nodes of a plan, in lines `ID: FAULT`: those of each node one after the other, in the order in which they were told, and the nodes in
-/// the order of the plan. The bytes are the plan's, as a run reads them.
+/// What was told of the nodes of a plan, in lines `ID: FAULT`: the faults of each node one after the other, in the order in which they were told, and the nodes
+/// in the order of the plan; and a last line where faults were lost. The bytes are the plan's, as a run reads them.
 ///
 /// Refused as `Plan` where the plan is refused, and as `Memory` where memory is for the plan's tree or for the text. It waits for nobody.
+pub fn failures_text(alloc: Global, input: &[u8], told: &ToldFaults) -> Result<String, RunFault>
+    ensures { TextAs string_bytes (told_in told.now) result (plan_of_bytes input.now) }
+{
+    let mut text = failure_lines(alloc, input, told.faults.as_slice())?;
+    write_lost(&mut text, told.lost)?;
+    Ok(text)
+}
+
+/// Writes the line that faults were lost at the end of a text, if they were.
+fn write_lost(text: &mut String, lost: bool) -> Result<(), AllocError>
+    ensures { OnOk result (string_bytes text.new ≡ string_bytes text.old ++ lost_line lost) }
+{
+    if lost {
+        return text.push_str("further faults were lost: no memory\n");
+    }
+    Ok(())
+}
+
+/// The lines of the faults of a plan's nodes.
 #[tactic(auto, unfolding(crate::specs::Reports::plan_of_bytes))]
-pub fn failures_text(alloc: Global, input: &[u8], faults: &[NodeFault]) -> Result<String, RunFault>
+fn failure_lines(alloc: Global, input: &[u8], faults: &[NodeFault]) -> Result<String, RunFault>
     ensures { TextAs string_bytes (failures_in faults.now) result (plan_of_bytes input.now) }
 {
     let Ok(text) = std::str::from_utf8(input) else {

@@ -1,10 +1,12 @@
 //! Why a run gave no report.
 ghost use Rattle.std.specs.Prelude.{◌≡◌};
+ghost use Rattle.ext_run.specs.Requests.{code_of};
 ghost use Rattle.ext_run.specs.declared.fault.RunFault.TheVariants.{Memory};
 
 use ext_parallel::EngineFault;
 use ext_plan_reading::PlanFault;
 use std::alloc::AllocError;
+use std::fmt;
 use thiserror::Error;
 
 /// Why a run gave no report. The text of a fault is its line on standard error.
@@ -14,26 +16,38 @@ use thiserror::Error;
 #[derive(Clone, Copy, Debug, PartialEq, Eq, Error)]
 pub enum RunFault {
     /// Z1, printed as `read failed`: a read of the plan failed, in whatever way.
-    #[error("read failed")]
     Read,
     /// Z2, printed as `write failed`: a write of the report failed, or took no byte.
-    #[error("write failed")]
     Write,
     /// Z3, printed as `plan too long`: the input has more than 1,048,576 bytes.
-    #[error("plan too long")]
     TooLong,
     /// Z4, printed as the line of the plan's fault, such as `plan: P5 key 1`: the plan is refused.
-    #[error("{0}")]
     Plan(PlanFault),
     /// Z5, printed as `run: E1` or `run: E3`: the run of the plan on several lanes was not ended, as memory was refused (E1), also
     /// for the store and the locks of the run, or a context could not be closed (E3). `run: E2` would say that a thread was
     /// refused (`EngineFault::NoThread`), which no call answers.
-    #[error("run: {}", code(*.0))]
     Engine(EngineFault),
     /// Z6, printed as `run: no memory`: memory was wanted and refused, though neither by `read_plan`, where that is `Plan` with
     /// `PlanFault::Memory`, nor in a run on several lanes, where it is `Engine` with `EngineFault::Memory`.
-    #[error("run: no memory")]
     Memory,
+}
+
+impl fmt::Display for RunFault {
+    ghost use Rattle.std.specs.Prelude.{Some};
+    ghost use Rattle.ext_run.specs.Requests.{line_of};
+
+    ghost output = { λ fault. Some (line_of fault) };
+
+    fn fmt<W: fmt::Write>(&self, f: &mut fmt::Formatter<W>) -> fmt::Result {
+        match self {
+            RunFault::Read => f.write_str("read failed"),
+            RunFault::Write => f.write_str("write failed"),
+            RunFault::TooLong => f.write_str("plan too long"),
+            RunFault::Plan(fault) => write!(f, "{fault}"),
+            RunFault::Engine(fault) => write!(f, "run: {}", code(*fault)),
+            RunFault::Memory => f.write_str("run: no memory"),
+        }
+    }
 }
 
 impl From<AllocError> for RunFault {
@@ -45,7 +59,9 @@ impl From<AllocError> for RunFault {
 }
 
 /// The code of a fault of the engine.
-fn code(fault: EngineFault) -> &'static str {
+fn code(fault: EngineFault) -> &'static str
+    ensures { result.now ≡ code_of fault }
+{
     match fault {
         EngineFault::Memory => "E1",
         EngineFault::NoThread => "E2",

@@ -19,8 +19,9 @@ pub struct Options {
 pub struct Summary {
     /// Whether a node failed, be it a test or a container.
     pub failed: bool,
-    /// Whether a step may have lacked memory. Where it is false after a plain run, none did, and the report is that of the one plain run that the plan has. A run on
-    /// several lanes doesn't tell, and has true; a request that runs no step has false.
+    /// Whether a step may have lacked something. After a plain run it speaks of memory alone. Where it is false no step lacked any, and the report is that of the one plain
+    /// run that the plan has; where it is true the report tells of a node that failed with `no memory`, or with further faults. After a run on several lanes it is what the
+    /// results tell (`ext_parallel::may_have_lacked`): where it is false, no step and no close lacked anything. A request that runs no step has false.
     pub lacked: bool,
 }
 

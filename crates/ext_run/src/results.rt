@@ -10,7 +10,7 @@ ghost use Rattle.ext_run.specs.InnerHelpers.{IsPlanFault};
 use crate::fault::RunFault;
 use crate::options::Options;
 use ext_lifecycle::{NodeResult, RunListener};
-use ext_parallel::parallel_results;
+use ext_parallel::{may_have_lacked, parallel_results};
 use ext_plain::run_plain;
 use ext_plan_reading::Plan;
 use ext_tree::Tree;
@@ -18,14 +18,14 @@ use std::alloc::{AllocError, Global};
 use std::sync::Wait;
 use std::thread::Threads;
 
-/// What is told of the nodes of a plan: a result for each, and whether a step may have lacked memory.
+/// What is told of the nodes of a plan: a result for each, and whether a step may have lacked memory, on several lanes also anything else.
 #[derive(Drop)]
 pub(crate) struct PlanResults {
     pub(crate) results: Vec<NodeResult>,
     pub(crate) lacked: bool,
 }
 
-/// One result for each node of a plan, by its plain run or by a run on several lanes, which doesn't tell whether a step lacked memory.
+/// One result for each node of a plan, by its plain run or by a run on several lanes, whose results tell whether a step may have lacked something.
 pub(crate) fn results_of<R: Threads + Wait + Sync, L: RunListener + Sync>(
     rt: &R,
     alloc: Global,
@@ -45,10 +45,10 @@ pub(crate) fn results_of<R: Threads + Wait + Sync, L: RunListener + Sync>(
         return Ok(plain_results(alloc, plan, tree, listener)?);
     }
     match parallel_results(rt, alloc, plan, options.lanes, listener) {
-        Ok(results) => Ok(PlanResults {
-            results,
-            lacked: true,
-        }),
+        Ok(results) => {
+            let lacked = may_have_lacked(results.as_slice());
+            Ok(PlanResults { results, lacked })
+        }
         Err(fault) => Err(RunFault::Engine(fault)),
     }
 }

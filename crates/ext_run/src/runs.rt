@@ -21,7 +21,7 @@ use std::io::{Read, Write};
 use std::sync::Wait;
 use std::thread::Threads;
 
-/// A report, whether a node failed, and whether a step may have lacked memory.
+/// A report, whether a node failed, and whether a step may have lacked something.
 #[derive(Debug, Drop)]
 struct Output {
     report: Vec<u8>,
@@ -34,10 +34,12 @@ struct Output {
 /// With `plain` the plan is run on this thread over the one-thread store: its plain run, which has one report where memory suffices. Else it is run on so
 /// many lanes, 1 to 16, each at most by one thread, over a store for several threads (`ext_parallel::parallel_results`). In either run a step for which memory
 /// is refused fails with `no memory`, and one that names a key beside 64 others that were named before with `directory full`. A plain run tells whether there was a step
-/// for which memory was refused (`Summary::lacked`): where there was none, its report is that of the one plain run that the plan has.
+/// for which memory was refused, and a run on several lanes whether a step may have lacked anything (`Summary::lacked`): where there was none, the report of a plain run is that
+/// of the one plain run that the plan has.
 ///
 /// Of a plan whose nodes don't get into each other's way a run on several lanes that lacks nothing tells of each node what the plain run does, but for the counts of
-/// computed and found values where nodes compute the same beside one another: `ext_same_report::report_laws` has the sentences, and what they ask of the plan.
+/// computed and found values where nodes compute the same beside one another: `ext_same_report::report_laws` has the sentences, and what they ask of the plan, and
+/// `told_lack_laws` that such a run is told as one.
 ///
 /// The input is read to its end, but at most 1,048,577 bytes of it, and the first read that fails ends the
 /// run. The whole report stands before its first byte is written; at last the writer is flushed.

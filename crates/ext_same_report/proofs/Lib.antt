@@ -44,4 +44,6 @@ pub mod SharedNodesTurns
 pub mod SharedTests
 pub mod SharedTestsOpen
 pub mod TestRooms
+pub mod ToldLacks
+pub mod ToldLacksOfNode
 pub mod Whole

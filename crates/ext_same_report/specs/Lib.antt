@@ -5,3 +5,4 @@ pub mod Levels
 pub mod OneReport
 pub mod SharedEvents
 pub mod SharedNodes
+pub mod ToldLacks

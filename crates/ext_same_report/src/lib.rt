@@ -3,7 +3,7 @@
 //! told of each node but for which of these values it computed and which it found; of a node that shares none exactly the same (`report_laws`).
 //!
 //! What is asked of the plan is `HasOneReport`, or `HasNearReport` (`specs/OneReport`), and what of the run is `LacksNothing` (`specs/FullRuns`): no call and no close wants
-//! memory, no number and no key is refused, and no value is not shown. What stands between, from the bottom up:
+//! memory, no number and no key is refused, and no value is not shown. That a run is such is told by its results (`told_lack_laws`). What stands between, from the bottom up:
 //!
 //! - `same_close_laws`: the close of a context leaves both runs alike, at places where the node's lanes are alone. Values may be closed in another order, as they draw their
 //!   numbers in another; no result tells it (`specs/Closes`).
@@ -23,9 +23,11 @@ mod report;
 mod shared_events;
 mod shared_nodes;
 mod shared_tests;
+mod told_lacks;
 
 pub use closing::same_close_laws;
 pub use report::report_laws;
 pub use shared_events::shared_event_laws;
 pub use shared_nodes::shared_node_laws;
 pub use shared_tests::shared_test_laws;
+pub use told_lacks::told_lack_laws;

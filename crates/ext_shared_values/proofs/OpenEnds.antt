@@ -16,7 +16,7 @@ use Rattle.ext_lifecycle.specs.declared.outcome.Outcome.{Outcome}
 use Rattle.ext_lifecycle.specs.FaultTexts.{verdict_text}
 use Rattle.ext_plan.specs.Plans.{KeyText, StepKeyText, StepText, put, put_closeable, want, nothing, remove, compute, compute_closeable, compute_fail, fail, abort}
 use Rattle.ext_plan.specs.StepCalls.{label_of, start_of}
-use Rattle.ext_plan.specs.Steps.{height}
+use Rattle.ext_plan.specs.Steps.{height, step_key}
 use Rattle.ext_plan.specs.StoreKeys.{key_of_step}
 use Rattle.ext_plan.specs.Values.{ValueText}
 use Rattle.ext_store_cells.specs.declared.fault.Refusal.{Refusal}
@@ -26,7 +26,7 @@ use Rattle.ext_plain.specs.ValueStates.{ValueState, value_of}
 use Rattle.ext_plain.specs.StepRuns.{StepEnd, step_run}
 use Rattle.ext_parallel.specs.Saying.{EndsRefused}
 use Rattle.ext_parallel.specs.StoreCalls.{HasFrame, PlanLane}
-use Rattle.ext_parallel.specs.StoreSteps.{StepComputes, StepRun, StepsRun, call_of}
+use Rattle.ext_parallel.specs.StoreSteps.{PlacesItsKey, StepComputes, StepRun, StepsRun, call_of}
 use Rattle.ext_plan_cells.specs.PlanCells.{changed_by}
 use Rattle.ext_one_report.specs.Calls.{AreComparedAll, StepFinds, StepHasRoom, StepWithin}
 use Rattle.ext_one_report.specs.Matching.{HasNumberIn, IsNumbered, Matches, Places, RunView, cell_of, plain_meaning, plain_slot}
@@ -90,7 +90,7 @@ values_stand s t v (Some (slot.Sealed kept)) more is = is
 
 module _ (near_stays : ComputingKeepsNear) (run : RunView) (keys : List KeyText) (path : List ℕ) (places : Places) (open_at : Open) (step : StepText) (a : PlanLane) (o : Outcome) (b : PlanLane) (s : ValueState)
     (both : AreBesideOpen run path places open_at a b s) (below : height step < length path) (within : StepWithin keys path places step) (leaves : LeavesAbove run keys path open_at step)
-    (finds : StepFinds keys o step) (room : StepHasRoom keys step s) (ran : StepRun run.store keys path step a o b) (frame : HasFrame run.store a b) where
+    (finds : StepFinds keys o step) (room : StepHasRoom keys step s) (ran : StepRun run.store keys path step a o b) (frame : HasFrame run.store a b) (placed : PlacesItsKey keys (step_key step) a b) where
   abbrev next : StepEnd
   next = step_run keys path step s
 
@@ -98,7 +98,7 @@ module _ (near_stays : ComputingKeepsNear) (run : RunView) (keys : List KeyText)
   changes = changed_place keys path (changed_by step)
 
   all : StepsRun run.store keys path (step ∷ []) a o b
-  all = single_run run.store keys path step a o b ran frame
+  all = single_run run.store keys path step a o b ran frame placed
 
   compared : AreComparedAll run keys path places (step ∷ []) a o b s
   compared = record {
@@ -220,7 +220,7 @@ module _ (run : RunView) (keys : List KeyText) (path : List ℕ) (a : PlanLane) 
 
 module _ (ends_near : OpenComputesEndNear) (run : RunView) (keys : List KeyText) (path : List ℕ) (places : Places) (open_at : Open) (step : StepText) (a : PlanLane) (o : Outcome) (b : PlanLane) (s : ValueState)
     (both : AreBesideOpen run path places open_at a b s) (below : height step < length path) (computes : ComputesOpen keys path open_at step)
-    (finds : StepFinds keys o step) (room : StepHasRoom keys step s) (ran : StepRun run.store keys path step a o b) (frame : HasFrame run.store a b) where
+    (finds : StepFinds keys o step) (room : StepHasRoom keys step s) (ran : StepRun run.store keys path step a o b) (frame : HasFrame run.store a b) (placed : PlacesItsKey keys (step_key step) a b) where
   abbrev here : Places
   here = place_of_step keys path step
 
@@ -257,7 +257,7 @@ module _ (ends_near : OpenComputesEndNear) (run : RunView) (keys : List KeyText)
           (name.0, subst (λ x. HasNumberIn run x name.0) (sym (same_place c k is).1) (number_stays b.keys run.numbering (key_of_step keys it.key) name.0 both.lane.keys name.1));
       stand = ended.stands;
       unchanged = ended.others;
-      untouched = λ c k n v off is has more now e there on. elsewhere run keys path step a o b both.view both.lane (single_run run.store keys path step a o b ran frame) c k n
+      untouched = λ c k n v off is has more now e there on. elsewhere run keys path step a o b both.view both.lane (single_run run.store keys path step a o b ran frame placed) c k n
           (λ changed. true≢false (sym (own_place c k changed) ∙ off)) has more now e there on;
     };
   }

@@ -11,7 +11,7 @@ use Rattle.ext_lifecycle.specs.Endings.{is_successful}
 use Rattle.ext_lifecycle.specs.FaultTexts.{verdict_text}
 use Rattle.ext_lifecycle.specs.Lifecycle.{ending_of}
 use Rattle.ext_plan.specs.Plans.{KeyText, StepText}
-use Rattle.ext_plan.specs.Steps.{height}
+use Rattle.ext_plan.specs.Steps.{height, step_key}
 use Rattle.ext_plan.specs.ReadPlans.{StayOnPath}
 use Rattle.ext_store.specs.Stores.{IsLaneOf}
 use Rattle.ext_engine.specs.Order.{LaneGoesOn}
@@ -19,7 +19,7 @@ use Rattle.ext_plain.specs.ValueStates.{ValueState}
 use Rattle.ext_plain.specs.StepRuns.{StepEnd, step_run, steps_run}
 use Rattle.ext_plain.proofs.Stepping.{steps_run-nil}
 use Rattle.ext_parallel.specs.StoreCalls.{HasFrame, PlanLane}
-use Rattle.ext_parallel.specs.StoreSteps.{StepRun, StepsRun}
+use Rattle.ext_parallel.specs.StoreSteps.{PlacesItsKey, StepRun, StepsRun}
 use Rattle.ext_one_report.specs.Calls.{StepFinds, StepHasRoom, StepsHaveRoom}
 use Rattle.ext_one_report.specs.Matching.{Places, RunView}
 use Rattle.ext_one_report.proofs.Calls.{all_first, all_later, finds_by, plain_goes, plain_stops, step_memory, steps_faults, steps_go, steps_lane, success_finds, told_so}
@@ -52,16 +52,16 @@ module _ (ends_near : OpenComputesEndNear) (stays : StandingStays) (near_stays :
 
   first_near : (places : Places) (open_at : Open) (step : StepText) (more : List StepText) (a : PlanLane) (o : Outcome) (b : PlanLane) (s : ValueState)
       → AreBesideOpen run path places open_at a b s → height step < length path → StepsFit run keys path places open_at (step ∷ more)
-      → StepFinds keys o step → StepHasRoom keys step s → StepRun run.store keys path step a o b → HasFrame run.store a b → FirstNear places open_at a s o b (step_run keys path step s) more
-  first_near places open_at step more a o b s both below (inl fits) finds room ran frame =
-      let near = within_near near_stays run keys path places open_at step a o b s both below fits.0 fits.1 finds room ran frame in
+      → StepFinds keys o step → StepHasRoom keys step s → StepRun run.store keys path step a o b → HasFrame run.store a b → PlacesItsKey keys (step_key step) a b → FirstNear places open_at a s o b (step_run keys path step s) more
+  first_near places open_at step more a o b s both below (inl fits) finds room ran frame placed =
+      let near = within_near near_stays run keys path places open_at step a o b s both below fits.0 fits.1 finds room ran frame placed in
       record { near = near; fits = fits_later run keys path both.path_is more places open_at near.left.settled both.beside fits.2 }
-  first_near places open_at step more a o b s both below (inr fits) finds room ran frame =
-      let near = computes_near ends_near run keys path places open_at step a o b s both below fits.0 finds room ran frame in
+  first_near places open_at step more a o b s both below (inr fits) finds room ran frame placed =
+      let near = computes_near ends_near run keys path places open_at step a o b s both below fits.0 finds room ran frame placed in
       record {
         near = near;
         fits = subst (λ (p : Places). StepsFit run keys path (also p places) (still_open p open_at) more)
-            (sym (computes_settled ends_near run keys path places open_at step a o b s both below fits.0 finds room ran frame)) fits.1;
+            (sym (computes_settled ends_near run keys path places open_at step a o b s both below fits.0 finds room ran frame placed)) fits.1;
       }
 
   -- ---- one step after another
@@ -81,7 +81,7 @@ module _ (ends_near : OpenComputesEndNear) (stays : StandingStays) (near_stays :
       let m = ran.1 in
       let next = step_run keys path step s in
       let below = all_first (λ x. height x < length path) step more heights in
-      let alone = single_run run.store keys path step a first m ran.2 ran.3 in
+      let alone = single_run run.store keys path step a first m ran.2 ran.3 ran.5 in
       elim (bools (is_successful (ending_of first.verdict))) [
         | inl on ↦
             let rest = ran.4.0 on in
@@ -89,7 +89,7 @@ module _ (ends_near : OpenComputesEndNear) (stays : StandingStays) (near_stays :
             let further : LaneGoesOn m b = steps_go run.store keys path more m rest.0 b rest.1 in
             let of : IsLaneOf run.store.id m = steps_lane run.store keys path (step ∷ []) a first m both.of alone in
             let one : FirstNear places open_at a s first m next more =
-            first_near places open_at step more a first m s (beside_first run path places open_at a m b s further both) below fits (success_finds keys step first on) room.0 ran.2 ran.3 in
+            first_near places open_at step more a first m s (beside_first run path places open_at a m b s further both) below fits (success_finds keys step first on) room.0 ran.2 ran.3 ran.5 in
             let passed : is_successful next.verdict ≡ true = ap is_successful (sym one.near.says) ∙ (told_so first.verdict ∙ on) in
             let faults : next.state.keep_faults ≡ s.keep_faults =
             subst (λ (e : StepEnd). e.state.keep_faults ≡ s.keep_faults) (single_is keys path step s both.memory) (steps_faults keys path (step ∷ []) s) in
@@ -105,7 +105,7 @@ module _ (ends_near : OpenComputesEndNear) (stays : StandingStays) (near_stays :
             let is = ran.4.1 off in
             let found : StepFinds keys first step = finds_by keys step o first (ap (λ (x : Outcome). x.verdict) is.0) (all_first (StepFinds keys o) step more finds) in
             let both_here : AreBesideOpen run path places open_at a m s = subst (λ (x : PlanLane). AreBesideOpen run path places open_at a x s) is.1 both in
-            let one : FirstNear places open_at a s first m next more = first_near places open_at step more a first m s both_here below fits found room.0 ran.2 ran.3 in
+            let one : FirstNear places open_at a s first m next more = first_near places open_at step more a first m s both_here below fits found room.0 ran.2 ran.3 ran.5 in
             let ended : is_successful next.verdict ≡ false = ap is_successful (sym one.near.says) ∙ (told_so first.verdict ∙ off) in
             subst (λ (end : StepEnd). Near run places open_at a s o b end) (sym (plain_stops keys path step more s both.memory ended))
             (subst (λ (x : Outcome). Near run places open_at a s x b next) (sym is.0) (subst (λ (x : PlanLane). Near run places open_at a s first x next) (sym is.1) one.near))

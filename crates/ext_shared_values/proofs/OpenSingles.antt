@@ -19,7 +19,7 @@ use Rattle.ext_lifecycle.specs.FaultTexts.{VerdictText}
 use Rattle.ext_lifecycle.specs.Lifecycle.{ending_of}
 use Rattle.ext_plan.specs.Plans.{KeyText, StepKeyText, StepText, put, put_closeable, want, nothing, remove, compute, compute_closeable, compute_fail, fail, abort}
 use Rattle.ext_plan.specs.StepCalls.{start_of}
-use Rattle.ext_plan.specs.Steps.{height}
+use Rattle.ext_plan.specs.Steps.{height, step_key}
 use Rattle.ext_plan.specs.StoreKeys.{key_of_step}
 use Rattle.ext_store.specs.Stores.{StoreView}
 use Rattle.ext_engine.specs.Order.{IsMadeBy}
@@ -27,7 +27,7 @@ use Rattle.ext_plain.specs.ValueStates.{ValueState}
 use Rattle.ext_plain.specs.StepRuns.{StepEnd, and_then, ended, step_run, steps_run}
 use Rattle.ext_plain.proofs.Stepping.{steps_run-nil}
 use Rattle.ext_parallel.specs.StoreCalls.{HasFrame, PlanLane}
-use Rattle.ext_parallel.specs.StoreSteps.{StepRun, StepsRun}
+use Rattle.ext_parallel.specs.StoreSteps.{PlacesItsKey, StepRun, StepsRun}
 use Rattle.ext_plan_cells.specs.PlanCells.{IsCellOf, changed_by}
 use Rattle.ext_plan_cells.proofs.Steps.{steps_on}
 use Rattle.ext_one_report.specs.Calls.{StepWithin}
@@ -79,10 +79,10 @@ verdict_is (verdicts.Aborted fault) is = absurd (cc is)
 verdict_is (verdicts.Failed fault) is = absurd (cc is)
 
 -- and on a lane
-pub single_run : (store : StoreView) (keys : List KeyText) (path : List ℕ) (step : StepText) (a : PlanLane) (o : Outcome) (b : PlanLane) → StepRun store keys path step a o b → HasFrame store a b
+pub single_run : (store : StoreView) (keys : List KeyText) (path : List ℕ) (step : StepText) (a : PlanLane) (o : Outcome) (b : PlanLane) → StepRun store keys path step a o b → HasFrame store a b → PlacesItsKey keys (step_key step) a b
     → StepsRun store keys path (step ∷ []) a o b
 unfolding StepsRun
-single_run store keys path step a o b ran frame = (
+single_run store keys path step a o b ran frame placed = (
   o,
   b,
   ran,
@@ -91,6 +91,7 @@ single_run store keys path step a o b ran frame = (
     λ on. (done, (refl, record { says = refl; computed_are = refl; found_are = refl }), record { verdict_is = verdict_is o.verdict on; computed_are = omega arith; found_are = omega arith }),
     λ off. (refl, refl),
   ),
+  placed,
 )
 
 -- ---- the place that a step may change

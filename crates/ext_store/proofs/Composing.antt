@@ -27,6 +27,7 @@ use Rattle.ext_store.specs.Computing.{ClaimsAndLooks, given_up_events, Fills, Fa
 use Rattle.ext_store_cells.specs.Claiming.{ClaimsFrom, ClaimsMissing}
 use Rattle.ext_store_cells.proofs.Parts.{happens_second, claims_first}
 use Rattle.ext_store_cells.proofs.Claimed.{StoresNone, claim_acts}
+use Rattle.ext_store.proofs.Outdrawn.{outdrawn_second}
 use Rattle.ext_store.proofs.Filling.{storing_none, filled_keeps, failed_keeps}
 use Rattle.ext_store.proofs.Frames.{frame_of, but_frame, frame_spares, frame_lane, frames_compose}
 
@@ -89,7 +90,8 @@ module _ (store : StoreView) (context : ℕ) (ancestors : List ℕ) (key claim :
           ),
         ),
       )
-  keeps_not fault.Contended u = let k = fails u.0 in (k.0, (k.1, crowded_by_second store.tries one u.0 u.1))
+  keeps_not fault.Contended u =
+      let k = fails u.0 in (k.0, (k.1, crowded_by_second store.tries one u.0 u.1, outdrawn_second limits store.tries a b c (Claim here ∷ []) (Abandon claim ∷ []) one u.0 u.2))
   keeps_not fault.Unplaced u = (
     looks (Keep u.0 ∷ Abandon claim ∷ []) u.1,
     (

@@ -46,9 +46,13 @@ same_fault back value a b e = ap (cause a) e
 pub keep_last : {V : Type 0} (tries : ℕ) (before after : Lane) (act : Act ℕ) (places : List ℕ) (value : V) (known learnt : List (Known V)) (drawn : Result ℕ CellRefusal) (r : Result ℕ (V × KeepFault))
     → MatchResult drawn (IsNumber places) IsOfCount → PlacesDrawn value drawn known learnt r → ComesLast cell.Contended tries before after act drawn → ComesLast (value, fault.Contended) tries before after act r
 keep_last tries before after act places value known learnt drawn (Ok number) fits placed last e = absurd (cc e)
-keep_last tries before after act places value known learnt (Ok number) (Err (back, why)) fits placed last e = let not : fault.Unplaced ≡ fault.Contended = sym placed.2 ∙ same_fault back value why fault.Contended e in absurd (cc not)
-keep_last tries before after act places value known learnt (Err refused) (Err (back, why)) fits placed last e = last (ap Err (of_count refused fits (sym placed.2 ∙ same_fault back value why fault.Contended e)))
+keep_last tries before after act places value known learnt (Ok number) (Err (back, why)) fits placed last e = let not : fault.Unplaced ≡ fault.Contended = sym placed.1.0 ∙ same_fault back value why fault.Contended e in absurd (cc not)
+keep_last tries before after act places value known learnt (Err refused) (Err (back, why)) fits placed last e = last (ap Err (of_count refused fits (sym placed.1.0 ∙ same_fault back value why fault.Contended e)))
 
 -- want of memory is another answer
 pub unkept_last : {V : Type 0} (tries : ℕ) (before after : Lane) (act : Act ℕ) (value back : V) → (let r : Result ℕ (V × KeepFault) = Err (back, fault.Memory) in ComesLast (value, fault.Contended) tries before after act r)
 unkept_last tries before after act value back e = let not : fault.Memory ≡ fault.Contended = same_fault back value fault.Memory fault.Contended e in absurd (cc not)
+
+-- what was handed back with a cause is what was handed in with it
+pub refused_as : {V : Type 0} (back value : V) (why cause : KeepFault) → back ≡ value → why ≡ cause → (let x : Result ℕ (V × KeepFault) = Err (back, why) in let y : Result ℕ (V × KeepFault) = Err (value, cause) in x ≡ y)
+refused_as back value why cause same is = λ i. Err (same i, is i)

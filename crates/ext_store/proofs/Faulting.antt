@@ -16,7 +16,7 @@ use Rattle.ext_history.proofs.Legal.{legal_prefix, legal_begun}
 use Rattle.ext_history.proofs.Composed.{answer_point, point_legal}
 use Rattle.ext_model.proofs.Numbers.{bounded}
 use Rattle.ext_tree.proofs.KeyPlacing.{keeps_all}
-use Rattle.ext_values.specs.Known.{Known, KeepsKnown, known_at, places_of}
+use Rattle.ext_values.specs.Known.{Known, KeepsKnown, LearnsOne, known_at, places_of}
 use Rattle.ext_cells.specs.declared.refusal.CellRefusal.{CellRefusal}
 use Rattle.ext_cells.specs.Lanes.{Lane}
 use Rattle.ext_cells.specs.CellCalls as cells
@@ -30,25 +30,12 @@ use Rattle.ext_store.specs.declared.fault.KeepFault.{KeepFault}
 use Rattle.ext_store.specs.declared.fault.KeepFault.TheVariants.{Memory, Unplaced}
 use Rattle.ext_store.specs.declared.computed.Compute.{Compute}
 use Rattle.ext_store.specs.Stores.{StoreView, StoreLane, IsKeptBy, IsLaneOf, StillKeeps, context_cells}
-use Rattle.ext_store.specs.LaneCalls.{Frame, HoldsAtPoint, reply_to, KeepFails, KeepsFault, KeepsNoFault}
+use Rattle.ext_store.specs.LaneCalls.{Frame, KeepFails, KeepsFault, KeepsNoFault, KnowsUnkept}
 use Rattle.ext_store.specs.Computing.{ClaimsMissing, IsFaultless, IsFaultlessUnused, with_factory}
 use Rattle.ext_store.specs.InnerKeeping.{keep_fault, IsPlaced, PlacesDrawn}
 use Rattle.ext_store.proofs.Keeping.{quiet_keeps, unplaced_keeps, drew, drew_none}
+use Rattle.ext_store.proofs.NewDraws.{drawn_apart, draws_new, knows_undrawn}
 use Rattle.ext_store.proofs.Frames.{framed, no_frame}
-
--- ---- a number that is drawn now is none that the lane had drawn before
-
-pub drawn_apart : (a b : Lane) (n m : ℕ) → HoldsAtPoint a b (Keep n ∷ []) (λ p. reply_to a (Keep n) p ≡ events.Happens (Some n)) → MayStoreNow a.view m → m ≢ n
-drawn_apart a b n m h now e =
-    let p : History = h.point.0 in
-    let seen : seen_by b.view ≡ p ++ by a.view.number (Keep n) ∷ [] = h.point.1.1 in
-    let legal : IsLegal a.cells.limits (p ++ by a.view.number (Keep n) ∷ []) = subst (IsLegal a.cells.limits) seen h.calls.legal in
-    let there : Contains (seen_by a.view) (by a.view.number (Keep m)) = contains_from_filter (λ (x : Event ℕ). x.lane == a.view.number) (seen_by a.view) (by a.view.number (Keep m)) now.drew in
-    let since = h.point.1.0 in
-    let in_p : Contains p (by a.view.number (Keep m)) = subst (λ z. Contains z (by a.view.number (Keep m))) since.1 (Contains-append_left (seen_by a.view) since.0 (by a.view.number (Keep m)) there) in
-    let least : m ≤ (state_after p).drawn = (bounded p (legal_prefix p (by a.view.number (Keep n) ∷ []) legal)).kept a.view.number m in_p in
-    let next : n ≡ (state_after p).drawn + 1 = (legal.each p (by a.view.number (Keep n)) [] refl).next in
-    absurd (omega (arith, least, next, e))
 
 -- ---- keeping a fault
 
@@ -85,27 +72,27 @@ module _ {V : Type 0} (store : StoreView) (tries : ℕ) (same : tries ≡ store.
         frame = framed store.id a b mine (own_lane is_placed.learnt.places) (λ n v known. known) is_placed.known (keeps_all a.keys) (Keep number ∷ []) drawn.calls (unplaced_keeps a.cells.cells.limits a b number drawn.calls refl);
       }
 
-  module _ (back : Fault) (handed : back ≡ why) (still : notes ≡ a.faults) where
-    nothing : (acts : List (Act ℕ)) → Calls a.cells.cells.limits a.cells.view after.view acts → StillKeeps a b → (cause : KeepFault) → KeepFails store a.cells after cause → FaultParts store why a b (Err (back, cause))
-    nothing acts calls keeps cause fails =
-        let knows : KeepsKnown a.faults notes = λ number v known. ap (λ l. known_at l number) still ∙ known in
-        record {
-          answer = record { handed_back = handed; faults = still; fails = fails };
-          known = refl;
-          apart = tt;
-          frame = framed store.id a b mine (own_lane (ap (λ l. places_of l) still)) (λ n v known. known) knows (keeps_all a.keys) acts calls keeps;
-        }
+  module _ (back : Fault) (handed : back ≡ why) where
+    nothing : (acts : List (Act ℕ)) → Calls a.cells.cells.limits a.cells.view after.view acts → StillKeeps a b → places_of notes ≡ places_of a.faults → KeepsKnown a.faults notes → (cause : KeepFault) → KeepFails store a.cells after cause
+        → KnowsUnkept a.cells.view after.view a.faults notes cause → FaultParts store why a b (Err (back, cause))
+    nothing acts calls keeps places knows cause fails learnt = record {
+      answer = record { handed_back = handed; faults = learnt; fails = fails };
+      known = refl;
+      apart = tt;
+      frame = framed store.id a b mine (own_lane places) (λ n v known. known) knows (keeps_all a.keys) acts calls keeps;
+    }
 
-    unplaced : (number : ℕ) → cells.Answers tries a.cells after cells.number_acts (cells.number_reply a.cells) (Ok number) → FaultParts store why a b (Err (back, Unplaced))
+    unplaced : (number : ℕ) → cells.Answers tries a.cells after cells.number_acts (cells.number_reply a.cells) (Ok number) → LearnsOne a.faults notes number → KeepsKnown a.faults notes → FaultParts store why a b (Err (back, Unplaced))
     unfolding KeepFails
-    unplaced number answers =
+    unplaced number answers stands knows =
         let drawn = drew store tries a.cells after same number answers in
-        nothing (Keep number ∷ []) drawn.calls (unplaced_keeps a.cells.cells.limits a b number drawn.calls refl) Unplaced (number, drawn)
+        nothing (Keep number ∷ []) drawn.calls (unplaced_keeps a.cells.cells.limits a b number drawn.calls refl) stands.1.places knows Unplaced (number, drawn) (number, draws_new a.cells after number drawn, stands)
 
-    undrawn : (cause : CellRefusal) → cells.Answers tries a.cells after cells.number_acts (cells.number_reply a.cells) (Err cause) → FaultParts store why a b (Err (back, keep_fault cause))
-    undrawn cause answers =
+    undrawn : (cause : CellRefusal) → cells.Answers tries a.cells after cells.number_acts (cells.number_reply a.cells) (Err cause) → notes ≡ a.faults → FaultParts store why a b (Err (back, keep_fault cause))
+    undrawn cause answers still =
         let quiet = drew_quiet tries a.cells after cause answers in
-        nothing [] quiet (quiet_keeps a.cells.cells.limits a b quiet refl) (keep_fault cause) (drew_none store tries a.cells after same cause answers)
+        nothing [] quiet (quiet_keeps a.cells.cells.limits a b quiet refl) (ap (λ l. places_of l) still) (λ number v known. ap (λ l. known_at l number) still ∙ known) (keep_fault cause) (drew_none store tries a.cells after same cause answers)
+        (knows_undrawn a.cells after a.faults notes cause still)
 
   by_drawn : (drawn : Result ℕ CellRefusal) → cells.Answers tries a.cells after cells.number_acts (cells.number_reply a.cells) drawn → IfOk drawn (MayStoreNow after.view)
       → (r : Result ℕ (Fault × KeepFault)) → PlacesDrawn why drawn a.faults notes r → FaultParts store why a b r
@@ -113,8 +100,8 @@ module _ {V : Type 0} (store : StoreView) (tries : ℕ) (same : tries ≡ store.
       let e : n ≡ number = cc p.0 in
       placed number (subst (λ k. cells.Answers tries a.cells after cells.number_acts (cells.number_reply a.cells) (Ok k)) e answers) (subst (MayStoreNow after.view) e storable) p.1
   by_drawn (Err cause) answers storable (Ok number) p = absurd (cc p.0)
-  by_drawn (Ok n) answers storable (Err (back, cause)) p = subst (λ w. FaultParts store why a b (Err (back, w))) (sym p.2) (unplaced back p.0 p.1 n answers)
-  by_drawn (Err refused) answers storable (Err (back, cause)) p = subst (λ w. FaultParts store why a b (Err (back, w))) (sym p.2) (undrawn back p.0 p.1 refused answers)
+  by_drawn (Ok n) answers storable (Err (back, cause)) p = subst (λ w. FaultParts store why a b (Err (back, w))) (sym p.1.0) (unplaced back p.0 n answers p.1.1 p.1.2)
+  by_drawn (Err refused) answers storable (Err (back, cause)) p = subst (λ w. FaultParts store why a b (Err (back, w))) (sym p.1.0) (undrawn back p.0 refused answers p.1.1)
 
 -- the same for a lane as the caller has it
 pub fault_by_drawn : {V : Type 0} (store : StoreView) (tries : ℕ) → tries ≡ store.tries → (why : Fault) (inside before : StoreLane V) → inside ≡ before → IsLaneOf store.id before

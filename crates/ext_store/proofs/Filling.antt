@@ -14,6 +14,7 @@ use Rattle.ext_model.proofs.Composed.{calls_compose}
 use Rattle.ext_model.proofs.Held.{claim_held}
 use Rattle.ext_values.specs.Known.{known_at}
 use Rattle.ext_cells.specs.Lanes.{CellsId, Lane}
+use Rattle.ext_cells.specs.CellCalls.{IsOvertakenAt}
 use Rattle.ext_store.specs.declared.fault.KeepFault.{KeepFault}
 use Rattle.ext_store.specs.declared.fault.KeepFault.TheVariants as fault
 use Rattle.ext_store.specs.Stores.{StoreView, StoreLane, IsKeptBy, StillKeeps}
@@ -22,6 +23,7 @@ use Rattle.ext_store.specs.LaneCalls.{KeepFails}
 use Rattle.ext_store.specs.Computing.{Fills, Fails, IsUnkept}
 use Rattle.ext_store_cells.proofs.Claimed.{StoresNone}
 use Rattle.ext_store.proofs.Keeping.{one_kept}
+use Rattle.ext_store.proofs.Outdrawn.{outdrawn, outdrawn_first}
 use Rattle.ext_store_cells.proofs.Parts.{happens_first, happens_alone}
 
 -- what a lane keeps it keeps on, while its calls store nothing,
@@ -88,10 +90,10 @@ module _ (store : StoreView) (a b : Lane) (is : a.cells ≡ store.id.cells) (cel
       drawn = happens_first limits a.view b.view c.view (Keep number ∷ []) (Fail cell number ∷ []) one.calls two [] (Keep number) (Some number) (happens_alone limits a.view b.view (Keep number) (Some number) one);
     }
 
-    pub unkept : (why : KeepFault) → KeepFails store a b why → Calls store.id.cells.limits b.view c.view (Abandon cell ∷ []) → IsUnkept store.id.cells.limits store.tries [] cell a.view c.view why
+    pub unkept : (why : KeepFault) → KeepFails store a b why → (why ≡ fault.Contended → IsOvertakenAt store.tries a b (Keep 0)) → Calls store.id.cells.limits b.view c.view (Abandon cell ∷ []) → IsUnkept store.id.cells.limits store.tries [] cell a.view c.view why
     unfolding IsUnkept KeepFails
-    unkept fault.Memory h two = subst (λ (l : Lane). Calls limits l.view c.view (Abandon cell ∷ [])) h two
-    unkept fault.NumbersFull h two =
+    unkept fault.Memory h last two = subst (λ (l : Lane). Calls limits l.view c.view (Abandon cell ∷ [])) h two
+    unkept fault.NumbersFull h last two =
         let full : HoldsAtPoint limits a.view b.view [] (λ p. reply_after limits p a.view.number (Keep 0) ≡ events.Refuses events.NumbersFull) =
         subst (λ (z : CellsId). HoldsAtPoint z.limits a.view b.view [] (λ p. reply_after z.limits p a.view.number (Keep 0) ≡ events.Refuses events.NumbersFull)) is h in (
           calls_compose limits a.view b.view c.view [] (Abandon cell ∷ []) full.calls two,
@@ -101,12 +103,13 @@ module _ (store : StoreView) (a b : Lane) (is : a.cells ≡ store.id.cells) (cel
             full.point.2,
           ),
         )
-    unkept fault.Contended h two =
+    unkept fault.Contended h last two =
         let over : IsOvertaken limits store.tries a.view b.view = subst (λ (z : CellsId). IsOvertaken z.limits store.tries a.view b.view) is h in (
           calls_compose limits a.view b.view c.view [] (Abandon cell ∷ []) over.calls two,
           crowded_by_first store.tries over.calls two (overtaken_crowded store.tries over),
+          outdrawn_first limits store.tries a.view b.view c.view [] (Abandon cell ∷ []) over.calls two (outdrawn limits store.tries a b [] (ap (λ (z : CellsId). z.limits) is) over.calls (last refl)),
         )
-    unkept fault.Unplaced h two =
+    unkept fault.Unplaced h last two =
         let one = drew h.0 h.1 in (
           h.0,
           calls_compose limits a.view b.view c.view (Keep h.0 ∷ []) (Abandon cell ∷ []) one.calls two,

@@ -61,11 +61,14 @@ module _ {V : Type 0} (limits : Limits) (before after : StoreLane V) where
   pub unplaced_keeps : (drawn : ℕ) → Calls limits before.cells.view after.cells.view (Keep drawn ∷ []) → after.known ≡ before.known → StillKeeps before after
   unplaced_keeps drawn calls same = (λ number kept. one_kept (Keep drawn ∷ []) number calls (All-cons (StoresNot number) (Keep drawn) [] (λ e. cc e) (All-nil (StoresNot number))) (ap (λ k. known_at k number) same) kept)
 
-  -- and after one that drew another, whose value the lane didn't know and knows now
+  -- and after one that drew another, of which the lane knows a value now,
+  pub found_keeps : (drawn : ℕ) (value : V) → Calls limits before.cells.view after.cells.view (Keep drawn ∷ []) → Learns before.known after.known drawn value → ((m : ℕ) → IsKeptBy before m → m ≢ drawn) → StillKeeps before after
+  found_keeps drawn value calls learns apart = (λ number kept.
+      one_kept (Keep drawn ∷ []) number calls (All-cons (StoresNot number) (Keep drawn) [] (λ e. cc e) (All-nil (StoresNot number))) (learns.others number (apart number kept)) kept)
+
+  -- as where it knew none before
   pub learnt_keeps : (drawn : ℕ) (value : V) → Calls limits before.cells.view after.cells.view (Keep drawn ∷ []) → Learns before.known after.known drawn value → known_at before.known drawn ≡ None → StillKeeps before after
-  learnt_keeps drawn value calls learns free = (λ number kept.
-      one_kept (Keep drawn ∷ []) number calls (All-cons (StoresNot number) (Keep drawn) [] (λ e. cc e) (All-nil (StoresNot number)))
-      (learns.others number (λ same. not_both _ kept.value (ap (λ m. known_at before.known m) (sym same) ∙ kept.known) free)) kept)
+  learnt_keeps drawn value calls learns free = found_keeps drawn value calls learns (λ number kept same. not_both _ kept.value (ap (λ m. known_at before.known m) (sym same) ∙ kept.known) free)
 
 -- none where there was no call
 pub no_steps : (lane : Lane) (most : ℕ) → steps_of lane lane ≤ most

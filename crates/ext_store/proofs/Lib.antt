@@ -10,5 +10,7 @@ pub mod Uncalled
 pub mod Filling
 pub mod Composing
 pub mod Waited
+pub mod NewDraws
+pub mod Outdrawn
 pub mod Faulting
 pub mod Contended

@@ -1,8 +1,8 @@
 -- What a call by a key says, from what its key's number was given and what the call by that number says.
 use Rattle.std.proofs.Common.{◌≡◌, ◌≤◌, inl, inr, ℕ, List, sym, subst, ◌∙◌}
-use Rattle.std.specs.Prelude.{Result, Ok, Err, MatchResult}
+use Rattle.std.specs.Prelude.{Option, Some, Result, Ok, Err, MatchResult}
 use Rattle.ext_model.specs.declared.look.Fault.{Fault}
-use Rattle.ext_tree.specs.Keys.{KeyValue, IsKeyNumber, KeepsKeys}
+use Rattle.ext_tree.specs.Keys.{KeyValue, KnownPlace, IsKeyNumber, KeepsKeys, PlacesOnly}
 use Rattle.ext_tree.specs.declared.key_fault.KeyFault.{KeyFault}
 use Rattle.ext_tree.specs.declared.key_fault.KeyFault.TheVariants as fault
 use Rattle.ext_tree.proofs.KeyPlacing.{number_stays}
@@ -12,8 +12,9 @@ use Rattle.ext_store_cells.specs.declared.fault.Refusal.{Refusal}
 use Rattle.ext_store.specs.declared.computed.Compute.{Compute}
 use Rattle.ext_store.specs.declared.computed.Compute.TheVariants.{Computed, Found, Failed, FaultKept, FaultUnkept, FaultStands, Unkept, Refused}
 use Rattle.ext_store.specs.Stores.{StoreId, StoreLane, IsKeptBy, StillKeeps, StillKeepsBut}
-use Rattle.ext_store.specs.LaneCalls.{Frame, steps_of, IsKeyRefused, OfKey, key_refusal}
+use Rattle.ext_store.specs.LaneCalls.{Frame, steps_of, IsKeyRefused, KnowsUnkept, OfKey, key_refusal}
 use Rattle.ext_store.specs.Computing.{IfComputed, Uses}
+use Rattle.ext_store.proofs.NewDraws.{GoesOnTo, knows_since}
 use Rattle.ext_store.specs.Waiting.{IsDecided}
 use Rattle.ext_store.proofs.Keeping.{no_steps}
 
@@ -21,6 +22,14 @@ use Rattle.ext_store.proofs.Keeping.{no_steps}
 pub frame_keys : {V : Type 0} (id : StoreId) (stored : List ℕ) (a b : StoreLane V) → Frame id stored a b → KeepsKeys a.keys b.keys
 unfolding Frame
 frame_keys id stored a b frame = frame.keys
+
+-- where two keys are there, they are one
+pub one_key : (a b : KeyValue) → (let x : Option KeyValue = Some a in let y : Option KeyValue = Some b in x ≡ y) → a ≡ b
+one_key a b e = cc e
+
+-- a call by a number puts no key at a place
+pub placed_still : (key : KeyValue) (a b c : List KnownPlace) → PlacesOnly key a b → c ≡ b → PlacesOnly key a c
+placed_still key a b c places same = subst (λ l. PlacesOnly key a l) (sym same) places
 
 -- a lane before the call, when its key was numbered, and after the call by that number
 module _ {V : Type 0} (a b c : StoreLane V) (still : b.cells ≡ a.cells) where
@@ -40,16 +49,16 @@ module _ {V : Type 0} (a b c : StoreLane V) (still : b.cells ≡ a.cells) where
   apart_later (Unkept value cause) keeps apart = tt
   apart_later (Refused why unused) keeps apart = tt
 
--- and what a compute learnt, where the numbering of its key taught the lane nothing of values and of faults
-module _ {V : Type 0} (Gives : Result V Fault → Type 0) (a b c : StoreLane V) (same : b.known ≡ a.known) (also : b.faults ≡ a.faults) where
+-- and what a compute learnt, where what came before taught the lane nothing of values and of faults
+module _ {V : Type 0} (Gives : Result V Fault → Type 0) (a b c : StoreLane V) (on : GoesOnTo a.cells.view b.cells.view) (same : b.known ≡ a.known) (also : b.faults ≡ a.faults) where
   pub uses_later : (r : Compute V (Unit {0})) → Uses Gives b c r → Uses Gives a c r
   uses_later (Computed number) u = (u.0, u.1, subst (λ l. Learns l c.known number u.0) same u.2, u.3 ∙ also)
   uses_later (Found at number unused) u = (u.0 ∙ same, u.1 ∙ also)
   uses_later (Failed why) u = (u.0, u.1 ∙ same, u.2 ∙ also)
   uses_later (FaultKept number) u = (u.0, u.1, u.2 ∙ same, subst (λ l. Learns l c.faults number u.0) also u.3)
-  uses_later (FaultUnkept why cause) u = (u.0, u.1 ∙ same, u.2 ∙ also)
+  uses_later (FaultUnkept why cause) u = (u.0, u.1 ∙ same, subst (λ l. KnowsUnkept a.cells.view c.cells.view l c.faults cause) also (knows_since a.cells.view b.cells.view c.cells.view b.faults c.faults cause on u.2))
   uses_later (FaultStands at number unused) u = (u.0 ∙ same, u.1 ∙ also)
-  uses_later (Unkept value cause) u = (u.0, u.1 ∙ same, u.2 ∙ also)
+  uses_later (Unkept value cause) u = (u.0, subst (λ l. KnowsUnkept a.cells.view c.cells.view l c.known cause) same (knows_since a.cells.view b.cells.view c.cells.view b.known c.known cause on u.1), u.2 ∙ also)
   uses_later (Refused why unused) u = (u.0 ∙ same, u.1 ∙ also)
 
 -- where the key got no number

@@ -6,7 +6,7 @@ use Rattle.ext_model.specs.declared.event.Act.TheVariants.{Keep}
 use Rattle.ext_model.specs.CallActs.{Calls, MayStoreNow}
 use Rattle.ext_tree.proofs.KeyPlacing.{keeps_all}
 use Rattle.ext_values.specs.Places.{IsNumber}
-use Rattle.ext_values.specs.Known.{Known, KeepsKnown, known_at, places_of}
+use Rattle.ext_values.specs.Known.{Known, KeepsKnown, LearnsOne, known_at, places_of}
 use Rattle.ext_cells.specs.declared.refusal.CellRefusal.{CellRefusal}
 use Rattle.ext_cells.specs.declared.refusal.CellRefusal.TheVariants as cell
 use Rattle.ext_cells.specs.Lanes.{Lane}
@@ -14,10 +14,11 @@ use Rattle.ext_cells.specs.CellCalls as cells
 use Rattle.ext_store.specs.declared.fault.KeepFault.{KeepFault}
 use Rattle.ext_store.specs.declared.fault.KeepFault.TheVariants.{Memory, Unplaced}
 use Rattle.ext_store.specs.Stores.{StoreView, StoreLane, IsKeptBy, IsLaneOf, StillKeeps}
-use Rattle.ext_store.specs.LaneCalls.{Frame, KeepFails, KeepsAs, KeepsNothing}
+use Rattle.ext_store.specs.LaneCalls.{Frame, KeepFails, KeepsAs, KeepsNothing, KnowsUnkept}
 use Rattle.ext_store.specs.Waiting.{IsDecidedFault}
 use Rattle.ext_store.specs.InnerKeeping.{IsOfCount, keep_fault, IsPlaced, PlacesDrawn}
-use Rattle.ext_store.proofs.Keeping.{quiet_keeps, unplaced_keeps, learnt_keeps, drew, drew_number, drew_none, not_both}
+use Rattle.ext_store.proofs.Keeping.{quiet_keeps, found_keeps, learnt_keeps, drew, drew_number, drew_none, not_both}
+use Rattle.ext_store.proofs.NewDraws.{drawn_apart, draws_new, knows_undrawn}
 use Rattle.ext_store_cells.proofs.Events.{drew_quiet}
 use Rattle.ext_store.proofs.Frames.{framed, no_frame}
 use Rattle.ext_store.proofs.Refused.{draw_refusal}
@@ -66,13 +67,13 @@ module _ {V : Type 0} (store : StoreView) (tries : ℕ) (same : tries ≡ store.
         frame = framed store.id a b mine mine_still is_placed.known (λ number v known. known) (keeps_all a.keys) (Keep number ∷ []) drawn.calls keeps;
       }
 
-  module _ (back : V) (handed : back ≡ value) (still : notes ≡ a.known) where
-    nothing : (acts : List (Act ℕ)) → Calls a.cells.cells.limits a.cells.view after.view acts → StillKeeps a b → (why : KeepFault) → KeepFails store a.cells after why → KeepParts store value a b (Err (back, why))
-    nothing acts calls keeps why fails =
-        let mine_still = own (ap (λ l. places_of l) still) in
-        let knows : KeepsKnown a.known notes = λ number v known. ap (λ l. known_at l number) still ∙ known in
+  module _ (back : V) (handed : back ≡ value) where
+    nothing : (acts : List (Act ℕ)) → Calls a.cells.cells.limits a.cells.view after.view acts → StillKeeps a b → places_of notes ≡ places_of a.known → KeepsKnown a.known notes → (why : KeepFault) → KeepFails store a.cells after why
+        → KnowsUnkept a.cells.view after.view a.known notes why → KeepParts store value a b (Err (back, why))
+    nothing acts calls keeps places knows why fails learnt =
+        let mine_still = own places in
         record {
-          answer = record { handed_back = handed; known = still; fails = fails };
+          answer = record { handed_back = handed; known = learnt; fails = fails };
           lane = mine_still;
           known = knows;
           faults = refl;
@@ -81,16 +82,18 @@ module _ {V : Type 0} (store : StoreView) (tries : ℕ) (same : tries ≡ store.
           frame = framed store.id a b mine mine_still knows (λ number v known. known) (keeps_all a.keys) acts calls keeps;
         }
 
-    unplaced : (number : ℕ) → cells.Answers tries a.cells after cells.number_acts (cells.number_reply a.cells) (Ok number) → KeepParts store value a b (Err (back, Unplaced))
+    unplaced : (number : ℕ) → cells.Answers tries a.cells after cells.number_acts (cells.number_reply a.cells) (Ok number) → LearnsOne a.known notes number → KeepsKnown a.known notes → KeepParts store value a b (Err (back, Unplaced))
     unfolding KeepFails
-    unplaced number answers =
+    unplaced number answers stands knows =
         let drawn = drew store tries a.cells after same number answers in
-        nothing (Keep number ∷ []) drawn.calls (unplaced_keeps a.cells.cells.limits a b number drawn.calls still) Unplaced (number, drawn)
+        let keeps = found_keeps a.cells.cells.limits a b number stands.0 drawn.calls stands.1 (λ m kept. drawn_apart a.cells after number m drawn kept.storable) in
+        nothing (Keep number ∷ []) drawn.calls keeps stands.1.places knows Unplaced (number, drawn) (number, draws_new a.cells after number drawn, stands)
 
-    undrawn : (why : CellRefusal) → cells.Answers tries a.cells after cells.number_acts (cells.number_reply a.cells) (Err why) → KeepParts store value a b (Err (back, keep_fault why))
-    undrawn why answers =
+    undrawn : (why : CellRefusal) → cells.Answers tries a.cells after cells.number_acts (cells.number_reply a.cells) (Err why) → notes ≡ a.known → KeepParts store value a b (Err (back, keep_fault why))
+    undrawn why answers still =
         let quiet = drew_quiet tries a.cells after why answers in
-        nothing [] quiet (quiet_keeps a.cells.cells.limits a b quiet still) (keep_fault why) (drew_none store tries a.cells after same why answers)
+        nothing [] quiet (quiet_keeps a.cells.cells.limits a b quiet still) (ap (λ l. places_of l) still) (λ number v known. ap (λ l. known_at l number) still ∙ known) (keep_fault why) (drew_none store tries a.cells after same why answers)
+        (knows_undrawn a.cells after a.known notes why still)
 
   by_drawn : (drawn : Result ℕ CellRefusal) → cells.Answers tries a.cells after cells.number_acts (cells.number_reply a.cells) drawn → IfOk drawn (MayStoreNow after.view)
       → (r : Result ℕ (V × KeepFault)) → PlacesDrawn value drawn a.known notes r → KeepParts store value a b r
@@ -98,8 +101,8 @@ module _ {V : Type 0} (store : StoreView) (tries : ℕ) (same : tries ≡ store.
       let e : n ≡ number = cc p.0 in
       placed number (subst (λ k. cells.Answers tries a.cells after cells.number_acts (cells.number_reply a.cells) (Ok k)) e answers) (subst (MayStoreNow after.view) e storable) p.1
   by_drawn (Err why) answers storable (Ok number) p = absurd (cc p.0)
-  by_drawn (Ok n) answers storable (Err (back, why)) p = subst (λ w. KeepParts store value a b (Err (back, w))) (sym p.2) (unplaced back p.0 p.1 n answers)
-  by_drawn (Err refused) answers storable (Err (back, why)) p = subst (λ w. KeepParts store value a b (Err (back, w))) (sym p.2) (undrawn back p.0 p.1 refused answers)
+  by_drawn (Ok n) answers storable (Err (back, why)) p = subst (λ w. KeepParts store value a b (Err (back, w))) (sym p.1.0) (unplaced back p.0 n answers p.1.1 p.1.2)
+  by_drawn (Err refused) answers storable (Err (back, why)) p = subst (λ w. KeepParts store value a b (Err (back, w))) (sym p.1.0) (undrawn back p.0 refused answers p.1.1)
 
 -- the same for a lane as the caller has it
 pub kept_by_drawn : {V : Type 0} (store : StoreView) (tries : ℕ) → tries ≡ store.tries → (value : V) (inside before : StoreLane V) → inside ≡ before → IsLaneOf store.id before
@@ -120,8 +123,8 @@ drawn_fits store tries same before after (Err why) answers places numbers = draw
 pub decided_by_drawn : {V : Type 0} (places : List ℕ) (value : V) (drawn : Result ℕ CellRefusal) (before after : List (Known V)) (r : Result ℕ (V × KeepFault)) → drawn ≢ Err cell.Contended → MatchResult drawn (IsNumber places) IsOfCount
     → PlacesDrawn value drawn before after r → IfErr r (λ e. IsDecidedFault e.1)
 decided_by_drawn places value drawn before after (Ok number) ne fits p = tt
-decided_by_drawn places value (Ok n) before after (Err (back, why)) ne fits p = subst IsDecidedFault (sym p.2) tt
-decided_by_drawn places value (Err cell.NumbersFull) before after (Err (back, why)) ne fits p = subst IsDecidedFault (sym p.2) tt
+decided_by_drawn places value (Ok n) before after (Err (back, why)) ne fits p = subst IsDecidedFault (sym p.1.0) tt
+decided_by_drawn places value (Err cell.NumbersFull) before after (Err (back, why)) ne fits p = subst IsDecidedFault (sym p.1.0) tt
 decided_by_drawn places value (Err cell.Contended) before after (Err (back, why)) ne fits p = absurd (ne refl)
 decided_by_drawn places value (Err cell.Busy) before after (Err (back, why)) ne fits p = absurd fits
 decided_by_drawn places value (Err cell.Closed) before after (Err (back, why)) ne fits p = absurd fits

@@ -3,13 +3,14 @@
 -- context's cell is claimed first and the ancestors are looked at again, and what is refused, are own rules. `Claiming` of ext_store_cells has the words for that.
 -- `before` and `after` are the lane before and after the call; `first` are the events that the call made before the part that a definition speaks of. `Computes` and
 -- `Uses` are for a result without its factory, so that they can be said where the factory's type is not known.
-use Rattle.std.specs.Prelude.{ℕ, ◌≡◌, IsFalse, IsTrue, List, [], ◌∷◌, ◌++◌, Some, Result, Ok, Err}
+use Rattle.std.specs.Prelude.{ℕ, ◌≡◌, ◌+◌, ◌≤◌, Option, IsFalse, IsTrue, List, [], ◌∷◌, ◌++◌, Some, Result, Ok, Err}
 use Rattle.ext_model.specs.declared.event.Act.{Act}
 use Rattle.ext_model.specs.declared.event.Act.TheVariants.{Keep, Claim, Fill, Fail, Abandon}
 use Rattle.ext_model.specs.declared.look.Look.TheVariants as look
 use Rattle.ext_model.specs.declared.look.Fault.{Fault}
 use Rattle.ext_model.specs.Events as events
-use Rattle.ext_model.specs.History.{History, Limits, reply_after}
+use Rattle.ext_history.specs.Histories.{IsPoint, first_front, seen_by}
+use Rattle.ext_model.specs.History.{History, Limits, reply_after, state_after}
 use Rattle.ext_model.specs.CallActs.{LaneView, IsPointAfter, Calls, IsCrowded}
 use Rattle.ext_tree.specs.Trees.{IsPathOf}
 use Rattle.ext_values.specs.Known.{Learns}
@@ -21,6 +22,7 @@ use Rattle.ext_store.specs.declared.fault.KeepFault.TheVariants as fault
 use Rattle.ext_store.specs.declared.computed.Compute.{Compute}
 use Rattle.ext_store.specs.declared.computed.Compute.TheVariants.{Computed, Found, Failed, FaultKept, FaultUnkept, FaultStands, Unkept, Refused}
 use Rattle.ext_store.specs.Stores.{StoreView, StoreLane, cell_in, context_cells}
+use Rattle.ext_store.specs.LaneCalls.{KnowsUnkept}
 use Rattle.ext_model.specs.declared.look.Look.{Look}
 use Rattle.ext_store_cells.specs.declared.fault.Refusal.{Refusal}
 use Rattle.ext_store_cells.specs.Claiming as claiming
@@ -60,13 +62,18 @@ pub record Fills (limits : Limits) (first : List (Act ℕ)) (cell : ℕ) (before
 abbrev pub GivesUp : Limits → List (Act ℕ) → ℕ → LaneView → LaneView → Type 0
 GivesUp limits first cell before after = Calls limits before after (first ++ Abandon cell ∷ [])
 
+-- Other lanes were in the way of the drawing of a number: past the call's first front at least so many were drawn, and at a point of the call one was left
+pub record IsOutdrawn (limits : Limits) (tries : ℕ) (before after : LaneView) : Type 0 where
+  pub drawn : (state_after (first_front before after)).drawn + tries ≤ (state_after (seen_by after)).drawn
+  pub left : (p : History) × IsPoint before after p × ((answer : Option ℕ) × (reply_after limits p before.number (Keep 0) ≡ events.Happens answer))
+
 -- why the value is not kept; where its place does not take it, its number was drawn
 unfoldable pub IsUnkept : Limits → ℕ → List (Act ℕ) → ℕ → LaneView → LaneView → KeepFault → Type 0
 IsUnkept limits tries first cell before after fault.Memory = GivesUp limits first cell before after
 IsUnkept limits tries first cell before after fault.NumbersFull =
     GivesUp limits first cell before after
     × ((p : History) × IsPointAfter before after first p × (reply_after limits p before.number (Keep 0) ≡ events.Refuses events.NumbersFull))
-IsUnkept limits tries first cell before after fault.Contended = GivesUp limits first cell before after × IsCrowded tries before after
+IsUnkept limits tries first cell before after fault.Contended = GivesUp limits first cell before after × IsCrowded tries before after × IsOutdrawn limits tries before after
 IsUnkept limits tries first cell before after fault.Unplaced =
     (number : ℕ) × Calls limits before after (first ++ Keep number ∷ Abandon cell ∷ []) × HappensAfter limits first before after (Keep number) (Some number)
 
@@ -87,7 +94,7 @@ EndsFailed store why cell before after (FaultKept number) =
     IsTrue store.id.cells.limits.keep_faults × (after.known ≡ before.known) × Learns before.faults after.faults number why
     × Fails store.id.cells.limits [] cell before.cells.view after.cells.view number
 EndsFailed store why cell before after (FaultUnkept said cause) =
-    IsTrue store.id.cells.limits.keep_faults × (said ≡ why) × (after.known ≡ before.known) × (after.faults ≡ before.faults)
+    IsTrue store.id.cells.limits.keep_faults × (said ≡ why) × (after.known ≡ before.known) × KnowsUnkept before.cells.view after.cells.view before.faults after.faults cause
     × IsUnkept store.id.cells.limits store.tries [] cell before.cells.view after.cells.view cause
 EndsFailed store why cell before after (Computed number) = ⊥
 EndsFailed store why cell before after (Found at number unused) = ⊥
@@ -156,9 +163,9 @@ Uses Gives before after (Computed number) = (value : _) × Gives (Ok value) × L
 Uses Gives before after (Found at number unused) = (after.known ≡ before.known) × (after.faults ≡ before.faults)
 Uses Gives before after (Failed why) = Gives (Err why) × (after.known ≡ before.known) × (after.faults ≡ before.faults)
 Uses Gives before after (FaultKept number) = (why : Fault) × Gives (Err why) × (after.known ≡ before.known) × Learns before.faults after.faults number why
-Uses Gives before after (FaultUnkept why cause) = Gives (Err why) × (after.known ≡ before.known) × (after.faults ≡ before.faults)
+Uses Gives before after (FaultUnkept why cause) = Gives (Err why) × (after.known ≡ before.known) × KnowsUnkept before.cells.view after.cells.view before.faults after.faults cause
 Uses Gives before after (FaultStands at number unused) = (after.known ≡ before.known) × (after.faults ≡ before.faults)
-Uses Gives before after (Unkept value cause) = Gives (Ok value) × (after.known ≡ before.known) × (after.faults ≡ before.faults)
+Uses Gives before after (Unkept value cause) = Gives (Ok value) × KnowsUnkept before.cells.view after.cells.view before.known after.known cause × (after.faults ≡ before.faults)
 Uses Gives before after (Refused why unused) = (after.known ≡ before.known) × (after.faults ≡ before.faults)
 
 -- what a store answers that keeps no faults

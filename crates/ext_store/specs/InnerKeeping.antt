@@ -1,7 +1,7 @@
 -- For what a number is not drawn, and what becomes of a value for which one was: what the last part of `keep` and of `keep_wait` says.
 -- Below the public contracts.
 use Rattle.std.specs.Prelude.{ℕ, ◌≡◌, List, Result, Ok, Err, None, MatchResult}
-use Rattle.ext_values.specs.Known.{Known, KeepsKnown, Learns, known_at}
+use Rattle.ext_values.specs.Known.{Known, KeepsKnown, Learns, LearnsOne, known_at}
 use Rattle.ext_cells.specs.declared.refusal.CellRefusal.{CellRefusal}
 use Rattle.ext_cells.specs.declared.refusal.CellRefusal.TheVariants as cell
 use Rattle.ext_store.specs.declared.fault.KeepFault.{KeepFault}
@@ -33,7 +33,10 @@ pub record IsPlaced {V : Type 0} (value : V) (before after : List (Known V)) (nu
   pub free : known_at before number ≡ None
   pub known : KeepsKnown before after
 
--- The drawn number has the value; or the value comes back, as no number was drawn or as the number's place did not take it, and nothing is learnt
+-- The drawn number has the value; or the value comes back, as no number was drawn, and nothing is learnt, or as another value stands in the number's place, which is
+-- learnt
 abbrev pub PlacesDrawn : {V : Type 0} → V → Result ℕ CellRefusal → List (Known V) → List (Known V) → Result ℕ (V × KeepFault) → Type 0
 PlacesDrawn value drawn before after (Ok number) = (drawn ≡ Ok number) × IsPlaced value before after number
-PlacesDrawn value drawn before after (Err (back, why)) = (back ≡ value) × (after ≡ before) × MatchResult drawn (λ number. why ≡ fault.Unplaced) (λ refused. why ≡ keep_fault refused)
+PlacesDrawn value drawn before after (Err (back, why)) =
+    (back ≡ value)
+    × MatchResult drawn (λ number. (why ≡ fault.Unplaced) × LearnsOne before after number × KeepsKnown before after) (λ refused. (why ≡ keep_fault refused) × (after ≡ before))

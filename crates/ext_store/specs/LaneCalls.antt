@@ -10,9 +10,10 @@ use Rattle.ext_store_cells.specs.declared.fault.Refusal.{Refusal}
 use Rattle.ext_store_cells.specs.declared.fault.Refusal.TheVariants as refusal
 use Rattle.ext_store.specs.Stores.{StoreLane, StoreId, IsLaneOf, IsKeptBy, StillKeeps, StillKeepsBut, StoreView}
 use Rattle.ext_model.specs.declared.event.Act.{Act}
-use Rattle.ext_model.specs.History.{Limits}
-use Rattle.ext_model.specs.CallActs.{Calls}
-use Rattle.ext_values.specs.Known.{KeepsKnown, Learns}
+use Rattle.ext_model.specs.History.{Limits, by}
+use Rattle.ext_history.specs.Histories.{seen_by}
+use Rattle.ext_model.specs.CallActs.{LaneView, Calls}
+use Rattle.ext_values.specs.Known.{Known, KeepsKnown, Learns, LearnsOne}
 use Rattle.ext_cells.specs.Lanes.{Lane}
 use Rattle.ext_model.specs.declared.event.Act.TheVariants.{Keep}
 use Rattle.ext_model.specs.declared.look.Fault.{Fault}
@@ -110,16 +111,29 @@ KeepFails store before after fault.NumbersFull = HoldsAtPoint before after [] (�
 KeepFails store before after fault.Contended = model.IsOvertaken before.cells.limits store.tries before.view after.view
 KeepFails store before after fault.Unplaced = (number : ℕ) × HoldsAtPoint before after (Keep number ∷ []) (λ p. reply_to before (Keep number) p ≡ events.Happens (Some number))
 
+-- the call drew the number: its event is there after the call, and was not before it
+pub record Draws (before after : LaneView) (number : ℕ) : Type 0 where
+  pub new : ¬ Contains (seen_by before) (by before.number (Keep number))
+  pub drawn : Contains (seen_by after) (by before.number (Keep number))
+
+-- What is known of values, or of faults, where one was not kept: what was known. And where the place of the number that the call drew did not take it, that is
+-- because another one stands there, which is known from then on
+abbrev pub KnowsUnkept : {V : Type 0} → LaneView → LaneView → List (Known V) → List (Known V) → KeepFault → Type 0
+KnowsUnkept before after known learnt fault.Memory = learnt ≡ known
+KnowsUnkept before after known learnt fault.NumbersFull = learnt ≡ known
+KnowsUnkept before after known learnt fault.Contended = learnt ≡ known
+KnowsUnkept before after known learnt fault.Unplaced = (number : ℕ) × Draws before after number × LearnsOne known learnt number
+
 -- the number that was drawn at a point of the call has the value that was handed in, and may be stored
 pub record KeepsAs {V : Type 0} (value : V) (before after : StoreLane V) (number : ℕ) : Type 0 where
   pub drawn : HoldsAtPoint before.cells after.cells (Keep number ∷ []) (λ p. reply_to before.cells (Keep number) p ≡ events.Happens (Some number))
   pub learnt : Learns before.known after.known number value
   pub kept : IsKeptBy after number
 
--- the value is handed back, and the lane knows what it knew
+-- the value is handed back, and the lane knows what it knew, and what stands in the place that did not take it
 pub record KeepsNothing {V : Type 0} (store : StoreView) (value : V) (before after : StoreLane V) (back : V) (why : KeepFault) : Type 0 where
   pub handed_back : back ≡ value
-  pub known : after.known ≡ before.known
+  pub known : KnowsUnkept before.cells.view after.cells.view before.known after.known why
   pub fails : KeepFails store before.cells after.cells why
 
 -- the number that was drawn at a point of the call has the fault that was handed in, and may be kept in a cell
@@ -128,8 +142,8 @@ pub record KeepsFault {V : Type 0} (why : Fault) (before after : StoreLane V) (n
   pub learnt : Learns before.faults after.faults number why
   pub storable : model.MayStoreNow after.cells.view number
 
--- the fault is handed back, and the lane knows what it knew
+-- the fault is handed back, and the lane knows what it knew, and what stands in the place that did not take it
 pub record KeepsNoFault {V : Type 0} (store : StoreView) (why : Fault) (before after : StoreLane V) (back : Fault) (cause : KeepFault) : Type 0 where
   pub handed_back : back ≡ why
-  pub faults : after.faults ≡ before.faults
+  pub faults : KnowsUnkept before.cells.view after.cells.view before.faults after.faults cause
   pub fails : KeepFails store before.cells after.cells cause

@@ -2,12 +2,12 @@
 ghost use Rattle.std.specs.Prelude.{ℕ, ◌≡◌, ◌≢◌, ◌+◌, ◌*◌, ◌<◌, ◌≤◌, [], length, Contains, IfErr, IfOk, IsFalse, IsTrue, MatchResult, Err};
 ghost use Rattle.ext_model.specs.CallActs.{IsHeld};
 ghost use Rattle.ext_model.specs.declared.event.Act.TheVariants as act_is;
-ghost use Rattle.ext_tree.specs.Keys.{IsKeyNumber};
+ghost use Rattle.ext_tree.specs.Keys.{IsKeyNumber, PlacesOnly};
 ghost use Rattle.ext_values.specs.Known.{Learns};
 ghost use Rattle.ext_cells.specs.CellCalls.{EndsClaim};
 ghost use Rattle.ext_store_cells.specs.declared.claim.Unused.TheVariants as unused;
 ghost use Rattle.ext_store.specs.Stores.{IsKeptBy, IsLaneOf, StillKeeps};
-ghost use Rattle.ext_store.specs.LaneCalls.{OfKey, Frame, steps_of, Stays};
+ghost use Rattle.ext_store.specs.LaneCalls.{OfKey, Frame, KnowsUnkept, steps_of, Stays};
 ghost use Rattle.ext_store.specs.Computing.{ClaimsMissing, Fails, Fills, IsFaultlessUnused, IsUnkept};
 
 use crate::{KeepFault, Lane, Store, StoreValue};
@@ -38,6 +38,7 @@ impl<V: StoreValue + Drop> Store<V> {
         ensures no_faults { IsFalse self.now.id.cells.limits.keep_faults → IfErr result IsFaultlessUnused }
         ensures stays { Stays self.now.id [] lane.old lane.new }
         ensures steps { steps_of lane.old.cells lane.new.cells ≤ 33 * (self.now.tries + 1) + 2 }
+        ensures placed { PlacesOnly key.now lane.old.keys lane.new.keys }
     {
         match self.number(lane, key) {
             Ok(number) => self.begin_numbered(lane, context, number),
@@ -108,7 +109,7 @@ impl<V: StoreValue + Drop> Store<V> {
         requires lane { IsLaneOf self.now.id lane.old }
         requires held { IsHeld lane.old.cells.view claim }
         ensures events { MatchResult result (Fills self.now.id.cells.limits [] claim lane.old.cells.view lane.new.cells.view) (λ e. IsUnkept self.now.id.cells.limits self.now.tries [] claim lane.old.cells.view lane.new.cells.view e.1) }
-        ensures known { MatchResult result (λ number. Learns lane.old.known lane.new.known number value) (λ e. (e.0 ≡ value) × (lane.new.known ≡ lane.old.known)) }
+        ensures known { MatchResult result (λ number. Learns lane.old.known lane.new.known number value) (λ e. (e.0 ≡ value) × KnowsUnkept lane.old.cells.view lane.new.cells.view lane.old.known lane.new.known e.1) }
         ensures faults { lane.new.faults ≡ lane.old.faults }
         ensures keys { lane.new.keys ≡ lane.old.keys }
         ensures lane { IsLaneOf self.now.id lane.new }
@@ -134,7 +135,7 @@ impl<V: StoreValue + Drop> Store<V> {
         requires lane { IsLaneOf self.now.id lane.old }
         requires held { IsHeld lane.old.cells.view claim }
         ensures events { MatchResult result (Fills self.now.id.cells.limits [] claim lane.old.cells.view lane.new.cells.view) (λ e. IsUnkept self.now.id.cells.limits self.now.tries [] claim lane.old.cells.view lane.new.cells.view e.1) }
-        ensures known { MatchResult result (λ number. Learns lane.old.known lane.new.known number value) (λ e. (e.0 ≡ value) × (lane.new.known ≡ lane.old.known)) }
+        ensures known { MatchResult result (λ number. Learns lane.old.known lane.new.known number value) (λ e. (e.0 ≡ value) × KnowsUnkept lane.old.cells.view lane.new.cells.view lane.old.known lane.new.known e.1) }
         ensures faults { lane.new.faults ≡ lane.old.faults }
         ensures keys { lane.new.keys ≡ lane.old.keys }
         ensures lane { IsLaneOf self.now.id lane.new }
@@ -174,7 +175,7 @@ impl<V: StoreValue + Drop> Store<V> {
         requires held { IsHeld lane.old.cells.view claim }
         ensures events { MatchResult result (Fails self.now.id.cells.limits [] claim lane.old.cells.view lane.new.cells.view) (λ e. IsUnkept self.now.id.cells.limits self.now.tries [] claim lane.old.cells.view lane.new.cells.view e.1) }
         ensures known { lane.new.known ≡ lane.old.known }
-        ensures faults { MatchResult result (λ number. Learns lane.old.faults lane.new.faults number fault) (λ e. (e.0 ≡ fault) × (lane.new.faults ≡ lane.old.faults)) }
+        ensures faults { MatchResult result (λ number. Learns lane.old.faults lane.new.faults number fault) (λ e. (e.0 ≡ fault) × KnowsUnkept lane.old.cells.view lane.new.cells.view lane.old.faults lane.new.faults e.1) }
         ensures keys { lane.new.keys ≡ lane.old.keys }
         ensures lane { IsLaneOf self.now.id lane.new }
         ensures kept { StillKeeps lane.old lane.new }
@@ -200,7 +201,7 @@ impl<V: StoreValue + Drop> Store<V> {
         requires held { IsHeld lane.old.cells.view claim }
         ensures events { MatchResult result (Fails self.now.id.cells.limits [] claim lane.old.cells.view lane.new.cells.view) (λ e. IsUnkept self.now.id.cells.limits self.now.tries [] claim lane.old.cells.view lane.new.cells.view e.1) }
         ensures known { lane.new.known ≡ lane.old.known }
-        ensures faults { MatchResult result (λ number. Learns lane.old.faults lane.new.faults number fault) (λ e. (e.0 ≡ fault) × (lane.new.faults ≡ lane.old.faults)) }
+        ensures faults { MatchResult result (λ number. Learns lane.old.faults lane.new.faults number fault) (λ e. (e.0 ≡ fault) × KnowsUnkept lane.old.cells.view lane.new.cells.view lane.old.faults lane.new.faults e.1) }
         ensures keys { lane.new.keys ≡ lane.old.keys }
         ensures lane { IsLaneOf self.now.id lane.new }
         ensures kept { StillKeeps lane.old lane.new }

@@ -2,7 +2,9 @@
 ghost use Rattle.std.specs.Prelude.{ℕ, ◌≡◌, ◌≢◌, ◌+◌, ◌*◌, ◌<◌, ◌≤◌, [], length, Contains, IfOk, IsFalse, IsTrue, MatchResult, IsSome, Some};
 ghost use Rattle.std.specs.Fn.{FnOnceReturnsAt};
 ghost use Rattle.ext_model.specs.CallActs.{IsHeld};
-ghost use Rattle.ext_tree.specs.Keys.{KeyValue, IsKeyNumber, key_at};
+ghost use Rattle.ext_model.specs.declared.event.Act.TheVariants as act_is;
+ghost use Rattle.ext_cells.specs.CellCalls.{ComesLast};
+ghost use Rattle.ext_tree.specs.Keys.{KeyValue, IsKeyNumber, PlacesOnly, key_at};
 ghost use Rattle.ext_values.specs.Known.{KeepsKnown, Learns};
 ghost use Rattle.ext_store.specs.declared.computed.Compute.TheVariants.{Refused};
 ghost use Rattle.ext_store.specs.Stores.{IsKeptBy, IsLaneOf, StillKeeps};
@@ -58,6 +60,7 @@ impl<V: StoreValue + Drop> Store<V> {
         ensures grows { Grows self.now.id lane.old lane.new }
         ensures apart { IfComputed result (λ number. (m : ℕ) → IsKeptBy lane.old m → m ≢ number) }
         ensures steps { steps_of lane.old.cells lane.new.cells ≤ 34 * (self.now.tries + 1) + 2 }
+        ensures placed { PlacesOnly key.now lane.old.keys lane.new.keys }
     {
         match self.number(lane, key) {
             Ok(number) => self.compute_named(lane, context, number, key, factory),
@@ -117,6 +120,7 @@ impl<V: StoreValue + Drop> Store<V> {
         ensures grows { Grows self.now.id lane.old lane.new }
         ensures apart { IfComputed result (λ number. (m : ℕ) → IsKeptBy lane.old m → m ≢ number) }
         ensures steps { steps_of lane.old.cells lane.new.cells ≤ 34 * (self.now.tries + 1) + 2 }
+        ensures keys { lane.new.keys ≡ lane.old.keys }
     {
         let claim = match self.begin_numbered(lane, context, key) {
             Ok(claim) => claim,
@@ -140,6 +144,7 @@ impl<V: StoreValue + Drop> Store<V> {
         ensures ends { EndsFailed self.now fault claim lane.old lane.new (without_factory result) }
         ensures frame { Frame self.now.id [] lane.old lane.new }
         ensures steps { steps_of lane.old.cells lane.new.cells ≤ self.now.tries + 3 }
+        ensures keys { lane.new.keys ≡ lane.old.keys }
     {
         if !self.keeps_faults() {
             self.give_up(lane, claim);
@@ -166,6 +171,7 @@ impl<V: StoreValue + Drop> Store<V> {
         ensures apart { IfOk result (λ number. (m : ℕ) → IsKeptBy lane.old m → m ≢ number) }
         ensures frame { Frame self.now.id [] lane.old lane.new }
         ensures steps { steps_of lane.old.cells lane.new.cells ≤ self.now.tries + 1 }
+        ensures contended { ComesLast (fault, KeepFault.Contended) self.now.tries lane.old.cells lane.new.cells (act_is.Keep 0) result }
     {
         self.recall();
         let boxed = match Box::new(self.alloc, fault) {

@@ -5,10 +5,11 @@ ghost use Rattle.ext_store.specs.InnerKeeping.{IsOfCount, keep_fault};
 use ext_cells::CellRefusal;
 use thiserror::Error;
 
-/// Why a value is not kept, by `keep` or by a `compute` whose factory gave it.
+/// Why a value is not kept, by `keep`, by `fill` or by a `compute` whose factory gave it; and why a fault is not, by `fail` or
+/// by a `compute` whose factory failed.
 #[derive(Clone, Copy, Debug, PartialEq, Eq, Error)]
 pub enum KeepFault {
-    /// There is no memory for the value.
+    /// There is no memory for it.
     #[error("no memory")]
     Memory,
     /// All numbers were drawn.
@@ -17,7 +18,8 @@ pub enum KeepFault {
     /// Other lanes were in the way: they drew at least as many numbers as a call has tries.
     #[error("contended")]
     Contended,
-    /// The number's place did not take the value, and the number is lost. Tests show that it never comes.
+    /// Another one stands in the number's place, which the lane knows from then on, and the number is lost. Tests show that
+    /// it never comes.
     #[error("unplaced")]
     Unplaced,
 }

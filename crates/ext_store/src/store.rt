@@ -4,7 +4,7 @@ ghost use mathlib.Core.List.{IsPrefix};
 ghost use Rattle.ext_model.specs.CallActs.{Calls};
 ghost use Rattle.ext_model.specs.declared.event.Act.TheVariants as act_is;
 ghost use Rattle.ext_history.specs.Histories.{seen_by};
-ghost use Rattle.ext_tree.specs.Keys.{IsKeyNumber, KeepsKeys, OneKey, OneNumber};
+ghost use Rattle.ext_tree.specs.Keys.{IsKeyNumber, KeepsKeys, OneKey, OneNumber, PlacesNone, PlacesOnly};
 ghost use Rattle.ext_values.specs.Known.{AllAgree, KeepsKnown, Learns, known_at};
 ghost use Rattle.ext_cells.specs.CellCalls.{ComesLast};
 ghost use Rattle.ext_cells.specs.Lanes.{AreLimits, fresh_lanes};
@@ -145,7 +145,8 @@ impl<V: StoreValue + Drop> Store<V> {
     ///
     /// Refused, in this order and with the value handed back, as `Memory`, as `NumbersFull` where all numbers were drawn,
     /// as `Contended`, where other lanes have drawn at least as many as there are tries and a number is left, and as
-    /// `Unplaced`, where the number is lost. JUnit numbers values as they are stored.
+    /// `Unplaced`, where another value stands in the number's place: the lane knows that one then, and the number is lost.
+    /// JUnit numbers values as they are stored.
     #[tactic(auto, unfolding(crate::specs::LaneCalls::KeepFails, crate::specs::LaneCalls::Frame))]
     pub fn keep(&self, lane: &mut Lane<V>, value: V) -> Result<Kept, (V, KeepFault)>
         requires lane { IsLaneOf self.now.id lane.old }
@@ -185,6 +186,8 @@ impl<V: StoreValue + Drop> Store<V> {
         ensures refused { IfErr result (IsKeyRefused lane.old lane.new key.now) }
         ensures still { lane.new.cells ≡ lane.old.cells }
         ensures stays { Stays self.now.id [] lane.old lane.new }
+        // The lane itself put no other key at a place.
+        ensures placed { PlacesOnly key.now lane.old.keys lane.new.keys }
     {
         self.shared.recall();
         match self.shared.keys().number(&mut lane.keys, key) {
@@ -209,6 +212,7 @@ impl<V: StoreValue + Drop> Store<V> {
         ensures no_faults { IsFalse self.now.id.cells.limits.keep_faults → IfOk result IsFaultlessLook }
         ensures stays { Stays self.now.id [] lane.old lane.new }
         ensures steps { steps_of lane.old.cells lane.new.cells ≤ 16 * (self.now.tries + 1) }
+        ensures placed { PlacesOnly key.now lane.old.keys lane.new.keys }
     {
         match self.number(lane, key) {
             Ok(key) => self.get_numbered(lane, context, key),
@@ -264,6 +268,7 @@ impl<V: StoreValue + Drop> Store<V> {
         ensures handed_back { IfErr result (λ e. e.0 ≡ kept) }
         ensures stays { Stays self.now.id (stored_by kept result) lane.old lane.new }
         ensures steps { steps_of lane.old.cells lane.new.cells ≤ self.now.tries + 1 }
+        ensures placed { PlacesOnly key.now lane.old.keys lane.new.keys }
     {
         match self.number(lane, key) {
             Ok(key) => self.put_numbered(lane, context, key, kept),
@@ -321,6 +326,7 @@ impl<V: StoreValue + Drop> Store<V> {
         ensures contended { OfKey lane.old lane.new key.now (λ why. result ≡ Err why) (λ number. ComesLast Refusal.Contended self.now.tries lane.old.cells lane.new.cells (act_is.Remove (cell_in self.now number context)) result) }
         ensures stays { Stays self.now.id [] lane.old lane.new }
         ensures steps { steps_of lane.old.cells lane.new.cells ≤ self.now.tries + 1 }
+        ensures placed { PlacesOnly key.now lane.old.keys lane.new.keys }
     {
         match self.number(lane, key) {
             Ok(key) => self.remove_numbered(lane, context, key),
@@ -412,6 +418,7 @@ impl<V: StoreValue + Drop> Store<V> {
         ensures one_number { OneNumber first.old.keys second.old.keys }
         ensures one_key { OneKey first.old.keys second.old.keys }
         ensures taught { KeepsKeys first.old.keys second.new.keys }
+        ensures placed { PlacesNone second.old.keys second.new.keys }
         ensures first_lane { IsLaneOf self.now.id first.new }
         ensures second_lane { IsLaneOf self.now.id second.new }
         ensures first_kept { StillKeeps first.old first.new }

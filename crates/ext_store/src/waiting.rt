@@ -3,11 +3,11 @@
 ghost use Rattle.std.specs.Prelude.{ℕ, ◌≡◌, ◌≢◌, ◌<◌, [], length, Contains, Ok, Err, IfErr, IfOk, IsFalse, IsTrue, MatchResult, IsSome, Some};
 ghost use Rattle.std.specs.Fn.{FnOnceReturnsAt};
 ghost use Rattle.ext_model.specs.CallActs.{IsHeld};
-ghost use Rattle.ext_tree.specs.Keys.{KeyValue, IsKeyNumber, key_at};
+ghost use Rattle.ext_tree.specs.Keys.{KeyValue, IsKeyNumber, PlacesOnly, key_at};
 ghost use Rattle.ext_values.specs.Known.{KeepsKnown, Learns};
 ghost use Rattle.ext_store.specs.declared.computed.Compute.TheVariants.{Refused};
 ghost use Rattle.ext_store.specs.Stores.{IsKeptBy, IsLaneOf, StillKeeps, StillKeepsBut};
-ghost use Rattle.ext_store.specs.LaneCalls.{OfKey, Frame, stored_by, Gets, IsFaultlessLook, KeepsAs, KeepsFault, KeepsNoFault, KeepsNothing, Puts, Removes, Stays, Grows};
+ghost use Rattle.ext_store.specs.LaneCalls.{OfKey, Frame, stored_by, Gets, IsFaultlessLook, KeepsAs, KeepsFault, KeepsNoFault, KeepsNothing, KnowsUnkept, Puts, Removes, Stays, Grows};
 ghost use Rattle.ext_store.specs.Computing.{EndsFailed, Fails, Fills, HandsBack, IfComputed, IsFaultless, IsUnkept, Uses, without_factory};
 ghost use Rattle.ext_store.specs.Waiting.{ComputesAfterWaits, IsDecided, IsDecidedCompute, IsDecidedFault, IsDecidedLook};
 
@@ -39,6 +39,7 @@ impl<V: StoreValue + Drop> Store<V> {
         ensures no_faults { IsFalse self.now.id.cells.limits.keep_faults → IfOk result IsFaultlessLook }
         ensures decided { MatchResult result IsDecidedLook IsDecided }
         ensures stays { Stays self.now.id [] lane.old lane.new }
+        ensures placed { PlacesOnly key.now lane.old.keys lane.new.keys }
     {
         match self.number(lane, key) {
             Ok(key) => Ok(self.get_wait_numbered(rt, lane, context, key)),
@@ -93,6 +94,7 @@ impl<V: StoreValue + Drop> Store<V> {
         ensures decided { IfErr result (λ e. IsDecided e.1) }
         ensures handed_back { IfErr result (λ e. e.0 ≡ kept) }
         ensures stays { Stays self.now.id (stored_by kept result) lane.old lane.new }
+        ensures placed { PlacesOnly key.now lane.old.keys lane.new.keys }
     {
         match self.number(lane, key) {
             Ok(key) => self.put_wait_numbered(rt, lane, context, key, kept),
@@ -148,6 +150,7 @@ impl<V: StoreValue + Drop> Store<V> {
         ensures answer { OfKey lane.old lane.new key.now (λ why. result ≡ Err why) (λ number. Removes self.now context number lane.old.cells lane.new.cells result) }
         ensures decided { IfErr result IsDecided }
         ensures stays { Stays self.now.id [] lane.old lane.new }
+        ensures placed { PlacesOnly key.now lane.old.keys lane.new.keys }
     {
         match self.number(lane, key) {
             Ok(key) => self.remove_wait_numbered(rt, lane, context, key),
@@ -261,6 +264,7 @@ impl<V: StoreValue + Drop> Store<V> {
         ensures no_faults { IsFalse self.now.id.cells.limits.keep_faults → IsFaultless result }
         ensures grows { Grows self.now.id lane.old lane.new }
         ensures apart { IfComputed result (λ number. (m : ℕ) → IsKeptBy lane.old m → m ≢ number) }
+        ensures placed { PlacesOnly key.now lane.old.keys lane.new.keys }
     {
         match self.number(lane, key) {
             Ok(number) => self.compute_wait_named(rt, lane, context, number, key, factory),
@@ -323,6 +327,7 @@ impl<V: StoreValue + Drop> Store<V> {
         ensures no_faults { IsFalse self.now.id.cells.limits.keep_faults → IsFaultless result }
         ensures grows { Grows self.now.id lane.old lane.new }
         ensures apart { IfComputed result (λ number. (m : ℕ) → IsKeptBy lane.old m → m ≢ number) }
+        ensures keys { lane.new.keys ≡ lane.old.keys }
     {
         self.shared.recall();
         let claim = match self.shared.wait_to_claim(rt, &mut lane.cells, context, key) {
@@ -354,6 +359,7 @@ impl<V: StoreValue + Drop> Store<V> {
         ensures ends { EndsFailed self.now fault claim lane.old lane.new (without_factory result) }
         ensures decided { IsDecidedCompute result }
         ensures frame { Frame self.now.id [] lane.old lane.new }
+        ensures keys { lane.new.keys ≡ lane.old.keys }
     {
         if !self.keeps_faults() {
             self.shared.abandon(&mut lane.cells, claim);
@@ -380,8 +386,9 @@ impl<V: StoreValue + Drop> Store<V> {
         ensures events { MatchResult result (Fails self.now.id.cells.limits [] claim lane.old.cells.view lane.new.cells.view) (λ e. IsUnkept self.now.id.cells.limits self.now.tries [] claim lane.old.cells.view lane.new.cells.view e.1) }
         ensures decided { IfErr result (λ e. IsDecidedFault e.1) }
         ensures known { lane.new.known ≡ lane.old.known }
-        ensures faults { MatchResult result (λ number. Learns lane.old.faults lane.new.faults number fault) (λ e. (e.0 ≡ fault) × (lane.new.faults ≡ lane.old.faults)) }
+        ensures faults { MatchResult result (λ number. Learns lane.old.faults lane.new.faults number fault) (λ e. (e.0 ≡ fault) × KnowsUnkept lane.old.cells.view lane.new.cells.view lane.old.faults lane.new.faults e.1) }
         ensures frame { Frame self.now.id [] lane.old lane.new }
+        ensures keys { lane.new.keys ≡ lane.old.keys }
     {
         match self.keep_fault_wait(rounds, lane, fault) {
             Ok(number) => {
@@ -410,6 +417,7 @@ impl<V: StoreValue + Drop> Store<V> {
         ensures known { lane.new.known ≡ lane.old.known }
         ensures apart { IfOk result (λ number. (m : ℕ) → IsKeptBy lane.old m → m ≢ number) }
         ensures frame { Frame self.now.id [] lane.old lane.new }
+        ensures keys { lane.new.keys ≡ lane.old.keys }
     {
         self.recall();
         let boxed = match Box::new(self.alloc, fault) {
@@ -434,10 +442,11 @@ impl<V: StoreValue + Drop> Store<V> {
         requires held { IsHeld lane.old.cells.view claim }
         ensures events { MatchResult result (Fills self.now.id.cells.limits [] claim lane.old.cells.view lane.new.cells.view) (λ e. IsUnkept self.now.id.cells.limits self.now.tries [] claim lane.old.cells.view lane.new.cells.view e.1) }
         ensures decided { IfErr result (λ e. IsDecidedFault e.1) }
-        ensures known { MatchResult result (λ number. Learns lane.old.known lane.new.known number value) (λ e. (e.0 ≡ value) × (lane.new.known ≡ lane.old.known)) }
+        ensures known { MatchResult result (λ number. Learns lane.old.known lane.new.known number value) (λ e. (e.0 ≡ value) × KnowsUnkept lane.old.cells.view lane.new.cells.view lane.old.known lane.new.known e.1) }
         ensures faults { lane.new.faults ≡ lane.old.faults }
         ensures apart { IfOk result (λ number. (m : ℕ) → IsKeptBy lane.old m → m ≢ number) }
         ensures frame { Frame self.now.id [] lane.old lane.new }
+        ensures keys { lane.new.keys ≡ lane.old.keys }
     {
         match self.keep_again(rounds, lane, value) {
             Ok(kept) => {

@@ -9,3 +9,4 @@ pub mod Parts
 pub mod Missing
 pub mod Claimed
 pub mod Waited
+pub mod Rises

@@ -11,7 +11,7 @@ use Rattle.ext_model.proofs.Lookups.{nearest_decides, empty_path}
 use Rattle.ext_cells.specs.Lanes.{Lane}
 use Rattle.ext_cells.specs.declared.nearest.Nearest.{Nearest}
 use Rattle.ext_cells.specs.declared.standing.Standing.{Standing}
-use Rattle.ext_cells.specs.CellCalls.{standing_of, StandsFirst, StoodNearest}
+use Rattle.ext_cells.specs.CellCalls.{IsOvertakenOn, standing_of, StandsFirst, StoodNearest}
 use Rattle.ext_store_cells.specs.ContextCalls.{ContextCells, cell_in, Answers, look_acts}
 use Rattle.ext_model.specs.CallActs.{look_after}
 use Rattle.ext_store_cells.specs.declared.fault.Refusal.{Refusal}
@@ -81,6 +81,12 @@ module _ (store : ContextCells) (path : List ℕ) (key : ℕ) (before after : La
         stepped = λ some. stood.stepped (omega (arith, some, long));
         point = (p, stood.point.1, sym (empty_path (slots_in (cell_in store key) p) path (nothing_along (cell_in store key) p path (subst (All (λ c. (state_after p).slots c ≡ None)) all stood.point.2))));
       }
+
+-- what a look-up says that is refused
+pub looks_overtaken : (store : ContextCells) (path : List ℕ) (key : ℕ) (before after : Lane) (r : Result Look Refusal) → Looks store path key before after r → r ≡ Err Contended
+    → IsOvertakenOn store.tries (map (cell_in store key) path) before.view after.view
+looks_overtaken store path key before after (Ok look) l is = absurd (cc is)
+looks_overtaken store path key before after (Err why) l is = l.2
 
 -- a look-up along a path that is not empty is answered at its point
 pub looks_answer : (store : ContextCells) (path : List ℕ) (key : ℕ) (before after : Lane) (r : Result Look Refusal) → 1 ≤ length path → Looks store path key before after r

@@ -1,5 +1,5 @@
 -- What the claim of a missing value says, from what its steps say.
-use Rattle.std.proofs.Common.{◌≡◌, ◌≢◌, ℕ, suc, ◌<◌, ◌-◌, List, [], ◌∷◌, take, drop, length, sym, refl, ap, ◌∙◌, subst, arith, inl, inr}
+use Rattle.std.proofs.Common.{◌≡◌, ◌≢◌, ℕ, suc, ◌+◌, ◌<◌, ◌≤◌, ◌-◌, List, [], ◌∷◌, map, take, drop, length, sym, refl, ap, ◌∙◌, subst, arith, inl, inr}
 use Rattle.std.specs.Prelude.{Option, None, Some, Result, Ok, Err}
 use Rattle.std.proofs.lemmas.List.Elements.{All-nil, All-tail}
 use Rattle.ext_model.specs.declared.event.Act.{Act}
@@ -7,10 +7,11 @@ use Rattle.ext_model.specs.declared.event.Act.TheVariants.{Claim, Abandon}
 use Rattle.ext_model.specs.declared.look.Look.{Look}
 use Rattle.ext_model.specs.declared.look.Look.TheVariants as look
 use Rattle.ext_model.specs.Events as events
-use Rattle.ext_model.specs.History.{History, Limits, slots_in, reply_after}
+use Rattle.ext_model.specs.History.{History, Limits, slots_in, reply_after, version_of}
 use Rattle.ext_model.specs.CallActs.{Calls, HoldsAtPoint, IsOvertaken, IsHeld, look_after}
 use Rattle.ext_history.proofs.Composed.{same_number, answer_first, quiet_point}
-use Rattle.ext_history.proofs.Crowded.{overtaken_crowded, crowded_overtaken, crowded_by_first, crowded_by_second}
+use Rattle.ext_history.specs.Histories.{first_front, seen_by}
+use Rattle.ext_history.proofs.Crowded.{overtaken_crowded, crowded_by_first, crowded_by_second}
 use Rattle.ext_model.proofs.Composed.{calls_compose, later_answers}
 use Rattle.ext_model.proofs.Held.{claim_held}
 use Rattle.ext_tree.specs.Trees.{Id, IsPathOf}
@@ -28,9 +29,15 @@ use Rattle.ext_store_cells.specs.declared.claim.Unused.TheVariants.{Found, Fault
 use Rattle.ext_store_cells.specs.ContextCalls.{ContextCells, cell_in}
 use Rattle.ext_store_cells.specs.InnerRefusals.{refusal_at}
 use Rattle.ext_store_cells.specs.InnerLooking.{IsTrail, Looks, LooksAt}
-use Rattle.ext_store_cells.specs.Claiming.{LooksFirst, Claims, ClaimsAndLooks, Meets, IsRefused, Stands, ClaimsFrom, ClaimsMissing, unused_of}
+use Rattle.ext_store_cells.specs.Claiming.{ClaimComesLast, LooksFirst, Claims, ClaimsAndLooks, Meets, IsRefused, Stands, ClaimsFrom, ClaimsMissing, unused_of}
+use Rattle.ext_model.proofs.Versions.{versions}
+use Rattle.ext_store_cells.proofs.Rises.{rises_first, rises_second, version_grows, versions_grow}
 use Rattle.ext_store_cells.proofs.Parts.{looks_second, happens_alone, first_stays, claims_stay, claims_first}
 use Rattle.ext_store_cells.proofs.Standing.{Told, told}
+
+-- why a claim is refused in whose way other lanes were
+abbrev in_the_way : CellRefusal
+in_the_way = cell.Contended
 
 -- ---- the path
 
@@ -71,7 +78,7 @@ stands_by store path key a b (Ok (look.Found at number)) l = l
 stands_by store path key a b (Ok (look.Fault at number)) l = l
 stands_by store path key a b (Ok (look.Busy at)) l = l
 stands_by store path key a b (Ok (look.Closed at)) l = l
-stands_by store path key a b (Err why) l = subst (λ w. Stands store path key a b (Some (Refused w))) (sym l.0) l.1
+stands_by store path key a b (Err why) l = subst (λ w. Stands store path key a b (Some (Refused w))) (sym l.0) (l.1, l.2)
 
 pub stands_calls : (store : ContextCells) (path : List ℕ) (key : ℕ) (a b : Lane) (r : Option Unused) → Stands store path key a b r → Calls a.cells.limits a.view b.view []
 stands_calls store path key a b None s = s.calls
@@ -79,7 +86,7 @@ stands_calls store path key a b (Some (Found at number)) s = s.calls
 stands_calls store path key a b (Some (FaultStands at number)) s = s.calls
 stands_calls store path key a b (Some (Refused (refusal.Busy at))) s = s.calls
 stands_calls store path key a b (Some (Refused (refusal.Closed at))) s = s.calls
-stands_calls store path key a b (Some (Refused refusal.Contended)) s = s.calls
+stands_calls store path key a b (Some (Refused refusal.Contended)) s = s.0.calls
 stands_calls store path key a b (Some (Refused refusal.DirectoryFull)) s = absurd s
 stands_calls store path key a b (Some (Refused refusal.Unplaced)) s = absurd s
 stands_calls store path key a b (Some (Refused refusal.Memory)) s = absurd s
@@ -109,7 +116,9 @@ module _ (store : ContextCells) (context key : ℕ) (rest : List ℕ) where
     first_look (FaultStands at number) s = meets (look.Fault at number) s
     first_look (Refused (refusal.Busy at)) s = meets (look.Busy at) s
     first_look (Refused (refusal.Closed at)) s = meets (look.Closed at) s
-    first_look (Refused refusal.Contended) s = inl (subst (λ (z : CellsId). IsOvertaken z.limits store.tries a.view b.view) is s)
+    first_look (Refused refusal.Contended) s =
+        let over : IsOvertaken limits store.tries a.view b.view = subst (λ (z : CellsId). IsOvertaken z.limits store.tries a.view b.view) is s.0 in
+        inl (record { calls = over.calls; passed = overtaken_crowded store.tries over; there = inl s.1 })
     first_look (Refused refusal.DirectoryFull) s = absurd s
     first_look (Refused refusal.Unplaced) s = absurd s
     first_look (Refused refusal.Memory) s = absurd s
@@ -155,26 +164,39 @@ module _ (store : ContextCells) (context key : ℕ) (rest : List ℕ) where
     unfolding Meets
     fault_standing number all = inl (claim_told (Ok (Fault number)) (λ e. cc e) all)
 
-    overtaken : IsOvertaken store.cells.limits store.tries b.view c.view → ClaimsFrom store context rest key a.view c.view (Err (Refused refusal.Contended))
+    -- what the claim says that other lanes were in the way of it
+    claim_last : (over : Calls store.cells.limits b.view c.view []) → cells.IsOvertakenAt tries b c (Claim (cell_in store key context)) → ClaimComesLast store.cells.limits store.tries (cell_in store key context) a.view c.view
+    claim_last two last = record {
+      would_happen = subst (λ (z : CellsId × ℕ). (answer : Option ℕ) × (reply_after z.0.limits (seen_by c.view) z.1 (Claim here) ≡ events.Happens answer)) (λ i. (is i, same_number one i)) last.would_happen;
+      own_cell =
+          rises_second (λ h. version_of h here) (version_grows here) store.tries limits a.view b.view c.view [] [] one two
+          (subst (λ t. version_of (first_front b.view c.view) here + t ≤ version_of (seen_by c.view) here) same last.own_word);
+    }
+
+    overtaken : IsOvertaken store.cells.limits store.tries b.view c.view → cells.IsOvertakenAt tries b c (Claim (cell_in store key context)) → ClaimsFrom store context rest key a.view c.view (Err (Refused refusal.Contended))
     unfolding IsRefused
-    overtaken over = inl (crowded_overtaken store.tries (calls_compose limits a.view b.view c.view [] [] one over.calls)
-        (crowded_by_second store.tries one over.calls (overtaken_crowded store.tries over)))
+    overtaken over last = inl (record {
+      calls = calls_compose limits a.view b.view c.view [] [] one over.calls;
+      passed = crowded_by_second store.tries one over.calls (overtaken_crowded store.tries over);
+      there = inr (looked_before [] over.calls, claim_last over.calls last);
+    })
 
     never : {P : History → Type 0} → ((p : History) → P p → ⊥) → HoldsAtPoint store.cells.limits a.view c.view [] P → ⊥
     never none h = none h.point.0 h.point.2
 
-    pub refused : (why : CellRefusal) → cells.Answers tries b c (cells.claim_acts (cell_in store key context)) (cells.claim_reply b (cell_in store key context)) (Err why) → ClaimsFrom store context rest key a.view c.view (Err (Refused (refusal_at context why)))
+    pub refused : (why : CellRefusal) → cells.Answers tries b c (cells.claim_acts (cell_in store key context)) (cells.claim_reply b (cell_in store key context)) (Err why)
+        → (why ≡ cell.Contended → cells.IsOvertakenAt tries b c (Claim (cell_in store key context))) → ClaimsFrom store context rest key a.view c.view (Err (Refused (refusal_at context why)))
     unfolding IsRefused Meets
-    refused cell.Busy all = inl (claim_told (Err cell.Busy) (λ e. cc e) all)
-    refused cell.Closed all = inl (claim_told (Err cell.Closed) (λ e. cc e) all)
-    refused cell.Exhausted all = (
+    refused cell.Busy all last = inl (claim_told (Err cell.Busy) (λ e. cc e) all)
+    refused cell.Closed all last = inl (claim_told (Err cell.Closed) (λ e. cc e) all)
+    refused cell.Exhausted all last = (
       subst (λ k. HoldsAtPoint limits a.view c.view [] (λ p. reply_after limits p k (Claim here) ≡ events.Refuses events.Exhausted)) (same_number one) (claim_told (Err cell.Exhausted) (λ e. cc e) all),
       looked_before [] (claim_holds (Err cell.Exhausted) (λ e. cc e) all).calls,
     )
-    refused cell.Contended all = overtaken (subst (λ (z : CellsId × ℕ). IsOvertaken z.0.limits z.1 b.view c.view) (λ i. (is i, same i)) (all.overtaken refl))
-    refused cell.NumbersFull all = absurd (never (λ p none. none) (claim_told (Err cell.NumbersFull) (λ e. cc e) all))
-    refused cell.Memory all = absurd (never (λ p none. none) (claim_told (Err cell.Memory) (λ e. cc e) all))
-    refused cell.BadLimit all = absurd (never (λ p none. none) (claim_told (Err cell.BadLimit) (λ e. cc e) all))
+    refused cell.Contended all last = overtaken (subst (λ (z : CellsId × ℕ). IsOvertaken z.0.limits z.1 b.view c.view) (λ i. (is i, same i)) (all.overtaken refl)) (last refl)
+    refused cell.NumbersFull all last = absurd (never (λ p none. none) (claim_told (Err cell.NumbersFull) (λ e. cc e) all))
+    refused cell.Memory all last = absurd (never (λ p none. none) (claim_told (Err cell.Memory) (λ e. cc e) all))
+    refused cell.BadLimit all last = absurd (never (λ p none. none) (claim_told (Err cell.BadLimit) (λ e. cc e) all))
 
     pub won_calls : (claim : ℕ) → cells.Answers tries b c (cells.claim_acts (cell_in store key context)) (cells.claim_reply b (cell_in store key context)) (Ok (Won claim)) → Calls store.cells.limits a.view c.view (Claim (cell_in store key context) ∷ [])
     won_calls claim all = (claim_told (Ok (Won claim)) (λ e. cc e) all).calls
@@ -227,12 +249,14 @@ module _ (store : ContextCells) (context key : ℕ) (rest : List ℕ) where
       given_up_look (Refused (refusal.Busy at)) s = gives_up (look.Busy at) s
       given_up_look (Refused (refusal.Closed at)) s = gives_up (look.Closed at) s
       given_up_look (Refused refusal.Contended) s =
-          let over : IsOvertaken limits store.tries c.view d.view = subst (λ (z : CellsId). IsOvertaken z.limits store.tries c.view d.view) is s in
+          let over : IsOvertaken limits store.tries c.view d.view = subst (λ (z : CellsId). IsOvertaken z.limits store.tries c.view d.view) is s.0 in
           inr (
             calls_compose limits a.view d.view e.view (Claim here ∷ []) (Abandon here ∷ []) (both over.calls) ended,
             claims_stay limits store context rest key a.view d.view e.view (Abandon here ∷ []) (both over.calls) ended (claims_stay limits store context rest key a.view c.view d.view [] won over.calls did),
             crowded_by_first store.tries (both over.calls) ended
                 (crowded_by_second store.tries won over.calls (overtaken_crowded store.tries over)),
+            rises_first (λ h. versions h (map (cell_in store key) rest)) (versions_grow (map (cell_in store key) rest)) store.tries limits a.view d.view e.view (Claim here ∷ []) (Abandon here ∷ []) (both over.calls) ended
+                (rises_second (λ h. versions h (map (cell_in store key) rest)) (versions_grow (map (cell_in store key) rest)) store.tries limits a.view c.view d.view (Claim here ∷ []) [] won over.calls s.1),
           )
       given_up_look (Refused refusal.DirectoryFull) s = absurd s
       given_up_look (Refused refusal.Unplaced) s = absurd s
@@ -276,9 +300,10 @@ module _ (store : ContextCells) (context key : ℕ) (tree : List Id) (told path 
     fault_ends said number is all =
         for_path a c (Err (FaultStands context number)) (fault_standing store context key rest a b c first second' tries same looked' number (here' (Ok (Fault number)) (subst (λ z. cells.Answers tries b c (cells.claim_acts cell) (cells.claim_reply b cell) (Ok z)) is all)))
 
-    pub refusal_ends : (why : CellRefusal) (told_why : Refusal) → told_why ≡ refusal_at context why → cells.Answers tries b c (cells.claim_acts cell) (cells.claim_reply b cell) (Err why) → ClaimsMissing store context key a.view c.view (Err (Refused told_why))
-    refusal_ends why told_why is all =
-        for_path a c (Err (Refused told_why)) (subst (λ w. ClaimsFrom store context rest key a.view c.view (Err (Refused w))) (sym is) (refused store context key rest a b c first second' tries same looked' why (here' (Err why) all)))
+    pub refusal_ends : (why : CellRefusal) (told_why : Refusal) → told_why ≡ refusal_at context why → cells.Answers tries b c (cells.claim_acts cell) (cells.claim_reply b cell) (Err why)
+        → (why ≡ in_the_way → cells.IsOvertakenAt tries b c (Claim cell)) → ClaimsMissing store context key a.view c.view (Err (Refused told_why))
+    refusal_ends why told_why is all last =
+        for_path a c (Err (Refused told_why)) (subst (λ w. ClaimsFrom store context rest key a.view c.view (Err (Refused w))) (sym is) (refused store context key rest a b c first second' tries same looked' why (here' (Err why) all) (subst (λ n. why ≡ in_the_way → cells.IsOvertakenAt tries b c (Claim n)) is_cell last)))
 
     -- where the claim is won
     module _ (third : c.cells ≡ b.cells) (said : Claimed) (claim : ℕ) (is : said ≡ Won claim) (all : cells.Answers tries b c (cells.claim_acts cell) (cells.claim_reply b cell) (Ok said)) (held : IfWon (Ok said) (λ k. (k ≡ cell) × IsHeld c.view k)) where

@@ -1,18 +1,19 @@
 -- What the claim of a missing value says: the first look-up, the claim, and the second look-up along the ancestors. `CallActs` of ext_model has
 -- the words. `before` and `after` are the lane before and after the call; `first` are the events that the call made before the part that a
 -- definition speaks of.
-use Rattle.std.specs.Prelude.{ℕ, ◌≡◌, ◌⊎◌, List, [], ◌∷◌, ◌++◌, Option, None, Some, Result, Ok, Err}
+use Rattle.std.specs.Prelude.{ℕ, ◌≡◌, ◌+◌, ◌≤◌, ◌⊎◌, List, [], ◌∷◌, ◌++◌, map, Option, None, Some, Result, Ok, Err}
 use mathlib.Core.List.{IsPrefix}
 use Rattle.ext_model.specs.declared.event.Act.{Act}
 use Rattle.ext_model.specs.declared.event.Act.TheVariants.{Claim, Abandon}
 use Rattle.ext_model.specs.declared.look.Look.{Look}
 use Rattle.ext_model.specs.declared.look.Look.TheVariants as look
 use Rattle.ext_model.specs.Events as events
-use Rattle.ext_model.specs.History.{History, Limits, by, reply_after}
-use Rattle.ext_history.specs.Histories.{first_front}
+use Rattle.ext_model.specs.History.{History, Limits, by, reply_after, version_of}
+use Rattle.ext_history.specs.Histories.{first_front, seen_by}
 use Rattle.ext_model.specs.CallActs.{LaneView, IsPointAfter, Calls, HoldsAtPoint, IsOvertaken, IsCrowded, IsHeld, look_after, LooksAgain}
 use Rattle.ext_tree.specs.Trees.{IsPathOf}
 use Rattle.ext_cells.specs.Lanes.{Lane}
+use Rattle.ext_cells.specs.CellCalls.{IsOvertakenOn}
 use Rattle.ext_store_cells.specs.declared.fault.Refusal.{Refusal}
 use Rattle.ext_store_cells.specs.declared.fault.Refusal.TheVariants as refusal
 use Rattle.ext_store_cells.specs.declared.claim.Unused.{Unused}
@@ -59,13 +60,32 @@ Meets limits store context ancestors key before after met =
     HoldsAtPoint limits before after [] (λ p. look_after (cell_in store key) (context ∷ ancestors) p ≡ met)
     ⊎ (Calls limits before after (given_up_events store context key) × ClaimsAndLooks limits store context ancestors key before after met)
 
+-- At least so many events were on the cells of the key on the path, past the call's first front
+abbrev pub IsCrowdedAlong : ContextCells → List ℕ → ℕ → LaneView → LaneView → Type 0
+IsCrowdedAlong store path key before after = IsOvertakenOn store.tries (map (cell_in store key) path) before after
+
+-- The claim would happen directly after what the lane has seen last, and past the call's first front at least so many events were on its cell
+pub record ClaimComesLast (limits : Limits) (tries cell : ℕ) (before after : LaneView) : Type 0 where
+  pub would_happen : (answer : Option ℕ) × (reply_after limits (seen_by after) before.number (Claim cell) ≡ events.Happens answer)
+  pub own_cell : version_of (first_front before after) cell + tries ≤ version_of (seen_by after) cell
+
+-- Other lanes were in the way of a call that made no event, and not elsewhere: on the path, of its first look-up; or at the context's cell, of its claim, after the
+-- first look-up was absent
+pub record IsOvertakenThere (limits : Limits) (store : ContextCells) (context : ℕ) (ancestors : List ℕ) (key : ℕ) (before after : LaneView) : Type 0 where
+  pub calls : Calls limits before after []
+  pub passed : IsCrowded store.tries before after
+  pub there :
+      IsCrowdedAlong store (context ∷ ancestors) key before after
+      ⊎ (LooksFirst (cell_in store key) (context ∷ ancestors) before after × ClaimComesLast limits store.tries (cell_in store key context) before after)
+
 -- what each refusal says
 unfoldable pub IsRefused : Limits → ContextCells → ℕ → List ℕ → ℕ → LaneView → LaneView → Refusal → Type 0
 IsRefused limits store context ancestors key before after (refusal.Busy at) = Meets limits store context ancestors key before after (look.Busy at)
 IsRefused limits store context ancestors key before after (refusal.Closed at) = Meets limits store context ancestors key before after (look.Closed at)
 IsRefused limits store context ancestors key before after refusal.Contended =
-    IsOvertaken limits store.tries before after
-    ⊎ (Calls limits before after (given_up_events store context key) × Claims limits store context ancestors key before after × IsCrowded store.tries before after)
+    IsOvertakenThere limits store context ancestors key before after
+    ⊎ (Calls limits before after (given_up_events store context key) × Claims limits store context ancestors key before after × IsCrowded store.tries before after
+    × IsCrowdedAlong store ancestors key before after)
 IsRefused limits store context ancestors key before after refusal.DirectoryFull = ⊥
 IsRefused limits store context ancestors key before after refusal.Unplaced = ⊥
 IsRefused limits store context ancestors key before after refusal.Memory = ⊥
@@ -91,7 +111,7 @@ Stands store path key before after (Some (Found at number)) = LooksAt store path
 Stands store path key before after (Some (FaultStands at number)) = LooksAt store path key before after (look.Fault at number)
 Stands store path key before after (Some (Refused (refusal.Busy at))) = LooksAt store path key before after (look.Busy at)
 Stands store path key before after (Some (Refused (refusal.Closed at))) = LooksAt store path key before after (look.Closed at)
-Stands store path key before after (Some (Refused refusal.Contended)) = IsOvertaken before.cells.limits store.tries before.view after.view
+Stands store path key before after (Some (Refused refusal.Contended)) = IsOvertaken before.cells.limits store.tries before.view after.view × IsCrowdedAlong store path key before.view after.view
 Stands store path key before after (Some (Refused refusal.DirectoryFull)) = ⊥
 Stands store path key before after (Some (Refused refusal.Unplaced)) = ⊥
 Stands store path key before after (Some (Refused refusal.Memory)) = ⊥

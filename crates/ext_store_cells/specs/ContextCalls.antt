@@ -1,10 +1,11 @@
 -- What contracts see of the cells of a store, and what the contract of each call by the numbers of a context and a key says of its result.
 -- Javadoc `ExtensionContext.Store`: `get`, `put` and `remove`; numbers, refusals, points and seals are own rules. `CallActs` of ext_model has the words: the events that a
 -- call made, its fronts, and the points at which its answer may be that of one thread.
-use Rattle.std.specs.Prelude.{ℕ, ◌≡◌, ◌+◌, ◌*◌, ◌≤◌, List, [], length, ◌∷◌, Option, None, Some, Result, Ok, Err}
+use Rattle.std.specs.Prelude.{ℕ, ◌≡◌, ◌+◌, ◌*◌, ◌≤◌, List, [], length, map, ◌∷◌, Option, None, Some, Result, Ok, Err}
 use Rattle.ext_model.specs.History.{Limits, History, reply_after}
 use Rattle.ext_tree.specs.Trees.{Id, IsPathOf}
 use Rattle.ext_cells.specs.Lanes.{CellsId, Lane}
+use Rattle.ext_cells.specs.CellCalls.{IsOvertakenOn}
 use Rattle.ext_model.specs.declared.event.Act.{Act}
 use Rattle.ext_model.specs.declared.event.Act.TheVariants.{Put, Remove, Seal}
 use Rattle.ext_model.specs.declared.look.Look.{Look}
@@ -59,10 +60,12 @@ steps_of before after = length (call_fronts before.view after.view)
 abbrev pub look_acts : Result Look Refusal → List (Act ℕ)
 look_acts result = []
 
--- the result is the look-up from the context through its ancestors, the nearest first, at ONE point of the call
+-- The result is the look-up from the context through its ancestors, the nearest first, at ONE point of the call. Or other lanes were in the way, on the path and not
+-- elsewhere: at least `tries` events were on the cells that the key has there
 unfoldable pub Gets : ContextCells → ℕ → ℕ → Lane → Lane → Result Look Refusal → Type 0
 Gets store context key before after result =
     (path : List ℕ) × IsPathOf store.tree context path × Answers store (Err Contended) before after look_acts (λ p. Ok (look_after (cell_in store key) path p)) result
+    × (result ≡ Err Contended → IsOvertakenOn store.tries (map (cell_in store key) path) before.view after.view)
 
 -- what a look-up answers in a store that keeps no faults
 abbrev pub IsFaultlessLook : Look → Type 0

@@ -1,12 +1,13 @@
 -- What a look-up along a path says, for any path of the store: of a context, or of its ancestors alone.
 -- Below the public contracts.
-use Rattle.std.specs.Prelude.{ℕ, ◌≡◌, ◌≤◌, ◌<◌, ◌≢◌, List, [], length, All, AllPairs, Result, Ok, Err}
+use Rattle.std.specs.Prelude.{ℕ, ◌≡◌, ◌≤◌, ◌<◌, ◌≢◌, List, [], length, All, AllPairs, map, Result, Ok, Err}
 use Rattle.ext_model.specs.declared.look.Look.{Look}
 use Rattle.ext_model.specs.History.{History}
 use Rattle.ext_history.specs.Histories.{IsStepped}
 use Rattle.ext_model.specs.CallActs.{IsAnswerPoint, look_after}
 use Rattle.ext_model.specs.CallActs as model
 use Rattle.ext_cells.specs.Lanes.{Lane}
+use Rattle.ext_cells.specs.CellCalls.{IsOvertakenOn}
 use Rattle.ext_store_cells.specs.declared.fault.Refusal.{Refusal}
 use Rattle.ext_store_cells.specs.declared.fault.Refusal.TheVariants.{Contended}
 use Rattle.ext_store_cells.specs.ContextCalls.{ContextCells, cell_in}
@@ -26,4 +27,5 @@ pub record LooksAt (store : ContextCells) (path : List ℕ) (key : ℕ) (before 
 -- the result of such a look-up: what was found, or other lanes were in the way
 abbrev pub Looks : ContextCells → List ℕ → ℕ → Lane → Lane → Result Look Refusal → Type 0
 Looks store path key before after (Ok look) = LooksAt store path key before after look
-Looks store path key before after (Err why) = (why ≡ Contended) × model.IsOvertaken before.cells.limits store.tries before.view after.view
+Looks store path key before after (Err why) =
+    (why ≡ Contended) × model.IsOvertaken before.cells.limits store.tries before.view after.view × IsOvertakenOn store.tries (map (cell_in store key) path) before.view after.view

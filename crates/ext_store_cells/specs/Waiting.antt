@@ -1,6 +1,6 @@
 -- What the waiting forms say beside what their plain forms say: what they never answer, and what the waiting form of a claim may do before it answers.
 -- JUnit waits for a running factory; that a compute claims its cell and gives it up before it waits is an own rule.
-use Rattle.std.specs.Prelude.{ℕ, zero, suc, ◌≡◌, Result, Ok, Err}
+use Rattle.std.specs.Prelude.{ℕ, zero, suc, ◌≡◌, Bool, not, Result, Ok, Err}
 use Rattle.ext_model.specs.declared.look.Look.{Look}
 use Rattle.ext_model.specs.declared.look.Look.TheVariants as look
 use Rattle.ext_model.specs.CallActs.{LaneView}
@@ -45,6 +45,18 @@ abbrev pub IsDecidedUnused : Unused → Type 0
 IsDecidedUnused (unused.Found at number) = Unit {0}
 IsDecidedUnused (unused.FaultStands at number) = Unit {0}
 IsDecidedUnused (unused.Refused why) = IsDecided why
+
+-- ---- between two tries
+
+-- Whether the lane has announced that it waits, after a refusal for this: one for a running factory makes it announce itself, and sleep the next time
+abbrev pub announced_after : Refusal → Bool → Bool
+announced_after (refusal.Busy at) announced = not announced
+announced_after (refusal.Closed at) announced = announced
+announced_after refusal.Contended announced = announced
+announced_after refusal.DirectoryFull announced = announced
+announced_after refusal.Unplaced announced = announced
+announced_after refusal.Memory announced = announced
+announced_after refusal.Exhausted announced = announced
 
 -- ---- what may come before the answer of a claim that waits
 

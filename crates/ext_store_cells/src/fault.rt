@@ -9,8 +9,8 @@ use thiserror::Error;
 
 /// Why a call of a store is refused. A call by a key is refused for the key as `DirectoryFull` or `Memory`, before it
 /// makes a step on the cells. Else a `get` is refused as `Contended` alone, since that a context is busy or closed is an
-/// answer of it; a `seal` as `Busy` or `Contended`; a `put`, a `remove` and a `compute` as any of the first four. Where
-/// several apply, each call says which is answered.
+/// answer of it; a `seal` as `Busy` or `Contended`; a `put`, a `remove`, a `begin` and a `compute` as any of the first four.
+/// Where several apply, each call says which is answered.
 #[derive(Clone, Copy, Debug, PartialEq, Eq, Error)]
 pub enum Refusal {
     /// A lane computes a value for this context, which decides.
@@ -19,8 +19,8 @@ pub enum Refusal {
     /// This context, which decides, is closed.
     #[error("context {0} is closed")]
     Closed(ContextNo),
-    /// Other lanes were in the way: they made at least as many events as a call has tries, and on the call's own cell where it
-    /// is a change.
+    /// Other lanes were in the way: they made at least as many events as a call has tries. In the way of a put, a remove, a
+    /// seal and a claim these were events on its own cell, and in that of a look-up on the cells that the key has on the path.
     #[error("contended")]
     Contended,
     /// There were too many events in this context under this key: more than 2^40 - 3 for a put or a remove, and more

@@ -12,8 +12,8 @@ impl StoreCells {
     /// Looks for the key in the context and then in its ancestors, the nearest first, at one point of the call: the
     /// first of them where anything stands under the key decides.
     ///
-    /// Refused as `Contended` alone. That a context has a kept fault, computes a value or is closed is an answer. Where no
-    /// faults are kept none is met.
+    /// Refused as `Contended` alone, of events on the cells that the key has on the path. That a context has a kept fault,
+    /// computes a value or is closed is an answer. Where no faults are kept none is met.
     ///
     /// Javadoc `ExtensionContext.Store`, `get`.
     pub fn look_up(

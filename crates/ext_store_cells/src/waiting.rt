@@ -6,7 +6,7 @@ ghost use Rattle.ext_cells.specs.declared.refusal.CellRefusal.TheVariants as cel
 ghost use Rattle.ext_cells.specs.CellCalls as cells;
 ghost use Rattle.ext_store_cells.specs.ContextCalls.{Gets, IsFaultlessLook, Puts, Removes, with_kept};
 ghost use Rattle.ext_store_cells.specs.InnerLooking.{IsTrail, LooksAt};
-ghost use Rattle.ext_store_cells.specs.Waiting.{ClaimsAfterWaits, IsDecided, IsDecidedLook, IsDecidedUnused};
+ghost use Rattle.ext_store_cells.specs.Waiting.{announced_after, ClaimsAfterWaits, IsDecided, IsDecidedLook, IsDecidedUnused};
 
 use crate::found::unless_busy;
 use crate::{Refusal, StoreCells, Unused};
@@ -17,13 +17,11 @@ use std::sync::{Forever, Wait};
 
 // What a lane does before it tries again: where it met a running factory it announces that it waits, or, where it has
 // announced that and has tried once more since, it sleeps; where other lanes were in the way, nothing.
-fn pause<R: Wait>(rt: &R, waiting: &mut Waiting<'_>, met: Refusal) {
+fn pause<R: Wait>(rt: &R, waiting: &mut Waiting<'_>, met: Refusal)
+    ensures { waiting.new ≡ announced_after met waiting.old }
+{
     if matches!(met, Refusal::Busy(_)) {
-        if waiting.is_announced() {
-            waiting.sleep(rt);
-        } else {
-            waiting.announce();
-        }
+        waiting.pause(rt);
     }
 }
 

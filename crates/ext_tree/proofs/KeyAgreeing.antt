@@ -3,8 +3,8 @@ use Rattle.std.proofs.Common.{ℕ, ◌≡◌, ◌+◌, ◌<◌, ◌≤◌, ◌�
 use Rattle.std.proofs.Math.ListN.{get_or-map}
 use Rattle.std.proofs.lemmas.List.{get_or_default, length-map, set-get_or}
 use Rattle.once_cell.specs.Once.{Agrees}
-use Rattle.ext_tree.specs.Keys.{KeyValue, KnownPlace, AgreeBelow, KeepsKeys, OneKey, key_at, key_places_of}
-use Rattle.ext_tree.proofs.KeyPlacing.{key_at-entry, key_at-set_other, key_at-set_same, key_within, keeps_both, keeps_set}
+use Rattle.ext_tree.specs.Keys.{KeyValue, KnownPlace, AgreeBelow, KeepsKeys, OneKey, PlacesNone, key_at, key_places_of}
+use Rattle.ext_tree.proofs.KeyPlacing.{key_at-entry, key_at-set_other, key_at-set_same, key_within, keeps_both, keeps_set, places_none_set}
 
 -- the notes hold one key at this number, where both know one
 abbrev pub AgreeAt : List KnownPlace → List KnownPlace → ℕ → Type 0
@@ -41,6 +41,7 @@ pub record Compared (entries first others second : List KnownPlace) (count : ℕ
   pub kept : KeepsKeys second others
   pub agree : AgreeBelow first second count
   pub taught : (number : ℕ) → number < count → TaughtAt first others number
+  pub placed : PlacesNone second others
   pub rest : (number : ℕ) → count ≤ number → key_at others number ≡ key_at second number
 
 -- one entry more
@@ -64,11 +65,12 @@ module _ (entries first others second : List KnownPlace) (index : ℕ) (so_far :
   known_second : (key : KeyValue) → key_at second index ≡ Some key → other.key ≡ Some key
   known_second key known = sym (key_at-entry others index other below' is') ∙ (so_far.rest index (omega arith) ∙ known)
 
-  pub compared_more : (written learnt : KnownPlace) → IfSome other.key (Agrees entry.key) → written ≡ entry → learnt.place ≡ other.place → ((key : KeyValue) → other.key ≡ Some key → learnt.key ≡ Some key) → ((key : KeyValue) → entry.key ≡ Some key → learnt.key ≡ Some key) → Compared (set entries index written) first (set others index learnt) second (index + 1)
-  compared_more written learnt told same place kept taught = record {
+  pub compared_more : (written learnt : KnownPlace) → IfSome other.key (Agrees entry.key) → written ≡ entry → learnt.place ≡ other.place → ((key : KeyValue) → other.key ≡ Some key → learnt.key ≡ Some key) → ((key : KeyValue) → entry.key ≡ Some key → learnt.key ≡ Some key) → learnt.placed ≡ other.placed → Compared (set entries index written) first (set others index learnt) second (index + 1)
+  compared_more written learnt told same place kept taught placed = record {
     notes = written_back entries first index entry written so_far.notes is same;
     kept = keeps_both second others (set others index learnt) so_far.kept (keeps_set others index other learnt below' is' place kept);
     agree = below_more (AgreeAt first second) index so_far.agree (λ key second_key known known'. one_value entry.key other.key told key second_key (known_first key known) (known_second second_key known'));
+    placed = λ number. places_none_set others index other learnt below' is' place placed number ∙ so_far.placed number;
     taught = below_more (TaughtAt first (set others index learnt)) index earlier here;
     rest = λ number past. key_at-set_other others index other learnt below' is' place number (λ e. omega (arith, e, past)) ∙ so_far.rest number (omega (arith, past));
   }

@@ -5,7 +5,7 @@ use Rattle.std.proofs.Math.Seq.{map-set_same}
 use Rattle.std.proofs.lemmas.Bool.{cases_eq, cases_order}
 use Rattle.std.proofs.lemmas.List.{get_or-set_same, get_or-set_other, get_or_default, length-map, take_all, take_more_set, map_more}
 use Rattle.std.proofs.lemmas.List.Elements.{All-set, All-weaker}
-use Rattle.ext_tree.specs.Keys.{KeyValue, KnownPlace, HoldsOther, PassedBefore, IsKeyNumber, IsNext, IsKeyFault, KeepsKeys, OneKey, OneNumber, AreHints, IsHint, Tells, key_at, no_key_known, key_places_of, unknown_place}
+use Rattle.ext_tree.specs.Keys.{KeyValue, KnownPlace, HoldsOther, PassedBefore, IsKeyNumber, IsNext, IsKeyFault, KeepsKeys, PlacesOnly, OneKey, OneNumber, AreHints, IsHint, Tells, key_at, placed_at, no_key_known, key_places_of, unknown_place}
 use Rattle.ext_tree.specs.declared.key_fault.KeyFault.{KeyFault}
 use Rattle.ext_tree.specs.declared.key_fault.KeyFault.TheVariants.{DirectoryFull, Unplaced, Memory}
 
@@ -66,6 +66,21 @@ module _ (notes : List KnownPlace) (number : ℕ) (entry written : KnownPlace) (
   pub key_at-set_other : (m : ℕ) → m ≢ number → key_at (set notes number written) m ≡ key_at notes m
   key_at-set_other m other = ap (λ (x : KnownPlace). x.key) (get_or-set_other notes number m written (unknown_place 0) other)
 
+  pub placed_at-set_same : placed_at (set notes number written) number ≡ written.placed
+  placed_at-set_same = ap (λ (x : KnownPlace). x.placed) (get_or-set_same notes number written (unknown_place 0) below)
+
+  pub placed_at-set_other : (m : ℕ) → m ≢ number → placed_at (set notes number written) m ≡ placed_at notes m
+  placed_at-set_other m other = ap (λ (x : KnownPlace). x.placed) (get_or-set_other notes number m written (unknown_place 0) other)
+
+  -- no place is newly placed, where the written entry is placed as the one before it was
+  pub places_none_set : written.placed ≡ entry.placed → (m : ℕ) → placed_at (set notes number written) m ≡ placed_at notes m
+  places_none_set same_placed m =
+      let here : placed_at notes number ≡ entry.placed = ap (λ (x : KnownPlace). x.placed) (get_or_default notes number (unknown_place 0) entry below ∙ sym is) in
+      elim (cases_eq m number) [
+        | inl e ↦ subst (λ j. placed_at (set notes number written) j ≡ placed_at notes j) (sym e) (placed_at-set_same ∙ (same_placed ∙ sym here))
+        | inr other ↦ placed_at-set_other m other
+      ]
+
   -- what was known stays known, where the written entry knows what the one before it knew
   pub keeps_set : ((key : KeyValue) → entry.key ≡ Some key → written.key ≡ Some key) → KeepsKeys notes (set notes number written)
   keeps_set stays = record { places = key_places_of-set; keys = keys }
@@ -117,10 +132,36 @@ module _ (first notes : List KnownPlace) (key : KeyValue) (number : ℕ) (entry 
     before = passed_stay notes (set notes number written) key number keeps_here passed;
   }
 
+  -- where the entry of this place is as before, what was placed or numbered is so still
+  later : (m : ℕ) → placed_at (set notes number written) m ≡ placed_at notes m → (placed_at notes m ≡ placed_at first m) ⊎ IsKeyNumber notes key m → (placed_at (set notes number written) m ≡ placed_at first m) ⊎ IsKeyNumber (set notes number written) key m
+  later m e (inl p) = inl (e ∙ p)
+  later m e (inr n) = inr (number_stays notes (set notes number written) key m keeps_here n)
+
+  pub step_places : PlacesOnly key first notes → (written.placed ≡ entry.placed) ⊎ (written.key ≡ Some key) → PlacesOnly key first (set notes number written)
+  step_places before (inl still) m = later m (places_none_set notes number entry written below is same still m) (before m)
+  step_places before (inr there) m =
+      elim (cases_eq m number) [
+        | inl e ↦ inr (subst (λ j. IsKeyNumber (set notes number written) key j) (sym e) (step_finds there))
+        | inr other ↦ later m (placed_at-set_other notes number entry written below is same m other) (before m)
+      ]
+
   pub step_passes : Tells written.key key false → PassedBefore (set notes number written) key (number + 1)
   step_passes (other, holds, differs) =
       passed_more (set notes number written) key number (passed_stay notes (set notes number written) key number keeps_here passed)
       (record { other = other; there = key_at-set_same notes number entry written below is same ∙ holds; differs = differs })
+
+-- ---- which keys the lane itself put at places
+
+pub places_nothing : (key : KeyValue) (notes : List KnownPlace) → PlacesOnly key notes notes
+places_nothing key notes number = inl refl
+
+pub places_both : (key : KeyValue) (a b c : List KnownPlace) → KeepsKeys b c → PlacesOnly key a b → PlacesOnly key b c → PlacesOnly key a c
+places_both key a b c keeps first second number = from (first number) (second number)
+  where
+    from : (placed_at b number ≡ placed_at a number) ⊎ IsKeyNumber b key number → (placed_at c number ≡ placed_at b number) ⊎ IsKeyNumber c key number → (placed_at c number ≡ placed_at a number) ⊎ IsKeyNumber c key number
+    from (inl p) (inl q) = inl (q ∙ p)
+    from (inr n) (inl q) = inr (number_stays b c key number keeps n)
+    from was (inr n) = inr n
 
 -- ---- one number and one key
 

@@ -52,14 +52,15 @@ HasNumber keys key number = slice_get keys number ≡ Some key
 
 -- ---- places for keys
 
--- what is known of one place: its name, and the key that it holds, where that is known
+-- what is known of one place: its name, the key that it holds, where that is known, and whether this lane put it there
 pub record KnownPlace : Type 0 where
   pub place : ℕ
   pub key : Option KeyValue
+  pub placed : Bool
 
 -- nothing is known of this place
 abbrev pub unknown_place : ℕ → KnownPlace
-unknown_place place = record { place = place; key = None }
+unknown_place place = record { place = place; key = None; placed = false }
 
 -- nothing is known of these places
 abbrev pub no_key_known : List ℕ → List KnownPlace
@@ -113,6 +114,18 @@ IsKeyFault notes key Memory = (number : ℕ) × IsNext notes key number
 pub record KeepsKeys (before after : List KnownPlace) : Type 0 where
   pub places : key_places_of after ≡ key_places_of before
   pub keys : (number : ℕ) (key : KeyValue) → key_at before number ≡ Some key → key_at after number ≡ Some key
+
+-- whether the lane put a key at the place with this number
+abbrev pub placed_at : List KnownPlace → ℕ → Bool
+placed_at notes number = (slice_index_or notes number (unknown_place 0)).placed
+
+-- The lane put no key at a place but this one, and this one at no place but that of its number: so it set one place at most
+abbrev pub PlacesOnly : KeyValue → List KnownPlace → List KnownPlace → Type 0
+PlacesOnly key before after = (number : ℕ) → (placed_at after number ≡ placed_at before number) ⊎ IsKeyNumber after key number
+
+-- the lane put no key at a place
+abbrev pub PlacesNone : List KnownPlace → List KnownPlace → Type 0
+PlacesNone before after = (number : ℕ) → placed_at after number ≡ placed_at before number
 
 -- a key that both know has one number in both
 abbrev pub OneNumber : List KnownPlace → List KnownPlace → Type 0

@@ -19,14 +19,19 @@ use std::marker::Model;
 pub struct Key {
     namespace: Namespace,
     name: Text,
+    // Where the notes of a lane look for it first.
+    hint: u8,
 }
 
 impl Model for Key {
+    ghost use Rattle.std.specs.Prelude.{◌<◌};
     ghost use Rattle.ext_tree.specs.Keys.{KeyValue};
 
     ghost Value = { KeyValue };
 
     ghost view = { λ k. record { namespace = k.namespace; name = k.name } };
+
+    ghost invariant = { λ k. k.hint < 128 };
 }
 
 impl Key {
@@ -38,20 +43,20 @@ impl Key {
         ensures memory { IfErr result (λ e. e ≡ Memory) }
     {
         let name = Text::copied(alloc, name)?;
-        Ok(Key { namespace, name })
+        let hint = hint_of(&namespace, &name);
+        Ok(Key {
+            namespace,
+            name,
+            hint,
+        })
     }
 
-    // Where the notes of a lane look for a hint of the key first: by a hash of its name and of the last part of its namespace. Equal
-    // keys have one such place; other keys may have it, too.
+    // Where the notes of a lane look for a hint of the key first: by a hash of its name and of the last part of its namespace, which
+    // was taken when the key was made. Equal keys have one such place; other keys may have it, too.
     pub(crate) fn first_hint(&self) -> usize
         ensures { result < 128 }
     {
-        let mut hasher = FoldHasher::default();
-        hasher.write(self.name.as_bytes());
-        if let Some(part) = self.namespace.last_part() {
-            hasher.write(part.as_bytes());
-        }
-        (hasher.finish() % HINTS as u64) as usize
+        usize::from(self.hint)
     }
 }
 
@@ -62,7 +67,11 @@ impl Clone for Key {
     fn clone(&self) -> Result<Key, AllocError> {
         let namespace = self.namespace.clone()?;
         let name = self.name.clone()?;
-        Ok(Key { namespace, name })
+        Ok(Key {
+            namespace,
+            name,
+            hint: self.hint,
+        })
     }
 }
 
@@ -93,4 +102,16 @@ impl Hash for Key {
         self.namespace.hash(state);
         self.name.hash(state);
     }
+}
+
+// Where the notes of a lane look for a hint of a key first.
+fn hint_of(namespace: &Namespace, name: &Text) -> u8
+    ensures { result < 128 }
+{
+    let mut hasher = FoldHasher::default();
+    hasher.write(name.as_bytes());
+    if let Some(part) = namespace.last_part() {
+        hasher.write(part.as_bytes());
+    }
+    (hasher.finish() % HINTS as u64) as u8
 }

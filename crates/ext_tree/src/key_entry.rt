@@ -1,9 +1,10 @@
 //! What a lane knows of one place for a key.
-ghost use Rattle.std.specs.Prelude.{◌≡◌, IfErr, IfNone, IfOk, IfSome, IsSome, IsTrue, None, Some, is_some};
+ghost use Rattle.std.specs.Prelude.{◌⊎◌, ◌≡◌, IfErr, IfNone, IfOk, IfSome, IsSome, IsTrue, None, Some, is_some};
 ghost use Rattle.once_cell.specs.Once.{Agrees, cell_name};
 ghost use Rattle.ext_tree.specs.Keys.{KeyValue, Tells, unknown_place};
 ghost use Rattle.ext_tree.specs.declared.key_fault.KeyFault.TheVariants.{Memory};
 
+use crate::learnt::Learnt;
 use crate::{Key, KeyFault};
 use once_cell::race;
 use once_cell::race::OnceBox;
@@ -14,7 +15,7 @@ use std::mem::size_of;
 /// What a lane knows of one place for a key: one byte, since what tells the key takes none.
 #[derive(Drop)]
 pub struct KeyEntry {
-    is_known: bool,
+    learnt: Learnt,
     seen: race::Note<Key>,
 }
 
@@ -24,12 +25,13 @@ const _: () = prove!(size_of::<KeyEntry>() == 1);
 impl Model for KeyEntry {
     ghost use Rattle.std.specs.Prelude.{◌≡◌, is_some};
     ghost use Rattle.ext_tree.specs.Keys.{KnownPlace};
+    ghost use Rattle.ext_tree.specs.InnerLearning.{knows_key, put_key};
 
     ghost Value = { KnownPlace };
 
-    ghost view = { λ e. record { place = e.seen.cell; key = e.seen.known } };
+    ghost view = { λ e. record { place = e.seen.cell; key = e.seen.known; placed = put_key e.learnt } };
 
-    ghost invariant = { λ e. e.is_known ≡ is_some e.seen.known };
+    ghost invariant = { λ e. knows_key e.learnt ≡ is_some e.seen.known };
 }
 
 impl KeyEntry {
@@ -38,7 +40,7 @@ impl KeyEntry {
         ensures { result ≡ unknown_place (cell_name place.now) }
     {
         KeyEntry {
-            is_known: false,
+            learnt: Learnt::Nothing,
             seen: place.note(),
         }
     }
@@ -47,7 +49,14 @@ impl KeyEntry {
     pub fn is_known(&self) -> bool
         ensures { result ≡ is_some self.now.key }
     {
-        self.is_known
+        self.learnt.is_known()
+    }
+
+    /// Whether the lane put the key there.
+    pub fn is_placed(&self) -> bool
+        ensures { result ≡ self.now.placed }
+    {
+        self.learnt.is_placed()
     }
 
     /// The key that the place holds, if one is found there. A known key is always found.
@@ -56,10 +65,11 @@ impl KeyEntry {
         ensures place { self.new.place ≡ self.old.place }
         ensures found { IfSome result (λ key. self.new.key ≡ Some key.now) }
         ensures same { IfSome result (λ key. Agrees self.old.key key.now) }
+        ensures placed { self.new.placed ≡ self.old.placed }
         ensures none { IfNone result ((self.new ≡ self.old) × (self.old.key ≡ None)) }
     {
         let key = place.get_as(&mut self.seen)?;
-        self.is_known = true;
+        self.learnt = self.learnt.shown();
         Some(key)
     }
 
@@ -83,12 +93,16 @@ impl KeyEntry {
         ensures place { self.new.place ≡ self.old.place }
         ensures found { self.new.key ≡ Some result.now }
         ensures same { Agrees self.old.key result.now }
+        ensures placed { (self.new.placed ≡ self.old.placed) ⊎ (self.new.key ≡ Some key.value) }
     {
         // A refused set also tells which key the place holds.
-        if let Err(back) = place.set_as(key, &mut self.seen) {
-            drop(back);
+        match place.set_as(key, &mut self.seen) {
+            Ok(()) => self.learnt = Learnt::Placed,
+            Err(back) => {
+                drop(back);
+                self.learnt = self.learnt.shown();
+            }
         }
-        self.is_known = true;
         match place.get_as(&mut self.seen) {
             Some(found) => found,
             None => unreachable!(),
@@ -101,6 +115,7 @@ impl KeyEntry {
         ensures place { self.new.place ≡ self.old.place }
         ensures known { (k : KeyValue) → self.old.key ≡ Some k → self.new ≡ self.old }
         ensures told { IfOk result (Tells self.new.key key.now) }
+        ensures placed { (self.new.placed ≡ self.old.placed) ⊎ (self.new.key ≡ Some key.now) }
         ensures refused { IfErr result (λ e. (e ≡ Memory) × (self.new ≡ self.old) × (self.old.key ≡ None)) }
     {
         if let Some(found) = self.get(place) {
@@ -131,11 +146,12 @@ impl KeyEntry {
         ensures place { other.new.place ≡ other.old.place }
         ensures kept { (k : KeyValue) → other.old.key ≡ Some k → other.new.key ≡ Some k }
         ensures taught { (k : KeyValue) → self.old.key ≡ Some k → other.new.key ≡ Some k }
+        ensures placed { other.new.placed ≡ other.old.placed }
     {
         self.seen.compare(other.seen.again());
-        if self.is_known {
+        if self.learnt.is_known() {
             other.seen = self.seen.again();
-            other.is_known = true;
+            other.learnt = other.learnt.shown();
         }
     }
 }

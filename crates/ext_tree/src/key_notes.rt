@@ -1,6 +1,6 @@
 //! What one lane knows of the places for keys.
 ghost use Rattle.std.specs.Prelude.{◌≡◌, is_some, replicate};
-ghost use Rattle.ext_tree.specs.Keys.{key_at};
+ghost use Rattle.ext_tree.specs.Keys.{key_at, placed_at};
 
 use crate::key_entry::KeyEntry;
 use crate::key_walk::HINTS;
@@ -37,6 +37,13 @@ impl KeyNotes {
         ensures { result ≡ is_some (key_at self.now number) }
     {
         number < self.entries.len() && self.entries[number].is_known()
+    }
+
+    /// Whether this lane put the key of this number at its place. False where another did, and for a number from 64 on.
+    pub fn has_placed(&self, number: KeyNo) -> bool
+        ensures { result ≡ placed_at self.now number }
+    {
+        number < self.entries.len() && self.entries[number].is_placed()
     }
 
     // Notes with these entries, and no hints.

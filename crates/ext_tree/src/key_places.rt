@@ -1,6 +1,6 @@
 //! Places for keys, which number them during a run.
 ghost use Rattle.std.specs.Prelude.{ℕ, ◌≡◌, ◌+◌, ◌*◌, ◌<◌, IfErr, IfOk, IsSome, Ok, Some, length};
-ghost use Rattle.ext_tree.specs.Keys.{KeyValue, AreKeyNotesOf, IsKeyFault, IsKeyNumber, KeepsKeys, OneKey, OneNumber, key_at, no_key_known};
+ghost use Rattle.ext_tree.specs.Keys.{KeyValue, AreKeyNotesOf, IsKeyFault, IsKeyNumber, KeepsKeys, PlacesNone, PlacesOnly, OneKey, OneNumber, key_at, no_key_known};
 ghost use Rattle.ext_tree.specs.declared.fault.TreeFault.TheVariants as fault;
 
 use crate::key_notes::KeyNotes;
@@ -70,7 +70,7 @@ impl KeyPlaces {
     ///
     /// A key that has a number in the notes is never refused. Any other is refused as `Memory` where there is none for a copy, at the
     /// first place that is not known to hold a key, and as `DirectoryFull` where all 64 places are known to hold other keys; `Unplaced`
-    /// does not come. A refused call placed no key. The notes know then what they knew, and may know the keys of further places, too.
+    /// does not come. These notes set no place but that of the key's number, so a refused call set none. They know then what they knew, and may know the keys of further places, too.
     pub fn number(&self, notes: &mut KeyNotes, key: &Key) -> Result<KeyNo, KeyFault>
         requires { AreKeyNotesOf self.now notes.old }
         ensures number { IfOk result (IsKeyNumber notes.new key.now) }
@@ -78,6 +78,7 @@ impl KeyPlaces {
         ensures again { (number : ℕ) → IsKeyNumber notes.old key.now number → result ≡ Ok number }
         ensures refused { IfErr result (IsKeyFault notes.new key.now) }
         ensures kept { KeepsKeys notes.old notes.new }
+        ensures placed { PlacesOnly key.now notes.old notes.new }
         ensures of { AreKeyNotesOf self.now notes.new }
     {
         let first = key.first_hint();
@@ -118,6 +119,7 @@ impl KeyPlaces {
         ensures unchanged { notes.new ≡ notes.old }
         ensures kept { KeepsKeys others.old others.new }
         ensures taught { KeepsKeys notes.old others.new }
+        ensures placed { PlacesNone others.old others.new }
         ensures of { AreKeyNotesOf self.now others.new }
     {
         agree_all(&mut notes.entries, &mut others.entries);

@@ -1,7 +1,7 @@
 //! The walk over the places for keys, and where it may begin.
 ghost use Rattle.std.specs.Prelude.{ℕ, ◌≡◌, ◌<◌, ◌+◌, ◌⊎◌, IfErr, IfOk, IfSome, IsSome, Some, length, map, slice_set};
 ghost use Rattle.once_cell.specs.Once.{cell_name};
-ghost use Rattle.ext_tree.specs.Keys.{KeyValue, AgreeBelow, AreHints, AreKeyNotesOf, IsKeyFault, IsKeyNumber, KeepsKeys, key_at, no_key_known, key_places_of};
+ghost use Rattle.ext_tree.specs.Keys.{KeyValue, AgreeBelow, AreHints, AreKeyNotesOf, IsKeyFault, IsKeyNumber, KeepsKeys, PlacesNone, PlacesOnly, key_at, no_key_known, key_places_of};
 
 use crate::key_entry::KeyEntry;
 use crate::{Key, KeyFault};
@@ -23,6 +23,7 @@ pub fn walk(
 ) -> Result<KeyNo, KeyFault>
     requires { AreKeyNotesOf (map cell_name places.now) entries.old }
     ensures kept { KeepsKeys entries.old entries.new }
+    ensures placed { PlacesOnly key.now entries.old entries.new }
     ensures number { IfOk result (IsKeyNumber entries.new key.now) }
     ensures refused { IfErr result (IsKeyFault entries.new key.now) }
 {
@@ -94,6 +95,7 @@ pub fn agree_all(entries: &mut [KeyEntry], others: &mut [KeyEntry])
     ensures unchanged { entries.new ≡ entries.old }
     ensures kept { KeepsKeys others.old others.new }
     ensures taught { KeepsKeys entries.old others.new }
+    ensures placed { PlacesNone others.old others.new }
 {
     for index in 0..entries.len() {
         entries[index].agree(&mut others[index]);

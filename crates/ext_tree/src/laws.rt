@@ -1,5 +1,5 @@
 //! Laws of trees and keys, each proved once and for all as the contract of an empty function.
-ghost use Rattle.ext_tree.specs.KeyPlaceLaws.{KeyNumbersTell, SharedNotesAgree};
+ghost use Rattle.ext_tree.specs.KeyPlaceLaws.{KeyNumbersTell, PlacingTells, SharedNotesAgree};
 ghost use Rattle.ext_tree.specs.Laws.{FaultsTell, TestTells, PathsAreUnique, ParentsListChildren, NumbersTell, CellsTell, NamespacesTell};
 
 /// Proves the laws of trees: faults, the test for trees, paths and children. It does nothing when it runs.
@@ -21,4 +21,5 @@ pub fn key_laws()
 pub fn key_place_laws()
     ensures numbers { KeyNumbersTell }
     ensures shared { SharedNotesAgree }
+    ensures placing { PlacingTells }
 {}

@@ -21,6 +21,7 @@ mod key_notes;
 mod key_places;
 mod key_walk;
 mod laws;
+mod learnt;
 mod namespace;
 mod path;
 mod text;

@@ -1,6 +1,8 @@
 //! The namespace of a key.
 ghost use Rattle.std.specs.Prelude.{◌≡◌, ◌<◌, ◌++◌, ◌↔◌, true, false, [], IsTrue, IfOk, IfErr, map, length};
 ghost use Rattle.std.specs.Cmp.{partial_equiv_from_equiv};
+ghost use Rattle.std.specs.Cmp.Lexicographic.{pointwise};
+ghost use Rattle.std.specs.Str.{bytes_eq};
 ghost use Rattle.ext_tree.specs.Keys.{global_namespace, created_namespace, appended, texts_of};
 ghost use Rattle.ext_tree.specs.Traits.{namespace_eq, namespace_eq_equiv, namespace_input, namespaces_Alike};
 ghost use Rattle.ext_tree.specs.declared.fault.TreeFault.TheVariants.{Memory};
@@ -116,7 +118,7 @@ impl PartialEq for Namespace {
         ensures exact { result ≡ namespace_eq self.now other.now }
         ensures same { IsTrue result ↔ (self.now ≡ other.now) }
     {
-        self.created == other.created && self.parts() == other.parts()
+        self.created == other.created && same_parts(self.parts(), other.parts())
     }
 }
 
@@ -143,4 +145,19 @@ fn push_all(alloc: Global, list: &mut Vec<Text>, parts: &[&str]) -> Result<(), A
         list.push(Text::copied(alloc, part)?)?;
     }
     Ok(())
+}
+
+// Whether these are the same parts, in order. Most often there are none or one, which an index finds sooner than an iterator.
+fn same_parts(parts: &[Text], others: &[Text]) -> bool
+    ensures { result ≡ pointwise bytes_eq parts.now others.now }
+{
+    if parts.len() != others.len() {
+        return false;
+    }
+    for i in 0..parts.len() {
+        if parts[i] != others[i] {
+            return false;
+        }
+    }
+    true
 }

@@ -3,7 +3,9 @@ use Rattle.std.proofs.Common.{ℕ, zero, suc, ◌≡◌, ◌≢◌, ◌-◌, ◌
 use Rattle.std.proofs.Math.Seq.{map-set_same}
 use Rattle.std.proofs.lemmas.List.{get_or-set_same, get_or-set_other, get_or_default, length-map}
 use Rattle.ext_values.specs.Places.{IsNumber}
-use Rattle.ext_values.specs.Known.{Known, AreNotesOf, Learns, known_at, places_of, unknown}
+use Rattle.std.specs.Prelude.{Result, Ok, Err}
+use Rattle.std.specs.Result.{OnErr, OnOk}
+use Rattle.ext_values.specs.Known.{Known, AreNotesOf, Learns, LearnsOne, known_at, places_of, unknown}
 
 module _ {V : Type 0} where
   -- there is an entry for each place
@@ -47,3 +49,13 @@ module _ {V : Type 0} (entries notes : List (Known V)) (names : List ℕ) (view 
       let e : suc (number - 1) ≡ number = omega arith in
       subst (λ l. Learns l (set entries (number - 1) written) number value) view
       (subst (λ n. Learns entries (set entries (number - 1) written) n value) e (learns_at entries (number - 1) entry written value below is same known))
+
+-- a value is learnt, whether the call placed it or found another one
+pub learns_either : {V T E : Type 0} {before after : List (Known V)} {number : ℕ} (r : Result T E) (value : V) → OnOk r (Learns before after number value) → OnErr r (LearnsOne before after number) → LearnsOne before after number
+learns_either (Ok done) value placed taken = (value, placed)
+learns_either (Err back) value placed taken = taken
+
+-- so of a refused call
+pub err_always : {T E P : Type 0} (r : Result T E) → P → OnErr r P
+err_always (Ok done) p = tt
+err_always (Err back) p = p

@@ -38,6 +38,10 @@ pub record Learns {V : Type 0} (before after : List (Known V)) (number : ℕ) (v
   pub learnt : known_at after number ≡ Some value
   pub others : (m : ℕ) → m ≢ number → known_at after m ≡ known_at before m
 
+-- afterwards some value of this number is known, which stands at its place, and of every other number what was known before
+abbrev pub LearnsOne : {V : Type 0} → List (Known V) → List (Known V) → ℕ → Type 0
+LearnsOne {V} before after number = (value : V) × Learns before after number value
+
 -- what was known before is known afterwards
 abbrev pub KeepsKnown : {V : Type 0} → List (Known V) → List (Known V) → Type 0
 KeepsKnown {V} before after = (number : ℕ) (value : V) → known_at before number ≡ Some value → known_at after number ≡ Some value

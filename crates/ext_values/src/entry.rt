@@ -1,5 +1,5 @@
 //! What a lane knows of one place.
-ghost use Rattle.std.specs.Prelude.{◌≡◌, IfErr, IfNone, IfSome, None, OnErr, OnOk, Some};
+ghost use Rattle.std.specs.Prelude.{◌≡◌, IfErr, IfNone, IfSome, None, OnOk, Some};
 ghost use Rattle.once_cell.specs.Once.{Agrees, cell_name};
 ghost use Rattle.ext_values.specs.Known.{unknown};
 
@@ -55,22 +55,15 @@ impl<V> Entry<V> {
 }
 
 impl<V: Drop> Entry<V> {
-    /// Puts the value at the place. Where the place is taken the box comes back, and the entry stays as it was.
+    /// Puts the value at the place. Where the place is taken the box comes back, and the entry knows the value that stands there.
     pub fn place(&mut self, place: &OnceBox<V>, value: Box<V>) -> Result<(), Box<V>>
         requires { self.old.place ≡ cell_name place.now }
         ensures place { self.new.place ≡ self.old.place }
         ensures placed { OnOk result (self.new.value ≡ Some value.value) }
         ensures free { OnOk result (self.old.value ≡ None) }
         ensures handed_back { IfErr result (λ b. b.value ≡ value.value) }
-        ensures unchanged { OnErr result (self.new ≡ self.old) }
+        ensures known { (x : V) × (self.new.value ≡ Some x) × Agrees self.old.value x }
     {
-        // A refused set also tells the value that stands there: that goes to a copy, so that this entry stays as it was.
-        let mut seen = self.seen.again();
-        match place.set_as(value, &mut seen) {
-            Ok(()) => {}
-            Err(back) => return Err(back),
-        }
-        self.seen = seen;
-        Ok(())
+        place.set_as(value, &mut self.seen)
     }
 }

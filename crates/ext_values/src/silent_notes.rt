@@ -1,7 +1,7 @@
 //! What one lane knows of the values of all numbers, where nobody asks whether it does.
 ghost use Rattle.std.specs.Prelude.{◌≡◌, IfErr, IfNone, IfOk, IfSome, OnErr, OnOk, OnSome, None};
 ghost use Rattle.ext_values.specs.Places.{IsNumber};
-ghost use Rattle.ext_values.specs.Known.{AllAgree, AreNotesOf, KeepsKnown, Learns, known_at, nothing_known, places_of};
+ghost use Rattle.ext_values.specs.Known.{AllAgree, AreNotesOf, KeepsKnown, Learns, LearnsOne, known_at, nothing_known, places_of};
 
 use crate::entry::Entry;
 use crate::{Values, ValuesFault};
@@ -77,7 +77,7 @@ impl<V: Drop> SilentNotes<V> {
     /// these places, and that the number is 1 to the capacity.
     ///
     /// Refused where the place is taken, so always where the number's value is known: the box that was handed in comes
-    /// back with its value, and the notes stay as they were.
+    /// back with its value, and the value that stands there is known from now on. Nothing else changes.
     pub fn place(&mut self, values: &Values<V>, number: u32, value: Box<V>) -> Result<(), Box<V>>
         requires of { AreNotesOf values.now self.old }
         requires number { IsNumber values.now number }
@@ -85,7 +85,7 @@ impl<V: Drop> SilentNotes<V> {
         ensures free { OnOk result (known_at self.old number ≡ None) }
         ensures kept { KeepsKnown self.old self.new }
         ensures handed_back { IfErr result (λ b. b.value ≡ value.value) }
-        ensures unchanged { OnErr result (self.new ≡ self.old) }
+        ensures taken { OnErr result (LearnsOne self.old self.new number) }
         ensures of { AreNotesOf values.now self.new }
     {
         self.entries[number as usize - 1].place(values.place_at(number), value)

@@ -1,5 +1,5 @@
 //! Places for values, found by their numbers.
-ghost use Rattle.std.specs.Prelude.{◌≡◌, ◌↔◌, IfErr, IfOk, IfSome, IsTrue, OnSome, Some, length};
+ghost use Rattle.std.specs.Prelude.{◌≡◌, ◌↔◌, IfErr, IfOk, IfSome, IsSome, IsTrue, OnSome, Some, length};
 ghost use Rattle.once_cell.specs.Once.{cell_name};
 ghost use Rattle.ext_values.specs.Places.{IsCapacity, IsNoteOf, IsNumber, place_of};
 
@@ -66,20 +66,21 @@ impl<V> Values<V> {
 impl<V: Drop> Values<V> {
     /// Puts the value at this number, and gives a note of it. It is a condition that the number is 1 to the capacity.
     ///
-    /// Refused where the place is taken: the box that was handed in comes back with its value, and the place keeps the
-    /// value that it has.
-    pub fn place(&self, number: u32, value: Box<V>) -> Result<Note<V>, Box<V>>
+    /// Refused where the place is taken: the box that was handed in comes back with its value, beside a note of the value
+    /// that stands there, which the place keeps.
+    pub fn place(&self, number: u32, value: Box<V>) -> Result<Note<V>, (Box<V>, Note<V>)>
         requires { IsNumber self.now number }
         ensures note { IfOk result (λ n. IsNoteOf self.now n) }
         ensures number { IfOk result (λ n. n.number ≡ number) }
         ensures value { IfOk result (λ n. n.value ≡ Some value.value) }
-        ensures handed_back { IfErr result (λ b. b.value ≡ value.value) }
+        ensures handed_back { IfErr result (λ e. e.0.value ≡ value.value) }
+        ensures taken { IfErr result (λ e. IsNoteOf self.now e.1 × (e.1.number ≡ number) × IsSome e.1.value) }
     {
         let place = self.place_at(number);
         let mut seen = place.note();
         match place.set_as(value, &mut seen) {
             Ok(()) => Ok(Note { number, seen }),
-            Err(back) => Err(back),
+            Err(back) => Err((back, Note { number, seen })),
         }
     }
 }

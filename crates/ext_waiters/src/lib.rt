@@ -2,7 +2,7 @@
 //!
 //! A lane that may have to wait begins a `Waiting` and then tries, again and again: where what it waits for has not
 //! come, it announces itself the first time (`announce`), and sleeps the second time (`sleep`, which asks for an
-//! announcement). So it tries once more between its announcement and its sleep. Whoever ends what others may wait for
+//! announcement): `pause` is the one or the other. So it tries once more between its announcement and its sleep. Whoever ends what others may wait for
 //! ends it first, by one atomic step, and calls `wake_all` then. What is waited for does not stand here.
 //!
 //! Nothing takes memory, and only the sleep takes a runtime and may wait. That a lane that sleeps is woken is not

@@ -44,11 +44,7 @@ fn wait_for<R: Wait>(rt: &R, waiters: &Waiters, ended: &AtomicU64, round: u64) {
         if ended.load(Ordering::SeqCst) >= round {
             break;
         }
-        if waiting.is_announced() {
-            waiting.sleep(rt);
-        } else {
-            waiting.announce();
-        }
+        waiting.pause(rt);
     }
 }
 

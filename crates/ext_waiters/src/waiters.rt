@@ -1,5 +1,5 @@
 //! Who waits, and a wait that has begun.
-ghost use Rattle.std.specs.Prelude.{◌≡◌, false, true};
+ghost use Rattle.std.specs.Prelude.{◌≡◌, false, not, true};
 
 use crossbeam_utils::sync::{EventCount, Key};
 use std::marker::Model;
@@ -80,6 +80,18 @@ impl<'a> Waiting<'a> {
         match self.announced.take() {
             Some(key) => key.wait(rt),
             None => unreachable!(),
+        }
+    }
+
+    /// What a lane does between two of its tries: it announces that it waits; or, where it has announced that and has tried
+    /// once more since, it sleeps, and is to announce itself anew. It may wait: it promises its clause if it returns.
+    pub fn pause<R: Wait>(&mut self, rt: &R)
+        ensures { self.new ≡ not self.old }
+    {
+        if self.is_announced() {
+            self.sleep(rt);
+        } else {
+            self.announce();
         }
     }
 }

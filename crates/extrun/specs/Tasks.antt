@@ -1,7 +1,8 @@
 -- What is left where a plan was run or checked, as a command line asks for. Texts are lists of bytes. Own rule.
 use Rattle.std.specs.Prelude.{◌≤◌, ℕ, List}
-use Rattle.ext_run.specs.Reports.{Reports, plan_of_input}
-use Rattle.ext_run.specs.Checks.{IsCountsOf}
+use Rattle.ext_run.specs.Reports.{RefusedAs, Reports, plan_of_input}
+use Rattle.ext_run.specs.declared.fault.RunFault.{RunFault}
+use Rattle.ext_run.specs.Checks.{IsCountsOf, IsRacesOf, RefusedUnrun}
 use Rattle.ext_run.specs.Drawings.{IsTextOf, drawing_of}
 use Rattle.ext_run.specs.declared.options.Options.{Options}
 use Rattle.ext_run.specs.declared.options.Summary.{Summary}
@@ -18,10 +19,21 @@ abbrev pub IsReported : Options → List ℕ → Summary → (List ℕ → Type 
 IsReported options input summary Written =
     (report : List ℕ) × Reports options (plan_of_input input) (record { report = report; failed = summary.failed; lacked = summary.lacked }) × Written report
 
--- The task was done with the plan of this input: its report was written, run with just these options; or the line of its counts; or its drawing; of its races nothing is said
+-- The task was done with the plan of this input: its report was written, run with just these options; or the line of its counts; or its drawing; or its races, of which the summary says whether there is one
 abbrev pub IsDone : Task → List ℕ → Summary → (List ℕ → Type 0) → Type 0
 IsDone (tasks.Run options progress failures) input summary Written =
     AsksLanes options → IsReported options input summary Written
 IsDone tasks.Check input summary Written = (line : List ℕ) × IsCountsOf (plan_of_input input) line × Written line
 IsDone tasks.Draw input summary Written = (text : List ℕ) × IsTextOf drawing_of (plan_of_input input) text × Written text
-IsDone tasks.CheckRaces input summary Written = Unit {0}
+IsDone tasks.CheckRaces input summary Written = (text : List ℕ) × IsRacesOf (plan_of_input input) text summary.failed × Written text
+
+-- why a run with just these options has no report: too long an input, a refused plan or a refused run is told as such, and no other
+abbrev pub IsRefused : Options → List ℕ → RunFault → Type 0
+IsRefused options input fault = RefusedAs options fault (plan_of_input input)
+
+-- The task was not done with the plan of this input: it is refused as the call of `ext_run` is
+abbrev pub IsUndone : Task → List ℕ → RunFault → Type 0
+IsUndone (tasks.Run options progress failures) input fault = AsksLanes options → IsRefused options input fault
+IsUndone tasks.Check input fault = RefusedUnrun fault (plan_of_input input)
+IsUndone tasks.Draw input fault = RefusedUnrun fault (plan_of_input input)
+IsUndone tasks.CheckRaces input fault = RefusedUnrun fault (plan_of_input input)

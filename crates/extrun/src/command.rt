@@ -1,8 +1,14 @@
 //! The command line, over clap.
-ghost use Rattle.std.specs.Prelude.{◌≡◌, ◌↔◌, codes, option_map, string_bytes, Some, IfOk, IsTrue};
+ghost use Rattle.std.specs.Prelude.{◌≡◌, ◌↔◌, codes, List, [], ◌∷◌, map, true, false, option_map, string_bytes, Some, Ok, IfOk, IsTrue};
 ghost use Rattle.clap.specs.Matches.{found_of, first_value, one_text};
+ghost use Rattle.clap.specs.Words.{app_of, rule_of, shape_of, with_subcommand};
+ghost use Rattle.clap.specs.declared.builder.command.Command.TheViews.{out-Command};
+ghost use Rattle.clap.specs.declared.builder.command.Command.{Command};
+ghost use Rattle.clap.specs.declared.builder.value_parser.ValueParser.{ValueParser};
 ghost use Rattle.clap.specs.Simple.{subcommand_rows_of};
 ghost use Rattle.clap.specs.Walk.{rows_of};
+ghost use Rattle.extrun.specs.CommandLine as line;
+ghost use Rattle.extrun.specs.CommandLine.{AsksBy, AsksNothing, IsCommandLine, IsOneOf, IsRun};
 ghost use Rattle.extrun.specs.Words.{AsksCheck, AsksCommand, AsksFor, AsksId, AsksOfPlan, AsksRun, IsFlag, IsLaneCount, check_as, form_of};
 
 use crate::help::{AFTER_HELP, VERSION};
@@ -82,7 +88,9 @@ fn parsed<R: Env + AllocGlobal + Print + Eprint>(rt: &R) -> Result<Request, Allo
 fn request_in<R: AllocGlobal + Print + Eprint>(
     rt: &R,
     words: &[String],
-) -> Result<Request, AllocError> {
+) -> Result<Request, AllocError>
+    ensures { IfOk result (AsksBy (map string_bytes words.now)) }
+{
     match program(rt.alloc())?.try_get_matches_from(words) {
         Ok(matches) => asked_for(rt.alloc(), &matches),
         Err(fault) if fault.kind() == ErrorKind::OutOfMemory => Err(AllocError),
@@ -237,13 +245,17 @@ fn file_of(alloc: Global, words: &ArgMatches<'_>) -> Result<Option<String>, Allo
 }
 
 /// Tells that a word of the command line is not UTF-8: clap takes texts alone.
-fn no_text(rt: &impl Eprint) -> Request {
+fn no_text(rt: &impl Eprint) -> Request
+    ensures { result ≡ Request.Refused }
+{
     let _ = eprintln!(rt; "error: a word of the command line is not UTF-8");
     Request::Refused
 }
 
 /// Prints the help, or what is wrong with the command line. Where what is wrong can't be printed, nothing is left to do about it.
-fn refused<R: Print + Eprint>(rt: &R, fault: &Error) -> Request {
+fn refused<R: Print + Eprint>(rt: &R, fault: &Error) -> Request
+    ensures { AsksNothing result }
+{
     let printed = fault.print(rt);
     match fault.exit_code() {
         0 if printed.is_err() => Request::Unwritten,
@@ -253,7 +265,9 @@ fn refused<R: Print + Eprint>(rt: &R, fault: &Error) -> Request {
 }
 
 /// The program's command line: `run` may be left out.
-fn program<'a>(alloc: Global) -> Result<Command<'a>, AllocError> {
+fn program<'a>(alloc: Global) -> Result<Command<'a>, AllocError>
+    ensures { IfOk result (λ program. IsCommandLine (app_of program)) }
+{
     let program = Command::new(alloc, "extrun")
         .about(
             "Runs plans of contexts, keys and test steps over the extension store; without a command it does `run`",
@@ -269,12 +283,17 @@ fn program<'a>(alloc: Global) -> Result<Command<'a>, AllocError> {
 fn with_command<'a>(
     program: Command<'a>,
     command: Result<Command<'a>, AllocError>,
-) -> Result<Command<'a>, AllocError> {
+) -> Result<Command<'a>, AllocError>
+    ensures { IfOk result (λ with. (added : Command) × (command.entry ≡ Ok added)
+        × ((out-Command added).has_globals ≡ false → app_of with ≡ with_subcommand (app_of program.entry) (shape_of added))) }
+{
     program.subcommand(command?)
 }
 
 /// The command `run`.
-fn run_command<'a>(alloc: Global) -> Result<Command<'a>, AllocError> {
+fn run_command<'a>(alloc: Global) -> Result<Command<'a>, AllocError>
+    ensures { IfOk result (λ command. IsRun (shape_of command) × ((out-Command command).has_globals ≡ false)) }
+{
     Command::new(alloc, "run")
         .about("Reads a plan, runs it and prints its report")
         .arg(plan_file(alloc))?
@@ -288,7 +307,10 @@ fn run_command<'a>(alloc: Global) -> Result<Command<'a>, AllocError> {
 }
 
 /// The command `check`.
-fn check_command<'a>(alloc: Global) -> Result<Command<'a>, AllocError> {
+fn check_command<'a>(alloc: Global) -> Result<Command<'a>, AllocError>
+    ensures shape { IfOk result (λ command. shape_of command ≡ line.check) }
+    ensures local { IfOk result (λ command. (out-Command command).has_globals ≡ false) }
+{
     Command::new(alloc, "check")
         .about("Reads a plan and says how many nodes, tests and keys it has, without running it")
         .arg(plan_file(alloc))?
@@ -298,7 +320,10 @@ fn check_command<'a>(alloc: Global) -> Result<Command<'a>, AllocError> {
 }
 
 /// The command `id`.
-fn id_command<'a>(alloc: Global) -> Result<Command<'a>, AllocError> {
+fn id_command<'a>(alloc: Global) -> Result<Command<'a>, AllocError>
+    ensures shape { IfOk result (λ command. shape_of command ≡ line.id) }
+    ensures local { IfOk result (λ command. (out-Command command).has_globals ≡ false) }
+{
     Command::new(alloc, "id")
         .about("Prints the segments of a unique id, decoded, and the id written again")
         .arg(id_text(alloc))?
@@ -306,14 +331,20 @@ fn id_command<'a>(alloc: Global) -> Result<Command<'a>, AllocError> {
 }
 
 /// The file of the commands `run` and `check`.
-fn plan_file<'a>(alloc: Global) -> Arg<'a> {
+fn plan_file<'a>(alloc: Global) -> Arg<'a>
+    ensures rule { rule_of result ≡ line.plan_file }
+    ensures local { result.global ≡ false }
+{
     Arg::new(alloc, "FILE")
         .help("The file of the plan; without it the plan is read from standard input")
         .action(ArgAction::Set)
 }
 
 /// The option `--lanes`.
-fn lanes_option<'a>(alloc: Global) -> Arg<'a> {
+fn lanes_option<'a>(alloc: Global) -> Arg<'a>
+    ensures rule { rule_of result ≡ line.lanes }
+    ensures local { result.global ≡ false }
+{
     Arg::new(alloc, "lanes")
         .long("lanes")
         .value_name("N")
@@ -324,7 +355,11 @@ fn lanes_option<'a>(alloc: Global) -> Arg<'a> {
 }
 
 /// The option `--store`.
-fn store_option<'a>(alloc: Global) -> Arg<'a> {
+fn store_option<'a>(alloc: Global) -> Arg<'a>
+    ensures rule { (value : ValueParser) × IsOneOf value (codes "plain" ∷ codes "cells" ∷ [])
+        × (rule_of result ≡ line.option (codes "store") value (codes "cells")) }
+    ensures local { result.global ≡ false }
+{
     Arg::new(alloc, "store")
         .long("store")
         .value_name("STORE")
@@ -337,7 +372,11 @@ fn store_option<'a>(alloc: Global) -> Arg<'a> {
 }
 
 /// The option `--report`.
-fn report_option<'a>(alloc: Global) -> Arg<'a> {
+fn report_option<'a>(alloc: Global) -> Arg<'a>
+    ensures rule { (value : ValueParser) × IsOneOf value (codes "text" ∷ codes "json" ∷ [])
+        × (rule_of result ≡ line.option (codes "report") value (codes "text")) }
+    ensures local { result.global ≡ false }
+{
     Arg::new(alloc, "report")
         .long("report")
         .value_name("FORM")
@@ -348,7 +387,10 @@ fn report_option<'a>(alloc: Global) -> Arg<'a> {
 }
 
 /// The flag `--tree` of the command `run`.
-fn report_tree_flag<'a>(alloc: Global) -> Result<Arg<'a>, AllocError> {
+fn report_tree_flag<'a>(alloc: Global) -> Result<Arg<'a>, AllocError>
+    ensures rule { IfOk result (λ arg. rule_of arg ≡ line.tree) }
+    ensures local { IfOk result (λ arg. arg.global ≡ false) }
+{
     Arg::new(alloc, "tree")
         .long("tree")
         .help("Writes the report as an indented tree of the nodes")
@@ -357,7 +399,10 @@ fn report_tree_flag<'a>(alloc: Global) -> Result<Arg<'a>, AllocError> {
 }
 
 /// The flag `--tree` of the command `check`.
-fn draw_flag<'a>(alloc: Global) -> Arg<'a> {
+fn draw_flag<'a>(alloc: Global) -> Arg<'a>
+    ensures rule { rule_of result ≡ line.flag (codes "tree") }
+    ensures local { result.global ≡ false }
+{
     Arg::new(alloc, "tree")
         .long("tree")
         .help("Draws the nodes as an indented tree, with their modes, locks and tests")
@@ -365,7 +410,10 @@ fn draw_flag<'a>(alloc: Global) -> Arg<'a> {
 }
 
 /// The flag `--failures`.
-fn failures_flag<'a>(alloc: Global) -> Arg<'a> {
+fn failures_flag<'a>(alloc: Global) -> Arg<'a>
+    ensures rule { rule_of result ≡ line.flag (codes "failures") }
+    ensures local { result.global ≡ false }
+{
     Arg::new(alloc, "failures")
         .long("failures")
         .help(
@@ -375,7 +423,10 @@ fn failures_flag<'a>(alloc: Global) -> Arg<'a> {
 }
 
 /// The flag `--progress`.
-fn progress_flag<'a>(alloc: Global) -> Arg<'a> {
+fn progress_flag<'a>(alloc: Global) -> Arg<'a>
+    ensures rule { rule_of result ≡ line.flag (codes "progress") }
+    ensures local { result.global ≡ false }
+{
     Arg::new(alloc, "progress")
         .long("progress")
         .help(
@@ -385,7 +436,10 @@ fn progress_flag<'a>(alloc: Global) -> Arg<'a> {
 }
 
 /// The flag `--races`.
-fn races_flag<'a>(alloc: Global) -> Arg<'a> {
+fn races_flag<'a>(alloc: Global) -> Arg<'a>
+    ensures rule { rule_of result ≡ line.flag (codes "races") }
+    ensures local { result.global ≡ false }
+{
     Arg::new(alloc, "races")
         .long("races")
         .help("Says instead which nodes may get into each other's way, where they run at once")
@@ -393,7 +447,10 @@ fn races_flag<'a>(alloc: Global) -> Arg<'a> {
 }
 
 /// The flag `--explain`.
-fn explain_flag<'a>(alloc: Global) -> Arg<'a> {
+fn explain_flag<'a>(alloc: Global) -> Arg<'a>
+    ensures rule { rule_of result ≡ line.flag (codes "explain") }
+    ensures local { result.global ≡ false }
+{
     Arg::new(alloc, "explain")
         .long("explain")
         .help("Says in a second line on standard error what is meant, where the plan is refused")
@@ -401,7 +458,10 @@ fn explain_flag<'a>(alloc: Global) -> Arg<'a> {
 }
 
 /// The flag `--explain` of the command `id`.
-fn explain_id_flag<'a>(alloc: Global) -> Arg<'a> {
+fn explain_id_flag<'a>(alloc: Global) -> Arg<'a>
+    ensures rule { rule_of result ≡ line.flag (codes "explain") }
+    ensures local { result.global ≡ false }
+{
     Arg::new(alloc, "explain")
         .long("explain")
         .help("Says in a second line on standard error what is meant, where the text is no id")
@@ -409,7 +469,10 @@ fn explain_id_flag<'a>(alloc: Global) -> Arg<'a> {
 }
 
 /// The text of the command `id`.
-fn id_text<'a>(alloc: Global) -> Arg<'a> {
+fn id_text<'a>(alloc: Global) -> Arg<'a>
+    ensures rule { rule_of result ≡ record (line.word (codes "TEXT")) { required = true } }
+    ensures local { result.global ≡ false }
+{
     Arg::new(alloc, "TEXT")
         .help("The id, such as '[engine:x]/[class:A]'")
         .required(true)

@@ -1,7 +1,7 @@
 //! What failed and what was aborted in a run, told once more at its end on standard error.
-ghost use Rattle.std.specs.Prelude.{◌≡◌, ◌≤◌, false, IfOk};
+ghost use Rattle.std.specs.Prelude.{◌≡◌, ◌≤◌, false, IfErr, IfOk};
 ghost use Rattle.std.specs.Io.KnownBytes.{Appends};
-ghost use Rattle.extrun.specs.Tasks.{IsReported};
+ghost use Rattle.extrun.specs.Tasks.{IsRefused, IsReported};
 
 use ext_run::{
     Failures, Options, RunFault, RunListener, Summary, ToldFaults, failures_text, run_with_listener,
@@ -22,7 +22,8 @@ pub(crate) fn run_plan<R, W: Write, L: RunListener + Sync>(
 where
     R: Threads + Wait + Sync + AllocGlobal + Eprint,
     requires lanes { options.plain ≡ false → (1 ≤ options.lanes) × (options.lanes ≤ 16) }
-    ensures { IfOk result (λ summary. IsReported options input.now summary (Appends (W.contents writer.old) (W.contents writer.new))) }
+    ensures done { IfOk result (λ summary. IsReported options input.now summary (Appends (W.contents writer.old) (W.contents writer.new))) }
+    ensures refused { IfErr result (λ fault. IsRefused options input.now fault) }
 {
     if failures {
         return run_with_failures(rt, input, writer, options, listener);
@@ -42,7 +43,8 @@ fn run_with_failures<'a, R, W: Write, L: RunListener + Sync>(
 where
     R: Threads + Wait + Sync + AllocGlobal + Eprint,
     requires lanes { options.plain ≡ false → (1 ≤ options.lanes) × (options.lanes ≤ 16) }
-    ensures { IfOk result (λ summary. IsReported options input.now summary (Appends (W.contents writer.old) (W.contents writer.new))) }
+    ensures done { IfOk result (λ summary. IsReported options input.now summary (Appends (W.contents writer.old) (W.contents writer.new))) }
+    ensures refused { IfErr result (λ fault. IsRefused options input.now fault) }
 {
     let failures = Failures::new(rt, rt.alloc(), listener);
     let mut reader = input;
@@ -53,12 +55,10 @@ where
     outcome
 }
 
-/// Tells the faults of the nodes of this plan. Where that fails, nothing is left to do about it.
+/// Tells the faults of the nodes of this plan, or that there is no memory for them. Where that fails, nothing is left to do about it.
 fn tell_failures<R: AllocGlobal + Eprint>(rt: &R, input: &[u8], told: &ToldFaults) {
-    if let Ok(text) = failures_text(rt.alloc(), input, told.faults.as_slice()) {
-        let _ = eprint!(rt; "{}", text.as_str());
-    }
-    if told.lost {
-        let _ = eprintln!(rt; "further faults were lost: no memory");
-    }
+    let _ = match failures_text(rt.alloc(), input, told) {
+        Ok(text) => eprint!(rt; "{}", text.as_str()),
+        Err(_) => eprintln!(rt; "further faults were lost: no memory"),
+    };
 }

@@ -1,7 +1,7 @@
 //! What is asked of a plan: to run it, to check it or to draw it, with its fault explained or not.
-ghost use Rattle.std.specs.Prelude.{◌≡◌, ◌≤◌, IfOk};
+ghost use Rattle.std.specs.Prelude.{◌≡◌, ◌≤◌, IfErr, IfOk};
 ghost use Rattle.std.specs.Io.KnownBytes.{Appends};
-ghost use Rattle.extrun.specs.Tasks.{IsDone};
+ghost use Rattle.extrun.specs.Tasks.{IsDone, IsUndone};
 
 use crate::command::Task;
 use crate::failing::run_plan;
@@ -94,7 +94,8 @@ fn outcome_of_task<R: Threads + Wait + Sync + Clock + AllocGlobal + Eprint, W: W
     writer: &mut W,
     task: Task,
 ) -> Result<Summary, RunFault>
-    ensures { IfOk result (λ summary. IsDone task input.now summary (Appends (W.contents writer.old) (W.contents writer.new))) }
+    ensures done { IfOk result (λ summary. IsDone task input.now summary (Appends (W.contents writer.old) (W.contents writer.new))) }
+    ensures refused { IfErr result (λ fault. IsUndone task input.now fault) }
 {
     let mut reader = input;
     match task {

@@ -81,6 +81,31 @@ fn keys_are_64_at_most(rt: HostRuntime) -> Result<(), Fail> {
     Ok(())
 }
 
+#[test]
+fn a_lane_tells_which_places_it_set(rt: HostRuntime) -> Result<(), Fail> {
+    let places = KeyPlaces::new(rt.alloc())?;
+    let mut first = places.notes();
+    let mut second = places.notes();
+    has_first_numbers(&rt, rt.alloc(), &places, &mut first, 3)?;
+    has_first_numbers(&rt, rt.alloc(), &places, &mut second, 4)?;
+    places.agree(&mut first, &mut second);
+    for number in 0..5 {
+        same(
+            &rt,
+            first.has_placed(number),
+            number < 3,
+            "a place of the first lane",
+        );
+        same(
+            &rt,
+            second.has_placed(number),
+            number == 3,
+            "a place of the second lane",
+        );
+    }
+    Ok(())
+}
+
 /// The numbers of one key in two lanes, which are one number.
 fn numbered_by_both(
     places: &KeyPlaces,

@@ -28,14 +28,14 @@ fn placed_and_shown(values: &Values<u8>, number: u32, value: Box<u8>) -> Option<
     Some(*values.show_known(&mut second))
 }
 
-/// What a taken place hands back.
-fn handed_back(values: &Values<u8>, number: u32, value: Box<u8>) -> Option<u8>
+/// What a taken place hands back, and the value that it keeps.
+fn handed_back(values: &Values<u8>, number: u32, value: Box<u8>) -> Option<(u8, u8)>
     requires { IsNumber values.now number }
-    ensures { IfSome result (λ back. back ≡ value.value) }
+    ensures { IfSome result (λ r. r.0 ≡ value.value) }
 {
     match values.place(number, value) {
         Ok(_) => None,
-        Err(back) => Some(*back),
+        Err((back, mut note)) => Some((*back, *values.show_known(&mut note))),
     }
 }
 
@@ -52,7 +52,12 @@ fn places_are_set_once(rt: HostRuntime) -> Result<(), Fail> {
     let third = placed_and_shown(&values, 3, Box::new(rt.alloc(), 9)?);
     let back = handed_back(&values, 1, Box::new(rt.alloc(), 8)?);
     let placed = (first, third, back);
-    same(&rt, placed, (Some(7), Some(9), Some(8)), "what is placed");
+    same(
+        &rt,
+        placed,
+        (Some(7), Some(9), Some((8, 7))),
+        "what is placed",
+    );
     for (number, value) in [(0, None), (1, Some(7)), (2, None), (3, Some(9)), (4, None)] {
         same(&rt, shown(&values, number), value, "what is shown");
         let is_inside = number > 0 && number < 4;
@@ -97,7 +102,7 @@ fn value_seen_after_the_thread_ended(rt: HostRuntime) -> Result<(), Fail> {
     let note = theirs.ok_or("the place was taken")?;
     same(&rt, agreed(shared, note), Some(7), "the value");
     let back = handed_back(shared, 1, Box::new(rt.alloc(), 8)?);
-    same(&rt, back, Some(8), "a further value");
+    same(&rt, back, Some((8, 7)), "a further value");
     Ok(())
 }
 
@@ -191,7 +196,7 @@ fn notes_know_what_was_placed_or_shown(rt: HostRuntime) -> Result<(), Fail> {
     let refused = placed_and_found(&values, &mut other, 2, Box::new(rt.alloc(), 8)?);
     same(&rt, (placed, refused), (Ok(7), Err(8)), "one place");
     let known = (own.knows(2), own.knows(1), other.knows(2));
-    same(&rt, known, (true, false, false), "what is known");
+    same(&rt, known, (true, false, true), "what is known");
     let found = found_by_both(&values, &mut own, &mut other, 2);
     same(&rt, found, Some((7, 7)), "what both find");
     let known = (other.knows(2), other.knows(0), other.knows(3));

@@ -44,4 +44,6 @@ mod taking;
 #[cfg(test)]
 mod texts;
 #[cfg(test)]
+mod threads;
+#[cfg(test)]
 mod waiting;

@@ -1,8 +1,8 @@
 //! The closers of a subtree, and their split among the children of its node.
-ghost use Rattle.std.specs.Prelude.{◌≡◌, ◌≢◌, ◌<◌, ◌≤◌, ℕ, true, not, length, vec_len, map, filter, All, Contains, IfOk, IfNone, IfSome, slice_index_or, take};
+ghost use Rattle.std.specs.Prelude.{◌≡◌, ◌≢◌, ◌<◌, ◌≤◌, ℕ, [], Some, not, length, vec_len, map, filter, All, IfOk, IfNone, IfSome, slice_index_or, take};
 ghost use Rattle.ext_tree.specs.Trees.{children_of};
 ghost use Rattle.ext_store.specs.Stores.{IsCloserOf};
-ghost use Rattle.ext_engine.specs.InnerClosers.{IsItem, IsWithin, OfStore, HasClosers, HasBelow, contexts};
+ghost use Rattle.ext_engine.specs.InnerClosers.{IsItem, IsWithin, OfStore, HasClosers, HasBelow, HasTaken};
 
 use crate::Suite;
 use ext_model::ContextNo;
@@ -16,22 +16,6 @@ pub(crate) struct Item {
     pub node: ContextNo,
     /// The closers of its context and of those below it.
     pub closers: Vec<Closer>,
-}
-
-/// Whether the context is this node or below it.
-fn is_within<V>(store: &Store<V>, node: ContextNo, context: ContextNo) -> bool
-    requires node { node < length store.now.tree }
-    requires context { context < length store.now.tree }
-    ensures within { result ≡ true → IsWithin store.now.tree node context }
-    ensures only { IsWithin store.now.tree node context → result ≡ true }
-{
-    let tree = store.tree();
-    let _count = tree.len();
-    let path = tree.path(context);
-    let path = path.as_slice();
-    let node_path = tree.path(node);
-    let depth = node_path.as_slice().len();
-    depth <= path.len() && path[path.len() - depth] == node
 }
 
 /// Takes out the closer of the node itself, and leaves those of the nodes below it.
@@ -73,31 +57,6 @@ pub(crate) fn place_of(closers: &[Closer], node: ContextNo) -> Option<usize>
     closers.iter().position(|c| c.context() == node)
 }
 
-/// Splits closers into those of the node and all below it, and the others.
-fn split_closers<V>(
-    alloc: Global,
-    store: &Store<V>,
-    node: ContextNo,
-    closers: Vec<Closer>,
-) -> Result<(Vec<Closer>, Vec<Closer>), AllocError>
-    requires own { OfStore store.now closers.items }
-    requires node { node < length store.now.tree }
-    ensures { IfOk result (λ r. OfStore store.now r.0.items × OfStore store.now r.1.items
-        × ((k : ℕ) → IsWithin store.now.tree node k → Contains (contexts closers.items) k → Contains (contexts r.0.items) k)
-        × ((k : ℕ) → ¬ IsWithin store.now.tree node k → Contains (contexts closers.items) k → Contains (contexts r.1.items) k)) }
-{
-    let mut mine = Vec::new(alloc);
-    let mut others = Vec::new(alloc);
-    for closer in closers {
-        if is_within(store, node, closer.context()) {
-            mine.push(closer)?;
-        } else {
-            others.push(closer)?;
-        }
-    }
-    Ok((mine, others))
-}
-
 /// The children of a node, in order, with the closers of each: those that run beside one another, of which there are at most 256, and
 /// the others.
 ///
@@ -118,25 +77,86 @@ pub(crate) fn items_of_children<V: StoreValue + Drop, S: Suite<V>>(
     ensures closers { IfOk result (λ r. All (IsItem store.now node) r.0.items × All (IsItem store.now node) r.1.items) }
     ensures few { IfOk result (λ r. vec_len r.0 ≤ 256) }
 {
+    let _count = store.tree().len();
+    let mut items = without_closers(alloc, store.tree().children(node))?;
+    hand_out(store, node, closers, &mut items)?;
+    by_mode(alloc, suite, items)
+}
+
+/// An item for each of these nodes, in order, as yet without closers. Takes memory.
+fn without_closers(alloc: Global, nodes: &[ContextNo]) -> Result<Vec<Item>, AllocError>
+    ensures nodes { IfOk result (λ items. map (λ i. i.node) items.items ≡ nodes.now) }
+    ensures closers { IfOk result (λ items. All (λ i. i.closers.items ≡ []) items.items) }
+{
+    let mut items = Vec::new(alloc);
+    for node in nodes {
+        items.push(Item {
+            node: *node,
+            closers: Vec::new(alloc),
+        })?;
+    }
+    Ok(items)
+}
+
+/// Hands each closer to the item of the child that its context is, or is below. Others are dropped.
+///
+/// The items are those of the node's children, as yet without closers. Refused where memory is. Takes memory.
+fn hand_out<V>(
+    store: &Store<V>,
+    node: ContextNo,
+    closers: Vec<Closer>,
+    items: &mut Vec<Item>,
+) -> Result<(), AllocError>
+    requires own { OfStore store.now closers.items }
+    requires node { node < length store.now.tree }
+    requires children { map (λ i. i.node) items.old.items ≡ children_of store.now.tree node }
+    requires empty { All (λ i. i.closers.items ≡ []) items.old.items }
+    ensures children { IfOk result (λ _. map (λ i. i.node) items.new.items ≡ children_of store.now.tree node) }
+    ensures closers { IfOk result (λ _. All (HasTaken store.now closers.items) items.new.items) }
+{
+    for closer in closers {
+        if let Some(at) = place_among_children(store, node, closer.context()) {
+            items[at].closers.push(closer)?;
+        }
+    }
+    Ok(())
+}
+
+/// Where among the node's children the one stands that the context is, or is below, if there is one.
+fn place_among_children<V>(store: &Store<V>, node: ContextNo, context: ContextNo) -> Option<usize>
+    requires node { node < length store.now.tree }
+    requires context { context < length store.now.tree }
+    ensures within { IfSome result (λ at. at < length (children_of store.now.tree node)) }
+    ensures at { (at : ℕ) → at < length (children_of store.now.tree node) → IsWithin store.now.tree (slice_index_or (children_of store.now.tree node) at 0) context → result ≡ Some at }
+{
+    let tree = store.tree();
+    let _count = tree.len();
+    let depth = tree.path(node).as_slice().len();
+    let path = tree.path(context).as_slice();
+    if path.len() <= depth {
+        return None;
+    }
+    let child = path[path.len() - depth - 1];
+    tree.children(node).binary_search(&child).ok()
+}
+
+/// The items that run beside one another, and the others, each in order. Refused where memory is. Takes memory.
+fn by_mode<V: StoreValue + Drop, S: Suite<V>>(
+    alloc: Global,
+    suite: &S,
+    items: Vec<Item>,
+) -> Result<(Vec<Item>, Vec<Item>), AllocError>
+    ensures { IfOk result (λ r. (r.0.items ≡ filter (λ i. (S.suite_view suite.now).is_concurrent i.node) items.items)
+        × (r.1.items ≡ filter (λ i. not ((S.suite_view suite.now).is_concurrent i.node)) items.items)) }
+{
     let mut beside = Vec::new(alloc);
     let mut in_turn = Vec::new(alloc);
-    let mut left = closers;
-    let _count = store.tree().len();
-    let mut rest = store.tree().children(node);
-    while let Some((child, more)) = rest.split_first() {
-        let below = *child;
-        let (closers, others) = split_closers(alloc, store, below, left)?;
-        left = others;
-        let item = Item {
-            node: below,
-            closers,
-        };
-        if suite.mode(below).is_concurrent() {
+    for item in items {
+        if suite.mode(item.node).is_concurrent() {
             beside.push(item)?;
         } else {
             in_turn.push(item)?;
         }
-        rest = more;
     }
     Ok((beside, in_turn))
 }

@@ -1,10 +1,10 @@
 //! The close of a node's context, asked again until nobody is in its way.
-ghost use Rattle.std.specs.Prelude.{◌≡◌, ◌≤◌, List, length, All, IfOk, IfErr, IfNone, IfSome};
+ghost use Rattle.std.specs.Prelude.{◌≡◌, ◌≤◌, length, All, IfOk, IfErr, IfNone, IfSome};
 ghost use Rattle.ext_closing.specs.declared.fault.CloseFault.TheVariants as close_fault;
-ghost use Rattle.ext_closing.specs.Closes.{IsClosedBy, IsLeftUnjoined};
-ghost use Rattle.ext_closing.specs.Lanes.{IsUnknown};
+ghost use Rattle.ext_closing.specs.Closes.{IsClosedBy};
 ghost use Rattle.ext_closing.specs.InnerSteps.{IsOfKey};
-ghost use Rattle.ext_store.specs.Stores.{StoreLane, IsCloserOf, IsLaneOf};
+ghost use Rattle.ext_store.specs.Stores.{IsCloserOf, IsLaneOf};
+ghost use Rattle.ext_engine.specs.NodeFailing.{IsLeftOpen};
 
 use ext_closing::{CloseAction, CloseFault, Closed, close};
 use ext_store::{Closer, Lane, Store, StoreValue};
@@ -23,9 +23,7 @@ pub(crate) fn close_again<R: Wait, V: StoreValue + Drop, A: CloseAction<V>>(
     requires own_lanes { All (IsLaneOf store.now.id) lanes.old }
     requires closer { IsCloserOf store.now closer }
     ensures closes { IfOk result (λ closed. IsClosedBy V.is_closeable A.close_gives store.now closer lanes.old action.old closed lanes.new action.new) }
-    ensures unjoined { IfErr result (λ number. (before : List (StoreLane V)) × All (IsLaneOf store.now.id) before
-        × IsLeftUnjoined store.now closer before number lanes.new) }
-    ensures unknown { IfErr result (IsUnknown lanes.new) }
+    ensures unjoined { IfErr result (λ number. IsLeftOpen V.is_closeable A.close_gives store.now closer action.old lanes.old number lanes.new) }
     ensures own_lanes { All (IsLaneOf store.now.id) lanes.new }
     ensures count { length lanes.new ≡ length lanes.old }
 {

@@ -4,9 +4,10 @@ ghost use Rattle.ext_lifecycle.specs.declared.outcome.Outcome.{Outcome};
 ghost use Rattle.ext_store.specs.Stores.{IsLaneOf};
 ghost use Rattle.ext_engine.specs.declared.node.fault.EngineFault.TheVariants as engine_fault;
 ghost use Rattle.ext_engine.specs.InnerClosers.{IsNode};
-ghost use Rattle.ext_engine.specs.NodeRun.{EndsContainer, IsFault, IsUnjoinedNode, setting_of};
+ghost use Rattle.ext_engine.specs.NodeRun.{EndsContainer, setting_of};
 ghost use Rattle.ext_engine.specs.InnerHelpers.{ran_view};
 ghost use Rattle.ext_engine.specs.InnerContainers.{AreChildren, IsOpen, IsOpenBy, Opens};
+ghost use Rattle.ext_engine.specs.NodeFailing.{IsLeftUnclosed};
 
 use crate::Suite;
 use crate::node::parts::{Parts, container_parts};
@@ -109,10 +110,9 @@ pub(crate) fn close_container<'a, R: Wait, V: StoreValue + Drop, S: Suite<V>>(
     ensures ends { IfOk result (λ ran. (path : List ℕ) (befores : List Outcome) → IsOpenBy (S.registered nodes.now.suite.now) node path befores begun
         → EndsContainer (setting_of V.is_closeable S.suite_view S.registered S.call_gives S.action_gives S.Action.close_gives
         nodes.now.suite.now nodes.now.store.now nodes.now.locks.now) node path befores lanes.old (ran_view ran) lanes.new) }
-    ensures fault { IfErr result (IsFault (setting_of V.is_closeable S.suite_view S.registered S.call_gives S.action_gives S.Action.close_gives
-        nodes.now.suite.now nodes.now.store.now nodes.now.locks.now)) }
-    ensures unjoined { IfErr result (IsUnjoinedNode (setting_of V.is_closeable S.suite_view S.registered S.call_gives S.action_gives S.Action.close_gives
-        nodes.now.suite.now nodes.now.store.now nodes.now.locks.now) node lanes.new) }
+    ensures unclosed { IfErr result (λ why. (path : List ℕ) (befores : List Outcome) → IsOpenBy (S.registered nodes.now.suite.now) node path befores begun
+        → IsLeftUnclosed (setting_of V.is_closeable S.suite_view S.registered S.call_gives S.action_gives S.Action.close_gives
+        nodes.now.suite.now nodes.now.store.now nodes.now.locks.now) node path lanes.old why lanes.new) }
 {
     let OpenContainer {
         closer,

@@ -1,14 +1,14 @@
 //! How one node is run.
-ghost use Rattle.std.specs.Prelude.{◌≡◌, ◌≢◌, ◌<◌, ◌≤◌, ℕ, List, Option, length, map, All, IfOk, IfErr, true};
+ghost use Rattle.std.specs.Prelude.{◌≡◌, ◌⊎◌, ◌<◌, ◌≤◌, ℕ, List, Option, length, map, All, IfOk, IfErr, true};
 ghost use Rattle.ext_model.specs.declared.look.Fault.{Fault};
 ghost use Rattle.ext_tree.specs.Trees.{IsPathOf};
 ghost use Rattle.ext_closing.specs.Closed.{closed_of};
 ghost use Rattle.ext_store.specs.Stores.{IsCloserOf, IsLaneOf};
 ghost use Rattle.ext_engine.specs.InnerClosers.{IsNode};
 ghost use Rattle.ext_engine.specs.InnerHelpers.{ran_view, of_test, ArePartsOf, TestEnds};
-ghost use Rattle.ext_closing.specs.Lanes.{IsUnknown};
 ghost use Rattle.ext_engine.specs.declared.node.fault.EngineFault.TheVariants as engine_fault;
-ghost use Rattle.ext_engine.specs.NodeRun.{setting_of, ClosesNode, IsRefusedClose, IsUnjoinedNode, IsUsable, IsRunnable, IsFault, TestRun};
+ghost use Rattle.ext_engine.specs.NodeFailing.{IsNotBegun, LeavesOpen, TestEndsEarly};
+ghost use Rattle.ext_engine.specs.NodeRun.{setting_of, ClosesNode, IsUsable, IsRunnable, TestRun};
 
 use crate::node::closers::closer_of;
 use crate::node::closing::close_again;
@@ -78,11 +78,10 @@ impl<'a, R: Wait, V: StoreValue + Drop, S: Suite<V>> NodeRunner<'a, R, V, S> {
         ensures run { IfOk result (λ ran. (path : List ℕ) × IsPathOf self.now.store.now.tree item.node path
             × TestRun (setting_of V.is_closeable S.suite_view S.registered S.call_gives S.action_gives S.Action.close_gives self.now.suite.now self.now.store.now self.now.locks.now) item.node path
             (record { first = lanes.old; second = lock_lanes.old }) (map ran_view ran.items) (record { first = lanes.new; second = lock_lanes.new })) }
-        ensures fault { IfErr result (IsFault (setting_of V.is_closeable S.suite_view S.registered S.call_gives S.action_gives S.Action.close_gives
-            self.now.suite.now self.now.store.now self.now.locks.now)) }
-        ensures unjoined { IfErr result (λ why. why ≢ engine_fault.Memory → IsUnjoinedNode (setting_of V.is_closeable S.suite_view S.registered S.call_gives S.action_gives S.Action.close_gives
-            self.now.suite.now self.now.store.now self.now.locks.now) item.node lanes.new why) }
-        ensures untouched { IfErr result (λ why. why ≡ engine_fault.Memory → (lanes.new ≡ lanes.old) × (lock_lanes.new ≡ lock_lanes.old)) }
+        ensures early { IfErr result (λ why. IsNotBegun (record { first = lanes.old; second = lock_lanes.old }) why (record { first = lanes.new; second = lock_lanes.new })
+            ⊎ ((path : List ℕ) × IsPathOf self.now.store.now.tree item.node path
+            × TestEndsEarly (setting_of V.is_closeable S.suite_view S.registered S.call_gives S.action_gives S.Action.close_gives self.now.suite.now self.now.store.now self.now.locks.now) item.node path
+            (record { first = lanes.old; second = lock_lanes.old }) why (record { first = lanes.new; second = lock_lanes.new }))) }
     {
         let node = item.node;
         let closer = closer_of(self.store, item);
@@ -203,9 +202,8 @@ impl<'a, R: Wait, V: StoreValue + Drop, S: Suite<V>> NodeRunner<'a, R, V, S> {
         requires context { closer.context ≡ node }
         ensures closes { IfOk result (λ closes. (faults : List (Option Fault)) × ClosesNode (setting_of V.is_closeable S.suite_view S.registered S.call_gives S.action_gives S.Action.close_gives
             self.now.suite.now self.now.store.now self.now.locks.now) node lanes.old faults lanes.new × (closes ≡ closed_of faults)) }
-        ensures unjoined { IfErr result (λ number. IsRefusedClose (setting_of V.is_closeable S.suite_view S.registered S.call_gives S.action_gives S.Action.close_gives
-            self.now.suite.now self.now.store.now self.now.locks.now) node number lanes.new) }
-        ensures unknown { IfErr result (IsUnknown lanes.new) }
+        ensures unjoined { IfErr result (λ number. LeavesOpen (setting_of V.is_closeable S.suite_view S.registered S.call_gives S.action_gives S.Action.close_gives
+            self.now.suite.now self.now.store.now self.now.locks.now) node lanes.old (engine_fault.Unjoined node number) lanes.new) }
         ensures own_lanes { All (IsLaneOf self.now.store.now.id) lanes.new }
         ensures count { length lanes.new ≡ length lanes.old }
     {

@@ -8,7 +8,7 @@ ghost use Rattle.ext_engine.specs.InnerClosers.{IsNode};
 ghost use Rattle.ext_engine.specs.InnerContainers.{AreChildren};
 
 use crate::Suite;
-use crate::node::{EngineFault, Item, NodeRunner, items_of_children, take_own};
+use crate::node::{EngineFault, Item, NodeRunner, RanNode, items_of_children, take_own};
 use ext_lifecycle::{Call, calls_round};
 use ext_store::{Closer, StoreValue};
 use std::alloc::Global;
@@ -20,6 +20,8 @@ pub(crate) struct Children {
     pub beside: Vec<Item>,
     /// Those that run one after another.
     pub in_turn: Vec<Item>,
+    /// A list with room for what each of the latter gives.
+    pub outcomes: Vec<Result<Vec<RanNode>, EngineFault>>,
 }
 
 /// What a container is run with.
@@ -32,7 +34,7 @@ pub(crate) struct Parts {
     pub(crate) children: Children,
 }
 
-/// What the container is run with: its closer, its callbacks and its children. Takes memory for them.
+/// What the container is run with: its closer, its callbacks, its children, and a list for what these give. Takes memory for them.
 pub(crate) fn container_parts<'a, R, V: StoreValue + Drop, S: Suite<V>>(
     nodes: &NodeRunner<'a, R, V, S>,
     alloc: Global,
@@ -52,10 +54,15 @@ pub(crate) fn container_parts<'a, R, V: StoreValue + Drop, S: Suite<V>>(
     let path = nodes.store.tree().path(node);
     let (befores, afters) = calls_round(alloc, nodes.suite, false, node, path.as_slice())?;
     let (beside, in_turn) = items_of_children(alloc, nodes.suite, nodes.store, node, closers)?;
+    let outcomes = Vec::with_capacity(alloc, in_turn.len())?;
     Ok(Parts {
         closer,
         befores,
         afters,
-        children: Children { beside, in_turn },
+        children: Children {
+            beside,
+            in_turn,
+            outcomes,
+        },
     })
 }

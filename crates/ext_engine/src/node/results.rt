@@ -1,9 +1,10 @@
 //! The results of nodes.
-ghost use Rattle.std.specs.Prelude.{◌≡◌, ◌<◌, IfOk, IfErr, All, IsOk, length, map, vec_len};
+ghost use Rattle.std.specs.Prelude.{◌≡◌, ◌<◌, ◌≤◌, ◌+◌, ◌++◌, ◌∷◌, [], IfOk, IfErr, All, IsOk, length, map, vec_len, vec_capacity};
 ghost use Rattle.std.specs.List.{flat_map};
 ghost use Rattle.ext_lifecycle.specs.Results.{told};
 ghost use Rattle.ext_engine.specs.NodeRun.{all_skipped, placed};
-ghost use Rattle.ext_engine.specs.InnerHelpers.{ran_view, ran_in, HasErr};
+ghost use Rattle.ext_engine.specs.InnerHelpers.{ran_view, ran_in, rans_below};
+ghost use Rattle.ext_engine.specs.NodeFailing.{IsFirstRefusal};
 
 use crate::Suite;
 use crate::node::EngineFault;
@@ -46,21 +47,53 @@ pub(crate) fn place(results: &mut Vec<NodeResult>, ran: Vec<RanNode>)
     }
 }
 
-/// What ran below all children that ran beside one another, in their order. Refused with the first of their faults, and as `Memory` where
-/// memory is: then what ran is dropped. Takes memory.
-pub(crate) fn gathered(
-    alloc: Global,
-    below: Vec<Result<Vec<RanNode>, EngineFault>>,
-) -> Result<Vec<RanNode>, EngineFault>
-    ensures all { IfOk result (λ v. All IsOk below.items × (map ran_view v.items ≡ flat_map ran_in below.items)) }
-    ensures fault { IfErr result (HasErr below.items) }
+/// What ran below a container: what each of its children gave.
+#[derive(Drop)]
+pub(crate) struct Below {
+    /// Of those that ran beside one another, in their order.
+    pub beside: Vec<Result<Vec<RanNode>, EngineFault>>,
+    /// Of the others, in their order.
+    pub in_turn: Vec<Result<Vec<RanNode>, EngineFault>>,
+}
+
+/// Refused with the first refusal among what children gave, in their order. Takes no memory.
+pub(crate) fn first_refusal(
+    outcomes: &[Result<Vec<RanNode>, EngineFault>],
+) -> Result<(), EngineFault>
+    ensures all { IfOk result (λ _. All IsOk outcomes.now) }
+    ensures first { IfErr result (IsFirstRefusal outcomes.now) }
 {
-    let mut all = Vec::new(alloc);
-    for ran in below {
-        match ran {
-            Ok(mut ran) => all.append(&mut ran)?,
-            Err(fault) => return Err(fault),
+    for outcome in outcomes {
+        if let Err(fault) = outcome {
+            return Err(*fault);
         }
     }
-    Ok(all)
+    Ok(())
+}
+
+/// A container, and behind it what ran below it. The list is empty, and has room for all of that. Takes no memory.
+pub(crate) fn gathered(mut ran: Vec<RanNode>, own: RanNode, below: Below) -> Vec<RanNode>
+    requires empty { ran.items ≡ [] }
+    requires room { length (rans_below below) + 1 ≤ vec_capacity ran }
+    ensures { map ran_view result.items ≡ ran_view own ∷ rans_below below }
+{
+    let Below { beside, in_turn } = below;
+    ran.push_reserved(own);
+    append_all(&mut ran, beside);
+    append_all(&mut ran, in_turn);
+    ran
+}
+
+/// Puts what ran of children behind what ran, in their order. There is room for all of it. Takes no memory.
+fn append_all(ran: &mut Vec<RanNode>, outcomes: Vec<Result<Vec<RanNode>, EngineFault>>)
+    requires room { vec_len ran.old + length (flat_map ran_in outcomes.items) ≤ vec_capacity ran.old }
+    ensures ran { map ran_view ran.new.items ≡ map ran_view ran.old.items ++ flat_map ran_in outcomes.items }
+    ensures capacity { vec_capacity ran.old ≤ vec_capacity ran.new }
+{
+    for outcome in outcomes {
+        let Ok(mut below) = outcome else { continue };
+        let Ok(()) = ran.append(&mut below) else {
+            unreachable!()
+        };
+    }
 }

@@ -1,6 +1,8 @@
 //! The steps that call the store, each with its key, which is made first where it is no label's.
 ghost use Rattle.std.specs.Prelude.{◌≡◌, ◌⊎◌, ◌<◌, ◌≤◌, All, codes, length, string_bytes};
+ghost use Rattle.ext_tree.specs.Keys.{PlacesOnly};
 ghost use Rattle.ext_plan.specs.Plans.{step_key_view};
+ghost use Rattle.ext_plan.specs.StoreKeys.{key_of_step};
 ghost use Rattle.ext_plan.specs.Verdicts.{none_verdict, want_verdict};
 ghost use Rattle.ext_store.specs.Stores.{IsLaneOf};
 ghost use Rattle.ext_parallel.specs.StoreCalls.{HasFrame, stored_view};
@@ -40,6 +42,7 @@ impl<'b> StoreSteps<'b> {
         ensures found { result.found ≡ 0 }
         ensures lane { IsLaneOf store.now.id lane.new }
         ensures frame { HasFrame store.now lane.old lane.new }
+        ensures placed { PlacesOnly (key_of_step (plan_keys self.now) (step_key_view key.now)) lane.old.keys lane.new.keys }
     {
         match self.names.key_of(self.alloc, key) {
             Ok(made) => {
@@ -69,6 +72,7 @@ impl<'b> StoreSteps<'b> {
         ensures found { result.found ≡ 0 }
         ensures lane { IsLaneOf store.now.id lane.new }
         ensures frame { HasFrame store.now lane.old lane.new }
+        ensures placed { PlacesOnly (key_of_step (plan_keys self.now) (step_key_view key.now)) lane.old.keys lane.new.keys }
     {
         match self.names.key_of(self.alloc, key) {
             Ok(made) => {
@@ -97,6 +101,7 @@ impl<'b> StoreSteps<'b> {
         ensures found { result.found ≡ 0 }
         ensures lane { IsLaneOf store.now.id lane.new }
         ensures frame { HasFrame store.now lane.old lane.new }
+        ensures placed { PlacesOnly (key_of_step (plan_keys self.now) (step_key_view key.now)) lane.old.keys lane.new.keys }
     {
         match self.names.key_of(self.alloc, key) {
             Ok(made) => {
@@ -125,6 +130,7 @@ impl<'b> StoreSteps<'b> {
         ensures found { result.found ≡ 0 }
         ensures lane { IsLaneOf store.now.id lane.new }
         ensures frame { HasFrame store.now lane.old lane.new }
+        ensures placed { PlacesOnly (key_of_step (plan_keys self.now) (step_key_view key.now)) lane.old.keys lane.new.keys }
     {
         match self.names.key_of(self.alloc, key) {
             Ok(made) => {
@@ -155,6 +161,7 @@ impl<'b> StoreSteps<'b> {
         ensures found { result.found ≤ 1 }
         ensures lane { IsLaneOf store.now.id lane.new }
         ensures frame { HasFrame store.now lane.old lane.new }
+        ensures placed { PlacesOnly (key_of_step (plan_keys self.now) (step_key_view key.now)) lane.old.keys lane.new.keys }
     {
         match self.names.key_of(self.alloc, key) {
             Ok(made) => {
@@ -184,6 +191,7 @@ impl<'b> StoreSteps<'b> {
         ensures found { result.found ≤ 1 }
         ensures lane { IsLaneOf store.now.id lane.new }
         ensures frame { HasFrame store.now lane.old lane.new }
+        ensures placed { PlacesOnly (key_of_step (plan_keys self.now) (step_key_view key.now)) lane.old.keys lane.new.keys }
     {
         match self.names.key_of(self.alloc, key) {
             Ok(made) => {

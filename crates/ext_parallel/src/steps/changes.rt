@@ -1,5 +1,6 @@
 //! The steps that change what stands in a context: `put`, `put!` and `remove`.
 ghost use Rattle.std.specs.Prelude.{◌≡◌, ◌<◌, length};
+ghost use Rattle.ext_tree.specs.Keys.{PlacesOnly};
 ghost use Rattle.ext_store.specs.Stores.{IsLaneOf};
 ghost use Rattle.ext_plan.specs.StepCalls.{call_view, start_of};
 ghost use Rattle.ext_parallel.specs.StoreCalls.{HasFrame, stored_view};
@@ -29,6 +30,7 @@ pub(crate) fn put_value<'a, R: Wait>(
     ensures found { result.found ≡ 0 }
     ensures lane { IsLaneOf store.now.id lane.new }
     ensures frame { HasFrame store.now lane.old lane.new }
+    ensures placed { PlacesOnly (call_view call.now).key lane.old.keys lane.new.keys }
 {
     let kept = match store.keep_wait(rt, lane, value) {
         Ok(kept) => kept,
@@ -56,6 +58,7 @@ pub(crate) fn remove_value<'a, R: Wait>(
     ensures found { result.found ≡ 0 }
     ensures lane { IsLaneOf store.now.id lane.new }
     ensures frame { HasFrame store.now lane.old lane.new }
+    ensures placed { PlacesOnly (call_view call.now).key lane.old.keys lane.new.keys }
 {
     let context = call.at();
     match store.remove_wait(rt, lane, context, call.key) {

@@ -1,5 +1,6 @@
 //! The steps that compute a value where none is found: `compute`, `compute!` and `computefail`.
 ghost use Rattle.std.specs.Prelude.{◌≡◌, ◌<◌, ◌≤◌, ◌⊎◌, ℕ, [], length, string_bytes};
+ghost use Rattle.ext_tree.specs.Keys.{PlacesOnly};
 ghost use Rattle.ext_store.specs.Stores.{IsLaneOf};
 ghost use Rattle.ext_store.specs.declared.computed.Compute.TheVariants.{Refused};
 ghost use Rattle.ext_store.specs.LaneCalls.{Frame, OfKey};
@@ -38,6 +39,7 @@ pub(crate) fn compute<'a, R: Wait>(
     ensures found { result.found ≤ 1 }
     ensures lane { IsLaneOf store.now.id lane.new }
     ensures frame { HasFrame store.now lane.old lane.new }
+    ensures placed { PlacesOnly (call_view call.now).key lane.old.keys lane.new.keys }
 {
     match compute_made(rt, store, lane, call.at(), call.key, Ok(value)) {
         Compute::Computed { number: _ } => counted(Verdict::Successful, 1, 0),
@@ -77,6 +79,7 @@ pub(crate) fn compute_fail<'a, R: Wait>(
     ensures found { result.found ≤ 1 }
     ensures lane { IsLaneOf store.now.id lane.new }
     ensures frame { HasFrame store.now lane.old lane.new }
+    ensures placed { PlacesOnly (call_view call.now).key lane.old.keys lane.new.keys }
 {
     match text.clone() {
         Ok(copy) => compute_fault(alloc, rt, store, lane, call, copy, text.as_str()),
@@ -102,6 +105,7 @@ fn compute_fault<'a, R: Wait>(
     ensures found { result.found ≤ 1 }
     ensures lane { IsLaneOf store.now.id lane.new }
     ensures frame { HasFrame store.now lane.old lane.new }
+    ensures placed { PlacesOnly (call_view call.now).key lane.old.keys lane.new.keys }
 {
     let fault = Fault::Text(copy);
     match compute_made(rt, store, lane, call.at(), call.key, Err(fault)) {
@@ -185,6 +189,7 @@ fn compute_made<R: Wait, V: StoreValue + Drop>(
     ensures factory { Uses (λ answer. answer ≡ made) lane.old lane.new (without_factory result) }
     ensures lane { IsLaneOf store.now.id lane.new }
     ensures frame { Frame store.now.id [] lane.old lane.new }
+    ensures placed { PlacesOnly key.now lane.old.keys lane.new.keys }
 {
     let factory = move |_key: &Key| -> Result<V, Fault>
         ensures { result ≡ made }

@@ -1,6 +1,6 @@
 //! The steps that look up: `want` and `none`.
 ghost use Rattle.std.specs.Prelude.{ℕ, ◌≡◌, ◌<◌, IfErr, IfOk, length};
-ghost use Rattle.ext_tree.specs.Keys.{IsKeyNumber};
+ghost use Rattle.ext_tree.specs.Keys.{IsKeyNumber, PlacesOnly};
 ghost use Rattle.ext_store.specs.LaneCalls.{IsKeyRefused};
 ghost use Rattle.ext_store.specs.Stores.{IsLaneOf};
 ghost use Rattle.ext_plan.specs.StepCalls.{call_view, start_of};
@@ -34,6 +34,7 @@ pub(crate) fn want<'a, R: Wait>(
     ensures found { result.found ≡ 0 }
     ensures lane { IsLaneOf store.now.id lane.new }
     ensures frame { HasFrame store.now lane.old lane.new }
+    ensures placed { PlacesOnly (call_view call.now).key lane.old.keys lane.new.keys }
 {
     match see(rt, store, lane, call.at(), call.key) {
         Ok(seen) => Outcome::of(or_no_memory(want_verdict(alloc, call, text, seen))),
@@ -56,6 +57,7 @@ pub(crate) fn none<'a, R: Wait>(
     ensures found { result.found ≡ 0 }
     ensures lane { IsLaneOf store.now.id lane.new }
     ensures frame { HasFrame store.now lane.old lane.new }
+    ensures placed { PlacesOnly (call_view call.now).key lane.old.keys lane.new.keys }
 {
     match see(rt, store, lane, call.at(), call.key) {
         Ok(seen) => Outcome::of(or_no_memory(none_verdict(alloc, call, seen))),
@@ -77,6 +79,7 @@ fn see<'s, 'a, R: Wait>(
     ensures refused { IfErr result (λ why. IsKeyRefused lane.old lane.new key.now why × KnowsTheSame lane.old lane.new) }
     ensures lane { IsLaneOf store.now.id lane.new }
     ensures frame { HasFrame store.now lane.old lane.new }
+    ensures placed { PlacesOnly key.now lane.old.keys lane.new.keys }
 {
     match store.get_wait(rt, lane, context, key) {
         Ok(Look::Found { at: _, number }) => Ok(show(store, lane, number)),

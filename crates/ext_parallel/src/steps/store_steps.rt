@@ -2,7 +2,7 @@
 ghost use Rattle.std.specs.Prelude.{◌≡◌, ◌<◌, ◌≤◌, All, length, map, string_bytes};
 ghost use Rattle.ext_lifecycle.specs.Endings.{aborted, failed};
 ghost use Rattle.ext_plan.specs.Plans.{step_view};
-ghost use Rattle.ext_plan.specs.Steps.{step_limit};
+ghost use Rattle.ext_plan.specs.Steps.{step_key, step_limit};
 ghost use Rattle.ext_store.specs.Stores.{IsLaneOf};
 ghost use Rattle.ext_plan.specs.StepCalls.{keys_in};
 ghost use Rattle.ext_parallel.specs.Saying.{Ends};
@@ -25,7 +25,7 @@ pub(crate) struct StoreSteps<'b> {
 impl<'b> StoreSteps<'b> {
     ghost use Rattle.ext_parallel.specs.InnerKeys.{plan_keys};
     ghost use Rattle.ext_parallel.specs.StoreCalls.{HasFrame};
-    ghost use Rattle.ext_parallel.specs.StoreSteps.{StepRun, StepsRun};
+    ghost use Rattle.ext_parallel.specs.StoreSteps.{PlacesItsKey, StepRun, StepsRun};
 
     /// The steps of a plan with these keys.
     pub fn of(alloc: Global, names: StepKeys<'b>) -> StoreSteps<'b>
@@ -102,6 +102,7 @@ impl<'b> StoreSteps<'b> {
         ensures found { result.found ≤ 1 }
         ensures lane { IsLaneOf store.now.id lane.new }
         ensures frame { HasFrame store.now lane.old lane.new }
+        ensures placed { PlacesItsKey (plan_keys self.now) (step_key (step_view step.now)) lane.old lane.new }
     {
         match step {
             Step::Put { key, text, up } => {

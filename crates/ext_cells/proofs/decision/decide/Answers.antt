@@ -2,7 +2,7 @@ use Rattle.std.proofs.Common.{◌≡◌, false, sym, ap, subst, ◌∙◌}
 use Rattle.ext_model.specs.Words.{number_code}
 use Rattle.ext_cells.specs.declared.decision.Decision.TheVariants.{Change}
 use Rattle.ext_cells.specs.InnerDeciding.{state_of, is_settled, stood_in, Decides}
-use Rattle.ext_cells.proofs.Decisions.{changes, refuses}
+use Rattle.ext_cells.proofs.Decisions.{changes, refuses, seals_nothing, room_for_seal}
 use Rattle.ext_cells.proofs.decision.decide.Goals as goal
 
 pub returns-in-Ok : goal.returns-in-Ok
@@ -18,3 +18,8 @@ returns-in-Err c stands version is =
     let p = c.parts-state.ensures.only (state_of stands) (number_code stands) version is.fits is.is in
     let idle : is_settled c.args.act (state_of stands) ≡ false = ap (λ z. is_settled c.args.act z.0) (sym p) ∙ sym c.is_settled.ensures ∙ c.if-is_settled.false in
     refuses c.args.act stands version c.in-Err.refusal c.requires.act idle (sym (c.after.ensures (state_of stands) (number_code stands) version is.fits is.is) ∙ c.in-Err.is)
+
+pub returns-then-seals_nothing : goal.returns-then-seals_nothing
+returns-then-seals_nothing c stands version is =
+    let seals = c.seals_nothing.ensures c.if-seals_nothing.true in
+    seals_nothing c.args.act stands version c.args.word seals.0 seals.1 is

@@ -1,5 +1,5 @@
 use Rattle.ext_engine.specs.TreeRun.{setting_of}
-use Rattle.ext_engine.proofs.Failures.{unknown_to_all}
+use Rattle.ext_engine.proofs.Early.{ends_by_fault, unknown_to_all}
 use Rattle.ext_engine.proofs.Lanes.{keeps_lanes}
 use Rattle.ext_engine.proofs.Told.{grown}
 use Rattle.ext_engine.proofs.RunLaws.{one_result_each, runs_once, skipped_below, skips_exactly}
@@ -33,6 +33,8 @@ returns-clause-results_skipped g c = λ suite store locks before ran after r.
     skipped_below store.tree t.suite r.tree r.depth ran
     (grown t r.tree r.runnable r.depth 0 before ran after r.run)
 
+pub returns-clause-faults : goal.returns-clause-faults
+returns-clause-faults g c = λ suite store locks. ends_by_fault (setting_of g.V.StoreValue.is_closeable g.S.Suite.suite_view g.S.Callbacks.registered g.S.Suite.call_gives g.S.Suite.action_gives g.S.Action.CloseAction.close_gives suite store locks)
+
 pub returns-clause-unknown : goal.returns-clause-unknown
-returns-clause-unknown g c = λ suite store locks depth top context number after none named.
-    unknown_to_all (setting_of g.V.StoreValue.is_closeable g.S.Suite.suite_view g.S.Callbacks.registered g.S.Suite.call_gives g.S.Suite.action_gives g.S.Action.CloseAction.close_gives suite store locks) depth top context number after none named
+returns-clause-unknown g c = λ suite store locks. unknown_to_all (setting_of g.V.StoreValue.is_closeable g.S.Suite.suite_view g.S.Callbacks.registered g.S.Suite.call_gives g.S.Suite.action_gives g.S.Action.CloseAction.close_gives suite store locks)

@@ -2,7 +2,7 @@ use Rattle.std.proofs.Common.{rules, ◌≡◌, ◌∷◌, List, arith, length, 
 use Rattle.std.specs.List.{AllZip}
 use Rattle.ext_store.specs.Stores.{StoreLane, IsLaneOf}
 use Rattle.ext_engine.specs.Meeting.{OnlyMeets}
-use Rattle.ext_engine.proofs.Meets.{met_nobody, met_once, met_then, none_met, shown_more}
+use Rattle.ext_engine.proofs.Meets.{met_nobody, met_once, met_then, none_met, none_placed, shown_more}
 use Rattle.ext_engine.proofs.meeting.+show_rest.Goals as goal
 
 pub returns-in-Some-clause-met : goal.returns-in-Some-clause-met
@@ -10,8 +10,8 @@ returns-in-Some-clause-met g t c =
     let st = c.args.store.now in
     let next : IsLaneOf st.id c.in-Some.next.now = search rules in
     let all : AllZip (OnlyMeets st) (c.in-Some.next.now ∷ c.in-Some.more.now) (c.meet.new.second ∷ c.show_rest.new.others) =
-    (met_once st c.in-Some.next.now c.meet.new.second next c.meet.ensures.second_lane c.meet.ensures.second_call c.meet.ensures.known.1 c.meet.ensures.faults.1 c.meet.ensures.second_frame, c.show_rest.ensures.met.1) in (
-      met_then st c.args.first.now c.meet.new.first c.show_rest.new.first (met_once st c.args.first.now c.meet.new.first c.requires.first c.meet.ensures.first_lane c.meet.ensures.first_call c.meet.ensures.known.0 c.meet.ensures.faults.0 c.meet.ensures.first_frame) c.show_rest.ensures.met.0,
+    (met_once st c.in-Some.next.now c.meet.new.second next c.meet.ensures.second_lane c.meet.ensures.second_call c.meet.ensures.known.1 c.meet.ensures.faults.1 c.meet.ensures.second_frame c.meet.ensures.placed, c.show_rest.ensures.met.1) in (
+      met_then st c.args.first.now c.meet.new.first c.show_rest.new.first (met_once st c.args.first.now c.meet.new.first c.requires.first c.meet.ensures.first_lane c.meet.ensures.first_call c.meet.ensures.known.0 c.meet.ensures.faults.0 c.meet.ensures.first_frame (none_placed st c.args.first.now c.meet.new.first c.meet.ensures.first_keys)) c.show_rest.ensures.met.0,
       subst (λ (l : List (StoreLane g.row.V.Denot)). AllZip (OnlyMeets st) l (c.meet.new.second ∷ c.show_rest.new.others)) (sym c.in-Some.ensures.cases.0) all,
     )
 
@@ -19,7 +19,7 @@ pub returns-in-Some-clause-shown : goal.returns-in-Some-clause-shown
 returns-in-Some-clause-shown g t c =
     let st = c.args.store.now in
     shown_more st c.args.first.now c.meet.new.first c.in-Some.next.now c.meet.new.second c.show_rest.new.others
-    (met_once st c.args.first.now c.meet.new.first c.requires.first c.meet.ensures.first_lane c.meet.ensures.first_call c.meet.ensures.known.0 c.meet.ensures.faults.0 c.meet.ensures.first_frame) c.meet.ensures.met c.show_rest.ensures.shown
+    (met_once st c.args.first.now c.meet.new.first c.requires.first c.meet.ensures.first_lane c.meet.ensures.first_call c.meet.ensures.known.0 c.meet.ensures.faults.0 c.meet.ensures.first_frame (none_placed st c.args.first.now c.meet.new.first c.meet.ensures.first_keys)) c.meet.ensures.met c.show_rest.ensures.shown
 
 pub returns-in_default-clause-met : goal.returns-in_default-clause-met
 returns-in_default-clause-met g t c =

@@ -1,6 +1,8 @@
-use Rattle.std.proofs.Common.{◌≡◌, ◌+◌, ◌*◌, ◌++◌, length, map}
+use Rattle.std.proofs.Common.{◌≡◌, ◌+◌, ◌*◌, ◌≤◌, ◌++◌, length, map, vec_len}
+use Rattle.std.specs.Prelude.{vec_capacity}
+use Rattle.std.specs.List.{flat_map}
 use Rattle.ext_engine.specs.TreeRun.{setting_of, IsUsable, TreeRun, RanInTurn}
-use Rattle.ext_engine.specs.InnerHelpers.{ran_view}
+use Rattle.ext_engine.specs.InnerHelpers.{ran_in}
 use Rattle.ext_engine.proofs.runner.+tree.Given as goal
 
 abbrev pub decreases-TreeRunner::run_beside-run : goal.decreases-TreeRunner::run_beside-run
@@ -26,5 +28,7 @@ invariant-TreeRunner::run_in_turn-loop-item g l = record {
   lanes : IsUsable l.self.nodes.store.now l.self.nodes.locks.now (record { first = l.lanes; second = l.lock_lanes });
   count : length l.lanes ≡ length l.fn.lanes;
   run : RanInTurn (TreeRun (setting_of g.V.StoreValue.is_closeable g.S.Suite.suite_view g.S.Callbacks.registered g.S.Suite.call_gives g.S.Suite.action_gives g.S.Action.CloseAction.close_gives l.self.nodes.suite.now l.self.nodes.store.now l.self.nodes.locks.now) l.depth) (map (λ i. i.node) l.yielded)
-      (record { first = l.fn.lanes; second = l.fn.lock_lanes }) (map ran_view l.ran.items) (record { first = l.lanes; second = l.lock_lanes });
+      (record { first = l.fn.lanes; second = l.fn.lock_lanes }) (flat_map ran_in l.outcomes.items) (record { first = l.lanes; second = l.lock_lanes });
+  given : length l.outcomes.items ≡ length l.yielded;
+  room : vec_len l.fn.items ≤ vec_capacity l.outcomes;
 }

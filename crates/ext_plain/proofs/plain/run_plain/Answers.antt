@@ -1,14 +1,14 @@
-use Rattle.std.proofs.Common.{◌≡◌, ◌∙◌, ◌<◌, [], ◌∷◌, length, All, refl, ap, sym, subst}
+use Rattle.std.proofs.Common.{◌≡◌, ◌∙◌, ◌<◌, false, [], ◌∷◌, length, All, refl, ap, sym, subst}
 use Rattle.std.proofs.lemmas.List.{length-map}
 use Rattle.ext_lifecycle.specs.FaultTexts.{results_view}
 use Rattle.ext_tree.specs.Trees.{IsTree}
 use Rattle.ext_plan.specs.ReadPlans.{ids_of_nodes}
 use Rattle.ext_plan.specs.Plans.{node_view, nodes_view, plan_view}
 use Rattle.ext_plan.proofs.NodeIds.{ids-map}
-use Rattle.ext_plain.specs.InnerHelpers.{state_view}
+use Rattle.ext_plain.specs.InnerHelpers.{NodeSpared, state_view}
 use Rattle.ext_plain.specs.PlainRun.{RunState, node_run, plain_run_by, run_opening, skipped_from, ArePlain, HasNoFailed}
 use Rattle.ext_plain.specs.ValueStates.{with_memory}
-use Rattle.ext_plain.proofs.Unfailed.{runs_as_planned}
+use Rattle.ext_plain.proofs.Unfailed.{results_count, runs_as_planned, told_by_nodes}
 use Rattle.ext_plain.proofs.Sound.{results_within}
 use Rattle.ext_plain.proofs.plain.run_plain.Goals as goal
 
@@ -28,11 +28,15 @@ returns g c =
     let is : results_view c.run_node.new.self.results.items ≡ plain_run_by memory plan =
     ap (λ (r : RunState). r.results) (ran.1 ∙ ap (λ p. node_run p c.len-levels.result (0 ∷ []) opening) c.of.ensures.plan ∙ ap (λ n. node_run plan n (0 ∷ []) opening) levels ∙ ap (node_run plan (length plan.nodes) (0 ∷ [])) opened) in
     let tree_is : c.args.tree.now ≡ ids_of_nodes plan.nodes = c.requires.nodes ∙ ids-map nodes in
+    let length_is : length (results_view c.run_node.new.self.results.items) ≡ length c.args.tree.now = ap length is ∙ results_count memory plan ∙ sym (length-map plan.nodes (λ n. n.id)) ∙ sym (ap length tree_is) in
+    let rs = results_view c.run_node.new.self.results.items in
+    let spared : NodeSpared c.args.tree.now (0 ∷ []) rs → false ≡ false → lacked ≡ false = subst (λ ids. NodeSpared ids (0 ∷ []) rs → false ≡ false → lacked ≡ false) c.of.ensures.tree ran.2.spared in
     let are : ArePlain plan (results_view c.run_node.new.self.results.items) lacked = record {
       memory = memory;
       exact = is;
       planned = λ unfailed. is ∙ runs_as_planned memory plan (subst IsTree tree_is c.requires.tree) (subst HasNoFailed is unfailed);
       unlacked = λ none. is ∙ ap (λ m. plain_run_by m plan) (ran.2.nothing none refl);
+      lacking = told_by_nodes (results_view c.run_node.new.self.results.items) lacked c.args.tree.now c.requires.tree length_is spared;
     } in
     let count : length plan.nodes ≡ length c.args.tree.now = length-map nodes node_view ∙ sym (ap length c.requires.nodes ∙ length-map nodes (λ n. n.id)) in
     record {

@@ -1,17 +1,12 @@
-use Rattle.std.proofs.Common.{true}
-use Rattle.ext_report.specs.declared.form.ReportForm.TheVariants as forms
-use Rattle.ext_run.proofs.RunReports.{plan_of_utf8, plan_of_others, RefusedAs-plan}
+use Rattle.std.proofs.Common.{string_bytes, subst}
+use Rattle.ext_run.specs.Drawings.{IsTextOf}
+use Rattle.ext_run.specs.Failures.{failures_in, lost_line}
+use Rattle.ext_run.specs.Reports.{plan_of_bytes}
+use Rattle.ext_run.proofs.Drawn.{text-more}
 use Rattle.ext_run.proofs.failures.failures_text.Goals as goal
 
-pub returns-in_default : goal.returns-in_default
-returns-in_default c = plan_of_others c.args.input.now c.in_default.ensures.cases.0
-
-pub returns-in_ok-failures_of_plan-in-Ok-read_plan : goal.returns-in_ok-failures_of_plan-in-Ok-read_plan
-returns-in_ok-failures_of_plan-in-Ok-read_plan c =
-    let text = c.in-Ok.ensures.cases in
-    rw (plan_of_utf8 c.args.input.now text.1, ← text.0, c.in-Ok-read_plan.ensures.exact) c.in_ok-failures_of_plan-in-Ok-read_plan.ensures
-
-pub returns-in-Err : goal.returns-in-Err
-returns-in-Err c =
-    let text = c.in-Ok.ensures.cases in
-    rw (plan_of_utf8 c.args.input.now text.1, ← text.0) (RefusedAs-plan (record { lanes = 1; plain = true; form = forms.Text }) _ _ c.in-Err.ensures.exact)
+pub returns : goal.returns
+returns c =
+    let read = plan_of_bytes c.args.input.now in
+    let lines = subst (λ faults. IsTextOf (failures_in faults) read (string_bytes c.in_ok-text.text)) c.as_slice.ensures.value c.in_ok-text.ensures in
+    text-more (failures_in c.args.told.now.faults.items) (lost_line c.args.told.now.lost) read _ _ c.in_ok-write_lost.ensures lines

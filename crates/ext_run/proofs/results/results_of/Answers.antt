@@ -1,6 +1,7 @@
-use Rattle.std.proofs.Common.{Bool, true, map, refl, sym, subst}
+use Rattle.std.proofs.Common.{◌∙◌, Bool, map, ap, sym, subst}
 use Rattle.ext_lifecycle.specs.FaultTexts.{results_view}
 use Rattle.ext_lifecycle.specs.Results.{told}
+use Rattle.ext_parallel.specs.Lacking.{may_have_lacked}
 use Rattle.ext_plan_reading.specs.Plans.{plan_view}
 use Rattle.ext_run.specs.declared.fault.RunFault.TheVariants as faults
 use Rattle.ext_run.specs.Reports.{IsRunBy}
@@ -28,8 +29,9 @@ returns-then-options g c =
 pub returns-in-Ok-clause-run : goal.returns-in-Ok-clause-run
 returns-in-Ok-clause-run g c =
     let results = c.in-Ok.results.items in
-    let P : Bool → Type 0 = λ plain. IsRunBy plain c.args.options.lanes (plan_view c.args.plan.now) (results_view results) true in
-    subst P (sym c.if-options.false) (record { ran = map told results; run = c.in-Ok.ensures.run; told = with_texts results }, refl)
+    let lacked = c.may_have_lacked-lacked.result in
+    let P : Bool → Type 0 = λ plain. IsRunBy plain c.args.options.lanes (plan_view c.args.plan.now) (results_view results) lacked in
+    subst P (sym c.if-options.false) (record { ran = map told results; run = c.in-Ok.ensures.run; told = with_texts results }, c.may_have_lacked-lacked.ensures ∙ ap (λ l. may_have_lacked (results_view l)) c.as_slice.ensures.value)
 
 pub returns-in-Ok-clause-fault : goal.returns-in-Ok-clause-fault
 returns-in-Ok-clause-fault g c = tt

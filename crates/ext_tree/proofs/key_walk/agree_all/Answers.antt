@@ -18,7 +18,7 @@ loop-index-preserved c =
     compared_more c.loop-index.entries c.args.entries.now c.loop-index.others c.args.others.now c.loop-index.index c.loop-index.invariant c.requires below
     (get_or c.loop-index.entries c.loop-index.index c.index-entries-index.result) (get_or c.loop-index.others c.loop-index.index c.index-others-index.result)
     (read_again c.loop-index.entries c.loop-index.index c.index-entries-index.result c.index-entries-index.is) (read_again c.loop-index.others c.loop-index.index c.index-others-index.result c.index-others-index.is)
-    c.agree.new.self c.agree.new.other c.agree.ensures.key c.agree.ensures.unchanged c.agree.ensures.place c.agree.ensures.kept c.agree.ensures.taught
+    c.agree.new.self c.agree.new.other c.agree.ensures.key c.agree.ensures.unchanged c.agree.ensures.place c.agree.ensures.kept c.agree.ensures.taught c.agree.ensures.placed
 
 pub returns-clause-taught : goal.returns-clause-taught
 returns-clause-taught c =

@@ -1,4 +1,4 @@
-use Rattle.std.proofs.Common.{◌≡◌, ◌∙◌, false, sym, refl, subst}
+use Rattle.std.proofs.Common.{◌≡◌, ◌∙◌, false, true, sym, refl, subst}
 use Rattle.ext_store.specs.Stores.{StoreView}
 use Rattle.ext_c.specs.Answers.{FailSays}
 use Rattle.ext_c.proofs.Said.{fail_without_memory}
@@ -12,13 +12,14 @@ returns-then-not-keeps_faults-clause-says c =
 
 pub returns-in_default-fault_of-clause-says : goal.returns-in_default-fault_of-clause-says
 returns-in_default-fault_of-clause-says c =
-    fail_without_memory c.args.handle c.args.self.now _ c.args.number.now c.in-Some.claim c.of_keep.result (sym c.replace.ensures.value ∙ c.in-Some.is) c.args.self.now.fits.cells
+    fail_without_memory c.args.handle c.args.self.now _ c.args.number.now c.in-Some.claim c.of_keep.result (sym c.replace.ensures.value ∙ c.in-Some.is) (subst (λ (s : StoreView). s.id.cells.limits.keep_faults ≡ true) c.deref-shared.ensures (sym c.keeps_faults.ensures ∙ c.if-not-keeps_faults.false)) c.args.self.now.fits.cells
     c.give_up_quietly-in_default-fault_of.ensures.abandoned c.of_keep.ensures
 
 pub returns-in-Ok-fail_claim-clause-says : goal.returns-in-Ok-fail_claim-clause-says
 returns-in-Ok-fail_claim-clause-says c =
-    FailSays.failed c.in-Some.claim c.in-Ok.fault (sym c.replace.ensures.value ∙ c.in-Some.is) c.in-Ok.ensures c.in-Ok-fail_claim.ensures.failed c.in-Ok-fail_claim.ensures.learnt refl
+    FailSays.failed c.in-Some.claim c.in-Ok.fault (sym c.replace.ensures.value ∙ c.in-Some.is)
+    (subst (λ (s : StoreView). s.id.cells.limits.keep_faults ≡ true) c.deref-shared.ensures (sym c.keeps_faults.ensures ∙ c.if-not-keeps_faults.false)) c.in-Ok.ensures c.in-Ok-fail_claim.ensures.failed c.in-Ok-fail_claim.ensures.learnt refl
 
 pub returns-in-Err-clause-says : goal.returns-in-Err-clause-says
 returns-in-Err-clause-says c =
-    FailSays.unkept c.in-Some.claim c.in-Err.why (sym c.replace.ensures.value ∙ c.in-Some.is) c.in-Err.ensures.unkept refl c.of_keep-in-Err.ensures
+    FailSays.unkept c.in-Some.claim c.in-Err.why (sym c.replace.ensures.value ∙ c.in-Some.is) (subst (λ (s : StoreView). s.id.cells.limits.keep_faults ≡ true) c.deref-shared.ensures (sym c.keeps_faults.ensures ∙ c.if-not-keeps_faults.false)) c.in-Err.ensures.unkept refl c.of_keep-in-Err.ensures

@@ -2,7 +2,7 @@ use Rattle.std.proofs.Common.{◌≡◌, ◌<◌, ◌^◌, sym, ap, ◌∙◌, s
 use Rattle.ext_model.specs.History.{IsLegal}
 use Rattle.ext_history.specs.Histories.{seen_by}
 use Rattle.ext_cells.specs.InnerPasses.{ReadPass}
-use Rattle.ext_cells.proofs.Collecting.{passes_once, passes_again, passes_overtaken, passes_legal, steps_within, steps_all, moment, stood}
+use Rattle.ext_cells.proofs.Collecting.{passes_once, passes_again, passes_on, passes_overtaken, passes_legal, steps_within, steps_all, moment, stood}
 use Rattle.ext_cells.proofs.cells.Cells.collect.Goals as goal
 
 pub loop-init : goal.loop-init
@@ -54,6 +54,12 @@ returns-clause-words c =
     let tries : c.self.inside.tries ≡ c.args.self.now.tries = ap (λ z. z.tries) c.self.view_is in
     let all = c.loop-test.false in
     (refl, passes_overtaken c.args.lane.now.cells.limits _ _ _ _ c.loop.counter c.requires.different c.loop.invariant.passes _ (omega (arith, tries, all)))
+
+pub returns-clause-contended : goal.returns-clause-contended
+returns-clause-contended c =
+    let tries : c.self.inside.tries ≡ c.args.self.now.tries = ap (λ z. z.tries) c.self.view_is in
+    let all = c.loop-test.false in
+    passes_on c.args.lane.now.cells.limits _ _ _ _ c.loop.counter c.requires.different c.loop.invariant.passes _ (omega (arith, tries, all))
 
 pub returns-clause-steps : goal.returns-clause-steps
 returns-clause-steps c =

@@ -4,7 +4,7 @@ use Rattle.std.proofs.lemmas.List.{length-drop, take_all}
 use Rattle.std.proofs.lemmas.List.Elements.{All-take, All-drop}
 use Rattle.ext_cells.specs.InnerPasses.{FirstPass, ReadPass}
 use Rattle.ext_cells.specs.Words.{version_in}
-use Rattle.ext_cells.proofs.Collecting.{passes_again, passes_overtaken, steps_within, steps_all, stood}
+use Rattle.ext_cells.proofs.Collecting.{passes_again, passes_on, passes_overtaken, steps_within, steps_all, stood}
 use Rattle.ext_cells.proofs.Readings.{still_none, still_some, begun_here, same_again, nearest_of, within_two}
 use Rattle.ext_cells.proofs.cells.Cells.nearest.Goals as goal
 
@@ -123,6 +123,12 @@ returns-clause-nearest c =
     let tries = c.tries-end.ensures.tries in
     let all = c.loop-test.false in
     (refl, passes_overtaken c.args.lane.now.cells.limits _ _ _ c.loop.invariant.passes.0 c.loop.counter c.requires.different c.loop.invariant.passes.2 _ (omega (arith, tries, all)))
+
+pub returns-clause-contended : goal.returns-clause-contended
+returns-clause-contended c =
+    let tries = c.tries-end.ensures.tries in
+    let all = c.loop-test.false in
+    passes_on c.args.lane.now.cells.limits _ _ _ c.loop.invariant.passes.0 c.loop.counter c.requires.different c.loop.invariant.passes.2 _ (omega (arith, tries, all))
 
 pub returns-clause-steps : goal.returns-clause-steps
 returns-clause-steps c =

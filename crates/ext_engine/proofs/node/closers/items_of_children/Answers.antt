@@ -1,53 +1,39 @@
-use Rattle.std.proofs.Common.{rules, ◌≡◌, ◌∷◌, true, false, not, length, refl, ap, ◌∙◌, subst, arith}
-use Rattle.ext_tree.specs.Trees.{IsTree, children_of}
+use Rattle.std.proofs.Common.{ℕ, Bool, length, map, filter, not, ap, ◌∙◌, arith}
+use Rattle.std.proofs.lemmas.Result.{IfOk-weaker}
+use Rattle.std.proofs.lemmas.List.Elements.{All-filter, All-same}
 use Rattle.ext_engine.specs.declared.node.closers.Item.{Item}
-use Rattle.ext_engine.proofs.Items.{left-first, left-item, left-more, items-first, items-in, items-out, items-few}
+use Rattle.ext_engine.specs.InnerClosers.{IsItem}
+use Rattle.ext_engine.proofs.Items.{few-children, as-many, are-items, filtered-nodes, few-pass}
 use Rattle.ext_engine.proofs.node.closers.items_of_children.Goals as goal
 
-pub loop-child-init : goal.loop-child-init
-loop-child-init g c =
-    let store = c.args.store.now in let node = c.args.node in
-    let is = c.children-rest.ensures ∙ ap (λ t. children_of t node) c.tree-2.ensures in
-    record {
-      left = left-first store node _ _ c.requires.node is c.requires.own c.requires.closers;
-      beside = items-first store node _ _ _ is c.new-beside.ensures.items;
-      in_turn = items-first store node _ _ _ is c.new-in_turn.ensures.items;
-    }
-
-pub loop-child-preserved-in_ok-push : goal.loop-child-preserved-in_ok-push
-loop-child-preserved-in_ok-push g c =
-    let I = c.loop-child.invariant in let e = c.in_ok-closers.ensures in
-    let store = c.args.store.now in let node = c.args.node in let child = c.in-Some.child.now in
+pub returns-clause-beside : goal.returns-clause-beside
+returns-clause-beside g c =
     let p = (g.S.Suite.suite_view c.args.suite.now).is_concurrent in
-    let is : c.loop-child.rest.now ≡ child ∷ c.in-Some.more.now = search rules in
-    let passes : p child ≡ true = search rules in
-    let tree = subst (λ t. IsTree t) c.tree.ensures c.len-count.ensures.tree in
-    let item : Item = record { node = child; closers = c.in_ok-closers.closers } in
-    let own = left-item store node child _ _ _ is I.left item refl e.0 e.2 in
-    record {
-      left = left-more store node child _ _ _ is I.left _ tree e.1 e.3;
-      beside = items-in store node p _ _ _ _ item is passes own c.in_ok-push.ensures.items I.beside;
-      in_turn = items-out store node (λ x. not (p x)) child _ _ _ is (ap not passes) I.in_turn;
-    }
+    IfOk-weaker c.by_mode.result _ _ (λ r h. ap (map (λ (i : Item). i.node)) h.0 ∙ filtered-nodes p c.hand_out.new.items.items ∙ ap (filter p) c.in_ok-hand_out.ensures.children) c.by_mode.ensures
 
-pub loop-child-preserved : goal.loop-child-preserved
-loop-child-preserved g c =
-    let I = c.loop-child.invariant in let e = c.in_ok-closers.ensures in
-    let store = c.args.store.now in let node = c.args.node in let child = c.in-Some.child.now in
+pub returns-clause-in_turn : goal.returns-clause-in_turn
+returns-clause-in_turn g c =
+    let p : ℕ → Bool = λ n. not ((g.S.Suite.suite_view c.args.suite.now).is_concurrent n) in
+    IfOk-weaker c.by_mode.result _ _ (λ r h. ap (map (λ (i : Item). i.node)) h.1 ∙ filtered-nodes p c.hand_out.new.items.items ∙ ap (filter p) c.in_ok-hand_out.ensures.children) c.by_mode.ensures
+
+pub returns-clause-closers : goal.returns-clause-closers
+returns-clause-closers g c =
+    let store = c.args.store.now in let node = c.args.node in let items = c.hand_out.new.items.items in
     let p = (g.S.Suite.suite_view c.args.suite.now).is_concurrent in
-    let is : c.loop-child.rest.now ≡ child ∷ c.in-Some.more.now = search rules in
-    let fails : p child ≡ false = search rules in
-    let tree = subst (λ t. IsTree t) c.tree.ensures c.len-count.ensures.tree in
-    let item : Item = record { node = child; closers = c.in_ok-closers.closers } in
-    let own = left-item store node child _ _ _ is I.left item refl e.0 e.2 in
-    record {
-      left = left-more store node child _ _ _ is I.left _ tree e.1 e.3;
-      beside = items-out store node p child _ _ _ is fails I.beside;
-      in_turn = items-in store node (λ x. not (p x)) _ _ _ _ item is (ap not fails) own c.in_ok-push-2.ensures.items I.in_turn;
-    }
+    let all = are-items store node c.args.closers.items items c.requires.node c.in_ok-hand_out.ensures.children c.requires.closers c.in_ok-hand_out.ensures.closers in
+    IfOk-weaker c.by_mode.result _ _
+    (λ r h. (
+      All-same (IsItem store node) r.0.items (filter (λ (i : Item). p i.node) items) h.0 (All-filter (λ (i : Item). p i.node) (IsItem store node) items all),
+      All-same (IsItem store node) r.1.items (filter (λ (i : Item). not (p i.node)) items) h.1 (All-filter (λ (i : Item). not (p i.node)) (IsItem store node) items all),
+    ))
+    c.by_mode.ensures
 
 pub returns-clause-few : goal.returns-clause-few
 returns-clause-few g c =
-    let few = items-few c.args.store.now c.args.node (g.S.Suite.suite_view c.args.suite.now).is_concurrent _ c.loop-child.beside.items c.loop-child.invariant.beside in
-    let e = ap length c.tree.ensures in let f = c.len-count.ensures.count in let m = c.len-count.ensures.few in
-    omega (arith, few, e, f, m)
+    let store = c.args.store.now in let node = c.args.node in let items = c.hand_out.new.items.items in
+    let p = (g.S.Suite.suite_view c.args.suite.now).is_concurrent in
+    let many = as-many store.tree node items c.in_ok-hand_out.ensures.children in
+    let children = few-children store.tree node in
+    let passing = few-pass (λ (i : Item). p i.node) items in
+    let tree = ap length c.tree.ensures in let count = c.len-count.ensures.count in let most = c.len-count.ensures.few in
+    IfOk-weaker c.by_mode.result _ _ (λ r h. let same = ap length h.0 in let long = r.0.ok in omega (arith, many, children, passing, tree, count, most, same, long)) c.by_mode.ensures

@@ -2,13 +2,9 @@ use Rattle.std.proofs.Common.{[], ◌∷◌, ◌++◌, ◌∙◌, refl, sym, sub
 use Rattle.std.specs.Prelude.{Ok}
 use Rattle.std.proofs.lemmas.Fn.{FoldsTo-push}
 use Rattle.ext_store.specs.Stores.{IsCloserOf}
-use Rattle.ext_closing.specs.declared.fault.CloseFault.{CloseFault}
 use Rattle.ext_closing.specs.Closes.{IsRefused}
-use Rattle.ext_closing.specs.Closing.{NamesUnjoined}
-use Rattle.ext_closing.specs.Lanes.{first_lane}
-use Rattle.ext_closing.specs.Sealing.{numbers_left}
 use Rattle.ext_closing.proofs.Again.{asked_again}
-use Rattle.ext_engine.proofs.Refusals.{same_close, refused_close, left_unjoined, count_kept}
+use Rattle.ext_engine.proofs.Refusals.{same_close, refused_close, count_kept}
 use Rattle.ext_engine.proofs.node.closing.close_again.Goals as goal
 
 pub loop-init : goal.loop-init
@@ -37,13 +33,15 @@ returns-in-Ok-clause-closes g c =
 pub returns-in-Some-unjoined-clause-unjoined : goal.returns-in-Some-unjoined-clause-unjoined
 returns-in-Some-unjoined-clause-unjoined g c =
     let inv = c.loop.invariant in
-    let e = c.in-Err.ensures in (
-      c.loop.lanes,
-      inv.own_lanes,
-      left_unjoined g.V.StoreValue.is_closeable g.A.CloseAction.close_gives c.args.store.now c.args.closer c.args.action.now c.loop.lanes c.in-Some-unjoined.number c.close.new.lanes
-          (subst (λ why. IsRefused g.V.StoreValue.is_closeable g.A.CloseAction.close_gives c.args.store.now c.args.closer c.args.action.now c.loop.lanes why c.close.new.lanes) c.in-Some-unjoined.ensures.number
-          (refused_close g.V.StoreValue.is_closeable g.A.CloseAction.close_gives c.args.store.now c.args.closer c.loop.left c.in-Err.back c.args.action.now c.loop.action c.close.new.action c.loop.lanes c.close.new.lanes c.in-Err.why inv.closer inv.action e.handed_back e.happened.not_called e.happened)),
-    )
+    let e = c.in-Err.ensures in
+    record {
+      refusals = inv.refused.0;
+      asked = c.loop.lanes;
+      refused = inv.refused.1;
+      own_lanes = inv.own_lanes;
+      unjoined = subst (λ why. IsRefused g.V.StoreValue.is_closeable g.A.CloseAction.close_gives c.args.store.now c.args.closer c.args.action.now c.loop.lanes why c.close.new.lanes) c.in-Some-unjoined.ensures.number
+          (refused_close g.V.StoreValue.is_closeable g.A.CloseAction.close_gives c.args.store.now c.args.closer c.loop.left c.in-Err.back c.args.action.now c.loop.action c.close.new.action c.loop.lanes c.close.new.lanes c.in-Err.why inv.closer inv.action e.handed_back e.happened.not_called e.happened);
+    }
 
 pub loop-preserved : goal.loop-preserved
 loop-preserved g c =
@@ -60,8 +58,3 @@ loop-preserved g c =
       action = e.happened.not_called ∙ inv.action;
       closer = e.handed_back ∙ inv.closer;
     }
-
-pub returns-in-Some-unjoined-clause-unknown : goal.returns-in-Some-unjoined-clause-unknown
-returns-in-Some-unjoined-clause-unknown g c =
-    let P : CloseFault → Type 0 = λ why. NamesUnjoined c.close.new.lanes (numbers_left c.args.store.now c.loop.left.context (first_lane c.args.store.now c.close.new.lanes)) why in
-    (subst P c.in-Some-unjoined.ensures.number c.in-Err.ensures.happened.unjoined).unknown

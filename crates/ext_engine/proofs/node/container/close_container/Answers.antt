@@ -30,3 +30,17 @@ returns-in-Ok-clause-ends g c = λ path befores by.
       own_is = ap (λ x. first x c.args.begun.went_on) (c.result.ensures made closed.0 a.2 closed.2)
           ∙ ap (λ w. first (result_of node false (endings_of made) (computed_in made) (found_in made) closed.0) w) by.went_on_is;
     }
+
+pub returns-clause-unclosed : goal.returns-clause-unclosed
+returns-clause-unclosed g c = λ path befores by.
+    let r = c.args.nodes.now in
+    let node = c.args.node in
+    let registered = g.S.Callbacks.registered r.suite.now in
+    let makes : StoreLane g.row.V.Denot → Call → Outcome → StoreLane g.row.V.Denot → Type 0 = λ a call o b. g.S.Suite.call_gives r.suite.now r.store.now node call None a o b in
+    let a = c.call_afters.ensures.calls befores by.tally_is in
+    record {
+      afters = a.0;
+      called = slice_set c.args.lanes.now 0 c.call_afters.new.lane;
+      afters_made = afters-on makes c.args.lanes.now _ _ (afters_of registered false node path) a.0 (c.as_slice.ensures.value ∙ by.afters_are) c.requires.lanes a.1;
+      left_open = c.in-Err.ensures.unjoined;
+    }

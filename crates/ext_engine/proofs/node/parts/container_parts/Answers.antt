@@ -26,6 +26,8 @@ returns g c =
             beside_below = below c.in_ok-beside.beside.items c.requires.item.depth_is deep children.closers.0;
             in_turn_below = below c.in_ok-beside.in_turn.items c.requires.item.depth_is deep children.closers.1;
             few = children.few;
+            none_yet = c.in_ok-outcomes.ensures.items;
+            room = (let e = c.len.ensures in let f = c.in_ok-outcomes.ensures.capacity in omega (arith, e, f));
           },
           deep,
         ),

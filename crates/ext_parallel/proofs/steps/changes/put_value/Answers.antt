@@ -2,7 +2,7 @@ use Rattle.std.proofs.Common.{inl}
 use Rattle.ext_plan.specs.StepCalls.{call_view}
 use Rattle.ext_parallel.proofs.Ends.{ends_well}
 use Rattle.ext_parallel.proofs.Framed.{put_framed, then_framed}
-use Rattle.ext_parallel.proofs.Keyed.{step_puts}
+use Rattle.ext_parallel.proofs.Keyed.{step_puts, placed_after, placed_same}
 use Rattle.ext_parallel.proofs.Placed.{put_placed}
 use Rattle.ext_parallel.proofs.steps.changes.put_value.Goals as goal
 
@@ -29,3 +29,12 @@ returns-in-Ok-put_wait-clause-frame g c = put_framed c.args.store.now c.in-Ok.ke
 
 pub returns-in-Err-put_wait-clause-frame : goal.returns-in-Err-put_wait-clause-frame
 returns-in-Err-put_wait-clause-frame g c = then_framed c.args.store.now c.args.lane.now c.keep_wait.new.lane c.put_wait.new.lane c.in-Ok.ensures.frame c.in-Err-put_wait.ensures.stays.frame
+
+pub returns-in-Err-clause-placed : goal.returns-in-Err-clause-placed
+returns-in-Err-clause-placed g c = placed_same (call_view c.args.call.now).key c.args.lane.now c.keep_wait.new.lane c.in-Err.ensures.keys
+
+pub returns-in-Ok-put_wait-clause-placed : goal.returns-in-Ok-put_wait-clause-placed
+returns-in-Ok-put_wait-clause-placed g c = placed_after (call_view c.args.call.now).key c.args.lane.now c.keep_wait.new.lane c.put_wait.new.lane c.in-Ok.ensures.keys c.in-Ok-put_wait.ensures.placed
+
+pub returns-in-Err-put_wait-clause-placed : goal.returns-in-Err-put_wait-clause-placed
+returns-in-Err-put_wait-clause-placed g c = placed_after (call_view c.args.call.now).key c.args.lane.now c.keep_wait.new.lane c.put_wait.new.lane c.in-Ok.ensures.keys c.in-Err-put_wait.ensures.placed

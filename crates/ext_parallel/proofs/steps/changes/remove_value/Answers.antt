@@ -22,3 +22,9 @@ returns-in-Ok-clause-frame g c = c.in-Ok.ensures.stays.frame
 
 pub returns-in-Err-clause-frame : goal.returns-in-Err-clause-frame
 returns-in-Err-clause-frame g c = c.in-Err.ensures.stays.frame
+
+pub returns-in-Ok-clause-placed : goal.returns-in-Ok-clause-placed
+returns-in-Ok-clause-placed g c = c.in-Ok.ensures.placed
+
+pub returns-in-Err-clause-placed : goal.returns-in-Err-clause-placed
+returns-in-Err-clause-placed g c = c.in-Err.ensures.placed

@@ -5,6 +5,7 @@ use Rattle.ext_parallel.proofs.Ends.{ends_well}
 use Rattle.ext_parallel.proofs.Framed.{then_framed}
 use Rattle.ext_parallel.proofs.Keyed.{step_computes}
 use Rattle.ext_parallel.proofs.Placed.{compute_placed}
+use Rattle.ext_store.proofs.Numbered.{placed_still}
 use Rattle.ext_parallel.proofs.steps.computes.compute.Goals as goal
 
 pub end_refused-requires-clause-placed : goal.end_refused-requires-clause-placed
@@ -49,3 +50,18 @@ returns-in-FaultStands-clause-computes g c =
 
 pub returns-in-FaultStands-clause-frame : goal.returns-in-FaultStands-clause-frame
 returns-in-FaultStands-clause-frame g c = then_framed c.args.store.now c.args.lane.now c.compute_made.new.lane c.end_met.new.lane c.in-FaultStands.ensures.frame c.end_met.ensures.frame
+
+pub returns-in-Computed-clause-placed : goal.returns-in-Computed-clause-placed
+returns-in-Computed-clause-placed g c = c.in-Computed.ensures.placed
+
+pub returns-in-Found-clause-placed : goal.returns-in-Found-clause-placed
+returns-in-Found-clause-placed g c = c.in-Found.ensures.placed
+
+pub returns-in-Unkept-clause-placed : goal.returns-in-Unkept-clause-placed
+returns-in-Unkept-clause-placed g c = c.in-Unkept.ensures.placed
+
+pub returns-in-Refused-clause-placed : goal.returns-in-Refused-clause-placed
+returns-in-Refused-clause-placed g c = c.in-Refused.ensures.placed
+
+pub returns-in-FaultStands-clause-placed : goal.returns-in-FaultStands-clause-placed
+returns-in-FaultStands-clause-placed g c = placed_still (call_view c.args.call.now).key c.args.lane.now.keys c.compute_made.new.lane.keys c.end_met.new.lane.keys c.in-FaultStands.ensures.placed c.end_met.ensures.keys

@@ -5,6 +5,7 @@ use Rattle.ext_parallel.proofs.Ends.{ends_well, ends_with}
 use Rattle.ext_parallel.proofs.Framed.{then_framed}
 use Rattle.ext_parallel.proofs.Keyed.{step_fails}
 use Rattle.ext_parallel.proofs.Placed.{compute_placed}
+use Rattle.ext_store.proofs.Numbered.{placed_still}
 use Rattle.ext_parallel.proofs.steps.computes.compute_fault.Goals as goal
 
 pub end_refused-requires-clause-placed : goal.end_refused-requires-clause-placed
@@ -51,3 +52,21 @@ returns-in-Found-clause-frame g c = then_framed c.args.store.now c.args.lane.now
 
 pub returns-in-FaultStands-clause-frame : goal.returns-in-FaultStands-clause-frame
 returns-in-FaultStands-clause-frame g c = then_framed c.args.store.now c.args.lane.now c.compute_made.new.lane c.end_met_failing.new.lane c.in-FaultStands.ensures.frame c.end_met_failing.ensures.frame
+
+pub returns-in-Failed-clause-placed : goal.returns-in-Failed-clause-placed
+returns-in-Failed-clause-placed g c = c.in-Failed.ensures.placed
+
+pub returns-in-FaultKept-clause-placed : goal.returns-in-FaultKept-clause-placed
+returns-in-FaultKept-clause-placed g c = c.in-FaultKept.ensures.placed
+
+pub returns-in-FaultUnkept-clause-placed : goal.returns-in-FaultUnkept-clause-placed
+returns-in-FaultUnkept-clause-placed g c = c.in-FaultUnkept.ensures.placed
+
+pub returns-in-Refused-clause-placed : goal.returns-in-Refused-clause-placed
+returns-in-Refused-clause-placed g c = c.in-Refused.ensures.placed
+
+pub returns-in-Found-clause-placed : goal.returns-in-Found-clause-placed
+returns-in-Found-clause-placed g c = placed_still (call_view c.args.call.now).key c.args.lane.now.keys c.compute_made.new.lane.keys c.show-seen.new.lane.keys c.in-Found.ensures.placed c.show-seen.ensures.keys
+
+pub returns-in-FaultStands-clause-placed : goal.returns-in-FaultStands-clause-placed
+returns-in-FaultStands-clause-placed g c = placed_still (call_view c.args.call.now).key c.args.lane.now.keys c.compute_made.new.lane.keys c.end_met_failing.new.lane.keys c.in-FaultStands.ensures.placed c.end_met_failing.ensures.keys

@@ -21,3 +21,24 @@ returns-in-FaultStands-clause-answer g c = elim c.in-FaultStands.ensures.answer 
 
 pub returns-in-Unkept-clause-answer : goal.returns-in-Unkept-clause-answer
 returns-in-Unkept-clause-answer g c = elim c.in-Unkept.ensures.answer [ inl named ↦ inl named | inr refused ↦ absurd (cc refused.2) ]
+
+pub returns-in-Computed-clause-placed : goal.returns-in-Computed-clause-placed
+returns-in-Computed-clause-placed g c = c.in-Computed.ensures.placed
+
+pub returns-in-Found-clause-placed : goal.returns-in-Found-clause-placed
+returns-in-Found-clause-placed g c = c.in-Found.ensures.placed
+
+pub returns-in-Failed-clause-placed : goal.returns-in-Failed-clause-placed
+returns-in-Failed-clause-placed g c = c.in-Failed.ensures.placed
+
+pub returns-in-FaultKept-clause-placed : goal.returns-in-FaultKept-clause-placed
+returns-in-FaultKept-clause-placed g c = c.in-FaultKept.ensures.placed
+
+pub returns-in-FaultUnkept-clause-placed : goal.returns-in-FaultUnkept-clause-placed
+returns-in-FaultUnkept-clause-placed g c = c.in-FaultUnkept.ensures.placed
+
+pub returns-in-FaultStands-clause-placed : goal.returns-in-FaultStands-clause-placed
+returns-in-FaultStands-clause-placed g c = c.in-FaultStands.ensures.placed
+
+pub returns-in-Unkept-clause-placed : goal.returns-in-Unkept-clause-placed
+returns-in-Unkept-clause-placed g c = c.in-Unkept.ensures.placed

@@ -5,6 +5,7 @@ use Rattle.ext_parallel.proofs.Ends.{sees_shown}
 use Rattle.ext_parallel.proofs.Framed.{then_framed}
 use Rattle.ext_parallel.proofs.Keyed.{of_answer}
 use Rattle.ext_parallel.proofs.Placed.{look_refused}
+use Rattle.ext_store.proofs.Numbered.{placed_still}
 use Rattle.ext_parallel.proofs.steps.looks.see.Goals as goal
 
 pub returns-in-Ok-Found-clause-sees : goal.returns-in-Ok-Found-clause-sees
@@ -44,3 +45,18 @@ returns-in-Ok-Closed-clause-frame g c = c.in-Ok-Closed.ensures.stays.frame
 
 pub returns-in-Err-clause-frame : goal.returns-in-Err-clause-frame
 returns-in-Err-clause-frame g c = c.in-Err.ensures.stays.frame
+
+pub returns-in-Ok-Found-clause-placed : goal.returns-in-Ok-Found-clause-placed
+returns-in-Ok-Found-clause-placed g c = placed_still c.args.key.now c.args.lane.now.keys c.get_wait.new.lane.keys c.show.new.lane.keys c.in-Ok-Found.ensures.placed c.show.ensures.keys
+
+pub returns-in-Ok-Fault-clause-placed : goal.returns-in-Ok-Fault-clause-placed
+returns-in-Ok-Fault-clause-placed g c = placed_still c.args.key.now c.args.lane.now.keys c.get_wait.new.lane.keys c.show_fault.new.lane.keys c.in-Ok-Fault.ensures.placed c.show_fault.ensures.keys
+
+pub returns-in-Ok-Absent-clause-placed : goal.returns-in-Ok-Absent-clause-placed
+returns-in-Ok-Absent-clause-placed g c = c.in-Ok-Absent.ensures.placed
+
+pub returns-in-Ok-Closed-clause-placed : goal.returns-in-Ok-Closed-clause-placed
+returns-in-Ok-Closed-clause-placed g c = c.in-Ok-Closed.ensures.placed
+
+pub returns-in-Err-clause-placed : goal.returns-in-Err-clause-placed
+returns-in-Err-clause-placed g c = c.in-Err.ensures.placed

@@ -16,3 +16,9 @@ end_refused-requires-clause-placed g c = key_placed _ _ _ _ c.in-Err.ensures.ref
 pub returns-in-Err-clause-looks : goal.returns-in-Err-clause-looks
 returns-in-Err-clause-looks g c =
     step_refused c.args.store.now (call_view c.args.call.now) c.at.result c.at.ensures c.args.lane.now c.end_refused.result c.see.new.lane (want_verdict c.args.call.now.name.now c.args.call.now.label.now c.args.text.now) _ c.in-Err.ensures.refused c.end_refused.ensures
+
+pub returns-in-Ok-clause-placed : goal.returns-in-Ok-clause-placed
+returns-in-Ok-clause-placed g c = c.see.ensures.placed
+
+pub returns-in-Err-clause-placed : goal.returns-in-Err-clause-placed
+returns-in-Err-clause-placed g c = c.see.ensures.placed

@@ -3,7 +3,7 @@ use Rattle.std.proofs.lemmas.List.{drop_all}
 use Rattle.ext_lifecycle.specs.FaultTexts.{results_view}
 use Rattle.ext_tree.specs.Trees.{IsTree}
 use Rattle.ext_plain.specs.declared.setting.Setting.{Setting}
-use Rattle.ext_plain.specs.InnerHelpers.{RunsAs, plan_in, run_view}
+use Rattle.ext_plain.specs.InnerHelpers.{ChildrenRun, NodeRuns, any_child, plan_in, run_view}
 use Rattle.ext_plan.specs.PlanCalls.{concurrent_of}
 use Rattle.ext_plain.specs.PlainRun.{body_run, node_run}
 use Rattle.ext_plain.proofs.Nodes.{child_is}
@@ -19,8 +19,8 @@ run_body-returns-clause-run g t c =
     let old = c.args.self.now in
     let setting = old.caller.setting in
     OnOk-map c.run_children-2.result c.run_children-2.ensures.run (λ second.
-    subst (λ go. RunsAs setting c.args.at (body_run (plan_in setting) (node_run (plan_in setting) c.args.levels) go) (run_view old) (run_view c.run_children-2.new.self)) (sym c.if-not-go.false)
-    (both-run setting c.run_children.new.self.caller.setting c.args.at c.args.levels (run_view old) (run_view c.run_children.new.self) (run_view c.run_children-2.new.self) c.in_ok-run_children.ensures.setting c.in_ok-run_children.ensures.run second))
+    subst (λ go. ChildrenRun setting c.args.at any_child (body_run (plan_in setting) (node_run (plan_in setting) c.args.levels) go) (run_view old) (run_view c.run_children-2.new.self)) (sym c.if-not-go.false)
+    (both-run setting c.run_children.new.self.caller.setting c.args.at c.args.levels (run_view old) (run_view c.run_children.new.self) (run_view c.run_children-2.new.self) c.requires.tree c.requires.within c.in_ok-run_children.ensures.setting c.in_ok-run_children.ensures.run second))
 
 pub run_body-returns-then-not-go-clause-run : goal.run_body-returns-then-not-go-clause-run
 run_body-returns-then-not-go-clause-run g t c = none-runs c.args.self.now.caller.setting c.args.at c.args.levels c.args.go (run_view c.args.self.now) c.if-not-go.true
@@ -51,11 +51,11 @@ run_children-loop-child-preserved g t c =
     elim c.if-is_concurrent-concurrent.branch [
       | run_children-then-is_concurrent-concurrent+in_ok-run_node w ↦
           let next = run_view w.run_node.new.self in
-          let ran = subst (λ (s : Setting). RunsAs s child (node_run (plan_in s) levels) (run_view c.loop-child.self) next) inv.setting w.in_ok-run_node.ensures.run in
+          let ran = subst (λ (s : Setting). NodeRuns s child (node_run (plan_in s) levels) (run_view c.loop-child.self) next) inv.setting w.in_ok-run_node.ensures.run in
           record {
             setting = ap (λ x. x.caller.setting) w.self-is ∙ w.in_ok-run_node.ensures.setting ∙ inv.setting;
             so_far = subst (λ r. StillRuns setting c.args.at levels c.args.concurrent children (drop (i + 1) children) (run_view c.args.self.now) r) (sym (ap run_view w.self-is))
-                (still-run setting c.args.at levels c.args.concurrent c.is_concurrent.result children i (run_view c.args.self.now) (run_view c.loop-child.self) next c.loop-child-test.true parent is w.if-is_concurrent-concurrent.true ran inv.so_far);
+                (still-run setting c.args.at levels c.args.concurrent c.is_concurrent.result children i (run_view c.args.self.now) (run_view c.loop-child.self) next c.requires.tree c.children-children.ensures c.loop-child-test.true parent is w.if-is_concurrent-concurrent.true ran inv.so_far);
           }
       | run_children-else-is_concurrent-concurrent w ↦ record {
         setting = ap (λ x. x.caller.setting) w.self-is ∙ inv.setting;

@@ -1,7 +1,6 @@
-use Rattle.std.proofs.Common.{◌∙◌, ◌≡◌, true, false, Err, refl, ap, sym, subst}
+use Rattle.std.proofs.Common.{◌∙◌, Err, refl, ap, sym, subst}
 use Rattle.ext_lifecycle.specs.declared.outcome.Outcome.{Outcome}
-use Rattle.ext_lifecycle.specs.Endings.{is_successful}
-use Rattle.ext_lifecycle.specs.Lifecycle.{ending_of}
+use Rattle.ext_lifecycle.specs.FaultTexts.{verdict_text}
 use Rattle.ext_plan.specs.Plans.{step_view}
 use Rattle.ext_plain.specs.InnerHelpers.{memory_of_step, state_view, step_end}
 use Rattle.ext_plain.specs.ValueStates.{enough}
@@ -12,11 +11,11 @@ use Rattle.ext_plan.specs.StepCalls.{keys_in}
 pub returns-in-Ok : goal.returns-in-Ok
 returns-in-Ok c =
     let few = subst IsFew (sym c.in-Ok.ensures) (step-few (keys_in c.args.keys.now) enough c.args.path.now (step_view c.args.step.now) (state_view c.args.self.now)) in
-    record { going = λ _. refl; end = (enough, c.in-Ok.ensures, λ _. refl); few = record { computed = few.computed; found = few.found } }
+    record { told = λ _. refl; end = (enough, c.in-Ok.ensures, λ _. refl); few = record { computed = few.computed; found = few.found } }
 
 pub returns-in-Err : goal.returns-in-Err
 returns-in-Err c =
     let found = memory_of_step (Err c.in-Err.lack) in
     let end = ap (step_end (state_view c.run_step.new.self)) c.outcome.ensures ∙ c.in-Err.ensures in
     let few = subst IsFew (sym end) (step-few (keys_in c.args.keys.now) found c.args.path.now (step_view c.args.step.now) (state_view c.args.self.now)) in
-    record { going = λ going. let lacks : false ≡ true = sym (ap (λ (o : Outcome). is_successful (ending_of o.verdict)) c.outcome.ensures) ∙ going in absurd cc; end = (found, end, λ unlacked. absurd cc); few = record { computed = few.computed; found = few.found } }
+    record { told = λ differs. absurd (differs (ap (λ (o : Outcome). verdict_text o.verdict) c.outcome.ensures)); end = (found, end, λ unlacked. absurd cc); few = record { computed = few.computed; found = few.found } }

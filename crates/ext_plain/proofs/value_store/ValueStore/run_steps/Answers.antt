@@ -9,6 +9,7 @@ use Rattle.ext_plain.specs.StepRuns.{steps_run}
 use Rattle.ext_plain.specs.ValueStates.{with_memory}
 use Rattle.ext_plain.specs.InnerHelpers.{state_view, step_end}
 use Rattle.ext_plain.proofs.Memories.{first_found, first_found-nothing, next_step-is}
+use Rattle.ext_plain.proofs.Spared.{passes}
 use Rattle.ext_plain.proofs.Stepping.{after_steps, no_steps, steps-go, steps-stop, steps-end}
 use Rattle.ext_plain.proofs.value_store.ValueStore.run_steps.Goals as goal
 use Rattle.ext_plan.specs.StepCalls.{keys_in}
@@ -16,8 +17,8 @@ use Rattle.ext_plan.specs.StepCalls.{keys_in}
 pub loop-step-init : goal.loop-step-init
 loop-step-init c = record { rest = λ later. (later, sym (no_steps (steps_run (keys_in c.args.keys.now) c.args.path.now (map step_view c.args.steps.now) (with_memory later (state_view c.args.self.now)))), λ none. none); computed = omega arith; found = omega arith }
 
-pub returns-then-not-is_successful : goal.returns-then-not-is_successful
-returns-then-not-is_successful c = λ later.
+pub returns-then-not-is_successful-clause-end : goal.returns-then-not-is_successful-clause-end
+returns-then-not-is_successful-clause-end c = λ later.
     let keys = keys_in c.args.keys.now in
     let path = c.args.path.now in
     let steps = c.args.steps.now in
@@ -51,14 +52,14 @@ loop-step-preserved c =
           let before = c.loop-step.invariant.rest here in (
             before.0,
             before.1 ∙ ap (λ ss. after_steps c.loop-step.computed c.loop-step.found (steps_run keys path ss s)) more ∙ go,
-            λ none. before.2 (first_found-nothing made.0 later (made.2 (c.make_step-made.ensures.going (sym c.if-not-is_successful.ensures))) none),
+            λ none. before.2 (first_found-nothing made.0 later (made.2 (c.make_step-made.ensures.told (passes (ending_of c.make_step-made.result.outcome.verdict) (sym c.if-not-is_successful.ensures)))) none),
           );
       computed = omega (arith, c.loop-step.invariant.computed, c.make_step-made.ensures.few.computed);
       found = omega (arith, c.loop-step.invariant.found, c.make_step-made.ensures.few.found);
     }
 
-pub returns : goal.returns
-returns c = λ later.
+pub returns-clause-end : goal.returns-clause-end
+returns-clause-end c = λ later.
     let keys = keys_in c.args.keys.now in
     let s = with_memory later (state_view c.loop-step.self) in
     let rest = drop_all c.loop-step.step-index c.args.steps.now (omega (arith, c.loop-step-test.false)) in

@@ -3,7 +3,7 @@ use Rattle.std.specs.Prelude.{Err}
 use Rattle.ext_store_cells.specs.declared.claim.Unused.TheVariants as unused
 use Rattle.ext_store.specs.Computing.{ClaimsMissing}
 use Rattle.ext_store.proofs.Frames.{stays_then}
-use Rattle.ext_store.proofs.Numbered.{of_number, of_refusal}
+use Rattle.ext_store.proofs.Numbered.{of_number, of_refusal, placed_still}
 use Rattle.ext_store.proofs.store.Store.begin.Goals as goal
 
 pub returns-in-Ok-clause-answer : goal.returns-in-Ok-clause-answer
@@ -21,3 +21,9 @@ returns-in-Err-clause-answer g c =
 
 pub returns-in-Err-clause-stays : goal.returns-in-Err-clause-stays
 returns-in-Err-clause-stays g c = c.number.ensures.stays
+
+pub returns-in-Ok-clause-placed : goal.returns-in-Ok-clause-placed
+returns-in-Ok-clause-placed g c = placed_still c.args.key.now c.args.lane.now.keys c.number.new.lane.keys c.begin_numbered.new.lane.keys c.number.ensures.placed c.begin_numbered.ensures.keys
+
+pub returns-in-Err-clause-placed : goal.returns-in-Err-clause-placed
+returns-in-Err-clause-placed g c = c.number.ensures.placed

@@ -3,7 +3,8 @@ use Rattle.std.specs.Fn.{FnOnceReturnsAt}
 use Rattle.ext_store.specs.Computing.{Computes, without_factory}
 use Rattle.ext_store.specs.declared.computed.Compute.TheVariants.{Refused}
 use Rattle.ext_store.proofs.Frames.{grows, grows_then}
-use Rattle.ext_store.proofs.Numbered.{apart_later, of_number, of_refusal, uses_later}
+use Rattle.ext_store.proofs.Numbered.{apart_later, of_number, of_refusal, uses_later, placed_still}
+use Rattle.ext_store.proofs.NewDraws.{frame_on}
 use Rattle.ext_store.proofs.store.Store.compute.Goals as goal
 
 pub returns-in-Ok-clause-answer : goal.returns-in-Ok-clause-answer
@@ -27,4 +28,10 @@ returns-in-Err-clause-grows g c = grows c.args.self.now.id c.args.lane.now c.num
 
 pub returns-in-Ok-clause-factory : goal.returns-in-Ok-clause-factory
 returns-in-Ok-clause-factory g c =
-    uses_later (λ answer. FnOnceReturnsAt g.F.FnOnce c.args.factory c.args.key.now answer) c.args.lane.now c.number.new.lane c.compute_named.new.lane c.number.ensures.stays.known c.number.ensures.stays.faults (without_factory c.compute_named.result) c.compute_named.ensures.factory
+    uses_later (λ answer. FnOnceReturnsAt g.F.FnOnce c.args.factory c.args.key.now answer) c.args.lane.now c.number.new.lane c.compute_named.new.lane (frame_on c.args.self.now.id [] c.args.lane.now c.number.new.lane c.number.ensures.stays.frame) c.number.ensures.stays.known c.number.ensures.stays.faults (without_factory c.compute_named.result) c.compute_named.ensures.factory
+
+pub returns-in-Ok-clause-placed : goal.returns-in-Ok-clause-placed
+returns-in-Ok-clause-placed g c = placed_still c.args.key.now c.args.lane.now.keys c.number.new.lane.keys c.compute_named.new.lane.keys c.number.ensures.placed c.compute_named.ensures.keys
+
+pub returns-in-Err-clause-placed : goal.returns-in-Err-clause-placed
+returns-in-Err-clause-placed g c = c.number.ensures.placed

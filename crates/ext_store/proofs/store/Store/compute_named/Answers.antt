@@ -2,6 +2,8 @@ use Rattle.std.proofs.Common.{[], sym, ◌∙◌, subst}
 use Rattle.std.specs.Prelude.{Ok, Err}
 use Rattle.std.specs.Fn.{FnOnceReturnsAt}
 use Rattle.ext_values.specs.Known.{Learns}
+use Rattle.ext_store.specs.declared.computed.Compute.TheVariants.{Unkept}
+use Rattle.ext_store.proofs.NewDraws.{frame_on}
 use Rattle.ext_store.specs.Computing.{ClaimsMissing, ComputesFrom, Computes, without_factory}
 use Rattle.ext_store.proofs.Frames.{frames_compose, grows}
 use Rattle.ext_store.proofs.Composing.{unused_computes, for_path, ends_failed, failed_uses, failed_back, failed_apart, failed_faultless, computes, keeps_not}
@@ -85,7 +87,8 @@ pub returns-in-Err-fill-clause-factory : goal.returns-in-Err-fill-clause-factory
 returns-in-Err-fill-clause-factory g c =
     let kept = c.in-Err-fill.ensures.known in
     let returned = subst (λ value. FnOnceReturnsAt g.F.FnOnce c.args.factory c.args.name.now (Ok value)) (sym kept.0) c.in-Ok-run_factory.ensures in
-    (returned, kept.1 ∙ c.begin_numbered.ensures.stays.known, c.fill.ensures.faults ∙ c.begin_numbered.ensures.stays.faults)
+    uses_later (λ answer. FnOnceReturnsAt g.F.FnOnce c.args.factory c.args.name.now answer) c.args.lane.now c.begin_numbered.new.lane c.fill.new.lane (frame_on c.args.self.now.id [] c.args.lane.now c.begin_numbered.new.lane c.begin_numbered.ensures.stays.frame) c.begin_numbered.ensures.stays.known c.begin_numbered.ensures.stays.faults (Unkept c.in-Err-fill.value c.in-Err-fill.cause)
+    (returned, kept.1, c.fill.ensures.faults)
 
 -- ---- where the factory failed
 
@@ -103,7 +106,7 @@ returns-in-Err-run_factory-clause-grows g c = grows c.args.self.now.id c.args.la
 
 pub returns-in-Err-run_factory-clause-factory : goal.returns-in-Err-run_factory-clause-factory
 returns-in-Err-run_factory-clause-factory g c =
-    uses_later (λ answer. FnOnceReturnsAt g.F.FnOnce c.args.factory c.args.name.now answer) c.args.lane.now c.begin_numbered.new.lane c.end_failed.new.lane c.begin_numbered.ensures.stays.known c.begin_numbered.ensures.stays.faults (without_factory c.end_failed.result)
+    uses_later (λ answer. FnOnceReturnsAt g.F.FnOnce c.args.factory c.args.name.now answer) c.args.lane.now c.begin_numbered.new.lane c.end_failed.new.lane (frame_on c.args.self.now.id [] c.args.lane.now c.begin_numbered.new.lane c.begin_numbered.ensures.stays.frame) c.begin_numbered.ensures.stays.known c.begin_numbered.ensures.stays.faults (without_factory c.end_failed.result)
     (failed_uses c.args.self.now c.in-Err-run_factory.fault c.in-Ok.claim c.begin_numbered.new.lane c.end_failed.new.lane (λ answer. FnOnceReturnsAt g.F.FnOnce c.args.factory c.args.name.now answer) c.in-Err-run_factory.ensures (without_factory c.end_failed.result) c.end_failed.ensures.ends)
 
 pub returns-in-Err-run_factory-clause-handed_back : goal.returns-in-Err-run_factory-clause-handed_back

@@ -4,7 +4,10 @@ use Rattle.std.specs.Fn.{FnOnceReturnsAt}
 use Rattle.ext_cells.specs.Lanes.{Lane}
 use Rattle.ext_values.specs.Known.{Learns}
 use Rattle.ext_store.specs.Stores.{StoreLane, StoreView}
-use Rattle.ext_store.specs.Computing.{ComputesFrom, Uses, without_factory}
+use Rattle.ext_store.specs.declared.computed.Compute.TheVariants.{Unkept}
+use Rattle.ext_store.specs.Computing.{ComputesFrom, without_factory}
+use Rattle.ext_store.proofs.NewDraws.{frame_on}
+use Rattle.ext_store.proofs.Numbered.{uses_later}
 use Rattle.ext_store.specs.Waiting.{ClaimsAfterWaits, ComputesAfterWaits}
 use Rattle.ext_store.proofs.Frames.{frame_keeps, frames_compose, grows}
 use Rattle.ext_store.proofs.Composing.{unused_computes, ends_failed, failed_uses, failed_back, failed_apart, failed_faultless, computes, keeps_not}
@@ -90,7 +93,12 @@ pub returns-in-Err-wait_to_fill-clause-factory : goal.returns-in-Err-wait_to_fil
 returns-in-Err-wait_to_fill-clause-factory g c =
     let kept = c.in-Err-wait_to_fill.ensures.known in
     let returned = subst (λ value. FnOnceReturnsAt g.F.FnOnce c.args.factory c.args.name.now (Ok value)) (sym kept.0) c.in-Ok-run_factory.ensures in
-    (returned, kept.1 ∙ ap (λ (l : StoreLane g.row.V.Denot). l.known) c.lane.view_is, c.wait_to_fill.ensures.faults ∙ ap (λ (l : StoreLane g.row.V.Denot). l.faults) c.lane.view_is)
+    let s = c.args.self.now in
+    let inside : StoreLane g.row.V.Denot = record { cells = c.lane.inside.cells; known = c.lane.inside.notes; faults = c.lane.inside.faults; keys = c.lane.inside.keys } in
+    let claimed : StoreLane g.row.V.Denot = record { cells = c.wait_to_claim.new.lane; known = c.lane.inside.notes; faults = c.lane.inside.faults; keys = c.lane.inside.keys } in
+    let framed = (waits_frame s.id inside c.args.lane.now claimed c.lane.view_is c.requires.lane c.wait_to_claim.ensures.lane refl c.self.inside.shared (ap (λ (s : StoreView). s.id.cells) c.self.view_is) c.args.context c.args.key (Ok c.in-Ok.claim) c.in-Ok.ensures.claim) in
+    uses_later (λ answer. FnOnceReturnsAt g.F.FnOnce c.args.factory c.args.name.now answer) c.args.lane.now claimed c.wait_to_fill.new.lane (frame_on s.id [] c.args.lane.now claimed framed)
+    (ap (λ (l : StoreLane g.row.V.Denot). l.known) c.lane.view_is) (ap (λ (l : StoreLane g.row.V.Denot). l.faults) c.lane.view_is) (Unkept c.in-Err-wait_to_fill.value c.in-Err-wait_to_fill.cause) (returned, kept.1, c.wait_to_fill.ensures.faults)
 
 -- ---- what the frames say, and what comes of a factory that is not called
 
@@ -148,7 +156,10 @@ returns-in-Err-run_factory-clause-factory g c =
     let s = c.args.self.now in
     let claimed : StoreLane g.row.V.Denot = (record { cells = c.wait_to_claim.new.lane; known = c.lane.inside.notes; faults = c.lane.inside.faults; keys = c.lane.inside.keys }) in
     let used = failed_uses s c.in-Err-run_factory.fault c.in-Ok.claim claimed c.wait_to_end_failed.new.lane (λ answer. FnOnceReturnsAt g.F.FnOnce c.args.factory c.args.name.now answer) c.in-Err-run_factory.ensures (without_factory c.wait_to_end_failed.result) c.wait_to_end_failed.ensures.ends in
-    subst (λ (z : StoreLane g.row.V.Denot). Uses (λ answer. FnOnceReturnsAt g.F.FnOnce c.args.factory c.args.name.now answer) (record { cells = claimed.cells; known = z.known; faults = z.faults; keys = z.keys }) c.wait_to_end_failed.new.lane (without_factory c.wait_to_end_failed.result)) c.lane.view_is used
+    let inside : StoreLane g.row.V.Denot = record { cells = c.lane.inside.cells; known = c.lane.inside.notes; faults = c.lane.inside.faults; keys = c.lane.inside.keys } in
+    let framed = (waits_frame s.id inside c.args.lane.now claimed c.lane.view_is c.requires.lane c.wait_to_claim.ensures.lane refl c.self.inside.shared (ap (λ (s : StoreView). s.id.cells) c.self.view_is) c.args.context c.args.key (Ok c.in-Ok.claim) c.in-Ok.ensures.claim) in
+    uses_later (λ answer. FnOnceReturnsAt g.F.FnOnce c.args.factory c.args.name.now answer) c.args.lane.now claimed c.wait_to_end_failed.new.lane (frame_on s.id [] c.args.lane.now claimed framed)
+    (ap (λ (l : StoreLane g.row.V.Denot). l.known) c.lane.view_is) (ap (λ (l : StoreLane g.row.V.Denot). l.faults) c.lane.view_is) (without_factory c.wait_to_end_failed.result) used
 
 pub returns-in-Err-run_factory-clause-handed_back : goal.returns-in-Err-run_factory-clause-handed_back
 returns-in-Err-run_factory-clause-handed_back g c = failed_back c.args.self.now c.in-Err-run_factory.fault c.in-Ok.claim (record { cells = c.wait_to_claim.new.lane; known = c.lane.inside.notes; faults = c.lane.inside.faults; keys = c.lane.inside.keys }) c.wait_to_end_failed.new.lane c.args.factory c.wait_to_end_failed.result c.wait_to_end_failed.ensures.ends

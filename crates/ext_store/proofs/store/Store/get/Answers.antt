@@ -2,7 +2,7 @@ use Rattle.std.proofs.Common.{◌≡◌, ◌∙◌, ◌+◌, ◌*◌, refl, []}
 use Rattle.std.specs.Prelude.{Err}
 use Rattle.ext_store.specs.LaneCalls.{Gets}
 use Rattle.ext_store.proofs.Frames.{stays_then}
-use Rattle.ext_store.proofs.Numbered.{of_number, of_refusal, refused_steps, steps_later}
+use Rattle.ext_store.proofs.Numbered.{of_number, of_refusal, refused_steps, steps_later, placed_still}
 use Rattle.ext_store.proofs.store.Store.get.Goals as goal
 
 pub returns-in-Ok-clause-answer : goal.returns-in-Ok-clause-answer
@@ -25,3 +25,9 @@ returns-in-Ok-clause-steps g c = steps_later c.args.lane.now c.number.new.lane c
 
 pub returns-in-Err-clause-steps : goal.returns-in-Err-clause-steps
 returns-in-Err-clause-steps g c = refused_steps c.args.lane.now c.number.new.lane c.args.key.now c.in-Err.why c.in-Err.ensures.refused (16 * (c.args.self.now.tries + 1))
+
+pub returns-in-Ok-clause-placed : goal.returns-in-Ok-clause-placed
+returns-in-Ok-clause-placed g c = placed_still c.args.key.now c.args.lane.now.keys c.number.new.lane.keys c.get_numbered.new.lane.keys c.number.ensures.placed c.get_numbered.ensures.keys
+
+pub returns-in-Err-clause-placed : goal.returns-in-Err-clause-placed
+returns-in-Err-clause-placed g c = c.number.ensures.placed

@@ -2,7 +2,7 @@ use Rattle.std.proofs.Common.{◌≡◌, ◌∙◌, refl, []}
 use Rattle.std.specs.Prelude.{Ok, Err}
 use Rattle.ext_store.specs.LaneCalls.{Gets}
 use Rattle.ext_store.proofs.Frames.{stays_then}
-use Rattle.ext_store.proofs.Numbered.{of_number, of_refusal, refused_decided}
+use Rattle.ext_store.proofs.Numbered.{of_number, of_refusal, refused_decided, placed_still}
 use Rattle.ext_store.proofs.store.Store.get_wait.Goals as goal
 
 pub returns-in-Ok-clause-answer : goal.returns-in-Ok-clause-answer
@@ -25,3 +25,9 @@ returns-in-Ok-clause-decided g c = c.get_wait_numbered.ensures.decided
 
 pub returns-in-Err-clause-decided : goal.returns-in-Err-clause-decided
 returns-in-Err-clause-decided g c = refused_decided c.args.lane.now c.number.new.lane c.args.key.now c.in-Err.why c.in-Err.ensures.refused
+
+pub returns-in-Ok-clause-placed : goal.returns-in-Ok-clause-placed
+returns-in-Ok-clause-placed g c = placed_still c.args.key.now c.args.lane.now.keys c.number.new.lane.keys c.get_wait_numbered.new.lane.keys c.number.ensures.placed c.get_wait_numbered.ensures.keys
+
+pub returns-in-Err-clause-placed : goal.returns-in-Err-clause-placed
+returns-in-Err-clause-placed g c = c.number.ensures.placed

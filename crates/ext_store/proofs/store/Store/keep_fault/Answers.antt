@@ -1,5 +1,10 @@
 use Rattle.std.proofs.Common.{◌∙◌, ap, subst}
-use Rattle.ext_cells.specs.Lanes.{CellsId}
+use Rattle.std.specs.Prelude.{ℕ}
+use Rattle.ext_model.specs.declared.event.Act.TheVariants.{Keep}
+use Rattle.ext_cells.specs.Lanes.{CellsId, Lane}
+use Rattle.ext_cells.specs.CellCalls.{ComesLast}
+use Rattle.ext_store.specs.declared.fault.KeepFault.TheVariants as fault
+use Rattle.ext_store.proofs.Contended.{keep_last, unkept_last}
 use Rattle.ext_store.specs.Stores.{StoreView, StoreLane}
 use Rattle.ext_store.specs.InnerKeeping.{PlacesDrawn}
 use Rattle.ext_store.proofs.Placing.{drawn_fits}
@@ -48,3 +53,17 @@ returns-in-Err-clause-apart g c = (no_fault_memory c.args.self.now c.args.fault 
 
 pub returns-in-Err-clause-frame : goal.returns-in-Err-clause-frame
 returns-in-Err-clause-frame g c = (no_fault_memory c.args.self.now c.args.fault c.in-Err.failed.value c.args.lane.now c.requires.lane c.in-Err.ensures.value_returned).frame
+
+-- ---- what comes last
+
+pub returns-clause-contended : goal.returns-clause-contended
+returns-clause-contended g c =
+    subst (λ (z : ℕ × Lane). ComesLast (c.args.fault, fault.Contended) z.0 z.1 c.draw_number-drawn.new.lane (Keep 0) c.place_drawn_fault.result) (λ i. (ap (λ (s : StoreView). s.tries) c.self.view_is i, (c.lane.view_is i).cells))
+    (keep_last c.self.inside.shared.tries c.lane.inside.cells c.draw_number-drawn.new.lane (Keep 0) _ c.args.fault c.lane.inside.faults c.place_drawn_fault.new.notes c.draw_number-drawn.result c.place_drawn_fault.result
+    (drawn_fits c.args.self.now c.self.inside.shared.tries (ap (λ (s : StoreView). s.tries) c.self.view_is) c.lane.inside.cells c.draw_number-drawn.new.lane c.draw_number-drawn.result c.draw_number-drawn.ensures.reply _
+    (ap (λ (l : StoreLane g.row.V.Denot). l.cells.cells.limits.numbers) c.lane.view_is ∙ (ap (λ (i : CellsId). i.limits.numbers) c.requires.lane.cells ∙ c.recall.ensures.faults c.requires.faults)))
+    (subst (λ v. PlacesDrawn v c.draw_number-drawn.result c.lane.inside.faults c.place_drawn_fault.new.notes c.place_drawn_fault.result) c.in-Ok.ensures.ok c.place_drawn_fault.ensures)
+    c.draw_number-drawn.ensures.contended)
+
+pub returns-in-Err-clause-contended : goal.returns-in-Err-clause-contended
+returns-in-Err-clause-contended g c = unkept_last c.args.self.now.tries c.args.lane.now.cells c.args.lane.now.cells (Keep 0) c.args.fault c.in-Err.failed.value

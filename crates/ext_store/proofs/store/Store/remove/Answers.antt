@@ -2,7 +2,7 @@ use Rattle.std.proofs.Common.{◌≡◌, ◌∙◌, ◌+◌, refl, []}
 use Rattle.std.specs.Prelude.{Err}
 use Rattle.ext_store.specs.LaneCalls.{Removes}
 use Rattle.ext_store.proofs.Frames.{stays_then}
-use Rattle.ext_store.proofs.Numbered.{of_number, of_refusal, refused_steps, steps_later}
+use Rattle.ext_store.proofs.Numbered.{of_number, of_refusal, refused_steps, steps_later, placed_still}
 use Rattle.ext_model.specs.declared.event.Act.TheVariants.{Remove}
 use Rattle.ext_cells.specs.CellCalls.{ComesLast}
 use Rattle.ext_store_cells.specs.declared.fault.Refusal.TheVariants as refusal
@@ -40,3 +40,9 @@ pub returns-in-Err-clause-contended : goal.returns-in-Err-clause-contended
 returns-in-Err-clause-contended g c =
     of_refusal c.args.lane.now c.number.new.lane c.args.key.now c.in-Err.why c.in-Err.ensures.refused (λ why. Err c.in-Err.why ≡ Err why)
     (λ n. ComesLast refusal.Contended c.args.self.now.tries c.args.lane.now.cells c.number.new.lane.cells (Remove (cell_in c.args.self.now n c.args.context)) (Err c.in-Err.why)) refl
+
+pub returns-in-Ok-clause-placed : goal.returns-in-Ok-clause-placed
+returns-in-Ok-clause-placed g c = placed_still c.args.key.now c.args.lane.now.keys c.number.new.lane.keys c.remove_numbered.new.lane.keys c.number.ensures.placed c.remove_numbered.ensures.keys
+
+pub returns-in-Err-clause-placed : goal.returns-in-Err-clause-placed
+returns-in-Err-clause-placed g c = c.number.ensures.placed

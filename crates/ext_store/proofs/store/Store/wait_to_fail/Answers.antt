@@ -7,6 +7,12 @@ use Rattle.ext_store.proofs.Filling.{kept_held, fails_held, fails_with, unkept}
 use Rattle.ext_store_cells.proofs.Claimed.{none_stored, nor_this}
 use Rattle.ext_store.proofs.Frames.{frame_lane, frames_compose}
 use Rattle.ext_store.proofs.Composing.{storing_frame, fail_frame}
+use Rattle.ext_history.proofs.Composed.{seen_goes_on}
+use Rattle.ext_store.specs.LaneCalls.{KnowsUnkept}
+use Rattle.ext_store.proofs.NewDraws.{knows_until}
+use Rattle.ext_history.specs.Histories.{seen_by}
+use mathlib.Core.List.{IsPrefix}
+use Rattle.ext_store.specs.Waiting.{IsDecidedFault}
 use Rattle.ext_store.proofs.store.Store.wait_to_fail.Goals as goal
 
 pub fail-requires-clause-held : goal.fail-requires-clause-held
@@ -40,7 +46,7 @@ returns-in-Err-clause-events g c =
     let two : Calls c.args.self.now.id.cells.limits b.view c.abandon.new.lane.view (Abandon c.args.claim ∷ []) =
     subst (λ (z : CellsId). Calls z.limits b.view c.abandon.new.lane.view (Abandon c.args.claim ∷ [])) {x = b.cells} mine.cells
     (subst (λ (z : Lane). Calls z.cells.limits z.view c.abandon.new.lane.view (Abandon c.args.claim ∷ [])) (ap (λ (l : StoreLane g.row.V.Denot). l.cells) c.lane.view_is) c.abandon.ensures.abandoned.calls) in
-    unkept c.args.self.now c.args.lane.now.cells b c.requires.lane.cells c.args.claim c.abandon.new.lane c.in-Err.unkept.1 c.in-Err.ensures.answer.fails two
+    unkept c.args.self.now c.args.lane.now.cells b c.requires.lane.cells c.args.claim c.abandon.new.lane c.in-Err.unkept.1 c.in-Err.ensures.answer.fails (λ e. absurd (subst IsDecidedFault e c.in-Err.ensures.decided)) two
 
 pub returns-in-Err-clause-frame : goal.returns-in-Err-clause-frame
 returns-in-Err-clause-frame g c =
@@ -48,3 +54,12 @@ returns-in-Err-clause-frame g c =
     frames_compose c.args.self.now.id [] [] c.args.lane.now c.keep_fault_wait.new.lane (record { cells = c.abandon.new.lane; known = c.lane.inside.notes; faults = c.lane.inside.faults; keys = c.lane.inside.keys }) c.keep_fault_wait.ensures.frame
     (storing_frame c.args.self.now.id (record { cells = c.lane.inside.cells; known = c.lane.inside.notes; faults = c.lane.inside.faults; keys = c.lane.inside.keys }) c.keep_fault_wait.new.lane (record { cells = c.abandon.new.lane; known = c.lane.inside.notes; faults = c.lane.inside.faults; keys = c.lane.inside.keys }) c.lane.view_is mine c.abandon.ensures.lane refl
     (Abandon c.args.claim ∷ []) (nor_this (Abandon c.args.claim) [] refl none_stored) c.abandon.ensures.abandoned.calls)
+
+pub returns-in-Err-clause-faults : goal.returns-in-Err-clause-faults
+returns-in-Err-clause-faults g c =
+    let unkept = c.in-Err.ensures.answer in
+    let on = subst (λ (l : StoreLane g.row.V.Denot). IsPrefix (seen_by l.cells.view) (seen_by c.abandon.new.lane.view)) c.lane.view_is (seen_goes_on c.abandon.ensures.abandoned.calls) in (
+      unkept.handed_back,
+      subst (λ (l : StoreLane g.row.V.Denot). KnowsUnkept c.args.lane.now.cells.view c.abandon.new.lane.view c.args.lane.now.faults l.faults c.in-Err.unkept.1) (sym c.lane.view_is)
+          (knows_until c.args.lane.now.cells.view c.keep_fault_wait.new.lane.cells.view c.abandon.new.lane.view c.args.lane.now.faults c.keep_fault_wait.new.lane.faults c.in-Err.unkept.1 on unkept.faults),
+    )

@@ -1,5 +1,5 @@
 use Rattle.std.proofs.Common.{◌≡◌, ◌∙◌, rules, ap, arith}
-use Rattle.std.specs.Prelude.{Some}
+use Rattle.std.specs.Prelude.{Err, Some}
 use Rattle.ext_store_cells.specs.ContextCalls.{ContextCells}
 use Rattle.ext_store_cells.proofs.Missing.{ancestors_are_trail, first_look_ends, standing_ends, fault_ends, refusal_ends, claim_stands, second_look_ends, given_up_ends}
 use Rattle.ext_store_cells.proofs.Events.{steps_add}
@@ -32,7 +32,7 @@ pub returns-in-Err-clause-claim : goal.returns-in-Err-clause-claim
 returns-in-Err-clause-claim c =
     refusal_ends c.args.self.now c.args.context c.args.key _ _ _ (ap (λ (x : ContextCells). x.tree) c.self.view_is) c.as_slice-path.ensures.contexts c.path-path.ensures.path
     c.args.lane.now c.stands_along.new.lane c.claim.new.lane c.requires.lane c.stands_along.ensures.lane c.in_default.ensures.stands _ (ap (λ (x : ContextCells). x.tries) c.self.view_is) c.cell.result c.cell.ensures.cell
-    c.in-Err.why c.at.result c.at.ensures c.in-Err.ensures.reply
+    c.in-Err.why c.at.result c.at.ensures c.in-Err.ensures.reply (λ e. c.in-Err.ensures.contended (ap Err e))
 
 pub abandon_quietly-requires-clause-held : goal.abandon_quietly-requires-clause-held
 abandon_quietly-requires-clause-held c =

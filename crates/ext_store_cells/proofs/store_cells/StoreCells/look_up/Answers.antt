@@ -1,7 +1,7 @@
 use Rattle.std.proofs.Common.{rules, ◌≤◌, ap, arith, length}
 use Rattle.ext_tree.specs.Trees.{IsPathOf}
 use Rattle.ext_store_cells.specs.ContextCalls.{Gets}
-use Rattle.ext_store_cells.proofs.LookUps.{looks_answer}
+use Rattle.ext_store_cells.proofs.LookUps.{looks_answer, looks_overtaken}
 use Rattle.ext_store_cells.proofs.Faultless.{looks_faultless}
 use Rattle.ext_store_cells.proofs.store_cells.StoreCells.look_up.Goals as goal
 
@@ -9,8 +9,12 @@ pub returns-clause-answer : goal.returns-clause-answer
 unfolding Gets
 returns-clause-answer c =
     let some : 1 ≤ length c.as_slice.result.now = (let l = ap length c.as_slice.ensures.contexts in let s = c.path-path.ensures.some in omega (arith, l, s)) in
-    let path : IsPathOf c.args.self.now.tree c.args.context c.as_slice.result.now = search rules in
-    (c.as_slice.result.now, path, looks_answer c.args.self.now c.as_slice.result.now c.args.key c.args.lane.now c.look_along.new.lane c.look_along.result some c.look_along.ensures.look)
+    let path : IsPathOf c.args.self.now.tree c.args.context c.as_slice.result.now = search rules in (
+      c.as_slice.result.now,
+      path,
+      looks_answer c.args.self.now c.as_slice.result.now c.args.key c.args.lane.now c.look_along.new.lane c.look_along.result some c.look_along.ensures.look,
+      looks_overtaken c.args.self.now c.as_slice.result.now c.args.key c.args.lane.now c.look_along.new.lane c.look_along.result c.look_along.ensures.look,
+    )
 
 pub returns-clause-lane : goal.returns-clause-lane
 returns-clause-lane c = c.look_along.ensures.lane

@@ -11,7 +11,7 @@ unfolding Gets
 returns-clause-answer g c =
     let some : 1 ≤ length c.as_slice.result.now = (let l = ap length c.as_slice.ensures.contexts in let s = c.path-path.ensures.some in omega (arith, l, s)) in
     let path : IsPathOf c.args.self.now.tree c.args.context c.as_slice.result.now = search rules in
-    (c.as_slice.result.now, path, looks_answer c.args.self.now c.as_slice.result.now c.args.key c.args.lane.now c.wait_along.new.lane (Ok c.wait_along.result) some c.wait_along.ensures.look)
+    (c.as_slice.result.now, path, looks_answer c.args.self.now c.as_slice.result.now c.args.key c.args.lane.now c.wait_along.new.lane (Ok c.wait_along.result) some c.wait_along.ensures.look, λ e. absurd (cc e))
 
 pub returns-clause-lane : goal.returns-clause-lane
 returns-clause-lane g c = c.wait_along.ensures.lane

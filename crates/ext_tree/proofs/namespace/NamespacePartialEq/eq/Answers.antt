@@ -8,6 +8,6 @@ use Rattle.ext_tree.proofs.namespace.NamespacePartialEq.eq.Goals as goal
 pub returns-then-self-other-clause-same : goal.returns-then-self-other-clause-same
 returns-then-self-other-clause-same c =
     let created : beq c.args.self.now.created c.args.other.now.created ≡ true = rw (← c.self.view_is, ← c.other.view_is) c.if-self-other.true in
-    let parts : c.eq.result ≡ pointwise bytes_eq c.args.self.now.parts c.args.other.now.parts = rw (c.parts.ensures, c.parts-then-self-other.ensures) at c.eq.ensures in
-    decides_by c.args.self.now c.args.other.now c.eq.result
+    let parts : c.same_parts.result ≡ pointwise bytes_eq c.args.self.now.parts c.args.other.now.parts = rw (c.parts.ensures, c.parts-then-self-other.ensures) at c.same_parts.ensures in
+    decides_by c.args.self.now c.args.other.now c.same_parts.result
     (parts ∙ ap (λ b. b && pointwise bytes_eq c.args.self.now.parts c.args.other.now.parts) (sym created))

@@ -1,5 +1,5 @@
 use Rattle.std.proofs.lemmas.Result.{on_ok_weaker}
-use Rattle.ext_values.proofs.Learning.{learns, places_stay}
+use Rattle.ext_values.proofs.Learning.{err_always, learns, places_stay}
 use Rattle.ext_values.proofs.silent_notes.SilentNotes.place.Goals as goal
 
 pub returns-clause-placed : goal.returns-clause-placed
@@ -10,3 +10,11 @@ returns-clause-placed g c =
 
 pub returns-clause-of : goal.returns-clause-of
 returns-clause-of g c = places_stay c.self.inside.entries.items c.args.self.now c.args.values.now c.self.view_is c.requires.of c.args.number c.index_mut.result.now c.place.new.self c.index_mut.ensures.value c.place.ensures.place
+
+pub returns-clause-taken : goal.returns-clause-taken
+returns-clause-taken g c =
+    let known = c.place.ensures.known in
+    err_always c.place.result (
+      known.0,
+      learns c.self.inside.entries.items c.args.self.now c.args.values.now c.self.view_is c.requires.of c.args.number c.index_mut.result.now c.place.new.self c.index_mut.ensures.value c.place.ensures.place known.0 c.requires.number known.1,
+    )

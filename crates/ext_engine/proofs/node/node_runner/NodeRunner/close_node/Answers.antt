@@ -19,3 +19,15 @@ returns-in-Ok-clause-closes g c =
       },
       closed.closes.counts,
     )
+
+pub returns-clause-unjoined : goal.returns-clause-unjoined
+returns-clause-unjoined g c = record {
+  closer = c.args.closer;
+  closer_is = c.requires.closer;
+  context_is = c.requires.context;
+  action = c.action-action.result;
+  action_is = c.action-action.ensures;
+  number = c.in-Err.number;
+  left_open = c.in-Err.ensures.unjoined;
+  told = refl;
+}

@@ -23,7 +23,7 @@ returns-then-not-is_successful-clause-steps g c =
     stops c.args.store.now (plan_keys c.args.self.now) c.args.path.now (map step_view steps) (step_view c.step-item.result) (map step_view (drop (c.loop-step.step-index + 1) steps))
     c.args.lane.now c.loop-step.lane c.run_step-outcome.new.lane c.loop-step.computed c.loop-step.found c.run_step-outcome.result _
     (subst (λ (left : List StepText). IsLeft c.args.store.now (plan_keys c.args.self.now) c.args.path.now (map step_view steps) left c.args.lane.now c.loop-step.lane c.loop-step.computed c.loop-step.found) more c.loop-step.invariant.left)
-    c.run_step-outcome.ensures.step c.run_step-outcome.ensures.frame (sym c.if-not-is_successful.ensures) (record { verdict_is = refl; computed_are = refl; found_are = refl })
+    c.run_step-outcome.ensures.step c.run_step-outcome.ensures.frame c.run_step-outcome.ensures.placed (sym c.if-not-is_successful.ensures) (record { verdict_is = refl; computed_are = refl; found_are = refl })
 
 pub loop-step-preserved : goal.loop-step-preserved
 loop-step-preserved g c =
@@ -33,7 +33,7 @@ loop-step-preserved g c =
       left = one_more c.args.store.now (plan_keys c.args.self.now) c.args.path.now (map step_view steps) (step_view c.step-item.result) (map step_view (drop (c.loop-step.step-index + 1) steps))
           c.args.lane.now c.loop-step.lane c.run_step-outcome.new.lane c.loop-step.computed c.loop-step.found c.run_step-outcome.result
           (subst (λ (left : List StepText). IsLeft c.args.store.now (plan_keys c.args.self.now) c.args.path.now (map step_view steps) left c.args.lane.now c.loop-step.lane c.loop-step.computed c.loop-step.found) more c.loop-step.invariant.left)
-          c.run_step-outcome.ensures.step c.run_step-outcome.ensures.frame (sym c.if-not-is_successful.ensures);
+          c.run_step-outcome.ensures.step c.run_step-outcome.ensures.frame c.run_step-outcome.ensures.placed (sym c.if-not-is_successful.ensures);
       computed = omega (arith, c.loop-step.invariant.computed, c.run_step-outcome.ensures.computed);
       found = omega (arith, c.loop-step.invariant.found, c.run_step-outcome.ensures.found);
       lane = c.run_step-outcome.ensures.lane;

@@ -1,0 +1,79 @@
+-- Other lanes that drew so many numbers in the way of a part of a call were in the way of the whole call.
+use Rattle.std.proofs.Common.{◌≡◌, ℕ, ◌+◌, ◌≤◌, List, [], ◌∷◌, ◌++◌, fold, sym, ap, ◌∙◌, subst, arith, Option}
+use Rattle.std.specs.Prelude.{nat_eq}
+use mathlib.Core.List.{IsPrefix}
+use base.Growing.{prefix_refl, prefix_trans}
+use Rattle.ext_model.specs.declared.event.Act.{Act}
+use Rattle.ext_model.specs.declared.event.Act.TheVariants.{Keep, Put, Remove, Claim, Fill, Fail, Abandon, Seal}
+use Rattle.ext_model.specs.Events as events
+use Rattle.ext_model.specs.Events.{apply, drawn_after}
+use Rattle.ext_model.specs.State.{State}
+use Rattle.ext_model.specs.History.{History, Limits, reply_after, state_after}
+use Rattle.ext_model.specs.CallActs.{LaneView, Calls}
+use Rattle.ext_history.specs.Histories.{seen_by}
+use Rattle.ext_history.proofs.Composed.{same_number, seen_goes_on}
+use Rattle.ext_model.proofs.Versions.{after-append}
+use Rattle.ext_cells.specs.Lanes.{Lane}
+use Rattle.ext_cells.specs.CellCalls.{IsOvertakenAt}
+use Rattle.ext_store_cells.proofs.Rises.{rises_first, rises_second}
+use Rattle.ext_store.specs.Computing.{IsOutdrawn}
+
+-- ---- the count of numbers drawn never falls
+
+act_draws : (act : Act ℕ) (drawn : ℕ) → drawn ≤ drawn_after act drawn
+act_draws (Keep number) drawn = omega arith
+act_draws (Put at number) drawn = omega arith
+act_draws (Remove at) drawn = omega arith
+act_draws (Claim at) drawn = omega arith
+act_draws (Fill at number) drawn = omega arith
+act_draws (Fail at number) drawn = omega arith
+act_draws (Abandon at) drawn = omega arith
+act_draws (Seal at) drawn = omega arith
+
+never_falls : (rest : History) (s : State ℕ) → s.drawn ≤ (fold (apply nat_eq) s rest).drawn
+never_falls [] s = omega arith
+never_falls (e ∷ rest) s =
+    let one = act_draws e.act s.drawn in
+    let more = never_falls rest (apply nat_eq s e) in
+    omega (arith, one, more)
+
+drawn_grows : (x y : History) → IsPrefix x y → (state_after x).drawn ≤ (state_after y).drawn
+drawn_grows x y on =
+    let same : (state_after y).drawn ≡ (fold (apply nat_eq) (state_after x) on.0).drawn = ap (λ z. (state_after z).drawn) (sym on.1) ∙ ap (λ (s : State ℕ). s.drawn) (after-append x on.0) in
+    let more = never_falls on.0 (state_after x) in
+    omega (arith, same, more)
+
+-- ---- a part of a call, and the whole call
+
+abbrev drawn_in : History → ℕ
+drawn_in h = (state_after h).drawn
+
+module _ (limits : Limits) (tries : ℕ) (a b c : LaneView) (xs ys : List (Act ℕ)) (one : Calls limits a b xs) (two : Calls limits b c ys) where
+  -- by the first part,
+  pub outdrawn_first : IsOutdrawn limits tries a b → IsOutdrawn limits tries a c
+  outdrawn_first over = record {
+    drawn = rises_first drawn_in drawn_grows tries limits a b c xs ys one two over.drawn;
+    left = (over.left.0, record { since = over.left.1.since; until = prefix_trans over.left.0 (seen_by b) (seen_by c) over.left.1.until (seen_goes_on two) }, over.left.2);
+  }
+
+  -- or by the second
+  pub outdrawn_second : IsOutdrawn limits tries b c → IsOutdrawn limits tries a c
+  outdrawn_second over = record {
+    drawn = rises_second drawn_in drawn_grows tries limits a b c xs ys one two over.drawn;
+    left = (
+      over.left.0,
+      record { since = prefix_trans (seen_by a) (seen_by b) over.left.0 (seen_goes_on one) over.left.1.since; until = over.left.1.until },
+      subst (λ n. (answer : Option ℕ) × (reply_after limits over.left.0 n (Keep 0) ≡ events.Happens answer)) (same_number one) over.left.2,
+    );
+  }
+
+-- the drawing alone
+pub outdrawn : (limits : Limits) (tries : ℕ) (a b : Lane) (xs : List (Act ℕ)) → a.cells.limits ≡ limits → Calls limits a.view b.view xs → IsOvertakenAt tries a b (Keep 0) → IsOutdrawn limits tries a.view b.view
+outdrawn limits tries a b xs is calls over = record {
+  drawn = over.own_word;
+  left = (
+    seen_by b.view,
+    record { since = seen_goes_on calls; until = prefix_refl (seen_by b.view) },
+    subst (λ z. (answer : Option ℕ) × (reply_after z (seen_by b.view) a.view.number (Keep 0) ≡ events.Happens answer)) is over.would_happen,
+  );
+}

@@ -1,0 +1,42 @@
+-- A count of events that never falls rises by at least so many in the whole call where it does in a part of it.
+use Rattle.std.proofs.Common.{◌≡◌, ℕ, ◌+◌, ◌≤◌, List, [], ◌∷◌, ◌++◌, sym, ap, ◌∙◌, subst, arith}
+use mathlib.Core.List.{IsPrefix}
+use Rattle.ext_model.specs.declared.event.Act.{Act}
+use Rattle.ext_model.specs.History.{History, Limits, version_of}
+use Rattle.ext_model.proofs.Versions.{versions, version-append, versions-append}
+use Rattle.ext_model.specs.CallActs.{LaneView, Calls}
+use Rattle.ext_history.specs.Histories.{Follow, call_fronts, first_front, first_or, last_after, seen_by}
+use Rattle.ext_history.proofs.Composed.{first_is_earlier, follow_on, fronts_compose, seen_is}
+use Rattle.ext_history.proofs.Fronts.{first_to_last, follow_last}
+
+-- the versions of a cell, and of several cells together, never fall
+pub version_grows : (cell : ℕ) (x y : History) → IsPrefix x y → version_of x cell ≤ version_of y cell
+version_grows cell x y on = let v : version_of y cell ≡ version_of x cell + version_of on.0 cell = ap (λ z. version_of z cell) (sym on.1) ∙ version-append x on.0 cell in omega (arith, v)
+
+pub versions_grow : (cells : List ℕ) (x y : History) → IsPrefix x y → versions x cells ≤ versions y cells
+versions_grow cells x y on = let v : versions y cells ≡ versions x cells + versions on.0 cells = ap (λ z. versions z cells) (sym on.1) ∙ versions-append x on.0 cells in omega (arith, v)
+
+module _ (count : History → ℕ) (grows : (x y : History) → IsPrefix x y → count x ≤ count y) (tries : ℕ) where
+  by_fronts : (h now later : History) (fs gs : List History) → Follow (last_after h fs) gs → now ≡ last_after h fs → later ≡ last_after (last_after h fs) gs → count (first_or h fs) + tries ≤ count now
+      → count (first_or h (fs ++ gs)) + tries ≤ count later
+  by_fronts h now later [] gs two now_is later_is rises =
+      let none = ap count now_is in
+      let end = ap count later_is in
+      let more = grows (first_or h gs) (last_after h gs) (first_to_last h gs two) in
+      omega (arith, rises, none, end, more)
+  by_fronts h now later (f ∷ fs) gs two now_is later_is rises =
+      let is = ap count now_is in
+      let end = ap count later_is in
+      let more = grows (last_after f fs) (last_after (last_after f fs) gs) (follow_last (last_after f fs) gs two) in
+      omega (arith, rises, is, end, more)
+
+  module _ (limits : Limits) (a b c : LaneView) (xs ys : List (Act ℕ)) (one : Calls limits a b xs) (two : Calls limits b c ys) where
+    -- in the first part,
+    pub rises_first : count (first_front a b) + tries ≤ count (seen_by b) → count (first_front a c) + tries ≤ count (seen_by c)
+    rises_first rises =
+        subst (λ fs. count (first_or (seen_by a) fs) + tries ≤ count (seen_by c)) (sym (fronts_compose one two))
+        (by_fronts (seen_by a) (seen_by b) (seen_by c) (call_fronts a b) (call_fronts b c) (follow_on one two) (seen_is one) (seen_is two ∙ ap (λ z. last_after z (call_fronts b c)) (seen_is one)) rises)
+
+    -- or in the second
+    pub rises_second : count (first_front b c) + tries ≤ count (seen_by c) → count (first_front a c) + tries ≤ count (seen_by c)
+    rises_second rises = let earlier = grows (first_front a c) (first_front b c) (first_is_earlier one two) in omega (arith, rises, earlier)

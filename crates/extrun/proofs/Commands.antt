@@ -1,0 +1,36 @@
+-- The command `run` with one argument more, and that the parser knows the matches of the program's command line.
+use Rattle.std.proofs.Common.{◌≡◌, true, false, List, [], ◌∷◌, ◌++◌, ap, refl, ◌∙◌}
+use Rattle.std.specs.Prelude.{◌||◌}
+use Rattle.clap.specs.Words.{AddsArg, App, Rule, Shape, Text, is_simple, rule_of, shape_of}
+use Rattle.clap.specs.declared.builder.arg.Arg.{Arg}
+use Rattle.clap.specs.declared.builder.command.Command.{Command}
+use Rattle.clap.specs.declared.builder.command.Command.TheViews.{out-Command}
+use Rattle.clap.specs.declared.builder.value_parser.ValueParser.{ValueParser}
+use Rattle.clap.proofs.OnLiterals.{clap_on_literals}
+use Rattle.extrun.specs.CommandLine.{IsCommandLine, check, command, id, program, run_of}
+
+-- a command of this name, which takes these and has no global argument
+pub record Takes (made : Command) (name : Text) (rules : List Rule) : Type 0 where
+  pub shape : shape_of made ≡ command name rules
+  pub local : (out-Command made).has_globals ≡ false
+
+abbrev more : Shape → Rule → Shape
+more shape rule = record shape { rules = shape.rules ++ rule ∷ [] }
+
+pub takes_more : (old new : Command) (arg : Arg) (rule : Rule) (name : Text) (rules : List Rule) → Takes old name rules → AddsArg old arg new → rule_of arg ≡ rule
+    → arg.global ≡ false → Takes new name (rules ++ rule ∷ [])
+takes_more old new arg rule name rules before adds is local =
+    record {
+      shape = ap (λ app. app.top) (adds.shape local) ∙ ap (λ shape. more shape (rule_of arg)) before.shape ∙ ap (λ r. more (command name rules) r) is;
+      local = adds.globals ∙ ap (λ globals. globals || arg.global) before.local ∙ local;
+    }
+
+abbrev line_with : Shape → App
+line_with run = record { top = program; subs = run ∷ check ∷ id ∷ [] }
+
+is_simple_line : (store form : ValueParser) → is_simple (line_with (run_of store form)) ≡ true
+unfolding clap_on_literals
+is_simple_line store form = refl
+
+pub line_is_simple : (line : App) → IsCommandLine line → is_simple line ≡ true
+line_is_simple line is = ap is_simple (is.line_is ∙ ap line_with is.is_run.shape_is) ∙ is_simple_line is.is_run.store is.is_run.form

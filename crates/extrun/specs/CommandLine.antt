@@ -1,0 +1,99 @@
+-- The command line, as its parser reads it: the commands of the program, and the words, options and flags that each takes. What the parser makes of words is `subcommand_of` of
+-- clap's specs: the command that they name, and under the name of each option its texts. Own rule.
+use Rattle.std.specs.Prelude.{◌≡◌, ◌≢◌, ◌⊎◌, codes, List, [], ◌∷◌, map, Some, pos, true, false}
+use Rattle.clap.specs.Words.{App, Rule, Shape, Text, new_app, new_rule, subcommand_of, takes}
+use Rattle.std.specs.Borrow.{Bor}
+use Rattle.clap.specs.declared.builder.action.ArgAction.TheVariants.{Set, SetTrue}
+use Rattle.clap.specs.declared.builder.value_parser.ValueParser.{ValueParser}
+use Rattle.clap.specs.declared.builder.value_parser.ValueParser.TheVariants as values
+use Rattle.extrun.specs.Words.{AsksFor}
+use Rattle.extrun.specs.declared.command.Request.{Request}
+use Rattle.extrun.specs.declared.command.Request.TheVariants as requests
+
+-- ---- what a command takes
+
+-- a word that stands alone
+abbrev pub word : Text → Rule
+word name = record (new_rule name) { action = Some Set }
+
+-- `--name`
+abbrev pub flag : Text → Rule
+flag name = record (new_rule name) { long = Some name; action = Some SetTrue }
+
+-- `--name VALUE`, and the value where it does not stand
+abbrev pub option : Text → ValueParser → Text → Rule
+option name value default = record (new_rule name) {
+  long = Some name;
+  action = Some Set;
+  parser = Some value;
+  value_names = 1;
+  defaults = default ∷ [];
+}
+
+-- a value that is one of these texts
+abbrev pub IsOneOf : ValueParser → List Text → Type 0
+IsOneOf value names = (given : Bor (List (Bor Text))) × (value ≡ values.Names given) × (map (λ name. name.now) given.now ≡ names)
+
+-- ---- the commands
+
+abbrev pub plan_file : Rule
+plan_file = word (codes "FILE")
+
+abbrev pub lanes : Rule
+lanes = option (codes "lanes") (values.Signed (pos 1) (pos 16)) (codes "4")
+
+-- `--tree` of a run, beside which `--report` may not stand
+abbrev pub tree : Rule
+tree = record (flag (codes "tree")) { is_free = false }
+
+-- a command of this name, and what it takes
+abbrev pub command : Text → List Rule → Shape
+command name rules = record (new_app name).top { rules = rules }
+
+-- `run`, where a store and a form of the report are such values
+abbrev pub run_of : ValueParser → ValueParser → Shape
+run_of store form = command (codes "run")
+    (plan_file ∷ lanes ∷ option (codes "store") store (codes "cells") ∷ option (codes "report") form (codes "text") ∷ tree
+    ∷ flag (codes "progress") ∷ flag (codes "failures") ∷ flag (codes "explain") ∷ [])
+
+-- such a shape
+pub record IsRun (shape : Shape) : Type 0 where
+  pub store : ValueParser
+  pub form : ValueParser
+  pub stores : IsOneOf store (codes "plain" ∷ codes "cells" ∷ [])
+  pub forms : IsOneOf form (codes "text" ∷ codes "json" ∷ [])
+  pub shape_is : shape ≡ run_of store form
+
+abbrev pub check : Shape
+check = command (codes "check") (plan_file ∷ flag (codes "tree") ∷ flag (codes "races") ∷ flag (codes "explain") ∷ [])
+
+abbrev pub id : Shape
+id = command (codes "id") (record (word (codes "TEXT")) { required = true } ∷ flag (codes "explain") ∷ [])
+
+-- the program itself, which has a version
+abbrev pub program : Shape
+program = record (new_app (codes "extrun")).top { has_version = true; is_leaf = false }
+
+-- the program with its commands
+pub record IsCommandLine (line : App) : Type 0 where
+  pub run : Shape
+  pub is_run : IsRun run
+  pub line_is : line ≡ record { top = program; subs = run ∷ check ∷ id ∷ [] }
+
+-- ---- what words ask for
+
+-- nothing more: the help or the version was printed, or could not be, or what is wrong was
+abbrev pub AsksNothing : Request → Type 0
+AsksNothing (requests.Plan _ _ _) = ⊥
+AsksNothing (requests.Id _ _) = ⊥
+AsksNothing requests.Help = Unit {0}
+AsksNothing requests.Refused = Unit {0}
+AsksNothing requests.Unwritten = Unit {0}
+AsksNothing requests.Memory = ⊥
+
+-- What these words ask for, of which the first is the program's own name: what the command asks for that the parser makes of them. Nothing more is asked by words alone that the parser does not
+-- take, as far as it is known which it takes: `takes` says so of each command but `run`
+pub record AsksBy (words : List Text) (request : Request) : Type 0 where
+  pub line : App
+  pub line_is : IsCommandLine line
+  pub asks : AsksFor (subcommand_of line words) request ⊎ (AsksNothing request × (takes line words ≢ true))
