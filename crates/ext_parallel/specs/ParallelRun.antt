@@ -93,6 +93,6 @@ pub record ParallelEndsEarly (plan : PlanText) (lanes : ℕ) (why : EngineFault)
   pub fresh_locks : first.second ≡ locking.fresh_lanes locks.table lanes lanes
   pub ends : EndsOver plan store locks first why
 
--- why a run gives no results: memory for its suite, its locks or its store was refused, and nothing was run; or it ended early
+-- why a run gives no results: it ended early; or memory was refused, as that for its suite, its locks or its store, and then nothing more is said
 abbrev pub IsRefusedRun : PlanText → ℕ → EngineFault → Type 0
 IsRefusedRun plan lanes why = (why ≡ faults.Memory) ⊎ ParallelEndsEarly plan lanes why

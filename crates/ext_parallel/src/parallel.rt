@@ -30,7 +30,7 @@ use std::thread::Threads;
 /// `ext_engine::run_tree`. A key gets its number where a lane first names it, the same in all lanes. The listener is told when a node starts, with its lane, of each fault of its calls
 /// and of its closes as they come, and that it has ended. Steps make the calls of the store that wait. Each plan that `ext_plan_reading::read_plan` gives is runnable.
 ///
-/// Refused as `Memory` where memory for the suite, the locks or the store is refused, and nothing was run; or where the run ended early for want of memory, as
+/// Refused as `Memory` where memory for the suite, the locks or the store is refused, before anything is run, which no clause can tell; or where the run ended early for want of memory, as
 /// `run_tree` says, which takes none of a node that ran. Refused as `Unjoined` where a context can't be closed, as no lane in hand knows a value that remains in it: then the run ended early, too; no plan is known for which it comes.
 /// `NoThread` is never answered. Want of memory in a step is the step's own fault, and `may_have_lacked` tells whether there may have been such a step. Takes memory, and may wait: it promises its clauses if it returns.
 ///
