@@ -1,7 +1,7 @@
 //! What the Rust peers have in common: the cases of `tool_bench`, measured in the same way on a store of the peer's.
 //!
-//! A peer takes the words `CASE THREADS ROUNDS MILLIS` and prints a line `PEER CASE THREADS WALL PROCESSOR` for each round, in
-//! nanoseconds an operation. Case by case it does what `tool_bench` does, in batches of the same size, each on a store of its own.
+//! A peer takes the words `CASE THREADS ROUNDS MILLIS` and prints a line `PEER CASE THREADS WALL PROCESSOR OPERATIONS` for each round, the
+//! times in nanoseconds an operation. Case by case it does what `tool_bench` does, in batches of the same size, each on a store of its own.
 #[path = "timing.rs"]
 mod timing;
 
@@ -11,7 +11,7 @@ use std::thread;
 use std::time::Duration;
 use timing::{measured, Span, Spent, Whose};
 
-/// A key: a namespace of texts and a name, as the store of the repository has it.
+/// What a key is made from: a namespace of texts and a name, as in the store of the repository.
 #[derive(Clone, Debug, PartialEq, Eq, Hash)]
 pub struct Key {
     pub created: bool,
@@ -37,20 +37,23 @@ pub struct Found {
 pub trait Peer: Sync + Sized {
     const NAME: &'static str;
 
+    /// The keys that calls are given.
+    type Key: From<Key> + Sync;
+
     /// A store of contexts with these parents (the root is its own) and of these keys, for so many values.
-    fn open(parents: &[usize], keys: &[Key], values: u32) -> Self;
+    fn open(parents: &[usize], keys: &[Self::Key], values: u32) -> Self;
 
     /// What stands nearest under the key, in the context or above it.
-    fn get(&self, context: usize, key: &Key) -> Option<Found>;
+    fn get(&self, context: usize, key: &Self::Key) -> Option<Found>;
 
     /// Puts a value over what stands under the key in the context. Says whether it was done.
-    fn put(&self, context: usize, key: &Key, value: Payload) -> bool;
+    fn put(&self, context: usize, key: &Self::Key, value: Payload) -> bool;
 
     /// Takes out what stands under the key in the context. Says whether anything did.
-    fn remove(&self, context: usize, key: &Key) -> bool;
+    fn remove(&self, context: usize, key: &Self::Key) -> bool;
 
     /// Makes a value where none stands in the context or above it. Says whether it was made or found.
-    fn compute(&self, context: usize, key: &Key, make: impl FnOnce() -> Payload) -> bool;
+    fn compute(&self, context: usize, key: &Self::Key, make: impl FnOnce() -> Payload) -> bool;
 
     /// Ends the context, and calls the action with its closeable values, the latest first.
     fn close(&self, context: usize, action: impl FnMut(u32, Payload));
@@ -60,16 +63,16 @@ const LOOKS: u32 = 200_000;
 const VALUES: u32 = 65_535;
 const KEYS: u32 = 16;
 
-fn key(number: u32) -> Key {
-    Key {
+fn key<P: Peer>(number: u32) -> P::Key {
+    P::Key::from(Key {
         created: false,
         parts: Vec::new(),
         name: format!("key{number}"),
-    }
+    })
 }
 
-fn keys(count: u32) -> Vec<Key> {
-    (0..count).map(key).collect()
+fn keys<P: Peer>(count: u32) -> Vec<P::Key> {
+    (0..count).map(key::<P>).collect()
 }
 
 fn chain(contexts: usize) -> Vec<usize> {
@@ -85,7 +88,7 @@ fn resource(number: u32) -> Payload {
 
 // ---- operations
 
-fn look_up<P: Peer>(store: &P, context: usize, key: &Key, there: bool) -> u64 {
+fn look_up<P: Peer>(store: &P, context: usize, key: &P::Key, there: bool) -> u64 {
     let mut right = true;
     for _ in 0..LOOKS {
         right &= match black_box(store.get(context, key)) {
@@ -97,14 +100,14 @@ fn look_up<P: Peer>(store: &P, context: usize, key: &Key, there: bool) -> u64 {
     u64::from(LOOKS)
 }
 
-fn put_over<P: Peer>(store: &P, context: usize, key: &Key, times: u32) -> u64 {
+fn put_over<P: Peer>(store: &P, context: usize, key: &P::Key, times: u32) -> u64 {
     for value in 0..times {
         assert!(store.put(context, key, resource(value)));
     }
     u64::from(times)
 }
 
-fn put_and_remove<P: Peer>(store: &P, context: usize, key: &Key, times: u32) -> u64 {
+fn put_and_remove<P: Peer>(store: &P, context: usize, key: &P::Key, times: u32) -> u64 {
     for value in 0..times {
         assert!(store.put(context, key, resource(value)));
         assert!(store.remove(context, key));
@@ -112,7 +115,7 @@ fn put_and_remove<P: Peer>(store: &P, context: usize, key: &Key, times: u32) -> 
     u64::from(times)
 }
 
-fn compute_often<P: Peer>(store: &P, context: usize, key: &Key) -> u64 {
+fn compute_often<P: Peer>(store: &P, context: usize, key: &P::Key) -> u64 {
     for value in 0..LOOKS {
         assert!(store.compute(context, key, || resource(value)));
     }
@@ -120,7 +123,7 @@ fn compute_often<P: Peer>(store: &P, context: usize, key: &Key) -> u64 {
 }
 
 fn opening<P: Peer>() -> Span {
-    let (parents, keys) = (vec![0; 256], keys(KEYS));
+    let (parents, keys) = (vec![0; 256], keys::<P>(KEYS));
     let mut store = None;
     let span = measured(Whose::Thread, || {
         store = Some(P::open(&parents, &keys, VALUES));
@@ -131,7 +134,7 @@ fn opening<P: Peer>() -> Span {
 }
 
 fn computing<P: Peer>() -> Span {
-    let names = keys(KEYS);
+    let names = keys::<P>(KEYS);
     let store = P::open(&vec![0; 256], &names, VALUES);
     let mut closed = 0;
     measured(Whose::Thread, || {
@@ -150,7 +153,7 @@ fn computing<P: Peer>() -> Span {
 
 /// A thread's operations; none is counted of the thread that writes beside the others.
 fn work<P: Peer>(store: &P, case: &str, writes: bool, deepest: usize) -> Option<Span> {
-    let (one, other) = (key(0), key(1));
+    let (one, other) = (key::<P>(0), key::<P>(1));
     let span = measured(Whose::Thread, || match case {
         "get-root-3-beside-other" if writes => put_over(store, 0, &other, 60_000),
         "get-root-3-beside-same" if writes => put_over(store, 0, &one, 60_000),
@@ -166,11 +169,11 @@ fn work<P: Peer>(store: &P, case: &str, writes: bool, deepest: usize) -> Option<
 fn batch<P: Peer>(case: &str, threads: usize) -> Vec<Span> {
     let parents = chain(if case == "get-root-16" { 16 } else { 3 });
     let deepest = parents.len() - 1;
-    let store = P::open(&parents, &keys(2), VALUES);
+    let store = P::open(&parents, &keys::<P>(2), VALUES);
     match case {
         "get-absent-3" => {}
-        "get-own-3" | "put-over" => assert!(store.put(deepest, &key(0), resource(1))),
-        _ => assert!(store.put(0, &key(0), resource(1))),
+        "get-own-3" | "put-over" => assert!(store.put(deepest, &key::<P>(0), resource(1))),
+        _ => assert!(store.put(0, &key::<P>(0), resource(1))),
     }
     let beside = case.contains("-beside-");
     let store = &store;
@@ -206,7 +209,8 @@ pub fn run<P: Peer>() -> ExitCode {
     for _ in 0..rounds.parse().unwrap() {
         let spent = round::<P>(case, threads, limit);
         let (wall, processor) = (spent.each(spent.wall), spent.each(spent.processor));
-        println!("{} {case} {threads} {wall:.1} {processor:.1}", P::NAME);
+        let (name, operations) = (P::NAME, spent.operations);
+        println!("{name} {case} {threads} {wall:.1} {processor:.1} {operations}");
     }
     ExitCode::SUCCESS
 }

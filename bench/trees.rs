@@ -1,7 +1,7 @@
 //! What the Rust peers of the engine have in common: the cases of `tool_bench` that run trees, measured in the same way.
 //!
-//! A peer takes the words `CASE LANES ROUNDS MILLIS` and prints a line `PEER CASE LANES WALL PROCESSOR` for each round, in
-//! nanoseconds a test. The processor time is that of all threads.
+//! A peer takes the words `CASE LANES ROUNDS MILLIS` and prints a line `PEER CASE LANES WALL PROCESSOR TESTS` for each round, the times
+//! in nanoseconds a test. The processor time is that of all threads.
 #[path = "timing.rs"]
 mod timing;
 
@@ -75,7 +75,8 @@ pub fn run<R: Runner>() -> ExitCode {
     for _ in 0..rounds.parse().unwrap() {
         let spent = round(&runner, tests, limit);
         let (wall, processor) = (spent.each(spent.wall), spent.each(spent.processor));
-        println!("{} {case} {lanes} {wall:.1} {processor:.1}", R::NAME);
+        let (name, tests) = (R::NAME, spent.operations);
+        println!("{name} {case} {lanes} {wall:.1} {processor:.1} {tests}");
     }
     ExitCode::SUCCESS
 }

@@ -1,5 +1,5 @@
 # What bash completes behind the word `extrun`: its commands and their options, the values that an option may have, and files.
-# Sourced by bash, as by a line 'source completions/extrun.bash' of ~/.bashrc. scripts/completions holds it to what the program's help says.
+# Sourced by bash, as by a line 'source completions/extrun.bash' of ~/.bashrc. scripts/documents holds it to what the program's help says.
 
 # The options of a command, or of the program where there is none.
 _extrun_options() {

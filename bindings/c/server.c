@@ -1,5 +1,5 @@
 /* Two tests need one server, each on a thread of its own: whichever comes first starts it, both find it, and it is stopped when their context
-   has ended. The code of docs/LANGUAGES.md. */
+   has ended. bindings/README.md shows some of it. */
 #include "ext_store.h"
 
 #include <pthread.h>

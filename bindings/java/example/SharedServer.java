@@ -7,7 +7,7 @@ import java.util.List;
 
 /**
  * Two tests need one server, each on a thread of its own: whichever comes first starts it, both find it, and it is stopped when their context
- * has ended. The code of docs/LANGUAGES.md.
+ * has ended. bindings/README.md shows some of it.
  */
 final class SharedServer {
     private static final Namespace NAMESPACE = Namespace.create("web");

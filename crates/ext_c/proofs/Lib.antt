@@ -2,5 +2,6 @@ mod Closers
 mod Cut
 mod Faults
 mod Opened
+mod Pointers
 mod Said
 mod Steps

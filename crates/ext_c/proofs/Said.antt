@@ -15,9 +15,9 @@ use Rattle.ext_cells.specs.Lanes.{CellsId, Lane}
 use Rattle.ext_closing.specs.declared.fault.CloseFault.{CloseFault}
 use Rattle.ext_closing.specs.Closes as closing
 use Rattle.ext_model.specs.declared.closed.Closed.{Closed}
-use Rattle.ext_store_cells.specs.declared.fault.Refusal.{Refusal}
-use Rattle.ext_store_cells.specs.declared.claim.Unused.{Unused}
-use Rattle.ext_store_cells.specs.declared.claim.Unused.TheVariants as unused
+use Rattle.ext_store_core.specs.declared.fault.Refusal.{Refusal}
+use Rattle.ext_store_core.specs.declared.claim.Unused.{Unused}
+use Rattle.ext_store_core.specs.declared.claim.Unused.TheVariants as unused
 use Rattle.ext_store.specs.Computing.{ClaimsMissing, IsUnkept}
 use Rattle.ext_store.specs.declared.fault.KeepFault.TheVariants as keep
 use Rattle.ext_store.specs.Stores.{CloserView, StoreLane}

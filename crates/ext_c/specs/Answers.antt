@@ -9,10 +9,10 @@ use Rattle.ext_model.specs.declared.event.Act.TheVariants as act_is
 use Rattle.ext_tree.specs.Keys.{KeyValue, IsKeyNumber}
 use Rattle.ext_values.specs.Known.{Learns, known_at}
 use Rattle.ext_cells.specs.CellCalls.{EndsClaim}
-use Rattle.ext_store_cells.specs.declared.fault.Refusal.{Refusal}
-use Rattle.ext_store_cells.specs.declared.fault.Refusal.TheVariants as refusal
-use Rattle.ext_store_cells.specs.declared.claim.Unused.{Unused}
-use Rattle.ext_store_cells.specs.declared.claim.Unused.TheVariants as unused
+use Rattle.ext_store_core.specs.declared.fault.Refusal.{Refusal}
+use Rattle.ext_store_core.specs.declared.fault.Refusal.TheVariants as refusal
+use Rattle.ext_store_core.specs.declared.claim.Unused.{Unused}
+use Rattle.ext_store_core.specs.declared.claim.Unused.TheVariants as unused
 use Rattle.ext_store.specs.Computing.{ClaimsMissing}
 use Rattle.ext_store.specs.declared.fault.KeepFault.{KeepFault}
 use Rattle.ext_store.specs.Stores.{StoreView, StoreLane}

@@ -2,8 +2,8 @@
 use Rattle.std.specs.Prelude.{ℕ}
 use Rattle.ext_c.specs.declared.code.Code.{Code}
 use Rattle.ext_c.specs.declared.code.Code.TheVariants as code
-use Rattle.ext_store_cells.specs.declared.fault.Refusal.{Refusal}
-use Rattle.ext_store_cells.specs.declared.fault.Refusal.TheVariants as refusal
+use Rattle.ext_store_core.specs.declared.fault.Refusal.{Refusal}
+use Rattle.ext_store_core.specs.declared.fault.Refusal.TheVariants as refusal
 use Rattle.ext_store.specs.declared.fault.KeepFault.{KeepFault}
 use Rattle.ext_store.specs.declared.fault.KeepFault.TheVariants as keep
 use Rattle.ext_closing.specs.declared.fault.CloseFault.{CloseFault}

@@ -17,7 +17,7 @@ use ext_store::{Claim, KeepFault, Kept, Refusal, Store, Unused};
 use std::mem;
 
 impl Seat {
-    // Why a call on a place is not made, if it is not.
+    // Why a call on a place is not made, or `None` if it is.
     pub(crate) fn bar(&self, context: usize, key: usize) -> Option<Code>
         ensures barred { IfSome result (NotAsked context key self.now) }
         ensures idle { result ≡ None → self.now.claim ≡ None }
@@ -107,7 +107,7 @@ impl Seat {
         shared.remove_numbered(&mut self.lane, context, key)
     }
 
-    // `Store::begin_numbered_quietly`: the claim stays with the seat.
+    // `Store::begin_numbered_quietly`; the seat has the claim afterwards.
     pub(crate) fn claim_missing(&mut self, context: usize, key: usize) -> Option<Unused>
         requires context { context < length (store_of self.old).tree }
         requires key { key < 64 }
@@ -132,7 +132,7 @@ impl Seat {
         }
     }
 
-    // `Store::fail_quietly`, of a claim that the seat has no more.
+    // `Store::fail_quietly`, for a claim that the seat no longer has.
     pub(crate) fn fail_claim(&mut self, claim: Claim, fault: Fault) -> Result<u32, KeepFault>
         requires faults { IsTrue (store_of self.old).id.cells.limits.keep_faults }
         requires idle { self.old.claim ≡ None }

@@ -33,8 +33,8 @@ impl CloseAction<Handle> for Written {
 }
 
 impl Seat {
-    // Closes the context: writes out the values that are to be closed, and counts them. A value that the lane does not know it is
-    // shown; then the close is to be asked again.
+    // Closes the context: writes out the values that are to be closed, and counts them. If the lane
+    // does not know a value, it is shown the value, and the close is to be asked again.
     pub(crate) fn close(
         &mut self,
         context: usize,
@@ -69,7 +69,7 @@ impl Seat {
         }
     }
 
-    // `close` of ext_closing, with this lane alone in hand.
+    // `close` of ext_closing, with only this lane in hand.
     fn ask(&mut self, closer: Closer, written: &mut Written) -> Result<Closed, (Closer, CloseFault)>
         requires idle { self.old.claim ≡ None }
         requires closer { IsCloserOf (store_of self.old) closer }
@@ -82,8 +82,8 @@ impl Seat {
         close(shared, closer, slice::from_mut(&mut self.lane), written)
     }
 
-    // Why the close is refused. A value that the lane does not know it is shown, so that the close may be asked again; where the thread
-    // does not find it the answer is another one.
+    // The code of a refused close. If the lane does not know a value, it is shown the value, so
+    // that the close may be asked again; if the thread does not find it, the code is another one.
     fn mend(&mut self, why: CloseFault) -> Code
         requires idle { self.old.claim ≡ None }
         ensures store { self.new.store ≡ self.old.store }
@@ -101,7 +101,7 @@ impl Seat {
         Code::of_close(why)
     }
 
-    // The closer of the context, which the seat then has no more.
+    // Takes the context's closer out of the seat.
     fn take_closer(&mut self, context: usize) -> Result<Closer, Code>
         ensures store { self.new.store ≡ self.old.store }
         ensures lane { self.new.lane ≡ self.old.lane }
@@ -138,7 +138,6 @@ impl Seat {
         }
     }
 
-    // Gives the closer back.
     fn give_closer(&mut self, context: usize, closer: Closer)
         requires own { IsCloserOf (store_of self.old) closer }
         requires within { context < length self.old.closers.items }

@@ -12,19 +12,19 @@ use ext_tree::TreeFault;
 pub enum Code {
     /// What the call is for has happened.
     Done,
-    /// Nothing stands there.
+    /// Nothing stands where the call looked.
     Absent,
-    /// A kept fault stands there.
+    /// A kept fault stands where the call looked.
     FaultStands,
     /// The lane has claimed the place: the factory is to run.
     Run,
     /// The claim was given up, since the store keeps no faults.
     GivenUp,
-    /// A factory runs for the context that decides.
+    /// A factory runs for the context that decides the answer.
     Busy,
-    /// The context that decides is closed.
+    /// The context that decides the answer is closed.
     Closed,
-    /// Other lanes were in the way.
+    /// Other lanes were in the way: they made at least as many events as a call has tries.
     Contended,
     /// There were too many events in this context under this key.
     Exhausted,
@@ -32,42 +32,43 @@ pub enum Code {
     DirectoryFull,
     /// All numbers of the store were drawn.
     NumbersFull,
-    /// An allocation failed.
+    /// There is no memory for what the call needs.
     NoMemory,
-    /// A place did not take the value or the key. Tests show that it never comes.
+    /// A place did not take the value or the key. Tests never meet it.
     Unplaced,
-    /// The thread does not find the handle of the number that was met, which the lane did not know. But for a close, which is
-    /// refused, what the call is for has happened. Tests show that it never comes.
+    /// The thread does not find the handle of a number that the lane met and did not know. What the
+    /// call is for has happened, except for a close, which is refused. Tests never meet it.
     Unshown,
-    /// The lane did not know a value that remains. It knows it now: the close is to be asked again.
+    /// The lane did not know a value that remains. It knows it now, and the close is to be asked
+    /// again.
     Unjoined,
-    /// The lane has a claim, which is to be ended first.
+    /// The lane has a claim, which must be ended first.
     Claiming,
-    /// The lane has no claim.
+    /// The lane has no claim to end.
     NoClaim,
-    /// The slot is empty.
+    /// The slot is empty: it has no lane.
     NoLane,
     /// This lane closes no context.
     NoCloser,
-    /// A slot that was to be filled has a lane.
+    /// A slot that was to be filled has a lane already.
     NotEmpty,
-    /// There is no such context.
+    /// The store has no context of this number.
     BadContext,
     /// A key's number is 64 or more.
     BadKey,
     /// A limit is out of its range.
     BadLimit,
-    /// The lengths go beyond the bytes, or there is no text where one is wanted.
+    /// The lengths go beyond the bytes, or there is no text where one is needed.
     BadLengths,
-    /// A text is no UTF-8.
+    /// A text is not UTF-8.
     BadText,
-    /// A text is no unique id.
+    /// A text is not a unique id.
     BadId,
-    /// The ids are no tree.
+    /// The ids do not form a tree.
     BadTree,
     /// There are more than 256 contexts.
     TooMany,
-    /// There is room for fewer than 64 values.
+    /// The caller has room for fewer than 64 values.
     TooFewPlaces,
 }
 

@@ -7,12 +7,13 @@ use ext_store::{Claim, Closer, Lane, Store};
 use std::alloc::Global;
 use std::sync::Arc;
 
-// It does nothing when it runs.
+// Proves `Send` of the type.
 fn crosses<T: Send>()
     ensures { IsSend T.row }
 {}
 
-// Proves that each part of a lane's seat may go to another thread, and so the seat. It does nothing when it runs.
+// Proves that each part of a lane's seat may go to another thread, and so the seat. It does nothing
+// when it runs.
 pub(crate) fn parts_cross() {
     crosses::<Arc<Store<Handle>, Global>>();
     crosses::<Lane<Handle>>();

@@ -16,12 +16,13 @@ use crate::value::ExtValue;
 use ext_store::Limits;
 use std::alloc::Global;
 
-/// Opens a store of the contexts whose ids are the texts, with as many lanes as there are slots, all of which are to be empty. The lane
-/// of the last slot closes contexts. Takes memory.
+/// Opens a store of the contexts whose ids are the texts, with a lane for each slot. All slots must
+/// be empty. The lane of the last slot closes contexts. Takes memory.
 ///
-/// Refused, in this order, as `NotEmpty`; as `BadLimit` unless there are 1 to 16 slots, 1 to 64 tries and 1 to 65,535 numbers; for the first
-/// text that is none as `BadLengths` or `BadText`; as `BadId` where one of them is no id; and for the ids as `TooMany` or `BadTree`.
-/// `NoMemory` may come in place of the last three, or after them. The slots are as they were then.
+/// Refused, in this order, as `NotEmpty`; as `BadLimit` unless there are 1 to 16 slots, 1 to 64
+/// tries and 1 to 65,535 numbers; for the first text that is none as `BadLengths` or `BadText`; as
+/// `BadId` where one of them is no id; and for the ids as `TooMany` or `BadTree`. `NoMemory` may
+/// come instead of the last three, or after them. The slots are as they were then.
 #[unsafe(no_mangle)]
 pub extern "C" fn ext_open(
     alloc: Global,
@@ -75,7 +76,8 @@ fn open(
     }
 }
 
-/// Gives the lane up, and its claim, and leaves the slot empty. The store's memory is freed with its last lane.
+/// Gives the lane and its claim up, and leaves the slot empty. The store's memory is freed with its
+/// last lane.
 #[unsafe(no_mangle)]
 pub extern "C" fn ext_leave(alloc: Global, slot: &mut ExtSlot) -> u32
     ensures says { ByCode (LeaveSays slot.old slot.new) result }
@@ -93,8 +95,9 @@ fn leave(alloc: Global, slot: &mut ExtSlot) -> Code
     Code::Done
 }
 
-/// The number of the key: the texts are the parts of its namespace, and then its name; one text alone is a name in the global namespace.
-/// May be called while the lane has a claim. Takes memory for a key that is new to the lane.
+/// Finds the number of the key that the texts name: the parts of its namespace, and then its name.
+/// One text alone is a name in the global namespace. May be called while the lane has a claim.
+/// Takes memory for a key that is new to the lane.
 #[unsafe(no_mangle)]
 pub extern "C" fn ext_key(
     alloc: Global,
@@ -113,7 +116,8 @@ pub extern "C" fn ext_key(
     code.number()
 }
 
-/// Keeps the handle and stores it under the key in the context itself. `stood` is what it replaced, of number 0 where nothing stood.
+/// Keeps the handle and stores it under the key in the context itself. `stood` is what it replaced,
+/// with number 0 if nothing stood. Takes memory for the handle.
 #[unsafe(no_mangle)]
 pub extern "C" fn ext_put(
     alloc: Global,
@@ -138,8 +142,8 @@ pub extern "C" fn ext_put(
     code.number()
 }
 
-/// Looks for the key in the context and its ancestors, the nearest first. A number that the lane knows is told with its handle. Makes no
-/// step where the lane has a claim. Takes no memory.
+/// Looks for the key in the context and its ancestors, the nearest first. A number that the lane
+/// knows comes with its handle. It makes no step while the lane has a claim.
 #[unsafe(no_mangle)]
 pub extern "C" fn ext_get(
     alloc: Global,
@@ -158,7 +162,7 @@ pub extern "C" fn ext_get(
     code.number()
 }
 
-/// Takes what stands under the key in the context itself. It is not closed.
+/// Takes what stands under the key in the context itself, without closing it.
 #[unsafe(no_mangle)]
 pub extern "C" fn ext_remove(
     alloc: Global,
@@ -177,7 +181,8 @@ pub extern "C" fn ext_remove(
     code.number()
 }
 
-/// Begins a compute: where nothing is found the lane claims the place, until `ext_fill`, `ext_fail` or `ext_abandon` ends the claim.
+/// Begins a compute: where nothing is found the lane claims the place, until `ext_fill`, `ext_fail`
+/// or `ext_abandon` ends the claim.
 #[unsafe(no_mangle)]
 pub extern "C" fn ext_begin(
     alloc: Global,
@@ -196,7 +201,8 @@ pub extern "C" fn ext_begin(
     code.number()
 }
 
-/// Ends a compute by a value. Where it is not kept the claim is given up.
+/// Ends a compute by a value. If the value is not kept, the claim is given up. Takes memory for the
+/// handle.
 #[unsafe(no_mangle)]
 pub extern "C" fn ext_fill(
     alloc: Global,
@@ -219,8 +225,9 @@ pub extern "C" fn ext_fill(
     code.number()
 }
 
-/// Ends a compute whose factory failed: where the store keeps faults this one's handle is kept at the place; where it keeps none the claim is
-/// given up, as `GivenUp`. Where the fault is not kept the claim is given up, too. Takes memory where the store keeps faults.
+/// Ends a compute whose factory failed. If the store keeps faults, this one's handle is kept at the
+/// place, and if that fails the claim is given up. If it keeps none, the claim is given up, as
+/// `GivenUp`. Takes memory if the store keeps faults.
 #[unsafe(no_mangle)]
 pub extern "C" fn ext_fail(alloc: Global, slot: &mut ExtSlot, handle: u64, number: &mut u32) -> u32
     ensures says { OnSlot HasNoClaim (number.new ≡ number.old) (λ before after. FailSays handle before after number.old number.new) slot.old slot.new result }
@@ -233,7 +240,7 @@ pub extern "C" fn ext_fail(alloc: Global, slot: &mut ExtSlot, handle: u64, numbe
     code.number()
 }
 
-/// Ends a compute without a value.
+/// Ends a compute without a value: the claim is given up.
 #[unsafe(no_mangle)]
 pub extern "C" fn ext_abandon(alloc: Global, slot: &mut ExtSlot) -> u32
     ensures says { OnSlot HasNoClaim (Unit {0}) AbandonSays slot.old slot.new result }
@@ -246,13 +253,14 @@ pub extern "C" fn ext_abandon(alloc: Global, slot: &mut ExtSlot) -> u32
     code.number()
 }
 
-/// Closes the context: seals its places for keys, and writes out the closeable values that remain, the latest first, for the caller to close.
-/// There is to be room for 64.
+/// Closes the context: seals its places for keys, and writes out the closeable values that remain,
+/// the latest first, for the caller to close. There must be room for 64.
 ///
-/// Not asked of the store, with nothing changed, in this order as `Claiming`, `TooFewPlaces`, `BadContext`, `NoCloser`, or `Closed` where it
-/// was closed before. Refused as `Busy` or `Contended` while others are in the way, and as `Unjoined` where the lane did not know a value that
-/// remains: it knows it then, and the close is to be asked again. `Unshown` in its place where the thread does not find that value. The lane
-/// keeps its closers then. Takes no memory.
+/// Not asked of the store, with nothing changed, in this order as `Claiming`, `TooFewPlaces`,
+/// `BadContext`, `NoCloser`, or `Closed` if it was closed before. Refused as `Busy` or `Contended`
+/// while others are in the way, and as `Unjoined` where the lane did not know a value that remains:
+/// it knows it then, and the close is to be asked again. `Unshown` instead if the thread does not
+/// find that value. The lane keeps its closers then.
 #[unsafe(no_mangle)]
 pub extern "C" fn ext_close(
     alloc: Global,

@@ -13,7 +13,7 @@ pub(crate) fn fault_of(alloc: Global, handle: u64) -> Result<Fault, AllocError>
     Ok(Fault::Text(text))
 }
 
-// The handle of a fault; none of a fault that is not one of `fault_of`.
+// The handle of a fault, or `None` for a fault that `fault_of` did not make.
 pub(crate) fn handle_of(fault: &Fault) -> Option<u64>
     ensures handle { IfSome result (λ handle. (own : ℕ) → own < 2 ^ 64 → IsFaultOf own fault.now → handle ≡ own) }
     ensures none { IfNone result ((own : ℕ) → own < 2 ^ 64 → IsFaultOf own fault.now → ⊥) }

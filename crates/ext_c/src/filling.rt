@@ -1,4 +1,4 @@
-//! The slots of an opening: that they are empty, and the seats that they get.
+//! The slots of an opening: whether they are empty, and the seats that they get.
 ghost use Rattle.std.specs.Prelude.{◌≡◌, ◌↔◌, IsTrue, length};
 ghost use Rattle.std.specs.List.{AllZip};
 ghost use Rattle.ext_c.specs.Opening.{AreEmpty, IsIn};
@@ -18,7 +18,7 @@ pub(crate) fn are_empty(slots: &[ExtSlot]) -> bool
     true
 }
 
-/// Gives a seat to each slot, in order. Takes no memory.
+/// Gives a seat to each slot, in order.
 pub(crate) fn take_seats(slots: &mut [ExtSlot], seats: Vec<Box<Seat>>)
     requires { length slots.old ≡ length seats.items }
     ensures { AllZip IsIn seats.items slots.new }

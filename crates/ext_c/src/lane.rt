@@ -3,8 +3,8 @@ ghost use Rattle.std.specs.Prelude.{◌≡◌, IsSome, Option, None, Some};
 ghost use Rattle.ext_c.specs.declared.seat.Seat.{Seat};
 ghost use Rattle.ext_c.specs.Held.{held};
 
+use crate::box_pointer::BoxPointer;
 use crate::seat::Seat;
-use ext_pointer::BoxPointer;
 use std::alloc::Global;
 use std::marker::Model;
 use std::ptr::null_mut;

@@ -65,7 +65,7 @@ pub(crate) fn key_of(alloc: Global, bytes: &[u8], lengths: &[u32]) -> Result<Key
     }
 }
 
-// The namespace of these parts: of none it is the global one. Takes memory.
+// The namespace of these parts, or the global one if there are none. Takes memory.
 fn namespace_of(alloc: Global, parts: &[&str]) -> Result<Namespace, Code>
     ensures { IfOk result (λ namespace. namespace ≡ namespace_named (keys.texts_of parts.now)) }
 {

@@ -35,7 +35,7 @@ fn sit(
     Some(boxed)
 }
 
-// The closers, each of which can be taken.
+// The closers, each of which can be taken out.
 fn all_of(alloc: Global, closers: Vec<Closer>) -> Option<Vec<Option<Closer>>>
     ensures { IfSome result (λ cs. cs.items ≡ map Some closers.items) }
 {
@@ -112,7 +112,7 @@ fn seats(
     Some(seats)
 }
 
-// Whether a store can be of these limits.
+// Whether a store can have these limits.
 pub(crate) fn are_limits(limits: Limits) -> bool
     ensures { IsTrue result ↔ AreStoreLimits limits.lanes limits.tries limits.numbers }
 {

@@ -1,4 +1,4 @@
-//! The calls of a seat, which are made whatever they are handed, and say by a code what came of them.
+//! The calls of a seat: each may be made with any arguments, and answers a code.
 ghost use Rattle.std.specs.Prelude.{◌≡◌, None};
 ghost use Rattle.ext_c.specs.Answers.{AbandonSays, BeginSays, FailSays, FillSays, GetSays, KeySays, NamesKey, PutSays, RemoveSays};
 
@@ -113,11 +113,11 @@ impl Seat {
         };
         let shared: &Store<Handle> = &self.store;
         if !shared.keeps_faults() {
-            shared.give_up_quietly(&mut self.lane, claim);
+            shared.abandon_quietly(&mut self.lane, claim);
             return Code::GivenUp;
         }
         let Ok(fault) = fault_of(alloc, handle) else {
-            shared.give_up_quietly(&mut self.lane, claim);
+            shared.abandon_quietly(&mut self.lane, claim);
             return Code::of_keep(KeepFault::Memory);
         };
         match self.fail_claim(claim, fault) {
@@ -129,7 +129,6 @@ impl Seat {
         }
     }
 
-    // Gives the claim up.
     pub(crate) fn abandon(&mut self) -> Code
         ensures store { self.new.store ≡ self.old.store }
         ensures closers { self.new.closers ≡ self.old.closers }
@@ -140,7 +139,7 @@ impl Seat {
             return Code::NoClaim;
         };
         let shared: &Store<Handle> = &self.store;
-        shared.give_up_quietly(&mut self.lane, claim);
+        shared.abandon_quietly(&mut self.lane, claim);
         Code::Done
     }
 

@@ -1,13 +1,13 @@
 //! A lane in the caller's memory.
 ghost use Rattle.std.specs.Prelude.{◌≡◌, ◌≢◌, IsSome, IfSome, IfNone, Some, None};
 
+use crate::box_pointer::BoxPointer;
 use crate::lane::ExtLane;
 use crate::seat::Seat;
-use ext_pointer::BoxPointer;
 use std::alloc::Global;
 use std::mem;
 
-/// All zero, or a lane.
+/// A lane in the caller's memory, or all zero.
 #[repr(C)]
 #[derive(Drop)]
 pub struct ExtSlot {
@@ -17,7 +17,7 @@ pub struct ExtSlot {
 }
 
 impl ExtSlot {
-    /// The lane's seat, which leaves the slot empty until it is given back. Takes no memory.
+    /// Takes out the lane's seat, and leaves the slot empty until it is given back.
     pub(crate) fn take(&mut self, alloc: Global) -> Option<Box<Seat>>
         ensures taken { IfSome result (λ b. self.old.lane.seat ≡ Some b.value) }
         ensures empty { IfSome result (λ _. self.new.lane.seat ≡ None) }
@@ -36,7 +36,7 @@ impl ExtSlot {
         Some(lane.into_pointer(alloc).into_box())
     }
 
-    /// Gives the seat to the slot. Takes no memory.
+    /// Gives the seat to the slot.
     pub(crate) fn give(&mut self, seat: Box<Seat>)
         ensures state { self.new.state ≡ 1 }
         ensures seat { self.new.lane.seat ≡ Some seat.value }

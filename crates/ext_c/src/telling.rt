@@ -1,4 +1,4 @@
-//! What is told of the numbers that a call met.
+//! What a call reports of the numbers that it met.
 ghost use Rattle.std.specs.Prelude.{◌≡◌, None};
 ghost use Rattle.ext_c.specs.Answers.{TellsFound, TellsLook, TellsPut, TellsRemove, TellsStanding, TellsStood, TellsUnused};
 
@@ -9,7 +9,7 @@ use ext_model::Look;
 use ext_store::{Kept, Refusal, Unused};
 
 impl Seat {
-    // Of a value that was found.
+    // Reports a value that was found.
     pub(crate) fn tell_found(&mut self, context: usize, number: u32, told: &mut ExtValue) -> Code
         requires idle { self.old.claim ≡ None }
         ensures store { self.new.store ≡ self.old.store }
@@ -25,7 +25,7 @@ impl Seat {
         }
     }
 
-    // Of a kept fault that was found.
+    // Reports a kept fault that was found.
     pub(crate) fn tell_standing(&mut self, context: usize, number: u32, told: &mut ExtValue) -> Code
         requires idle { self.old.claim ≡ None }
         ensures store { self.new.store ≡ self.old.store }
@@ -41,7 +41,7 @@ impl Seat {
         }
     }
 
-    // Of what stood, a value or a kept fault.
+    // Reports what stood, a value or a kept fault.
     pub(crate) fn tell_stood(&mut self, context: usize, number: u32, told: &mut ExtValue) -> Code
         requires idle { self.old.claim ≡ None }
         ensures store { self.new.store ≡ self.old.store }
@@ -60,7 +60,6 @@ impl Seat {
         }
     }
 
-    // Of a look-up.
     pub(crate) fn tell_look(&mut self, looked: Result<Look, Refusal>, found: &mut ExtValue) -> Code
         requires idle { self.old.claim ≡ None }
         ensures store { self.new.store ≡ self.old.store }
@@ -85,7 +84,7 @@ impl Seat {
         }
     }
 
-    // Of a put. A number that was kept and is not stored is lost.
+    // Reports a put. A number that was kept and is not stored is lost.
     pub(crate) fn tell_put(
         &mut self,
         context: usize,
@@ -109,7 +108,6 @@ impl Seat {
         }
     }
 
-    // Of a remove.
     pub(crate) fn tell_remove(
         &mut self,
         context: usize,
@@ -130,7 +128,7 @@ impl Seat {
         }
     }
 
-    // Of why there is no claim.
+    // Reports why there is no claim.
     pub(crate) fn tell_unused(&mut self, why: Unused, found: &mut ExtValue) -> Code
         requires idle { self.old.claim ≡ None }
         ensures store { self.new.store ≡ self.old.store }

@@ -36,6 +36,7 @@ fn open_one(rt: &impl Abort, alloc: Global, keep_faults: bool) -> [ExtSlot; 1] {
     slots
 }
 
+/// Tests `ext_open`, `ext_leave`, `ext_key`, `ext_get`, `ext_put` and `ext_remove`.
 #[test]
 fn a_value_is_put_and_found_from_below(rt: HostRuntime) {
     let alloc = rt.alloc();
@@ -74,6 +75,8 @@ fn a_value_is_put_and_found_from_below(rt: HostRuntime) {
     assert_eq!(rt; ext_leave(alloc, slot), Code::NoLane.number());
 }
 
+/// Tests `ext_get`, `ext_put`, `ext_remove`, `ext_begin`, `ext_fill`, `ext_fail`, `ext_abandon`,
+/// `ext_close`, `ext_open` and `ext_leave`.
 #[test]
 fn a_compute_is_two_calls(rt: HostRuntime) {
     let alloc = rt.alloc();
@@ -152,6 +155,7 @@ fn refused(
     code
 }
 
+/// Tests `ext_open` and `ext_key`.
 #[test]
 fn a_refused_opening_tells_why(rt: HostRuntime) {
     let alloc = rt.alloc();
@@ -205,6 +209,7 @@ fn a_refused_opening_tells_why(rt: HostRuntime) {
     assert_eq!(rt; key, 9);
 }
 
+/// Tests `ext_open`, `ext_leave` and `ext_begin`.
 #[test]
 fn a_lane_that_leaves_gives_its_claim_up(rt: HostRuntime) {
     let alloc = rt.alloc();
@@ -237,7 +242,7 @@ fn a_lane_that_leaves_gives_its_claim_up(rt: HostRuntime) {
     );
 }
 
-// Closes the context, and tells the code, the count and the first handle.
+// Closes the context, and answers the code, the count and the first handle.
 fn closed(alloc: Global, slot: &mut ExtSlot, context: usize) -> (u32, usize, u64) {
     let mut values = [no_value(); 64];
     let mut count = 9;
@@ -245,6 +250,7 @@ fn closed(alloc: Global, slot: &mut ExtSlot, context: usize) -> (u32, usize, u64
     (code, count, values[0].handle)
 }
 
+/// Tests `ext_get`, `ext_put`, `ext_remove`, `ext_begin` and `ext_close`.
 #[test]
 fn two_contexts_are_closed_one_after_the_other(rt: HostRuntime) {
     let alloc = rt.alloc();
@@ -261,6 +267,7 @@ fn two_contexts_are_closed_one_after_the_other(rt: HostRuntime) {
     assert_eq!(rt; closed(alloc, slot, 1), (Code::Closed.number(), 0, 0));
 }
 
+/// Tests `ext_close`.
 #[test]
 fn a_refused_close_is_asked_again(rt: HostRuntime) {
     let alloc = rt.alloc();
@@ -294,6 +301,7 @@ fn a_refused_close_is_asked_again(rt: HostRuntime) {
     );
 }
 
+/// Tests `ext_fail`.
 #[test]
 fn a_store_that_keeps_no_faults_gives_the_claim_up(rt: HostRuntime) {
     let alloc = rt.alloc();

@@ -1,4 +1,4 @@
-//! Texts that stand one behind the other.
+//! Texts that stand one after another.
 ghost use Rattle.std.specs.Prelude.{◌≡◌, ◌⊎◌, ◌∷◌, ◌++◌, [], IfErr, IfOk, true};
 ghost use Rattle.ext_tree.specs.Keys as keys;
 ghost use Rattle.ext_c.specs.declared.code.Code.TheVariants as code;
@@ -7,7 +7,8 @@ ghost use Rattle.ext_c.specs.Texts.{AreTexts, IsTextFault, texts_in};
 use crate::code::Code;
 use std::alloc::Global;
 
-// The texts of these lengths. Takes memory for their list; that there was none is told last, where each is a text.
+// The texts of these lengths. Takes memory for their list; want of it is reported last, if each is
+// a text.
 pub(crate) fn read_texts<'a>(
     alloc: Global,
     bytes: &'a [u8],
@@ -37,7 +38,7 @@ pub(crate) fn read_texts<'a>(
     }
 }
 
-// Adds the text; whether there was memory for it, and for those before it.
+// Adds the text, and answers whether there was memory for it and for those before it.
 fn adds<'a>(texts: &mut Vec<&'a str>, text: &'a str, is_whole: bool) -> bool
     ensures whole { result ≡ true → is_whole ≡ true }
     ensures added { result ≡ true → texts.new.items ≡ texts.old.items ++ text.entry ∷ [] }

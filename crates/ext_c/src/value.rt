@@ -1,7 +1,8 @@
 //! A value or a kept fault, as C has it.
 ghost use Rattle.std.specs.Prelude.{◌≡◌, false};
 
-/// The handle of a value or of a kept fault, its number, and its context. A kept fault is not closeable.
+/// The handle of a value or of a kept fault, its number, and its context. A kept fault is not
+/// closeable.
 #[repr(C)]
 #[derive(Clone, Copy, Default, Drop)]
 pub struct ExtValue {

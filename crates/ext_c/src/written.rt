@@ -4,7 +4,7 @@ ghost use Rattle.std.specs.Prelude.{◌≡◌, [], length, ◌≤◌, ◌++◌, 
 use crate::value::ExtValue;
 use arrayvec::ArrayVec;
 
-/// The values of a context that are to be closed, in the order in which the close names them: at most 64, one a key.
+/// The values of a context that are to be closed, in the order of the close: at most 64, one a key.
 #[derive(Drop)]
 pub struct Written {
     pub values: ArrayVec<ExtValue, 64>,
@@ -12,7 +12,6 @@ pub struct Written {
 }
 
 impl Written {
-    // None yet.
     pub(crate) fn none(context: usize) -> Written
         ensures values { result.values.items ≡ [] }
         ensures context { result.context ≡ context }
@@ -23,7 +22,7 @@ impl Written {
         }
     }
 
-    // Writes them to the front of the list, and answers how many they are.
+    // Writes the values to the front of the list, and answers their count.
     pub(crate) fn copy_to(&self, values: &mut [ExtValue]) -> usize
         requires room { 64 ≤ length values.old }
         ensures count { result ≡ length self.now.values.items }

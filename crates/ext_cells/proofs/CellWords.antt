@@ -13,14 +13,14 @@ use Rattle.ext_model.specs.declared.slot.Slot.TheVariants as slot
 use Rattle.ext_model.specs.State.{standing_value}
 use Rattle.ext_model.specs.Events.{slot_after, drawn_after, place_of, is_at, is_on}
 use Rattle.ext_model.specs.History.{History, Limits, by, state_after, version_of, IsAllowed, IsLegal}
-use Rattle.ext_model.specs.Words.{state_code, number_code, word, slot_word}
+use Rattle.ext_model.specs.CellWords.{state_code, number_code, word, slot_word}
 use Rattle.ext_history.proofs.Legal.{legal_induct}
 use Rattle.ext_history.proofs.Lists.{contains_none}
 use Rattle.ext_model.proofs.Numbers.{bounded}
 use Rattle.ext_model.proofs.Claims.{claim_can_end, can_be_sealed}
 use Rattle.ext_model.proofs.Words.{after-push, word-event, word-elsewhere, drawn-push}
 use Rattle.ext_cells.specs.declared.cell_state.CellState.TheVariants.{Sealed}
-use Rattle.ext_cells.specs.Words.{code}
+use Rattle.ext_cells.specs.WordChanges.{code}
 use Rattle.ext_cells.specs.InnerRule.{IsWordAt, AreWordsOf, place_in}
 use Rattle.ext_cells.specs.InnerDeciding.{state_of, IsNumbered, IsCellWord}
 

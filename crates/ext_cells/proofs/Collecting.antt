@@ -8,7 +8,7 @@ use mathlib.Core.Logic.{dite}
 use native.Mathlib.Decide.{ℕ_discrete}
 use base.Growing.{prefix_refl, prefix_trans}
 use Rattle.ext_model.specs.History.{History, Limits, version_of, lane_of, own, IsLegal}
-use Rattle.ext_model.specs.Words.{word_of}
+use Rattle.ext_model.specs.CellWords.{word_of}
 use Rattle.ext_history.specs.Histories.{last_after, first_or, seen_by, Follow, moved, call_fronts, first_front, IsStepped}
 use Rattle.ext_model.specs.CallActs.{LaneView, IsAnswerPoint, Calls, IsOvertaken}
 use Rattle.ext_history.proofs.Legal.{legal_begun}

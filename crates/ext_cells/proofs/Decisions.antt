@@ -8,11 +8,11 @@ use Rattle.ext_model.specs.declared.slot.Slot.{Slot}
 use Rattle.ext_model.specs.declared.slot.Slot.TheVariants as slot
 use Rattle.ext_model.specs.Events as events
 use Rattle.ext_model.specs.Plain.{what_stood}
-use Rattle.ext_model.specs.Words.{number_code, slot_word}
+use Rattle.ext_model.specs.CellWords.{number_code, slot_word}
 use Rattle.ext_cells.specs.declared.refusal.CellRefusal.{CellRefusal}
 use Rattle.ext_cells.specs.declared.refusal.CellRefusal.TheVariants.{Exhausted}
 use Rattle.ext_cells.specs.declared.decision.Decision.TheVariants.{Change, Done}
-use Rattle.ext_cells.specs.Words.{IsEmptyWord, exhausted_if, unless, after_word}
+use Rattle.ext_cells.specs.WordChanges.{IsEmptyWord, exhausted_if, unless, after_word}
 use Rattle.ext_cells.specs.CellCalls.{result_of}
 use Rattle.ext_cells.specs.declared.cell_state.CellState.TheVariants.{Sealed}
 use Rattle.ext_cells.specs.declared.stood.Stood.TheVariants.{Nothing, Value}

@@ -13,7 +13,7 @@ use Rattle.ext_model.specs.History.{History, Limits, by, drawn_number, state_aft
 use Rattle.ext_history.proofs.Legal.{legal_induct}
 use Rattle.ext_history.proofs.Lists.{contains_from_filter_map}
 use Rattle.ext_model.proofs.Numbers.{bounded}
-use Rattle.ext_cells.specs.Laws.{numbers_drawn}
+use Rattle.ext_cells.specs.CellLaws.{numbers_drawn}
 use Rattle.ext_cells.proofs.CellWords.{kept_least}
 
 -- an act that draws a number is the keep of it

@@ -7,7 +7,7 @@ use Rattle.ext_model.specs.declared.event.Act.TheVariants.{Keep, Put, Remove, Cl
 use Rattle.ext_model.specs.declared.slot.Slot.TheVariants as slot
 use Rattle.ext_model.specs.Events.{Happens, Refuses, Barred, slot_after, place_of, is_on, end_reply}
 use Rattle.ext_model.specs.History.{History, Limits, by, stored_number, fault_number, state_after, version_of, reply_after, IsAllowed, IsLegal}
-use Rattle.ext_model.specs.Words.{slot_word}
+use Rattle.ext_model.specs.CellWords.{slot_word}
 use Rattle.ext_history.specs.Histories.{seen_by, moved}
 use Rattle.ext_model.specs.CallActs.{LaneView, GoesOn, IsHeld, MayStoreNow}
 use Rattle.ext_model.proofs.Allowed.{may_happen}
@@ -18,7 +18,7 @@ use Rattle.ext_cells.specs.declared.cell_state.CellState.TheVariants.{Computing,
 use Rattle.ext_cells.specs.declared.claim.Claimed.{Claimed}
 use Rattle.ext_cells.specs.declared.claim.Claimed.TheVariants.{Won}
 use Rattle.ext_cells.specs.declared.refusal.CellRefusal.{CellRefusal}
-use Rattle.ext_cells.specs.Words.{word_with, next_word, Suits}
+use Rattle.ext_cells.specs.WordChanges.{word_with, next_word, Suits}
 use Rattle.ext_cells.specs.Lanes.{Lane}
 use Rattle.ext_cells.specs.CellCalls.{Answers, EndsClaim, IfWon, number_acts, number_reply}
 use Rattle.ext_cells.specs.InnerRule.{IsWordAt}

@@ -13,6 +13,7 @@ pub mod Drawing
 pub mod Answered
 pub mod Given
 pub mod Collecting
+pub mod Rows
 pub mod Readings
 pub mod Meeting
 pub mod Storable

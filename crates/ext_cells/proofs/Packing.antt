@@ -6,7 +6,7 @@ use Rattle.ext_model.specs.declared.event.Act.{Act}
 use Rattle.ext_model.specs.declared.event.Act.TheVariants.{Keep, Put, Remove, Claim, Fill, Fail, Abandon, Seal}
 use Rattle.ext_cells.specs.declared.cell_state.CellState.{CellState}
 use Rattle.ext_cells.specs.declared.cell_state.CellState.TheVariants.{Empty, Computing, Present, Sealed, Failed}
-use Rattle.ext_cells.specs.Words.{exhausted_if, is_worn_by, refusal_in, Suits}
+use Rattle.ext_cells.specs.WordChanges.{exhausted_if, is_worn_by, refusal_in, Suits}
 
 pub not_less : (a b : ℕ) → nat_lt a b ≡ false → b ≤ a
 not_less a b e = grind (arith, nat_tests)

@@ -1,5 +1,5 @@
 -- What is kept of the words of a pass tells as much as the words: where the sums of their versions are equal, so are the words.
-use Rattle.std.proofs.Common.{◌≡◌, ◌≢◌, ℕ, ◌+◌, ◌*◌, ◌%◌, ◌^◌, ◌<◌, ◌≤◌, List, [], ◌∷◌, ◌++◌, take, map, get_or, length, slice_index, sym, refl, ap, ◌∙◌, subst, arith, append-nil, drop, length-append, length-take-le, mul-le-mul_right, ◌-◌, Option, None, Some}
+use Rattle.std.proofs.Common.{◌≡◌, ◌≢◌, inl, inr, ⊎_elim, ℕ, ◌+◌, ◌*◌, ◌%◌, ◌^◌, ◌<◌, ◌≤◌, List, [], ◌∷◌, ◌++◌, take, map, get_or, length, slice_index, sym, refl, ap, ◌∙◌, subst, arith, append-nil, drop, length-append, length-take-le, mul-le-mul_right, ◌-◌, Option, None, Some}
 use Rattle.std.specs.Prelude.{All, IfNone, IfSome, sum_by}
 use Rattle.std.proofs.Math.Seq.{get_or-append_seam, take-append_seam}
 use Rattle.std.proofs.lemmas.List.{get_or-map, get_or_append_left, length-map, take-append-le, length-drop, take-append-drop, take-map, take_all}
@@ -10,19 +10,21 @@ use base.Growing.{prefix_trans}
 use Rattle.ext_model.specs.declared.slot.Slot.{Slot}
 use Rattle.ext_model.specs.declared.slot.Slot.TheVariants as slot
 use Rattle.ext_model.specs.History.{History, Limits, state_after, version_of, own, lane_of, IsLegal}
-use Rattle.ext_model.specs.Words.{state_code, number_code, word, word_of}
+use Rattle.ext_model.specs.CellWords.{state_code, number_code, word, word_of}
 use Rattle.ext_history.specs.Histories.{last_after, first_or, seen_by, Follow, moved, call_fronts}
 use Rattle.ext_model.specs.CallActs.{LaneView, IsAnswerPoint, Calls}
 use Rattle.ext_history.proofs.Fronts.{moved_fronts, moved_seen, moved_again, last_append, follow_last, follow_append, first_append, first_to_last}
 use Rattle.ext_history.proofs.Composed.{answer_point, calls_moved, point_legal}
 use Rattle.ext_model.proofs.Numbers.{bounded}
 use Rattle.ext_model.proofs.Versions.{versions, version-append, same_word}
+use Rattle.ext_cells.specs.declared.nearest.EmptyCells.{EmptyCells}
 use Rattle.ext_cells.specs.declared.nearest.Nearest.{Nearest}
 use Rattle.ext_cells.specs.declared.nearest.Reading.{Reading}
 use Rattle.ext_cells.specs.declared.standing.Standing.{Standing}
-use Rattle.ext_cells.specs.Words.{version_in, HasState, IsEmptyWord}
+use Rattle.ext_cells.specs.WordChanges.{version_in, HasState, IsEmptyWord}
 use Rattle.ext_cells.specs.Lanes.{Lane}
-use Rattle.ext_cells.specs.CellCalls.{IsNearest, StoodNearest, StoodTogether}
+use Rattle.ext_cells.specs.CellCalls.{IsNearest, standing_of, StoodNearest, StoodTogether}
+use Rattle.ext_cells.specs.InnerSteps.{Finds}
 use Rattle.ext_cells.specs.InnerPasses.{EachRead, ReadPass, Says, SaysFirst, IsFirstSaid, IsReading, EndsAt, FirstPass}
 use Rattle.ext_cells.proofs.Collecting.{AllBegin, AllGoOn, follow_begin, go_on_from, follow_go_on, first_go_on, read_versions, read_length, version_grows, versions_from, versions_to, equal_passes, unequal_passes, some_cells, first_before, latest_from, next_latest, reads_begin, reads_go_on, pass_none, pass_more, Passes}
 
@@ -325,19 +327,17 @@ legal_between : (limits : Limits) (before between : LaneView) (cs ws : List ℕ)
 legal_between limits before between cs ws t = subst (IsLegal limits) (sym (ap seen_by t.is ∙ moved_seen before t.fronts)) t.legal
 
 -- what stood behind the empty cells, as a pass of its own
-end_pass : (limits : Limits) (between mid : LaneView) (cells : List ℕ) (count : ℕ) (stands : Option Standing) → IsLegal limits (seen_by between) → All (λ c. c < limits.cells) cells → EndsAt limits between mid cells count stands
-    → (ds us : List ℕ) × ReadPass limits between mid ds us × (count + length ds ≤ length cells) × (length cells ≡ 0 → length ds ≡ 0) × (1 ≤ length cells → 1 ≤ count + length ds)
-end_pass limits between mid cells count None legal known ends =
-    let all = ends.1 in ([], [], subst (λ l. ReadPass limits between l [] []) (sym ends.0) (pass_none limits between legal), omega (arith, all), λ none. refl, λ some. omega (arith, all, some))
-end_pass limits between mid cells count (Some s) legal known ends =
-    let less = ends.0 in
-    let w : ℕ = ends.1.0 in (
-      slice_index cells count ∷ [],
-      w ∷ [],
-      pass_more limits between between mid [] [] (slice_index cells count) w ends.1.1 (pass_none limits between legal) (known count 0 less) ends.1.3 ends.1.4,
+end_pass : (limits : Limits) (between mid : LaneView) (cells : List ℕ) (empty : EmptyCells) → IsLegal limits (seen_by between) → All (λ c. c < limits.cells) cells → EndsAt limits between mid cells empty
+    → (ds us : List ℕ) × ReadPass limits between mid ds us × (empty.count + length ds ≤ length cells) × (length cells ≡ 0 → length ds ≡ 0)
+end_pass limits between mid cells empty legal known (inl all) =
+    let full = all.1 in ([], [], subst (λ l. ReadPass limits between l [] []) (sym all.0) (pass_none limits between legal), omega (arith, full), λ none. refl)
+end_pass limits between mid cells empty legal known (inr one) =
+    let less = one.0 in (
+      slice_index cells empty.count ∷ [],
+      empty.behind ∷ [],
+      pass_more limits between between mid [] [] (slice_index cells empty.count) empty.behind one.2.0 (pass_none limits between legal) (known empty.count 0 less) one.2.1 one.2.2,
       omega (arith, less),
       λ none. absurd (omega (arith, less, none)),
-      λ some. omega arith,
     )
 
 read_one : (q : History) (c w : ℕ) (fs : List History) → EachRead (c ∷ []) (w ∷ []) fs → w ≡ word_of (last_after q fs) c
@@ -345,22 +345,25 @@ read_one q c w [] a = absurd a
 read_one q c w (f ∷ []) a = a.0
 read_one q c w (f ∷ g ∷ gs) a = absurd a.1
 
+-- the word of a fresh cell says that nothing stands
+nothing_said : (s : Standing) → Says 0 (Some s) → ⊥
+nothing_said s said = let told : standing_of None ≡ Some s = said None 0 (omega arith) refl in cc told
+
 -- a lane that read up to the first cell where anything stands, and then the cells before it once more
-module _ (x y : Lane) (mid : LaneView) (cells : List ℕ) (empty again : Reading) (few : x.cells.limits.numbers < 2 ^ 20) (known : All (λ c. c < x.cells.limits.cells) cells)
-    (more : List ℕ) (three : ReadPass x.cells.limits mid y.view (take empty.count cells) more) (said : IsReading more again) where
-  sums_are : (words : List ℕ) → IsReading words empty → again.versions ≡ empty.versions → sum_by version_in more ≡ sum_by version_in words
-  sums_are words r e = sym said.versions ∙ (e ∙ r.versions)
+module _ (x y : Lane) (mid : LaneView) (cells : List ℕ) (empty : EmptyCells) (again : ℕ) (few : x.cells.limits.numbers < 2 ^ 20) (known : All (λ c. c < x.cells.limits.cells) cells)
+    (t : FirstPass x.cells.limits x.view mid cells empty) (more : List ℕ) (three : ReadPass x.cells.limits mid y.view (take empty.count cells) more) (added : again ≡ sum_by version_in more) where
+  sums_are : again ≡ empty.versions → sum_by version_in more ≡ sum_by version_in t.words
+  sums_are e = sym added ∙ (e ∙ t.versions)
 
   -- nothing stood in any,
-  pub still_none : FirstPass x.cells.limits x.view mid cells empty None → again.versions ≡ empty.versions → StoodNearest x y cells None × (length (call_fronts x.view y.view) ≤ length cells + length cells)
-  still_none t e =
+  still_none : again ≡ empty.versions → mid ≡ t.between → empty.count ≡ length cells → StoodNearest x y cells None × (length (call_fronts x.view y.view) ≤ length cells + length cells)
+  still_none e same full =
       let limits = x.cells.limits in let cs : List ℕ = take empty.count cells in
       let two = pass_none x.cells.limits t.between (legal_between x.cells.limits x.view t.between cs t.words t.read) in
-      let on : ReadPass x.cells.limits t.between y.view (take empty.count cells) more = subst (λ l. ReadPass x.cells.limits l y.view (take empty.count cells) more) t.ends.0 three in
-      let full = t.ends.1 in
+      let on : ReadPass x.cells.limits t.between y.view (take empty.count cells) more = subst (λ l. ReadPass x.cells.limits l y.view (take empty.count cells) more) same three in
       let all : take empty.count cells ≡ cells = take_all empty.count cells (omega (arith, full)) in
       let long : length (take empty.count cells) ≡ length cells = ap length all in
-      let words_are = still_stood x.cells.limits x.view t.between t.between y.view cs [] t.words [] more few t.read two on (sums_are t.words t.reading e) in
+      let words_are = still_stood x.cells.limits x.view t.between t.between y.view cs [] t.words [] more few t.read two on (sums_are e) in
       let point = still_point x.cells.limits x.view t.between t.between y.view cs [] t.words [] more few t.read two on in
       let steps = still_steps x.cells.limits x.view t.between t.between y.view cs [] t.words [] more few t.read two on in
       let p : History = last_after (seen_by x.view) (t.read.fronts ++ two.fronts) in (
@@ -373,23 +376,23 @@ module _ (x y : Lane) (mid : LaneView) (cells : List ℕ) (empty again : Reading
       )
 
   -- or this was the nearest where anything did
-  pub still_some : (s : Standing) → FirstPass x.cells.limits x.view mid cells empty (Some s) → again.versions ≡ empty.versions
+  still_some : (s : Standing) → again ≡ empty.versions → empty.count < length cells → Says empty.behind (Some s)
+      → (h : History) → Finds x.cells.limits t.between (slice_index cells empty.count) empty.behind h → mid ≡ moved t.between (h ∷ [])
       → StoodNearest x y cells (Some (record { place = empty.count; standing = s })) × (length (call_fronts x.view y.view) ≤ length cells + length cells)
-  still_some s t e =
+  still_some s e less said h finds is =
       let limits = x.cells.limits in let cs : List ℕ = take empty.count cells in
-      let less = t.ends.0 in
-      let w : ℕ = t.ends.1.0 in
+      let w : ℕ = empty.behind in
       let c : ℕ = slice_index cells empty.count in
       let legal = legal_between x.cells.limits x.view t.between cs t.words t.read in
-      let two : ReadPass x.cells.limits t.between mid (slice_index cells empty.count ∷ []) (t.ends.1.0 ∷ []) = pass_more x.cells.limits t.between t.between mid [] [] c w t.ends.1.1 (pass_none x.cells.limits t.between legal) (known empty.count 0 less) t.ends.1.3 t.ends.1.4 in
+      let two : ReadPass x.cells.limits t.between mid (slice_index cells empty.count ∷ []) (empty.behind ∷ []) = pass_more x.cells.limits t.between t.between mid [] [] c w h (pass_none x.cells.limits t.between legal) (known empty.count 0 less) finds is in
       let long : length (take empty.count cells) ≡ empty.count = length-take-le empty.count cells (omega (arith, less)) in
-      let words_are = still_stood x.cells.limits x.view t.between mid y.view cs (c ∷ []) t.words (w ∷ []) more few t.read two three (sums_are t.words t.reading e) in
+      let words_are = still_stood x.cells.limits x.view t.between mid y.view cs (c ∷ []) t.words (w ∷ []) more few t.read two three (sums_are e) in
       let point = still_point x.cells.limits x.view t.between mid y.view cs (c ∷ []) t.words (w ∷ []) more few t.read two three in
       let steps = still_steps x.cells.limits x.view t.between mid y.view cs (c ∷ []) t.words (w ∷ []) more few t.read two three in
       let p : History = last_after (seen_by x.view) (t.read.fronts ++ two.fronts) in
       let calls = still_calls x.cells.limits x.view t.between mid y.view cs (c ∷ []) t.words (w ∷ []) more few t.read two three in
       let lawful : IsLegal limits p = point_legal calls p (answer_point calls p point) in
-      let word_is : t.ends.1.0 ≡ word_of (last_after (seen_by x.view) (t.read.fronts ++ two.fronts)) (slice_index cells empty.count) =
+      let word_is : empty.behind ≡ word_of (last_after (seen_by x.view) (t.read.fronts ++ two.fronts)) (slice_index cells empty.count) =
       read_one (last_after (seen_by x.view) t.read.fronts) c w two.fronts two.read ∙ ap (λ z. word_of z c) (sym (last_append (seen_by x.view) t.read.fronts two.fronts)) in (
         record {
           calls = calls;
@@ -400,24 +403,32 @@ module _ (x y : Lane) (mid : LaneView) (cells : List ℕ) (empty again : Reading
             record {
               within = less;
               nothing_before = nothing_in p cs t.words words_are t.nothing;
-              stands = t.ends.1.2 ((state_after p).slots c) (version_of p c) (number_fits limits p c few lawful) word_is;
+              stands = said ((state_after p).slots c) (version_of p c) (number_fits limits p c few lawful) word_is;
             },
           );
         },
         omega (arith, steps, long, less),
       )
 
+  -- as the word behind the empty cells says
+  pub still_nearest : again ≡ empty.versions → (nearest : Option Nearest) → IfNone nearest (IsEmptyWord empty.behind) → IfSome nearest (λ n. (n.place ≡ empty.count) × Says empty.behind (Some n.standing))
+      → StoodNearest x y cells nearest × (length (call_fronts x.view y.view) ≤ length cells + length cells)
+  still_nearest e None none some = ⊎_elim (λ all. still_none e all.0 all.1) (λ one. absurd (one.1 none)) t.ends
+  still_nearest e (Some n) none some = ⊎_elim
+      (λ all. absurd (nothing_said n.standing (subst (λ w. Says w (Some n.standing)) all.2 some.1)))
+      (λ one. subst (λ (place : ℕ). StoodNearest x y cells (Some (record { place = place; standing = n.standing })) × (length (call_fronts x.view y.view) ≤ length cells + length cells)) (sym some.0)
+      (still_some n.standing e one.0 some.1 one.2.0 one.2.1 one.2.2)) t.ends
+
   -- else a pass over all cells has begun, and goes on behind them
-  pub begun_here : (last : LaneView) (stands : Option Standing) (zs : List ℕ) → FirstPass x.cells.limits x.view mid cells empty stands → again.versions ≢ empty.versions → ReadPass x.cells.limits y.view last (drop empty.count cells) zs
-      → Passes x.cells.limits x.view last cells (more ++ zs) 1
-  begun_here last stands zs t differs four =
+  pub begun_here : (last : LaneView) (zs : List ℕ) → again ≢ empty.versions → ReadPass x.cells.limits y.view last (drop empty.count cells) zs → Passes x.cells.limits x.view last cells (more ++ zs) 1
+  begun_here last zs differs four =
       let cs : List ℕ = take empty.count cells in
-      let end = end_pass x.cells.limits t.between mid cells empty.count stands (legal_between x.cells.limits x.view t.between cs t.words t.read) known t.ends in
+      let end = end_pass x.cells.limits t.between mid cells empty (legal_between x.cells.limits x.view t.between cs t.words t.read) known t.ends in
       let short = end.3 in
       let long : length (drop empty.count cells) ≡ length cells - empty.count = length-drop empty.count cells in
       subst (λ z. Passes x.cells.limits x.view last z (more ++ zs) 1) (take-append-drop empty.count cells)
       (begun x.cells.limits x.view t.between mid y.view cs end.0 t.words end.1 more few t.read end.2 three last (drop empty.count cells) zs four
-      (λ e. differs (said.versions ∙ (e ∙ sym t.reading.versions))) (omega (arith, short, long)))
+      (λ e. differs (added ∙ (e ∙ sym t.versions))) (omega (arith, short, long)))
 
 -- ---- pass after pass
 

@@ -9,15 +9,15 @@ use Rattle.ext_model.specs.declared.slot.Slot.TheVariants as slot
 use Rattle.ext_model.specs.Events as events
 use Rattle.ext_model.specs.Events.{place_of, slot_after, is_at}
 use Rattle.ext_model.specs.History.{History, Limits, by, state_after, version_of, reply_after, IsLegal}
-use Rattle.ext_model.specs.Words.{number_code, slot_word, word, word_of}
+use Rattle.ext_model.specs.CellWords.{number_code, slot_word, word, word_of}
 use Rattle.ext_model.proofs.Numbers.{bounded}
 use Rattle.ext_model.proofs.Versions.{word_parts}
 use Rattle.ext_model.proofs.Words.{word-event}
 use Rattle.ext_cells.specs.declared.cell_state.CellState.{CellState}
 use Rattle.ext_cells.specs.declared.cell_state.CellState.TheVariants.{Empty, Computing, Present, Sealed, Failed}
-use Rattle.ext_cells.specs.Words.{code, exhausted_if, unless, after_word, word_with}
+use Rattle.ext_cells.specs.WordChanges.{code, exhausted_if, unless, after_word, word_with}
 use Rattle.ext_cells.specs.InnerDeciding.{state_of}
-use Rattle.ext_cells.specs.Laws.{Agrees}
+use Rattle.ext_cells.specs.CellLaws.{Agrees}
 use Rattle.ext_cells.proofs.CellWords.{code_is}
 
 -- ---- by what stands

@@ -1,6 +1,6 @@
 -- What the contract of each call says of its result. `CallActs` of ext_model has the words: the events that a call made, its fronts, and the points at
 -- which its answer may be that of one thread. Here stand, for each call, what one thread is answered at a point, and which events an answer means.
-use Rattle.std.specs.Prelude.{ℕ, ◌≡◌, ◌<◌, ◌≤◌, ◌+◌, ◌-◌, All, slice_index, sum_by, List, [], ◌∷◌, length, map, take, Option, None, Some, Result, Ok, Err}
+use Rattle.std.specs.Prelude.{ℕ, ◌≡◌, ◌<◌, ◌≤◌, ◌+◌, ◌-◌, ◌*◌, All, slice_index, sum_by, List, [], ◌∷◌, length, map, take, Option, None, Some, Result, Ok, Err}
 use Rattle.ext_model.specs.declared.event.Act.{Act}
 use Rattle.ext_model.specs.declared.event.Act.TheVariants.{Keep, Put, Remove, Claim, Seal}
 use Rattle.ext_model.specs.declared.slot.Slot.{Slot}
@@ -9,7 +9,7 @@ use Rattle.ext_model.specs.Events as events
 use Rattle.ext_model.specs.Events.{place_of}
 use Rattle.ext_model.specs.History.{History, reply_after, state_after, version_of}
 use Rattle.ext_model.specs.Plain.{number_drawn, what_stood}
-use Rattle.ext_model.specs.Words.{word_of}
+use Rattle.ext_model.specs.CellWords.{word_of}
 use Rattle.ext_history.specs.Histories.{seen_by, last_after, call_fronts, first_front, IsStepped}
 use Rattle.ext_model.specs.CallActs.{LaneView, IsAnswerPoint}
 use Rattle.ext_model.specs.CallActs as model
@@ -149,6 +149,14 @@ Collects tries before after cells (Ok words) = StoodTogether before after cells 
 Collects tries before after cells (Err why) = (why ≡ Contended) × model.IsOvertaken before.cells.limits tries before.view after.view
 
 -- ---- the nearest cell
+
+-- a row has 64 cells, one in each column: the cell of a row in this column
+abbrev pub cell_at : ℕ → ℕ → ℕ
+cell_at column row = row * 64 + column
+
+-- the cells that rows have in one column, in the order of the rows
+abbrev pub cells_in : List ℕ → ℕ → List ℕ
+cells_in rows column = map (cell_at column) rows
 
 -- what a look-up is told by what stands at a cell: not whose claim it is, nor what a seal keeps
 abbrev pub standing_of : Option Slot → Option Standing

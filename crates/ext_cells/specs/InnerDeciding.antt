@@ -7,12 +7,12 @@ use Rattle.ext_model.specs.declared.slot.Slot.{Slot}
 use Rattle.ext_model.specs.declared.slot.Slot.TheVariants as slot
 use Rattle.ext_model.specs.Events as events
 use Rattle.ext_model.specs.Plain.{what_stood}
-use Rattle.ext_model.specs.Words.{number_code, slot_word}
+use Rattle.ext_model.specs.CellWords.{number_code, slot_word}
 use Rattle.ext_cells.specs.declared.cell_state.CellState.{CellState}
 use Rattle.ext_cells.specs.declared.cell_state.CellState.TheVariants.{Empty, Computing, Present, Sealed, Failed}
 use Rattle.ext_cells.specs.declared.decision.Decision.{Decision}
 use Rattle.ext_cells.specs.declared.decision.Decision.TheVariants.{Change, Done}
-use Rattle.ext_cells.specs.Words.{word_with}
+use Rattle.ext_cells.specs.WordChanges.{word_with}
 use Rattle.ext_cells.specs.CellCalls.{result_of}
 use Rattle.ext_cells.specs.declared.stood.Stood.{Stood}
 use Rattle.ext_cells.specs.declared.stood.Stood.TheVariants.{Nothing, Value, Fault}

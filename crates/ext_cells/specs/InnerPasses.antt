@@ -1,15 +1,16 @@
 -- One pass over some cells, which reads each of them once, in order, and what is kept of the words.
 -- Below the public contracts.
-use Rattle.std.specs.Prelude.{◌≡◌, ℕ, ◌^◌, ◌<◌, List, [], ◌∷◌, All, Option, None, Some, length, slice_index, sum_by, take}
+use Rattle.std.specs.Prelude.{◌≡◌, ◌⊎◌, ℕ, ◌^◌, ◌<◌, List, [], ◌∷◌, All, Option, None, Some, length, slice_index, sum_by, take}
 use Rattle.ext_model.specs.declared.slot.Slot.{Slot}
 use Rattle.ext_model.specs.History.{History, Limits, own, IsLegal}
-use Rattle.ext_model.specs.Words.{number_code, slot_word, word_of}
+use Rattle.ext_model.specs.CellWords.{number_code, slot_word, word_of}
 use Rattle.ext_history.specs.Histories.{last_after, seen_by, Follow, moved}
 use Rattle.ext_model.specs.CallActs.{LaneView}
+use Rattle.ext_cells.specs.declared.nearest.EmptyCells.{EmptyCells}
 use Rattle.ext_cells.specs.declared.nearest.Nearest.{Nearest}
 use Rattle.ext_cells.specs.declared.nearest.Reading.{Reading}
 use Rattle.ext_cells.specs.declared.standing.Standing.{Standing}
-use Rattle.ext_cells.specs.Words.{version_in, IsEmptyWord}
+use Rattle.ext_cells.specs.WordChanges.{version_in, IsEmptyWord}
 use Rattle.ext_cells.specs.CellCalls.{standing_of}
 use Rattle.ext_cells.specs.InnerSteps.{Finds}
 
@@ -54,15 +55,15 @@ pub record IsReading (words : List ℕ) (reading : Reading) : Type 0 where
 -- ---- a pass that ends at the first cell where anything stands
 
 -- what came behind the empty cells: nothing, where those were all; or the read of one more, where something stands
-abbrev pub EndsAt : Limits → LaneView → LaneView → List ℕ → ℕ → Option Standing → Type 0
-EndsAt limits before after cells count None = (after ≡ before) × (count ≡ length cells)
-EndsAt limits before after cells count (Some standing) =
-    (count < length cells) × ((word : ℕ) × (h : History) × Says word (Some standing) × Finds limits before (slice_index cells count) word h × (after ≡ moved before (h ∷ [])))
+abbrev pub EndsAt : Limits → LaneView → LaneView → List ℕ → EmptyCells → Type 0
+EndsAt limits before after cells empty =
+    ((after ≡ before) × (empty.count ≡ length cells) × (empty.behind ≡ 0))
+    ⊎ ((empty.count < length cells) × (¬ IsEmptyWord empty.behind) × ((h : History) × Finds limits before (slice_index cells empty.count) empty.behind h × (after ≡ moved before (h ∷ []))))
 
-pub record FirstPass (limits : Limits) (before after : LaneView) (cells : List ℕ) (empty : Reading) (stands : Option Standing) : Type 0 where
+pub record FirstPass (limits : Limits) (before after : LaneView) (cells : List ℕ) (empty : EmptyCells) : Type 0 where
   pub between : LaneView
   pub words : List ℕ
-  pub reading : IsReading words empty
   pub nothing : All IsEmptyWord words
+  pub versions : empty.versions ≡ sum_by version_in words
   pub read : ReadPass limits before between (take empty.count cells) words
-  pub ends : EndsAt limits between after cells empty.count stands
+  pub ends : EndsAt limits between after cells empty

@@ -1,8 +1,8 @@
-pub mod Words
+pub mod WordChanges
 pub mod Lanes
 pub mod CellCalls
 pub mod InnerRule
 pub mod InnerSteps
 pub mod InnerPasses
 pub mod InnerDeciding
-pub mod Laws
+pub mod CellLaws

@@ -1,4 +1,4 @@
-//! What stands at a cell, as its word tells it.
+//! What stands at a cell, as its word says.
 
 /// What stands at a cell, in bits 0 to 3 of its word.
 #[derive(Clone, Copy, Debug, PartialEq, Eq)]

@@ -8,8 +8,9 @@ ghost use Rattle.ext_cells.specs.InnerRule.{Exchanged, FoundBy, MayExchange, not
 use crate::rule::{CellTable, Exchange, LaneSeat, Load, Note};
 use ext_model::{Act, CellNo};
 
-/// The words of the cells and the count of numbers, once they are open. They are reached from this module alone, and each
-/// function of it that reads or changes one is a step of a lane's seat: so no call has another look at them.
+/// The words of open cells and the count of numbers. Only this module reaches them, and each
+/// function of it that reads or changes one is a step of a lane's seat: so no call can look at them
+/// otherwise.
 #[derive(Drop)]
 pub(crate) struct CellSteps {
     table: CellTable,
@@ -23,7 +24,7 @@ impl CellSteps {
         CellSteps { table }
     }
 
-    /// The word at a place as it stands, for a lane.
+    /// Reads the word at a place, for a lane.
     pub(crate) fn load(&self, seat: &mut LaneSeat, place: usize) -> u64
         requires table { seat.old.table_id ≡ self.now.table.shared.table_id }
         requires lane { (number : ℕ) × (seat.old.me.0.lane ≡ Some number) }
@@ -34,8 +35,8 @@ impl CellSteps {
         self.table.shared.load::<Load>(seat, place)
     }
 
-    /// Makes an event, which changes the word at its place, where that still is the one that was seen. Returns the word that it
-    /// found.
+    /// Makes an event, which changes the word at its place, if that is still the word that was
+    /// seen. Returns the word that it found.
     pub(crate) fn exchange(
         &self,
         seat: &mut LaneSeat,
@@ -55,7 +56,7 @@ impl CellSteps {
             .compare_exchange_with::<Exchange>(seat, place, old, new, &act)
     }
 
-    /// Tells a lane of all that another has seen, and loads the first word for it.
+    /// Shows a lane all that another has seen, and loads the first word for it.
     pub(crate) fn tell(&self, from: &mut LaneSeat, to: &mut LaneSeat)
         requires from { from.old.table_id ≡ self.now.table.shared.table_id }
         requires to { to.old.table_id ≡ self.now.table.shared.table_id }

@@ -1,14 +1,15 @@
-//! A cell in one word of 64 bits: its state, the number that stands there, and how many events it has had. No other module takes a
-//! word apart.
+//! A cell in one word of 64 bits: its state, the number that stands there, and how many events it
+//! has had. No other module takes a word apart.
 ghost use Rattle.std.specs.Prelude.{◌≡◌, ◌↔◌, ℕ, ◌+◌, ◌*◌, ◌-◌, ◌^◌, ◌<◌, IsTrue, IfNone};
-ghost use Rattle.ext_cells.specs.Words.{word_with, sealed_number as sealed_number_of, next_word as next_word_of, ends_claim as ends_claim_of, is_worn_by, refusal_in, after_word, version_in, HasState, IsEmptyWord, Suits};
+ghost use Rattle.ext_cells.specs.WordChanges.{word_with, sealed_number as sealed_number_of, next_word as next_word_of, ends_claim as ends_claim_of, is_worn_by, refusal_in, after_word, version_in, HasState, IsEmptyWord, Suits};
 ghost use Rattle.ext_cells.specs.InnerPasses.{Says};
 
 use crate::{CellRefusal, CellState, Standing};
 use ext_model::{Act, CellNo};
 
-/// The word of a cell: the state in bits 0 to 3, the number, below 2^20, in bits 4 to 23, and the version, below 2^40, in bits 24
-/// to 63. A fresh cell is 0. `Cells::collect` alone hands words out, and no call takes one.
+/// The word of a cell with this state, number and version. The state is in bits 0 to 3, the number,
+/// below 2^20, in bits 4 to 23, and the version, below 2^40, in bits 24 to 63. A fresh cell is 0.
+/// Only `Cells::collect` hands words out, and no call on cells takes one.
 pub fn word(state: CellState, number: u32, version: u64) -> u64
     requires number { number < 2 ^ 20 }
     requires version { version < 2 ^ 40 }
@@ -24,8 +25,9 @@ pub fn word(state: CellState, number: u32, version: u64) -> u64
     version * 16_777_216 + u64::from(number) * 16 + bits
 }
 
-/// The state, the number and the version of a word: they are the only ones. Its bits 0 to 3 are those of a state. What stands at a
-/// cell needs no word: `Cells::nearest` answers it; `Cells::collect` alone hands words out.
+/// The state, the number and the version of a word, the only ones that it can have. Its bits 0 to 3
+/// must be those of a state. To learn what stands at a cell, call `Cells::nearest`, which needs no
+/// word.
 pub fn parts(word: u64) -> (CellState, u32, u64)
     requires { HasState word }
     ensures parts { word_with result.0 result.1 result.2 ≡ word }
@@ -45,7 +47,7 @@ pub fn parts(word: u64) -> (CellState, u32, u64)
     (state, number, version)
 }
 
-/// What stands at the cell of this word, or `None` where it is empty.
+/// What stands at the cell of this word, or `None` if it is empty.
 pub(crate) fn what_stands(word: u64) -> Option<Standing>
     requires { HasState word }
     ensures none { IfNone result (IsEmptyWord word) }
@@ -69,7 +71,8 @@ pub(crate) fn version(word: u64) -> u64
     word / 16_777_216
 }
 
-// What the seal of a cell where nothing stands adds to its word: a version, and the state of a seal that keeps no number.
+// What sealing an empty cell adds to its word: a version, and the state of a seal that keeps no
+// number.
 pub(crate) const SEAL_OF_NOTHING: u64 = 16_777_216 + 3;
 
 // Whether nothing stands at the cell of this word.
@@ -80,7 +83,7 @@ pub(crate) fn is_empty(word: u64) -> bool
     word % 16 == 0
 }
 
-// The greatest versions at which a cell takes a put or a remove, and a claim.
+// The greatest versions at which a cell accepts a put or a remove, and a claim.
 const LAST_CHANGE: u64 = 1_099_511_627_773;
 
 const LAST_CLAIM: u64 = 1_099_511_627_772;
@@ -123,7 +126,7 @@ fn refusal(state: CellState, version: u64, act: Act<CellNo>) -> Option<CellRefus
     }
 }
 
-// The number that a seal keeps, by what it found: a fault's number goes.
+// The number that a seal keeps of what it found: a fault's number is dropped.
 fn sealed_number(state: CellState, number: u32) -> u32
     ensures { result ≡ sealed_number_of state number }
 {
@@ -150,14 +153,15 @@ pub(crate) fn next_word(act: Act<CellNo>, state: CellState, number: u32, version
     }
 }
 
-/// The word after an act, whose version is one more.
+/// The word after an act, with a version that is one more. It changes no cell.
 ///
-/// Refused as `Busy` where a claim stands, save for a fill, a fail or an abandon; as `Closed` where the cell is sealed; as
-/// `Exhausted` where the version is above 2^40 - 3 for a put or a remove, and above 2^40 - 4 for a claim: so the end of a
-/// claim and one seal always have a version left. The act is no keep; a fill, a fail or an abandon is of a claimed cell;
-/// there is a number to remove, no seal to seal again, and no number where a claim is asked for; a number stored is below
-/// 2^20, and for a fill, a fail, an abandon or a seal the version is below 2^40 - 1. It changes no cell: words come from
-/// `Cells::collect` alone, and no call takes one.
+/// Refused as `Busy` if a claim stands, except for a fill, a fail or an abandon; as `Closed` if the
+/// cell is sealed; as `Exhausted` if the version is above 2^40 - 3 for a put or a remove, or above
+/// 2^40 - 4 for a claim: so the end of a claim and one seal always have a version left. The act
+/// must not be a keep; a fill, a fail or an abandon must be of a claimed cell; there must be a
+/// number to remove, no seal to seal again, and no number if a claim is asked for; a number to
+/// store must be below 2^20, and for a fill, a fail, an abandon or a seal the version below
+/// 2^40 - 1.
 pub fn after(word: u64, act: Act<CellNo>) -> Result<u64, CellRefusal>
     requires state { HasState word }
     requires act { (state : _) (number version : ℕ) → number < 2 ^ 20 → word ≡ word_with state number version → Suits act state version }

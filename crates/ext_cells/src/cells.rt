@@ -3,7 +3,7 @@ ghost use Rattle.std.specs.Prelude.{◌≡◌, ◌≢◌, ◌≤◌, ◌<◌, �
 ghost use Rattle.std.specs.List.{IsDistinct};
 ghost use mathlib.Core.List.{IsPrefix};
 ghost use Rattle.ext_model.specs.History.{History, by, stored_number, fault_number, IsLegal};
-ghost use Rattle.ext_model.specs.Words.{word_of};
+ghost use Rattle.ext_model.specs.CellWords.{word_of};
 ghost use Rattle.ext_history.specs.Histories.{seen_by, call_fronts};
 ghost use Rattle.ext_model.specs.CallActs.{Calls, IsHeld, MayStoreNow};
 ghost use Rattle.ext_model.specs.declared.event.Act.TheVariants as act_is;
@@ -12,7 +12,7 @@ ghost use Rattle.ext_cells.specs.InnerRule.{place_in};
 ghost use Rattle.ext_cells.specs.CellCalls.{Answers, SealAnswers, ComesLast, EndsClaim, Collects, IsOvertakenOn, before_last_pass, IfWon, change_reply, claim_reply, number_reply, number_acts, put_acts, remove_acts, claim_acts};
 ghost use Rattle.ext_cells.specs.InnerSteps.{stepped, Finds, MayGoOn, IsChangeOf, IsEndOf, Changes};
 ghost use Rattle.ext_cells.specs.InnerPasses.{ReadPass};
-ghost use Rattle.ext_cells.specs.Words.{HasState};
+ghost use Rattle.ext_cells.specs.WordChanges.{HasState};
 
 use crate::cell_steps::CellSteps;
 use crate::cell_word::{next_word, parts};
@@ -25,13 +25,13 @@ use ext_model::{Act, CellNo};
 use std::alloc::Global;
 use std::marker::Model;
 
-/// The cells of a store and the count of its numbers, each a word of its own, shared by reference between the
-/// threads that own its lanes.
+/// The cells of a store and the count of its numbers, each a word of its own, shared by reference
+/// between the threads that own its lanes.
 ///
-/// A lane is used with the cells that it was opened with. A refused call makes no event. A change loads its cell's word
-/// first, then makes at most `tries` exchanges, and where one fails it decides anew by the word that this one found, once
-/// more after the last: so `Contended` comes after every other refusal, and of at least as many events on that one cell as
-/// there are tries. No call waits for another lane.
+/// A lane is used only with the cells that it was opened with. A refused call makes no event. A
+/// change first loads its cell's word, and then makes at most `tries` exchanges. If one fails, it
+/// decides anew by the word that it found, also after the last: so `Contended` comes after every
+/// other refusal, and means at least `tries` events on that cell.
 #[derive(Drop)]
 pub struct Cells {
     table: CellSteps,
@@ -58,14 +58,12 @@ impl Model for Cells {
 }
 
 impl Cells {
-    /// Opens `cells` empty cells, with their lanes, which are numbered from 0 in the order of the list. Nobody but
-    /// these lanes makes an event: where none of them has made one, the history is empty (`no_lane` of
-    /// `history_laws` in ext_model). Takes memory.
+    /// Opens `cells` empty cells that may keep faults, and their lanes, numbered from 0 in the
+    /// order of the list. Only these lanes make events: while none of them has made one, the
+    /// history is empty (`no_lane` of `history_laws` in ext_model). Takes memory.
     ///
-    /// Faults may be kept in them: `open_for` opens cells in which none are.
-    ///
-    /// Refused as `BadLimit` unless there are at most 16,384 cells, 1 to 16 lanes, 1 to 64 tries and 1 to 65,535
-    /// numbers, and then as `Memory`.
+    /// Refused as `BadLimit` unless there are at most 16,384 cells, 1 to 16 lanes, 1 to 64 tries
+    /// and 1 to 65,535 numbers, and then as `Memory`.
     pub fn open(
         alloc: Global,
         cells: usize,
@@ -83,8 +81,9 @@ impl Cells {
         Cells::open_for(alloc, cells, lanes, tries, numbers, true)
     }
 
-    /// As `open`, for cells in which faults are kept or not. Where they are not, no lane makes a fail, and no cell ever has
-    /// a fault (`no_faults` of `history_laws` in ext_model). Takes memory.
+    /// Opens cells as `open` does, but they keep faults only if `keep_faults` is true. Otherwise no
+    /// lane makes a fail, and no cell ever has a fault (`no_faults` of `history_laws` in
+    /// ext_model). Takes memory.
     pub fn open_for(
         alloc: Global,
         cells: usize,
@@ -119,15 +118,16 @@ impl Cells {
         Ok((cells, lanes))
     }
 
-    // What the calls rest on.
+    // Recalls the limits on which the calls rely.
     pub(crate) fn recall(&self)
+        ensures cells { self.now.id.limits.cells ≤ 16384 }
         ensures numbers { self.now.id.limits.numbers < 2 ^ 20 }
         ensures tries { 1 ≤ self.now.tries }
     {
         let _tries = self.tries;
     }
 
-    /// How many exchanges a call makes at most, from 1 to 64.
+    /// The greatest number of exchanges of a call, from 1 to 64.
     pub fn tries(&self) -> u32
         ensures tries { result ≡ self.now.tries }
         ensures within { (1 ≤ self.now.tries) × (self.now.tries ≤ 64) }
@@ -142,14 +142,14 @@ impl Cells {
         self.limits.keep_faults
     }
 
-    /// The words of the cells as they stood together at one point of the call, in the order in which they are
-    /// named: at most 16 cells, all different. It is the one call that hands words out.
+    /// The words of the cells as they stood together at one point of the call, in the order in
+    /// which they are named. At most 16 cells, all different. No other call hands words out.
     ///
-    /// A pass reads each cell once, and the answer is the first pass that equals the pass before it: then no event on
-    /// these cells came between the two, since each event raises the version of its cell, and the words stood
-    /// together after the last read of the earlier one. Refused as `Contended` alone, where so many passes as there
-    /// are tries differed from the ones before them: other lanes made at least as many events on these cells meanwhile. A
-    /// collect of no cells is no step.
+    /// A pass reads each cell once, and the answer is the first pass that equals the pass before
+    /// it. Each event raises the version of its cell, so no event on these cells came between the
+    /// two, and the words stood together after the last read of the earlier one. Refused only as
+    /// `Contended`, if `tries` passes differed from the ones before them: other lanes made at least
+    /// that many events on these cells meanwhile. A collect of no cells makes no step.
     pub fn collect(&self, lane: &mut CellLane, cells: &[CellNo]) -> Result<Words, CellRefusal>
         requires lane { lane.old.cells ≡ self.now.id }
         requires few { length cells.now ≤ 16 }
@@ -173,11 +173,12 @@ impl Cells {
         Err(CellRefusal::Contended)
     }
 
-    /// Draws the next number: the first is 1, each is the last plus one. No lane has drawn it before, and none draws it
-    /// afterwards (`drawn_once` of `cell_laws`). JUnit numbers values as they are stored.
+    /// Draws the next number: the first is 1, each further one is the last plus one. No lane has
+    /// drawn it before, and none draws it afterwards (`drawn_once` of `cell_laws`). JUnit numbers
+    /// values as they are stored.
     ///
-    /// Refused as `NumbersFull` where all numbers were drawn, and else as `Contended`, where other lanes have drawn at least as
-    /// many as there are tries.
+    /// Refused as `NumbersFull` if all numbers were drawn, and else as `Contended`, if other lanes
+    /// have drawn at least `tries` numbers.
     pub fn next_number(&self, lane: &mut CellLane) -> Result<u32, CellRefusal>
         requires lane { lane.old.cells ≡ self.now.id }
         ensures lane { lane.new.cells ≡ lane.old.cells }
@@ -207,13 +208,15 @@ impl Cells {
         Err(CellRefusal::NumbersFull)
     }
 
-    /// Stores the number in the cell, over one that stands there, and answers the number that stood, of a value or of a
-    /// kept fault. The lane drew the number, and has not stored it.
+    /// Stores the number in the cell, and answers the number that it replaces there, of a value or
+    /// of a kept fault. The lane must have drawn the number and not have stored it.
     ///
-    /// Refused as `Busy` where a claim stands, as `Closed` where the cell is sealed, as `Exhausted` where the
-    /// cell's version is above 2^40 - 3, and else as `Contended`; the number is then still to be stored.
+    /// Refused as `Busy` if a claim stands, as `Closed` if the cell is sealed, as `Exhausted` if
+    /// the cell's version is above 2^40 - 3, and else as `Contended`; the number may still be
+    /// stored then.
     ///
-    /// JUnit 5 User Guide, section "Keeping State in Extensions"; claims, seals and versions are own rules.
+    /// JUnit 5 User Guide, section "Keeping State in Extensions"; claims, seals and versions are
+    /// own rules.
     pub fn put(
         &self,
         lane: &mut CellLane,
@@ -232,12 +235,14 @@ impl Cells {
         any_number(self.change(lane, cell, Act::Put(cell, number)))
     }
 
-    /// Takes the number out of the cell, of a value or of a kept fault, and answers it; where nothing stands the answer is `None`, and nothing happens.
+    /// Removes the number from the cell, of a value or of a kept fault, and answers it. If nothing
+    /// stands there, the answer is `None`, and nothing happens.
     ///
-    /// Refused as `Busy` where a claim stands, as `Closed` where the cell is sealed, as `Exhausted` where a number
-    /// stands at a version above 2^40 - 3, and else as `Contended`.
+    /// Refused as `Busy` if a claim stands, as `Closed` if the cell is sealed, as `Exhausted` if a
+    /// number stands at a version above 2^40 - 3, and else as `Contended`.
     ///
-    /// JUnit 5 User Guide, section "Keeping State in Extensions"; claims, seals and versions are own rules.
+    /// JUnit 5 User Guide, section "Keeping State in Extensions"; claims, seals and versions are
+    /// own rules.
     pub fn remove(&self, lane: &mut CellLane, cell: CellNo) -> Result<Option<u32>, CellRefusal>
         requires lane { lane.old.cells ≡ self.now.id }
         requires cell { cell < self.now.id.limits.cells }
@@ -249,10 +254,11 @@ impl Cells {
         any_number(self.change(lane, cell, Act::Remove(cell)))
     }
 
-    /// Seals the cell for good, and answers the number of the value that stood there, which the seal keeps; a fault that
-    /// was kept goes. A sealed cell answers what it kept, and nothing happens.
+    /// Seals the cell for good, and answers the number of the value that stood there, which the
+    /// seal keeps. A kept fault is dropped. A cell that is sealed already answers what it kept, and
+    /// nothing happens.
     ///
-    /// Refused as `Busy` where a claim stands, and else as `Contended`; never as `Exhausted`.
+    /// Refused as `Busy` if a claim stands, and else as `Contended`; never as `Exhausted`.
     pub fn seal(&self, lane: &mut CellLane, cell: CellNo) -> Result<Option<u32>, CellRefusal>
         requires lane { lane.old.cells ≡ self.now.id }
         requires cell { cell < self.now.id.limits.cells }
@@ -264,12 +270,12 @@ impl Cells {
         value_number(self.change(lane, cell, Act::Seal(cell)))
     }
 
-    /// Claims the cell for the lane where nothing stands there; until the lane ends the claim, each put, remove, seal
-    /// and claim of the cell, by whichever lane, is refused as `Busy`. Where the number of a value or of a kept fault
-    /// stands the answer is that number, and nothing happens.
+    /// Claims the cell for the lane if nothing stands there. Until the lane ends the claim, each
+    /// put, remove, seal and claim of the cell, by any lane, is refused as `Busy`. If the number of
+    /// a value or of a kept fault stands there, the answer is that number, and nothing happens.
     ///
-    /// Refused as `Busy` where a claim stands, the lane's own too, as `Closed` where the cell is sealed, as
-    /// `Exhausted` where nothing stands at a version above 2^40 - 4, and else as `Contended`.
+    /// Refused as `Busy` if a claim stands, the lane's own too, as `Closed` if the cell is sealed,
+    /// as `Exhausted` if nothing stands at a version above 2^40 - 4, and else as `Contended`.
     ///
     /// In JUnit a running factory holds its key.
     pub fn claim(&self, lane: &mut CellLane, cell: CellNo) -> Result<Claimed, CellRefusal>
@@ -288,9 +294,10 @@ impl Cells {
         }
     }
 
-    /// Ends the lane's claim by a number, which stands in the cell then. The lane drew the number, and has not stored
-    /// it. It is never refused, and makes two steps: a load, and one exchange, which can't fail, as no step of
-    /// another lane changes a claimed cell (`held_words` of `call_laws` in ext_model).
+    /// Ends the lane's claim and stores the number in the cell. The lane must have drawn the number
+    /// and not have stored it. It is never refused, and makes two steps: a load, and one exchange,
+    /// which cannot fail, since no step of another lane changes a claimed cell (`held_words` of
+    /// `call_laws` in ext_model).
     ///
     /// In JUnit the value of a factory is stored under its key.
     pub fn fill(&self, lane: &mut CellLane, claim: Claim, number: u32)
@@ -305,9 +312,9 @@ impl Cells {
         self.end_claim(lane, cell, Act::Fill(cell, number));
     }
 
-    /// Ends the lane's claim by the number of a fault, which is kept in the cell then, until it is removed or replaced.
-    /// The cells are some in which faults are kept; the lane drew the number, and has not stored it. It is never refused,
-    /// and makes two steps, as `fill` and by the same law.
+    /// Ends the lane's claim and keeps the number in the cell as that of a fault, until it is
+    /// removed or replaced. The cells must keep faults, and the lane must have drawn the number and
+    /// not have stored it. It is never refused, and makes two steps, as `fill` and by the same law.
     pub fn fail(&self, lane: &mut CellLane, claim: Claim, number: u32)
         requires lane { lane.old.cells ≡ self.now.id }
         requires faults { IsTrue self.now.id.limits.keep_faults }
@@ -321,7 +328,8 @@ impl Cells {
         self.end_claim(lane, cell, Act::Fail(cell, number));
     }
 
-    /// Ends the lane's claim, and leaves the cell empty. It is never refused, and makes two steps, as `fill` and by the same law.
+    /// Ends the lane's claim and leaves the cell empty. It is never refused, and makes two steps,
+    /// as `fill` and by the same law.
     pub fn abandon(&self, lane: &mut CellLane, claim: Claim)
         requires lane { lane.old.cells ≡ self.now.id }
         requires held { IsHeld lane.old.view claim }
@@ -333,8 +341,8 @@ impl Cells {
         self.end_claim(lane, cell, Act::Abandon(cell));
     }
 
-    /// Afterwards what the first lane has seen is a prefix of what the second has seen: so both speak of one
-    /// history. Neither makes an event; the first makes no step, and the second one.
+    /// Makes what the first lane has seen a prefix of what the second has seen, so that both speak
+    /// of one history. Neither makes an event; the first makes no step, and the second one.
     pub fn meet(&self, first: &mut CellLane, second: &mut CellLane)
         requires first { first.old.cells ≡ self.now.id }
         requires second { second.old.cells ≡ self.now.id }
@@ -349,8 +357,8 @@ impl Cells {
         self.table.tell(&mut first.seat, &mut second.seat);
     }
 
-    /// A put, a remove, a claim or a seal of the cell. It answers what stood there, or what the seal keeps that stands
-    /// there: a claim is won where that is nothing.
+    /// Makes a put, a remove, a claim or a seal of the cell. It answers what stood there, or what
+    /// the seal there keeps: a claim is won if that is nothing.
     #[inline(always)]
     fn change(
         &self,
@@ -384,7 +392,7 @@ impl Cells {
         }
     }
 
-    /// A fill, a fail or an abandon of the cell, which the lane has claimed.
+    /// Makes a fill, a fail or an abandon of the cell, which the lane has claimed.
     fn end_claim(&self, lane: &mut CellLane, cell: CellNo, act: Act<CellNo>)
         requires lane { lane.old.cells ≡ self.now.id }
         requires held { IsHeld lane.old.view cell }
@@ -422,8 +430,8 @@ impl Cells {
         words
     }
 
-    /// The word at a place as it stands, for a lane. The words of the cells stand at their numbers, and the count of
-    /// numbers behind them.
+    /// Reads the word at a place, for a lane. The words of the cells stand at their numbers, and
+    /// the count of numbers after them.
     pub(crate) fn read(&self, lane: &mut CellLane, place: usize) -> u64
         requires lane { lane.old.cells ≡ self.now.id }
         requires place { place ≤ self.now.id.limits.cells }
@@ -434,8 +442,8 @@ impl Cells {
         self.table.load(&mut lane.seat, place)
     }
 
-    /// Makes an event, which changes the word at its place, where that still is the one that was seen, and else finds
-    /// the word.
+    /// Makes an event, which changes the word at its place, if that is still the word that was
+    /// seen, and else answers the word that it found.
     fn exchange(
         &self,
         lane: &mut CellLane,

@@ -1,10 +1,11 @@
-//! What a lane that asks for a cell is answered, and the claim that it may win.
+//! The answer to a lane that asks for a cell, and the claim that it may win.
 
 use ext_model::CellNo;
 use std::marker::Model;
 
-/// The claim of a cell by one lane. It is neither copied nor dropped: `Cells::fill`, `Cells::fail` or `Cells::abandon`
-/// ends it, by a call on the lane that won it. In contracts it is the cell. In JUnit a running factory holds its key.
+/// The claim of a cell by one lane. It cannot be copied or dropped: `Cells::fill`, `Cells::fail` or
+/// `Cells::abandon` ends it, by a call on the lane that won it. Contracts see the cell. In JUnit a
+/// running factory holds its key.
 pub struct Claim {
     pub(crate) cell: CellNo,
 }
@@ -17,7 +18,7 @@ impl Model for Claim {
     ghost view = { λ s. s.cell };
 }
 
-/// What a lane that asks for a cell is answered.
+/// The answer to a lane that asks for a cell.
 pub enum Claimed {
     /// The cell is claimed for the lane.
     Won(Claim),

@@ -1,7 +1,7 @@
 //! What a call does next, by the word that it found.
 ghost use Rattle.std.specs.Prelude.{◌≡◌, ℕ, ◌<◌, IsTrue, Option};
 ghost use Rattle.ext_model.specs.declared.slot.Slot.{Slot};
-ghost use Rattle.ext_cells.specs.Words.{IsEmptyWord};
+ghost use Rattle.ext_cells.specs.WordChanges.{IsEmptyWord};
 ghost use Rattle.ext_cells.specs.InnerDeciding.{IsCellWord, IsChange, IsSeal, is_settled as is_settled_of, Decides};
 
 use crate::cell_word::{SEAL_OF_NOTHING, after, is_empty, parts};
@@ -31,7 +31,7 @@ fn is_settled(act: Act<CellNo>, state: CellState) -> bool
     }
 }
 
-// Whether the act is a seal of a cell where nothing stands: so are most of those in a context that is closed.
+// Whether the act seals an empty cell, as do most acts that close a context.
 #[inline(always)]
 fn seals_nothing(word: u64, act: Act<CellNo>) -> bool
     ensures { IsTrue result → IsSeal act × IsEmptyWord word }
@@ -39,8 +39,8 @@ fn seals_nothing(word: u64, act: Act<CellNo>) -> bool
     matches!(act, Act::Seal(_)) && is_empty(word)
 }
 
-// Decides on a put, a remove, a claim or a seal of the cell whose word this is. In each caller the act is a constant, so that the
-// compiler leaves no test of it.
+// Decides a put, a remove, a claim or a seal of the cell whose word this is. The act is a constant
+// in each caller, so the compiler removes the tests of it.
 #[inline(always)]
 pub(crate) fn decide(word: u64, act: Act<CellNo>) -> Decision
     requires word { (stands : Option Slot) × (version : ℕ) × IsCellWord stands version word }

@@ -7,9 +7,10 @@ use crate::rule::LaneSeat;
 use ext_model::LaneNo;
 use std::marker::Model;
 
-/// A lane of some cells, which one thread at a time owns. It may go to another thread, and be dropped.
+/// A lane of some cells, owned by one thread at a time. It may be moved to another thread, and
+/// dropped.
 ///
-/// In contracts it is the cells whose lane it is, its number, and the history as it stood after each of its steps.
+/// Contracts see its cells, its number, and the history as it stood after each of its steps.
 #[derive(Drop)]
 pub struct CellLane {
     pub(crate) number: LaneNo,
@@ -39,8 +40,8 @@ impl CellLane {
         self.number
     }
 
-    /// Tells a proof what is true of every lane in hand: what it has seen is a legal history, and each of its fronts
-    /// goes on from the one before it. It does nothing when it runs.
+    /// Proves what is true of every lane: what it has seen is legal, and each front goes on from
+    /// the one before it. It does nothing when it runs.
     pub fn recall(&self)
         ensures legal { IsLegal self.now.cells.limits (seen_by self.now.view) }
         ensures follow { Follow [] self.now.view.fronts }

@@ -1,7 +1,9 @@
-//! What is true of the words of cells and of the numbers that lanes draw, as the contract of a function that does nothing.
-ghost use Rattle.ext_cells.specs.Laws.{NumbersAreDrawnOnce, NumbersAreFromOne, TableFollowsEvents, TableFollowsReplies};
+//! Laws of the words of cells and of the numbers that lanes draw, as the contract of an empty
+//! function.
+ghost use Rattle.ext_cells.specs.CellLaws.{NumbersAreDrawnOnce, NumbersAreFromOne, TableFollowsEvents, TableFollowsReplies};
 
-/// Proves the laws of the table of words, which `after` computes, and of the numbers that lanes draw. It does nothing when it runs.
+/// Proves the laws of the table of words, which `after` computes, and of the numbers that lanes
+/// draw.
 pub fn cell_laws()
     ensures table { TableFollowsReplies }
     ensures next_words { TableFollowsEvents }

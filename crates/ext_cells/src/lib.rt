@@ -1,15 +1,11 @@
 //! The cells of a store that several threads share, and the lanes that act on them.
 //!
-//! A cell is a context and a key in one number. It stands in one word: what is there, and how many events
-//! it has had. `Cells` is shared by reference, and each thread owns a `CellLane`: all calls of all lanes
-//! together are one history, as the definitions of `ext_model` say it, and each answer is that of one
-//! thread at a point of the call. `specs/CellCalls` has the words of the contracts.
+//! A cell is a context and a key in one number. One word holds what stands there and how many
+//! events it has had. `Cells` is shared by reference, and each thread owns a `CellLane`. All calls
+//! of all lanes together form one history, as `ext_model` defines it, and each answer is that of
+//! one thread at a point of the call. `specs/CellCalls` has the words of the contracts.
 //!
-//! Each cell is a word of its own, and so is the count of numbers drawn: a step reads or changes one of them, and
-//! no call waits for another lane.
-//!
-//! Unless its comment says otherwise, a public call takes no memory and waits for nobody. What
-//! names no source in JUnit is an own rule.
+//! The count of numbers drawn is a word, too. A step reads or changes one word.
 #![tactic(auto)]
 
 mod cell_state;

@@ -1,37 +1,40 @@
-//! The look-up of the nearest of some cells where anything stands.
-ghost use Rattle.std.specs.Prelude.{ℕ, List, ◌≡◌, ◌≤◌, ◌<◌, ◌+◌, ◌*◌, ◌^◌, [], ◌∷◌, ◌++◌, length, nat_eq, All, IfNone, IfSome, None, OnErr, Some};
+//! The look-up of the nearest of some rows that has anything in one column.
+ghost use Rattle.std.specs.Prelude.{ℕ, nat_eq, List, ◌≡◌, ◌≤◌, ◌<◌, ◌+◌, ◌*◌, ◌^◌, [], ◌∷◌, ◌++◌, length, All, IfNone, IfSome, None, OnErr, Some};
 ghost use Rattle.std.specs.List.{IsDistinct};
 ghost use Rattle.ext_history.specs.Histories.{call_fronts};
-ghost use Rattle.ext_cells.specs.CellCalls.{FindsNearest, IsOvertakenOn};
+ghost use Rattle.ext_model.specs.History.{History};
+ghost use Rattle.ext_cells.specs.CellCalls.{cell_at, cells_in, FindsNearest, IsOvertakenOn};
 ghost use Rattle.ext_cells.specs.InnerPasses.{FirstPass, IsReading, ReadPass, Says};
-ghost use Rattle.ext_cells.specs.Words.{HasState, IsEmptyWord};
+ghost use Rattle.ext_cells.specs.InnerSteps.{stepped, Finds};
+ghost use Rattle.ext_cells.specs.WordChanges.{HasState, IsEmptyWord};
 
-use crate::cell_word::{version, what_stands};
+use crate::cell_word::{is_empty, version, what_stands};
 use crate::{CellLane, CellRefusal, Cells, Standing};
-use ext_model::CellNo;
 
-/// One of some cells that were named in order, at which something stands.
+// How many cells a row has, one in each column.
+const COLUMNS: usize = 64;
+
+/// A row, of some that were named in order, in whose cell anything stands.
 #[derive(Clone, Copy, Debug, Drop)]
 pub struct Nearest {
-    /// Its place in that order, from 0.
+    /// Its place in the order in which the rows were named, from 0.
     pub place: usize,
-    /// What stands there.
+    /// What stands in its cell.
     pub standing: Standing,
 }
 
-// What is kept of the words of some cells that were read in order.
+// What a pass that reads some cells in order keeps of their words.
 #[derive(Clone, Copy, Drop)]
 pub(crate) struct Reading {
-    // How many they are.
+    // How many cells these are.
     pub(crate) count: usize,
-    // Their versions, added up.
+    // The sum of their versions.
     pub(crate) versions: u64,
     // The first cell where anything stood.
     pub(crate) nearest: Option<Nearest>,
 }
 
 impl Reading {
-    // Nothing was read.
     fn new() -> Reading
         ensures reading { IsReading [] result }
         ensures empty { (result.count ≡ 0) × (result.versions ≡ 0) }
@@ -43,7 +46,7 @@ impl Reading {
         }
     }
 
-    // One more word was read.
+    // The reading after one more word.
     fn with(self, word: u64) -> Reading
         requires count { self.count < 16 }
         requires versions { self.versions ≤ self.count * 2 ^ 40 }
@@ -64,7 +67,18 @@ impl Reading {
     }
 }
 
-// The cell at this place, where its word says that anything stands.
+// What the first pass of a look-up reads: empty cells, in order, up to the first where anything stands.
+#[derive(Clone, Copy, Drop)]
+pub(crate) struct EmptyCells {
+    // How many cells these are.
+    pub(crate) count: usize,
+    // The sum of their versions.
+    pub(crate) versions: u64,
+    // The word of the cell after them, where something stands, or of a fresh cell if there is none.
+    pub(crate) behind: u64,
+}
+
+// The cell at this place, if its word says that anything stands there.
 fn nearest_at(place: usize, word: u64) -> Option<Nearest>
     requires { HasState word }
     ensures none { IfNone result (IsEmptyWord word) }
@@ -77,90 +91,107 @@ fn nearest_at(place: usize, word: u64) -> Option<Nearest>
 }
 
 impl Cells {
-    /// The nearest of the cells where anything stands, at one point of the call: the first in the order in which they are
-    /// named, at most 16 cells, all different. `None` where nothing stands in any of them.
+    /// The first of the rows in whose cell of this column anything stands, at one point of the
+    /// call. There are at most 16 rows, all different, and the cell of a row is
+    /// `row * 64 + column`. `None` if nothing stands in any of these cells.
     ///
-    /// It reads the cells up to the first where anything stands, and then those before it once more: where none of them has
-    /// had an event meanwhile, that is the answer, and a first cell that is not empty is read once and no other. Else it
-    /// reads all cells, pass after pass, as `collect` does. Refused as `Contended` alone, where other lanes made at least
-    /// as many events on these cells meanwhile as there are tries.
+    /// It reads the cells up to the first where anything stands, and then those before it once
+    /// more. If none of them had an event meanwhile, that is the answer: so if the first cell is
+    /// not empty, it is read once and no other. Otherwise it reads all cells, pass after pass, as
+    /// `collect` does. Refused only as `Contended`, if other lanes made at least `tries` events on
+    /// these cells meanwhile.
     pub fn nearest(
         &self,
         lane: &mut CellLane,
-        cells: &[CellNo],
+        rows: &[usize],
+        column: usize,
     ) -> Result<Option<Nearest>, CellRefusal>
         requires lane { lane.old.cells ≡ self.now.id }
-        requires few { length cells.now ≤ 16 }
-        requires known { All (λ cell. cell < self.now.id.limits.cells) cells.now }
-        requires different { IsDistinct nat_eq cells.now }
+        requires few { length rows.now ≤ 16 }
+        requires known { All (λ cell. cell < self.now.id.limits.cells) (cells_in rows.now column) }
+        requires different { IsDistinct nat_eq rows.now }
         ensures lane { lane.new.cells ≡ lane.old.cells }
-        ensures nearest { FindsNearest self.now.tries lane.old lane.new cells.now result }
-        ensures steps { length (call_fronts lane.old.view lane.new.view) ≤ length cells.now * (self.now.tries + 1) }
-        ensures contended { OnErr result (IsOvertakenOn self.now.tries cells.now lane.old.view lane.new.view) }
+        ensures nearest { FindsNearest self.now.tries lane.old lane.new (cells_in rows.now column) result }
+        ensures steps { length (call_fronts lane.old.view lane.new.view) ≤ length rows.now * (self.now.tries + 1) }
+        ensures contended { OnErr result (IsOvertakenOn self.now.tries (cells_in rows.now column) lane.old.view lane.new.view) }
     {
         self.recall();
-        let (empty, stands) = self.read_empty(lane, cells);
-        let below = empty.count;
-        let again = self.read_on(lane, &cells[..below], Reading::new());
+        let empty = self.read_empty(lane, rows, column);
+        let again = self.read_each(lane, &rows[..empty.count], column);
         if again.versions == empty.versions {
-            return match stands {
-                Some(standing) => Ok(Some(Nearest {
-                    place: below,
-                    standing,
-                })),
-                None => Ok(None),
-            };
+            return Ok(nearest_at(empty.count, empty.behind));
         }
-        let mut seen = self.read_on(lane, &cells[below..], again);
+        let rest = self.read_each(lane, &rows[empty.count..], column);
+        let mut seen = again.versions + rest.versions;
         for _ in 1..self.tries() {
-            let again = self.read_on(lane, cells, Reading::new());
-            if again.versions == seen.versions {
+            let again = self.read_each(lane, rows, column);
+            if again.versions == seen {
                 return Ok(again.nearest);
             }
-            seen = again;
+            seen = again.versions;
         }
         Err(CellRefusal::Contended)
     }
 
-    // Reads the cells in order up to the first where anything stands, and answers what does, with what is kept of those before
-    // it.
-    fn read_empty(&self, lane: &mut CellLane, cells: &[CellNo]) -> (Reading, Option<Standing>)
+    // Reads the cells in order up to the first where anything stands.
+    #[inline(always)]
+    fn read_empty(&self, lane: &mut CellLane, rows: &[usize], column: usize) -> EmptyCells
         requires lane { lane.old.cells ≡ self.now.id }
-        requires few { length cells.now ≤ 16 }
-        requires known { All (λ cell. cell < self.now.id.limits.cells) cells.now }
+        requires few { length rows.now ≤ 16 }
+        requires known { All (λ cell. cell < self.now.id.limits.cells) (cells_in rows.now column) }
         ensures lane { lane.new.cells ≡ lane.old.cells }
-        ensures within { result.0.count ≤ length cells.now }
-        ensures read { FirstPass lane.old.cells.limits lane.old.view lane.new.view cells.now result.0 result.1 }
+        ensures within { result.count ≤ length rows.now }
+        ensures state { HasState result.behind }
+        ensures read { FirstPass lane.old.cells.limits lane.old.view lane.new.view (cells_in rows.now column) result }
     {
         lane.recall();
-        let mut empty = Reading::new();
-        for cell in cells {
-            let word = self.read(lane, *cell);
-            if let Some(standing) = what_stands(word) {
-                return (empty, Some(standing));
+        let mut versions = 0;
+        for (count, row) in rows.iter().enumerate() {
+            let word = self.read_at(lane, *row, column);
+            if !is_empty(word) {
+                return EmptyCells {
+                    count,
+                    versions,
+                    behind: word,
+                };
             }
-            empty = empty.with(word);
+            versions += version(word);
         }
-        (empty, None)
+        EmptyCells {
+            count: rows.len(),
+            versions,
+            behind: 0,
+        }
     }
 
-    // Reads each of the cells once, in order, after those that were read before.
-    fn read_on(&self, lane: &mut CellLane, cells: &[CellNo], before: Reading) -> Reading
+    // Reads each of the cells once, in order.
+    #[inline(always)]
+    fn read_each(&self, lane: &mut CellLane, rows: &[usize], column: usize) -> Reading
         requires lane { lane.old.cells ≡ self.now.id }
-        requires few { before.count + length cells.now ≤ 16 }
-        requires versions { before.versions ≤ before.count * 2 ^ 40 }
-        requires known { All (λ cell. cell < self.now.id.limits.cells) cells.now }
+        requires few { length rows.now ≤ 16 }
+        requires known { All (λ cell. cell < self.now.id.limits.cells) (cells_in rows.now column) }
         ensures lane { lane.new.cells ≡ lane.old.cells }
-        ensures count { result.count ≡ before.count + length cells.now }
-        ensures versions { result.versions ≤ result.count * 2 ^ 40 }
-        ensures read { (words : List ℕ) → IsReading words before → (more : List ℕ) × ReadPass lane.old.cells.limits lane.old.view lane.new.view cells.now more × IsReading (words ++ more) result }
+        ensures versions { result.versions ≤ length rows.now * 2 ^ 40 }
+        ensures read { (words : List ℕ) × ReadPass lane.old.cells.limits lane.old.view lane.new.view (cells_in rows.now column) words × IsReading words result }
     {
         lane.recall();
-        let mut reading = before;
-        for cell in cells {
-            let word = self.read(lane, *cell);
+        let mut reading = Reading::new();
+        for row in rows {
+            let word = self.read_at(lane, *row, column);
             reading = reading.with(word);
         }
         reading
+    }
+
+    // The word of the cell that the row has in the column.
+    #[inline(always)]
+    fn read_at(&self, lane: &mut CellLane, row: usize, column: usize) -> u64
+        requires lane { lane.old.cells ≡ self.now.id }
+        requires cell { cell_at column row < self.now.id.limits.cells }
+        ensures found { (h : History) × Finds lane.old.cells.limits lane.old.view (cell_at column row) result h × (lane.new ≡ stepped lane.old h) }
+        ensures state { HasState result }
+    {
+        self.recall();
+        self.read(lane, row * COLUMNS + column)
     }
 }

@@ -8,8 +8,8 @@ use crate::rule::{CellLimits, CellTable, LaneSeat, NewLane, SharedWords};
 use ext_model::LaneNo;
 use std::alloc::{AllocError, Global};
 
-/// Whether cells of these limits may be opened: at most 16,384 cells, 1 to 16 lanes, 1 to 64 tries and 1 to 65,535
-/// numbers. `Cells::open` refuses all others.
+/// Whether cells with these limits may be opened: at most 16,384 cells, 1 to 16 lanes, 1 to 64
+/// tries and 1 to 65,535 numbers. `Cells::open` refuses all others.
 pub fn are_limits(cells: usize, lanes: usize, tries: u32, numbers: u32) -> bool
     ensures { IsTrue result ↔ AreLimits cells lanes tries numbers }
 {
@@ -19,7 +19,7 @@ pub fn are_limits(cells: usize, lanes: usize, tries: u32, numbers: u32) -> bool
         && (1..=65_535).contains(&numbers)
 }
 
-/// So many words, all zero.
+/// `count` words, all zero.
 fn zero_words(alloc: Global, count: usize) -> Result<Vec<u64>, AllocError>
     ensures { IfOk result (λ v. v.items ≡ replicate count 0) }
 {

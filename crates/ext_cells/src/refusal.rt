@@ -6,11 +6,11 @@ use std::alloc::AllocError;
 use std::fmt;
 use thiserror::Error;
 
-/// Why a call on the cells was refused. After any of them the cells are as other lanes left them: a refused
-/// call makes no event. Where several apply, each call says which is answered.
+/// Why a call on the cells was refused. A refused call makes no event, so the cells are as other
+/// lanes left them. If several reasons apply, each call says which is answered.
 #[derive(Clone, Copy, Debug, PartialEq, Eq, Error)]
 pub enum CellRefusal {
-    /// Other lanes were in the way: they made at least as many events as a call has tries.
+    /// Other lanes made at least as many events as a call has tries.
     Contended,
     /// A lane's claim stands at the cell.
     Busy,
@@ -22,11 +22,10 @@ pub enum CellRefusal {
     NumbersFull,
     /// An allocation failed.
     Memory,
-    /// There were to be too many cells, or too few or too many lanes, tries or numbers.
+    /// Too many cells were asked for, or too few or too many lanes, tries or numbers.
     BadLimit,
 }
 
-// What a refusal prints.
 fn text(refusal: CellRefusal) -> &'static str {
     match refusal {
         CellRefusal::Contended => "contended",

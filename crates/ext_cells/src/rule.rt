@@ -1,13 +1,13 @@
-//! The rule of the shared words: one legal history, of which each lane has seen a part from its beginning.
+//! The rule of the shared words: one legal history, of which each lane has seen a prefix.
 //!
-//! A seat takes no bytes: its view stands in proofs alone. An exchange announces the act that it makes, since a
-//! step can't read it off the one word that it changes.
+//! A seat takes no bytes: its view exists in proofs only. An exchange announces the act that it
+//! makes, since a step cannot read it off the one word that it changes.
 use atomic_table::{Join, Play, Seat, Shared, Split, Table, TableRule};
 use ext_model::{Act, CellNo, Event, LaneNo};
 use std::alloc::Global;
 use std::collections::LinkedList;
 
-/// The cells' words, and behind them the count of numbers drawn.
+/// The cells' words, and after them the count of numbers drawn.
 pub(crate) type CellTable = Table<Act<CellNo>, View, CellLimits, OneHistory, Global>;
 
 pub(crate) type SharedWords = Shared<Act<CellNo>, View, CellLimits, OneHistory>;
@@ -23,16 +23,16 @@ pub(crate) struct CellLimits {
     pub(crate) keep_faults: bool,
 }
 
-/// What a seat knows. No value of it is made.
+/// What a seat knows. It exists in proofs only.
 pub(crate) struct View {
     pub(crate) limits: CellLimits,
     /// The lane's number; a note has none.
     pub(crate) lane: Option<LaneNo>,
-    /// How many numbers of lanes were given out; the first lane's view alone has it.
+    /// How many lane numbers were given out; only the first lane's view has it.
     pub(crate) given: Option<LaneNo>,
     /// The history as it stood after each step.
     pub(crate) fronts: LinkedList<LinkedList<Event<CellNo>>>,
-    /// What a note told, until the next step.
+    /// What a note has shown, until the next step.
     pub(crate) told: LinkedList<Event<CellNo>>,
 }
 
@@ -46,7 +46,6 @@ impl TableRule<Act<CellNo>, View, CellLimits> for OneHistory {
     ghost first = { first_lane };
 }
 
-/// A load.
 pub(crate) struct Load;
 
 impl Play<Act<CellNo>, View> for Load {
@@ -55,7 +54,7 @@ impl Play<Act<CellNo>, View> for Load {
     ghost then = { Loaded };
 }
 
-/// An exchange, which is a load where it fails.
+/// An exchange, which is a load if it fails.
 pub(crate) struct Exchange;
 
 impl Play<Act<CellNo>, View> for Exchange {
@@ -64,7 +63,7 @@ impl Play<Act<CellNo>, View> for Exchange {
     ghost then = { Exchanged };
 }
 
-/// A further lane is split off the first.
+/// Splits a further lane off the first.
 pub(crate) struct NewLane;
 
 impl Split<View> for NewLane {
@@ -75,7 +74,7 @@ impl Split<View> for NewLane {
     ghost right = { born };
 }
 
-/// A note of what a lane has seen is split off it, and joined into another lane.
+/// Splits a note of what a lane has seen off it, and joins it into another lane.
 pub(crate) struct Note;
 
 impl Split<View> for Note {

@@ -1,4 +1,4 @@
-//! What the look-up of the nearest cell tells of it.
+//! What the look-up of the nearest cell finds there.
 
 /// What stands at a cell that is not empty.
 #[derive(Clone, Copy, Debug, Drop, PartialEq, Eq)]
@@ -9,6 +9,6 @@ pub enum Standing {
     Fault(u32),
     /// The claim of a lane, which computes a value.
     Claim,
-    /// A seal.
+    /// A seal: the cell is closed for good.
     Seal,
 }

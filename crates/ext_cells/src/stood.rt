@@ -55,7 +55,7 @@ impl Stood {
     }
 }
 
-// What a put or a remove answers that met this.
+// What a put or a remove answers, by what it met.
 pub(crate) fn any_number(met: Result<Stood, CellRefusal>) -> Result<Option<u32>, CellRefusal>
     ensures { result ≡ number_result met }
 {
@@ -65,7 +65,7 @@ pub(crate) fn any_number(met: Result<Stood, CellRefusal>) -> Result<Option<u32>,
     }
 }
 
-// What a seal answers that met this.
+// What a seal answers, by what it met.
 pub(crate) fn value_number(met: Result<Stood, CellRefusal>) -> Result<Option<u32>, CellRefusal>
     ensures { result ≡ value_result met }
 {

@@ -3,8 +3,8 @@ ghost use Rattle.std.specs.Prelude.{◌≡◌, ◌↔◌, IsTrue, ◌<◌, [], �
 
 use std::marker::Model;
 
-/// The words of some cells, at most 16, as they stood together at one point: one for each cell, in the order
-/// in which the cells were named. In contracts it is the list of the words.
+/// The words of at most 16 cells as they stood together at one point, in the order in which the
+/// cells were named. Contracts see the list of the words.
 #[derive(Drop)]
 pub struct Words {
     words: [u64; 16],
@@ -22,7 +22,8 @@ impl Model for Words {
 }
 
 impl Words {
-    /// The word of the cell that was named in place `i`, from 0; there are more than `i`. `parts` takes it apart.
+    /// The word of the cell that was named at place `i`, from 0, below the number of cells. `parts`
+    /// takes it apart.
     pub fn get(&self, i: usize) -> u64
         requires { i < length self.now }
         ensures { result ≡ slice_index self.now i }
@@ -31,7 +32,6 @@ impl Words {
         words[i]
     }
 
-    /// No words yet.
     pub(crate) fn new() -> Words
         ensures { result ≡ [] }
     {

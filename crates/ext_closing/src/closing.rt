@@ -15,21 +15,27 @@ use crate::{CloseAction, CloseFault};
 use ext_model::{Closed, FallingNumbers, Fault, KeyNo};
 use ext_store::{Closer, Lane, Refusal, Store, StoreValue};
 
-/// Closes the closer's context. First the first of the lanes seals all 64 places that the context has for keys, in the order of
-/// their numbers, those without a key too. Then those of its remaining values that are closeable are closed, the one with the
-/// greatest number first, each by one call of the action. A value remains where it stood in the context when its key was
-/// sealed; a kept fault that stood there goes. A close that fails does not stop the others. Neither the parent nor the children
-/// of the context are closed. Afterwards nothing is stored or claimed in the context, whatever key is named later.
+/// Closes the closer's context: seals its keys, and then closes its remaining closeable values, the
+/// latest first.
 ///
-/// It costs 64 seals, however many keys have been named, a look at each value that remains, and the calls of the action. The
-/// first lane makes at most `tries` + 1 steps for each seal, so no close waits for a factory. Takes no memory of its own.
+/// The first of the lanes seals all 64 places that the context has for keys, in the order of their
+/// numbers, also those without a key. Then each remaining value that is closeable is closed by one
+/// call of the action, the one with the greatest number first. A value remains if it stood in the
+/// context when its key was sealed; a kept fault that stood there is discarded. A close that fails
+/// does not stop the others. Neither the parent nor the children of the context are closed.
+/// Afterwards nothing is stored or claimed in the context, whatever key is named later.
 ///
-/// It is a condition that there is at least one lane, and that the lanes and the closer are of the store.
+/// It costs 64 seals, however many keys have been named, a look at each value that remains, and the
+/// calls of the action. The first lane makes at most `tries` + 1 steps for each seal, so no close
+/// waits for a factory. Takes no memory of its own.
 ///
-/// Refused as `Busy` at the first place for which a lane computes a value in the context, as `Contended` at the first
-/// place whose seal is, and then as `Unjoined` with the greatest remaining number whose value no lane in hand kept or
-/// was shown, closeable or not. The closer is then handed back and the action as it was, what was sealed stays sealed,
-/// and the close may be tried again.
+/// There must be at least one lane, and the lanes and the closer must be the store's.
+///
+/// Refused as `Busy` at the first place for which a lane computes a value in the context, as
+/// `Contended` at the first place whose seal is, and then as `Unjoined` with the greatest remaining
+/// number whose value no lane in hand kept or was shown, closeable or not. The closer is then
+/// handed back and the action is as it was, what was sealed stays sealed, and the close may be
+/// tried again.
 ///
 /// JUnit 5 User Guide, section "Keeping State in Extensions", and Javadoc
 /// `ExtensionContext.Store.CloseableResource`; seals, lanes and refusals are own rules.
@@ -46,13 +52,14 @@ pub fn close<V: StoreValue + Drop, A: CloseAction<V>>(
     // What the close did, and when it is refused: each as a field.
     ensures happened { Closes V.is_closeable A.close_gives store.now closer lanes.old action.old result lanes.new action.new }
 
-    // How many places for keys are meant by all of them.
+    // How many key places there are.
     ensures all_places { length store.now.id.keys ≡ 64 }
 
-    // It waits for no factory: for each of the 64 places a load, and at most as many exchanges as a call has tries.
+    // It waits for no factory: for each of the 64 places a load, and at most as many exchanges as a
+    // call has tries.
     ensures steps { steps_of (first_lane store.now lanes.old) (first_lane store.now lanes.new) ≤ 64 * (store.now.tries + 1) }
 
-    // What a next call rests on, once more.
+    // What the next call rests on.
     ensures handed_back { IfErr result (λ e. e.0 ≡ closer) }
     ensures own_lanes { All (IsLaneOf store.now.id) lanes.new }
     ensures kept { AllZip StillKeeps lanes.old lanes.new }
@@ -70,7 +77,8 @@ pub fn close<V: StoreValue + Drop, A: CloseAction<V>>(
     Ok(close_all(store, lanes, remaining, action))
 }
 
-// Seals all places for keys in the closer's context, in their order, and answers the numbers that remain, the greatest first.
+// Seals all places for keys in the context, in order, and answers the numbers that remain, the
+// greatest first.
 fn seal_all<V>(
     store: &Store<V>,
     closer: &Closer,
@@ -131,7 +139,7 @@ fn seal_key<V>(
     }
 }
 
-// The first of the falling numbers whose value no lane in hand knows.
+// The first of these falling numbers whose value no lane in hand knows.
 fn first_unjoined<V>(store: &Store<V>, lanes: &[Lane<V>], numbers: &[u32]) -> Option<u32>
     requires { IsFalling numbers.now }
     ensures joined { IfNone result (All (IsJoined lanes.now) numbers.now) }
@@ -162,7 +170,7 @@ fn lane_knowing<V>(store: &Store<V>, lanes: &[Lane<V>], number: u32) -> Option<u
     lanes.iter().position(|lane| store.knows(lane, number))
 }
 
-// Gives the closeable ones among the values of these numbers to the action, in order.
+// Gives the closeable values of these numbers to the action, in order.
 fn close_all<V: StoreValue + Drop, A: CloseAction<V>>(
     store: &Store<V>,
     lanes: &mut [Lane<V>],
@@ -182,7 +190,7 @@ fn close_all<V: StoreValue + Drop, A: CloseAction<V>>(
     closed
 }
 
-// Gives the number's value to the action, where it is closeable, and counts the answer.
+// Gives the number's value to the action if it is closeable, and counts the answer.
 fn close_one<V: StoreValue + Drop, A: CloseAction<V>>(
     store: &Store<V>,
     lanes: &mut [Lane<V>],
@@ -204,7 +212,7 @@ fn close_one<V: StoreValue + Drop, A: CloseAction<V>>(
     }
 }
 
-// The fault of a call of the action, where it failed.
+// The fault in the action's answer, if it failed.
 fn fault_in(answer: Result<(), Fault>) -> Option<Fault>
     ensures { result ≡ fault_in answer }
 {
@@ -214,7 +222,7 @@ fn fault_in(answer: Result<(), Fault>) -> Option<Fault>
     }
 }
 
-// The number's value, which a lane in hand knows.
+// The value of the number, which a lane in hand knows.
 fn known_value<'a, V: StoreValue + Drop>(
     store: &'a Store<V>,
     lanes: &mut [Lane<V>],

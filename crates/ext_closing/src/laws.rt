@@ -1,12 +1,12 @@
-//! What is true of closes that are asked again, as the contract of a function that does nothing.
+//! What is true of closes that are asked again.
 ghost use Rattle.ext_closing.specs.Closes.{AskedAgainIsOne};
 
 use crate::CloseAction;
 use ext_store::StoreValue;
 
-/// Proves the law of closes that are asked again: closes of a context that were refused, for whatever reasons, and then
-/// one that is `Ok`, are one close in their caller's eyes. The first lane's events are seals of keys in their order,
-/// each key once, and the action was called by the last of them alone. It does nothing when it runs.
+/// Proves that closes of a context that were refused, for whatever reasons, and then one that is
+/// `Ok`, are one close in their caller's eyes. The first lane's events are seals of keys in their
+/// order, each key once, and only the last of these closes called the action.
 pub fn close_laws<V: StoreValue + Drop, A: CloseAction<V>>()
     ensures { AskedAgainIsOne V.is_closeable A.close_gives }
 {}

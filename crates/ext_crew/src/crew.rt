@@ -14,21 +14,23 @@ use std::alloc::{AllocError, Allocator};
 use std::sync::Wait;
 use std::thread::Threads;
 
-/// Runs one job for each item on several workers and gives the outcomes in the order of the items; takes memory and
-/// may wait.
+/// Runs one job for each item on several workers and gives the outcomes in the order of the items.
+/// Takes memory and may wait.
 ///
-/// Both slices have the same length, 1 to 16, and there are at most 256 items, possibly none. There are as many
-/// workers as the smaller of that length and the number of items. Each is lent its own consecutive share of both
-/// slices; the lengths of the shares differ by at most one, and longer ones come first. Workers draw jobs in the order
-/// of the items, each the next one when it has ended one, so which worker runs which job is not fixed. A job is one call
-/// of `run` with the index of the item, from 0, the item, and the worker's share of both slices as its earlier jobs left
-/// it. `run` has to take each item at any part of the slices, as any jobs left it. `gate` is told round each job. The
-/// call returns when every job has ended and every thread is joined.
+/// Both slices have the same length, 1 to 16, and there are at most 256 items, possibly none. The
+/// number of workers is the smaller of that length and the number of items. Each is lent its own
+/// consecutive share of both slices; the lengths of the shares differ by at most one, and longer
+/// ones come first. Workers draw jobs in the order of the items, each its next one when it has
+/// ended the last, so which worker runs which job is not fixed. A job is one call of `run` with the
+/// index of the item, from 0, the item, and the worker's share of both slices as its earlier jobs
+/// left it. `run` must accept each item with any part of the slices, as any jobs left it. `gate` is
+/// called before and after each job. The call returns when every job has ended and every thread is
+/// joined.
 ///
-/// `Memory` is the only refusal: all memory is taken before the first job, so no job was run, both slices are as
-/// they were, and the items are dropped. With no items it never comes. Room is taken for each outcome once. A worker for
-/// which no thread can be made works on a thread of another worker, when that one has ended; the jobs that it would have drawn
-/// before are drawn by the others.
+/// `Memory` is the only refusal: all memory is taken before the first job, so no job was run, both
+/// slices are as they were, and the items are dropped. Without items it never comes. Room is taken
+/// for each outcome once. A worker for which no thread can be made works on a thread of another
+/// worker after that one has ended; the others draw the jobs that it would have drawn before.
 ///
 /// JUnit 5 User Guide, section "Parallel Execution". Shares, limits and refusals are own rules.
 pub fn run_children<
@@ -71,8 +73,8 @@ pub fn run_children<
     Ok(outcomes)
 }
 
-/// What a run needs, all of whose memory is taken: the counter, the seat from which those of the workers were split off, and a hand
-/// for each worker.
+/// What a run needs, with all its memory: the counter, the seat from which those of the workers
+/// were split off, and a hand for each worker.
 #[derive(Drop)]
 struct Crew<T, O, M: Allocator> {
     table: CounterTable<T, O, M>,
@@ -96,7 +98,8 @@ fn open_crew<T: Drop, O: Drop, M: Allocator + Clone>(
     Ok((Crew { table, seat, hands }, outcomes))
 }
 
-/// Runs the hands of a crew, each with a share of its own, and moves the outcomes out of their slots. Takes no memory.
+/// Runs the hands of a crew, each with a share of its own, and moves the outcomes out of their
+/// slots.
 fn run_crew<
     R: Threads + Wait + Sync,
     M: Allocator + Send,
@@ -150,7 +153,7 @@ fn run_crew<
     take_outcomes(table, seat, outcomes);
 }
 
-/// Runs the hands, each with a share of its own. Takes no memory.
+/// Runs the hands, each with a share of its own.
 fn run_hands<
     R: Threads + Wait + Sync,
     M: Allocator + Send,

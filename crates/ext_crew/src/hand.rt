@@ -33,8 +33,8 @@ pub(crate) fn make_hands<T: Drop, O: Drop, M: Allocator + Clone>(
     Ok(hands)
 }
 
-/// Runs jobs as they are drawn, one after another, until there are no more, and puts each outcome into the slot of its job.
-/// Takes no memory.
+/// Runs jobs as they are drawn, one after another, until there are no more, and puts each outcome
+/// into the slot of its job.
 pub(crate) fn work<
     R: Wait,
     M: Allocator,
@@ -69,7 +69,7 @@ pub(crate) fn work<
     }
 }
 
-/// Joins all hands into the first seat, which then has what they have drawn and given back. Takes no memory.
+/// Joins all hands into the first seat, which then has what they have drawn and given back.
 pub(crate) fn join_hands<T: Drop, O: Drop, M: Allocator>(
     counter: &Counter<T, O, M>,
     first: &mut Hand<T, O>,

@@ -1,12 +1,16 @@
-//! Jobs that several workers draw from a counter that they share, and the slots for what the jobs gave.
+//! Jobs that several workers draw from a counter that they share, and the slots for the outcomes of
+//! the jobs.
 //!
-//! A counter is opened over a list of items (`open_counter`). Workers draw the jobs of the items one after another (`draw`), each
-//! puts the outcome of its job into that job's slot (`put_outcome`), and when all have ended the counter is closed and the outcomes
-//! are taken out in the order of the items (`take_outcomes`). Each worker has a `Hand` of its own, split off the first one, and what
-//! all hands have drawn is joined in again. How jobs are run, and by which threads, does not stand here.
+//! A counter is opened over a list of items (`open_counter`). Workers draw the jobs of the items
+//! one after another (`draw`), each puts the outcome of its job into that job's slot
+//! (`put_outcome`), and when all have ended the counter is closed and the outcomes are taken out in
+//! the order of the items (`take_outcomes`). Each worker has a `Hand` of its own, split off the
+//! first one, and what all hands have drawn is joined in again. How jobs are run, and by which
+//! threads, is not defined here.
 //!
-//! A draw is one atomic step on one word. `specs/InnerCounter.antt` has the rule that each step keeps, and what each call tells of a
-//! hand; `proofs/Draws.antt` has the laws with which a caller splits hands off and joins them in.
+//! A draw is one atomic step on one word. `specs/InnerCounter.antt` has the rule that each step
+//! keeps, and what each call says of a hand; `proofs/Draws.antt` has the laws with which a caller
+//! splits hands off and joins them in.
 
 mod counter;
 mod done;

@@ -1,13 +1,14 @@
-//! Runs one job for each item of a list on several workers, each of which is lent its own share of two slices.
+//! Runs one job for each item of a list on several workers, each of which is lent its own share of
+//! two slices.
 //!
-//! Workers draw the jobs one after another from a counter that they share (module `jobs`), so a long job holds up only itself.
-//! The contract of `run_children` says that the outcomes and what is left of the slices come from a run by some
-//! dealing of the jobs, and not by which. `specs/Dealing.antt` has the definitions; `proofs/Runs.antt` and
-//! `proofs/RunLaws.antt` have the laws with which a caller reads such a run. `specs/InnerHands.antt` says what the workers have in hand,
-//! and `specs/InnerCounter.antt` what they have drawn, which no public call names.
+//! Workers draw the jobs one after another from a counter that they share (module `jobs`), so a
+//! long job holds up no other. The contract of `run_children` says that the outcomes and what is
+//! left of the slices come from a run by some dealing of the jobs, and not by which.
+//! `specs/Dealing.antt` has the definitions; `proofs/Runs.antt` and `proofs/RunLaws.antt` have the
+//! laws with which a caller reads such a run. `specs/InnerHands.antt` says what the workers have in
+//! hand, and `specs/InnerCounter.antt` what they have drawn, which no public call names.
 //!
-//! Unless its comment says otherwise, a public call takes no memory and waits for nobody. What a trait's
-//! method takes is for whoever implements it to say. What names no source in JUnit is an own rule.
+//! Whether a method of a trait takes memory or waits is for its implementation to say.
 #![tactic(auto)]
 
 mod crew;

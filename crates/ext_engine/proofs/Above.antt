@@ -5,7 +5,7 @@ use Rattle.std.proofs.lemmas.Bool.{cases_lt}
 use Rattle.ext_history.proofs.Lists.{contains_none, contains_here, contains_later, contains_cons}
 use Rattle.ext_tree.specs.Trees.{Id, IsTree, IsParentOf, IsWalk, IsPathOf}
 use Rattle.ext_tree.proofs.TreeLaws.{paths_are_unique}
-use Rattle.ext_engine.specs.Laws.{IsAtOrBelow}
+use Rattle.ext_engine.specs.RunLaws.{IsAtOrBelow}
 
 -- the same, by the walk behind the node
 pub record Under (ids : List Id) (top node : ℕ) : Type 0 where

@@ -19,7 +19,7 @@ use Rattle.ext_engine.specs.declared.node.fault.EngineFault.{EngineFault}
 use Rattle.ext_engine.specs.declared.node.fault.EngineFault.TheVariants as faults
 use Rattle.ext_engine.specs.declared.node.closers.Item.{Item}
 use Rattle.ext_engine.specs.declared.node.results.RanNode.{RanNode}
-use Rattle.ext_engine.specs.InnerHelpers.{ran_view, answer_of}
+use Rattle.ext_engine.specs.InnerResults.{ran_view, answer_of}
 use Rattle.ext_engine.specs.Failing.{BodyEndsEarly, ContainerEndsEarly, EndsAs, EndsEarly, EndsInTurn, IsFirstRefusal, IsNotBegun, LeavesOpen, TestEndsEarly}
 use Rattle.ext_engine.specs.Meeting.{Forks, Joins}
 use Rattle.ext_engine.specs.TreeRun.{Ran, TreeSetting, Lanes, TreeRun, BodyMade, CallsBefores, EndsContainer, IsFault, IsRefusedClose, RanInTurn, concurrent_children, same_thread_children, with_lanes}

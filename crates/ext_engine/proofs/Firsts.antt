@@ -11,7 +11,7 @@ use Rattle.ext_locks.specs.Opening.{LocksView}
 use Rattle.ext_locks.specs.Views.{Lane}
 use Rattle.ext_store.specs.Stores.{StoreView, StoreLane, IsLaneOf}
 use Rattle.ext_engine.specs.declared.node.results.RanNode.{RanNode}
-use Rattle.ext_engine.specs.InnerHelpers.{ran_view}
+use Rattle.ext_engine.specs.InnerResults.{ran_view}
 use Rattle.ext_engine.specs.NodeRun.{Ran, OnFirst, Lanes, IsIdle, IsUsable}
 
 -- a node's result, and what ran below it

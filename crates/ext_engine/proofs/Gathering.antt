@@ -6,7 +6,7 @@ use Rattle.std.specs.declared.alloc.Global.{Global}
 use Rattle.std.proofs.lemmas.Grind.{flat_map-append}
 use Rattle.std.proofs.lemmas.List.{length-map, map-append}
 use Rattle.ext_engine.specs.declared.node.results.RanNode.{RanNode}
-use Rattle.ext_engine.specs.InnerHelpers.{ran_view, ran_in}
+use Rattle.ext_engine.specs.InnerResults.{ran_view, ran_in}
 
 module _ {E : Type 0} (first all : List RanNode) (yielded rest outcomes : List (Result (Vec RanNode Global) E)) (outcome : Result (Vec RanNode Global) E) (more : Vec RanNode Global)
     (listed : yielded ++ outcome ∷ rest ≡ outcomes) (is : outcome ≡ Ok more) (so_far : map ran_view all ≡ map ran_view first ++ flat_map ran_in yielded) where

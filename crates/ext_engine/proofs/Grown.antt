@@ -12,7 +12,7 @@ use Rattle.ext_tree.specs.Trees.{Id, IsTree, IsParentOf, IsPathOf, children_of}
 use Rattle.ext_tree.proofs.TreeLaws.{parents_list_children}
 use Rattle.ext_engine.specs.Suites.{SuiteView}
 use Rattle.ext_engine.specs.TreeRun.{Ran}
-use Rattle.ext_engine.specs.Laws.{nodes_of, HasRun, RanAs, IsBetween}
+use Rattle.ext_engine.specs.RunLaws.{nodes_of, HasRun, RanAs, IsBetween}
 use Rattle.ext_engine.proofs.Above.{Under, under, at_or_below, under_itself, parent_first, under_order, under_child, under_under, same_child, below_child, within_tree}
 use Rattle.ext_history.proofs.Once.{Once, once-append, once-parted, once-from_pairs, contains-parted, contains-from_parted, contains-map, contains-from_map, contains-flat_map, contains-from_flat_map}
 

@@ -11,7 +11,7 @@ use Rattle.ext_lifecycle.specs.declared.status.Status.TheVariants as statuses
 use Rattle.ext_lifecycle.specs.Results.{ResultOf, skipped_result}
 use Rattle.ext_engine.specs.Suites.{SuiteView}
 use Rattle.ext_engine.specs.TreeRun.{Ran, placed, all_skipped, all_results}
-use Rattle.ext_engine.specs.Laws.{HasRun, IsOneEach, nodes_of}
+use Rattle.ext_engine.specs.RunLaws.{HasRun, IsOneEach, nodes_of}
 use Rattle.ext_history.proofs.Once.{Once, contains-from_map}
 
 -- ---- lists

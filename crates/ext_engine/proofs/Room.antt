@@ -8,7 +8,7 @@ use Rattle.ext_history.proofs.Once.{Once}
 use Rattle.ext_tree.specs.Trees.{Id, IsTree, IsWalk}
 use Rattle.ext_engine.specs.declared.node.closers.Item.{Item}
 use Rattle.ext_engine.specs.InnerClosers.{IsNode, IsWithin, contexts}
-use Rattle.ext_engine.specs.Laws.{nodes_of}
+use Rattle.ext_engine.specs.RunLaws.{nodes_of}
 use Rattle.ext_engine.specs.TreeRun.{Ran, TreeSetting, Lanes, IsRunnable, TreeRun}
 use Rattle.ext_engine.proofs.Above.{Under, at_or_below, within_tree}
 use Rattle.ext_engine.proofs.Grown.{node_under, ran_once}

@@ -13,7 +13,7 @@ use Rattle.ext_lifecycle.specs.declared.node_result.NodeResult.{NodeResult}
 use Rattle.ext_lifecycle.specs.Results.{told, skipped_result}
 use Rattle.ext_engine.specs.declared.node.closers.Item.{Item}
 use Rattle.ext_engine.specs.declared.node.results.RanNode.{RanNode}
-use Rattle.ext_engine.specs.InnerHelpers.{ran_view}
+use Rattle.ext_engine.specs.InnerResults.{ran_view}
 use Rattle.ext_engine.specs.InnerClosers.{IsNode, contexts}
 use Rattle.ext_engine.specs.Suites.{SuiteView}
 use Rattle.ext_engine.specs.TreeRun.{Ran, all_skipped}

@@ -8,7 +8,7 @@ use Rattle.std.proofs.lemmas.List.Elements.{All-contains_itself, All-weaker}
 use Rattle.ext_tree.specs.Trees.{Id, IsTree}
 use Rattle.ext_engine.specs.Suites.{SuiteView}
 use Rattle.ext_engine.specs.TreeRun.{Ran, all_results}
-use Rattle.ext_engine.specs.Laws.{IsOneEach, IsRunOnce, IsSkippedExactly, IsAtOrBelow, IsBetween, RanAs, HasRun, nodes_of}
+use Rattle.ext_engine.specs.RunLaws.{IsOneEach, IsRunOnce, IsSkippedExactly, IsAtOrBelow, IsBetween, RanAs, HasRun, nodes_of}
 use Rattle.ext_engine.proofs.Above.{at_or_below, under, under_root, within_tree}
 use Rattle.ext_history.proofs.Once.{one-image, once-pairs}
 use Rattle.ext_engine.proofs.OneEach.{one_each, place_within}

@@ -17,7 +17,7 @@ use Rattle.ext_crew.proofs.Runs.{run-map}
 use Rattle.ext_crew.proofs.RunLaws.{run-outcome}
 use Rattle.ext_engine.specs.declared.node.closers.Item.{Item}
 use Rattle.ext_engine.specs.declared.node.results.RanNode.{RanNode}
-use Rattle.ext_engine.specs.InnerHelpers.{ran_view, ran_in}
+use Rattle.ext_engine.specs.InnerResults.{ran_view, ran_in}
 use Rattle.ext_engine.specs.TreeRun.{Ran, TreeSetting, Lanes, IsUsable, IsIdle, TreeRun, TestRun, ContainerRun, BodyRun, RanInTurn, with_lanes}
 use Rattle.ext_engine.specs.Meeting.{Forks, Joins, OnlyMeets}
 

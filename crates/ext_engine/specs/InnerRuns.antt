@@ -8,7 +8,7 @@ use Rattle.ext_engine.specs.declared.node.closers.Item.{Item}
 use Rattle.ext_engine.specs.declared.node.fault.EngineFault.{EngineFault}
 use Rattle.ext_engine.specs.declared.node.fault.EngineFault.TheVariants as faults
 use Rattle.ext_engine.specs.declared.node.results.RanNode.{RanNode}
-use Rattle.ext_engine.specs.InnerHelpers.{ran_view, ran_in, rans_below, answer_of}
+use Rattle.ext_engine.specs.InnerResults.{ran_view, ran_in, rans_below, answer_of}
 use Rattle.ext_engine.specs.declared.node.results.Below.{Below}
 use Rattle.ext_engine.specs.TreeRun.{Ran, TreeSetting, Lanes, IsUsable, TreeRun, BodyMade, RanInTurn}
 use Rattle.ext_engine.specs.Failing.{EndsAs, EndsInTurn, BodyEndsEarly, EndsEarly}

@@ -2,9 +2,9 @@
 pub mod InnerClosers
 pub mod InnerContainers
 pub mod Failing
-pub mod InnerHelpers
+pub mod InnerResults
 pub mod InnerRuns
-pub mod Laws
+pub mod RunLaws
 pub mod Leaves
 pub mod Meeting
 pub mod NodeFailing

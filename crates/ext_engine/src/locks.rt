@@ -12,10 +12,10 @@ use ext_store::StoreValue;
 use std::alloc::{AllocError, Global};
 use std::sync::Wait;
 
-/// Takes the locks of a set, and waits until they are to be had.
+/// Takes the locks of a set, and waits until they are free.
 ///
-/// The lane is one of the locks, and holds nothing; the numbers of the set are those of the locks. Takes no memory. May wait: it promises its clauses
-/// if it returns. JUnit 5 User Guide, section "Synchronization".
+/// The lane is one of the locks, and holds nothing; the numbers of the set are those of the locks.
+/// May wait. JUnit 5 User Guide, section "Synchronization".
 pub(crate) fn take_locks<R: Wait>(rt: &R, locks: &Locks, lane: &mut LockLane, set: &LockSet) -> Held
     requires lane { IsIdle locks.now lane.old }
     requires set { AllBelow (length locks.now.names + 1) set.now }
@@ -27,8 +27,8 @@ pub(crate) fn take_locks<R: Wait>(rt: &R, locks: &Locks, lane: &mut LockLane, se
 
 /// Gives the locks back.
 ///
-/// The lane is one of the locks, and took them; it made no event since. Takes no memory, and waits for nobody. JUnit 5 User Guide, section
-/// "Synchronization".
+/// The lane is one of the locks, and took them; it has made no event since. JUnit 5 User Guide,
+/// section "Synchronization".
 pub(crate) fn give_locks(locks: &Locks, lane: &mut LockLane, held: Held)
     requires table { lane.old.table ≡ locks.now.table }
     requires held { IsHeldBy held lane.old }
@@ -38,10 +38,12 @@ pub(crate) fn give_locks(locks: &Locks, lane: &mut LockLane, held: Held)
     locks.give(lane, held);
 }
 
-/// The set of the locks that a test with this path takes: of the global one, and of those named at itself and at its ancestors.
+/// The set of the locks that a test with this path takes: the global one, and those named at itself
+/// and at its ancestors.
 ///
-/// The locks have every name that the nodes of the path ask for. Refused where memory is. Takes memory. JUnit 5 User Guide, section
-/// "Synchronization"; the global lock and the locks of ancestors are own rules.
+/// The locks have every name that the nodes of the path ask for. Refused if there is no memory.
+/// Takes memory. JUnit 5 User Guide, section "Synchronization"; the global lock and the locks of
+/// ancestors are own rules.
 pub(crate) fn test_set<V: StoreValue + Drop, S: Suite<V>>(
     alloc: Global,
     suite: &S,
@@ -55,7 +57,7 @@ pub(crate) fn test_set<V: StoreValue + Drop, S: Suite<V>>(
     let requests = requests_on(alloc, suite, path)?;
     match locks.merge(requests.as_slice()) {
         Ok(set) => Ok(set),
-        // All names are those of locks.
+        // Every name is that of a lock.
         Err(_) => unreachable!(),
     }
 }
@@ -79,7 +81,8 @@ fn requests_on<'a, V: StoreValue + Drop, S: Suite<V>>(
     Ok(requests)
 }
 
-/// The mode of the global lock: for writing where a node of the path is isolated.
+/// The mode of the global lock: for writing if a node of the path is isolated, and otherwise for
+/// reading.
 fn global_mode<V: StoreValue + Drop, S: Suite<V>>(suite: &S, path: &[ContextNo]) -> LockMode
     ensures { result ≡ global_mode (S.suite_view suite.now) path.now }
 {

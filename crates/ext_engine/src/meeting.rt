@@ -1,4 +1,4 @@
-//! Lanes of a share that meet.
+//! How lanes of a share meet.
 ghost use Rattle.std.specs.Prelude.{◌≡◌, All, length};
 ghost use Rattle.std.specs.List.{AllZip};
 ghost use Rattle.ext_history.specs.Histories.{seen_by};
@@ -27,7 +27,7 @@ pub(crate) fn join<V: StoreValue + Drop>(store: &Store<V>, lanes: &mut [Lane<V>]
     }
 }
 
-/// Shows each of the others what the first lane has seen.
+/// Shows each of the other lanes what the first has seen.
 fn show_rest<V: StoreValue + Drop>(store: &Store<V>, first: &mut Lane<V>, others: &mut [Lane<V>])
     requires first { IsLaneOf store.now.id first.old }
     requires others { All (IsLaneOf store.now.id) others.old }

@@ -1,10 +1,13 @@
-//! How one node of a tree of tests is run: its calls on a lane, the locks of a test, the close of its context, and its result.
+//! How one node of a tree of tests is run: its calls on a lane, the locks of a test, the close of
+//! its context, and its result.
 //!
-//! A `NodeRunner` runs a test and closes the context of any node. `open_container` does what comes before a container's children and
-//! `close_container` what comes after them; its children with their closers, and the places of results are functions of their own.
-//! Module `tree_run` puts them together to the run of a tree. `specs/NodeRun` says what the run of a test is, and `specs/InnerContainers`
-//! what is done for a container. Own rule, for JUnit 5 User Guide, sections "Relative Execution Order of User Code and Extensions",
-//! "Synchronization" and "Keeping State in Extensions".
+//! A `NodeRunner` runs a test and closes the context of any node. `open_container` does what comes
+//! before a container's children, and `close_container` what comes after them. Its children with
+//! their closers, and the places of results, are functions of their own. Module `tree_run` puts
+//! them together to the run of a tree. `specs/NodeRun` says what the run of a test is, and
+//! `specs/InnerContainers` what is done for a container. An own rule, for JUnit 5 User Guide,
+//! sections "Relative Execution Order of User Code and Extensions", "Synchronization" and "Keeping
+//! State in Extensions".
 
 mod closers;
 mod closing;

@@ -1,4 +1,5 @@
-//! The opening of what a run of a tree goes over: the store of its contexts, its locks, and the lanes of both.
+//! The opening of what a run of a tree goes over: the store of its contexts, its locks, and the
+//! lanes of both.
 ghost use Rattle.std.specs.Prelude.{◌≡◌, ◌*◌, All, IfErr, IfOk, IsPermutation, length, map};
 ghost use Rattle.ext_cells.specs.Lanes.{fresh_lanes};
 ghost use Rattle.ext_locks.specs.Names.{texts_of};
@@ -15,27 +16,29 @@ use ext_tree::{Tree, TreeFault};
 use std::alloc::Global;
 use thiserror::Error;
 
-/// What a run of a tree goes over.
+/// Everything that a run of a tree goes over, as `open_run` opens it.
 #[derive(Drop)]
 pub struct Opened<V> {
-    /// The store of the contexts.
+    /// The store, whose contexts are the nodes.
     pub store: Store<V>,
-    /// Its lanes.
+    /// The lanes of the store, in order.
     pub lanes: Vec<Lane<V>>,
     /// A closer for each context, in order.
     pub closers: Vec<Closer>,
-    /// The locks.
+    /// The locks that tests take.
     pub locks: Locks,
-    /// Their lanes, as many as those of the store.
+    /// The lanes of the locks, as many as those of the store.
     pub lock_lanes: Vec<LockLane>,
 }
 
-/// Why nothing was opened. Where several apply, the first in this order is answered. After any of them there is no object.
+/// Why nothing was opened. Where several apply, the first in this order is answered. After any of
+/// them there is no object.
 ///
-/// Prints as a sentence without its first capital and point.
+/// Prints as a sentence without capital or full stop.
 #[derive(Clone, Copy, Debug, PartialEq, Eq, Error)]
 pub enum OpenFault {
-    /// The text at this place, from 0, is no id, or memory ran out at it. It is the first such place. `read_ids` alone answers it.
+    /// The text at this place, from 0, is no id, or memory ran out at it. It is the first such
+    /// place. Only `read_ids` answers it.
     #[error("text {0} is no id: {1}")]
     Id(usize, IdFault),
     /// The ids are no tree of contexts, or memory ran out for it.
@@ -82,10 +85,10 @@ impl From<LockFault> for OpenFault {
     }
 }
 
-/// The ids that these texts spell, in their order; takes memory.
+/// Reads the ids that these texts spell, in their order. Takes memory.
 ///
-/// Refused as `Id(at, fault)` for the first text that is no id, with its fault, and with `IdFault::Memory` where memory ran out
-/// at that text. JUnit Platform, Javadoc `UniqueId`.
+/// Refused as `Id(at, fault)` for the first text that is no id, with its fault, and with
+/// `IdFault::Memory` where memory ran out at that text. JUnit Platform, Javadoc `UniqueId`.
 pub fn read_ids(alloc: Global, texts: &[&str]) -> Result<Vec<UniqueId>, OpenFault>
     ensures ids { IfOk result (λ ids. AreRead (texts_of texts.now) ids.items) }
     ensures count { IfOk result (λ ids. length ids.items ≡ length texts.now) }
@@ -104,20 +107,22 @@ pub fn read_ids(alloc: Global, texts: &[&str]) -> Result<Vec<UniqueId>, OpenFaul
     Ok(ids)
 }
 
-/// Opens what `run_tree` goes over: a store whose contexts have these ids, locks of these names, as many lanes of either as the limits
-/// say, and a closer for each context. Nothing stands in the store, no lane has made a step, and nobody holds a lock. The limit of tries
-/// is that of both. Takes all memory that these need, but for values, kept faults and keys.
+/// Opens what `run_tree` goes over: a store whose contexts have these ids, locks of these names,
+/// the lanes of both, and a closer for each context. Nothing stands in the store, no lane has made
+/// a step, and nobody holds a lock. The store and the locks get as many lanes as the limits say,
+/// and the same limit of tries. Takes all memory that these need, except for values, kept faults
+/// and keys.
 ///
-/// Refused, in this order, as `Tree` for the first fault of the ids, as `Store(BadLimit)` unless there are 1 to 16 lanes, 1 to 64 tries
-/// and 1 to 65,535 numbers, as `Store(Memory)`, and as `Locks` for more than 63 names, for the first that stands twice, and for want of
-/// memory.
+/// Refused, in this order, as `Tree` for the first fault of the ids, as `Store(BadLimit)` unless
+/// there are 1 to 16 lanes, 1 to 64 tries and 1 to 65,535 numbers, as `Store(Memory)`, and as
+/// `Locks` for more than 63 names, for the first that stands twice, and for want of memory.
 pub fn open_run<V: StoreValue + Drop>(
     alloc: Global,
     ids: &[UniqueId],
     names: &[&str],
     limits: Limits,
 ) -> Result<Opened<V>, OpenFault>
-    // It can be run over: this is what `run_tree` asks of lanes, closers and locks.
+    // A run can go over it: this is what `run_tree` asks of lanes, closers and locks.
     ensures usable { IfOk result (λ o. IsUsable o.store o.locks (record { first = o.lanes.items; second = o.lock_lanes.items })) }
     ensures closers { IfOk result (λ o. o.closers.items ≡ closers_below o.store.id.cells (length o.store.tree)) }
     ensures names { IfOk result (λ o. IsPermutation (texts_of names.now) o.locks.names) }

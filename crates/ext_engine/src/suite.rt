@@ -7,9 +7,11 @@ use ext_model::{ContextNo, LaneNo};
 use ext_store::{Lane, Store, StoreValue};
 use std::sync::Wait;
 
-/// The nodes of a tree of tests, and their calls. Nodes are the contexts of the store's tree, numbered from 0.
+/// The nodes of a tree of tests, and their calls. Nodes are the contexts of the store's tree,
+/// numbered from 0.
 ///
-/// It is shared by all workers of a run, and what it says of a node doesn't change. Its calls may come from several threads at once.
+/// All workers of a run share it, and what it says of a node doesn't change. Its calls may come
+/// from several threads at once.
 pub trait Suite<V: StoreValue + Drop>: Callbacks {
     ghost use Rattle.std.specs.Prelude.{◌≡◌, ◌<◌, ◌≤◌, ℕ, Bool, Option, length, slice_get, Some, option_map};
     ghost use Rattle.ext_locks.specs.Sets.{HeldView};
@@ -28,53 +30,60 @@ pub trait Suite<V: StoreValue + Drop>: Callbacks {
     /// Which stores it may be run over.
     ghost fits: { Self → StoreView → Type 0 };
 
-    /// What a call does: the store, the node, the call, what it is lent, the lane before it, its outcome, and the lane after it.
+    /// What a call does: the store, the node, the call, what it is lent, the lane before it, its
+    /// outcome, and the lane after it.
     ghost call_gives: { Self → StoreView → ℕ → Call → Option HeldView → StoreLane V → Outcome → StoreLane V → Type 0 };
 
     /// The actions that a node may be given.
     ghost action_gives: { Self → ℕ → Self.Action → Type 0 };
 
-    /// Whether the node runs beside the others of its container. Of the root it is never asked. JUnit 5 User Guide, section
-    /// "Parallel Execution".
+    /// Whether the node runs beside the others of its container. It is never asked of the root.
+    /// JUnit 5 User Guide, section "Parallel Execution".
     fn mode(&self, node: ContextNo) -> Mode
         ensures { is_concurrent result ≡ (suite_view self.now).is_concurrent node };
 
-    /// Whether no other test runs beside one at or below the node. Javadoc `Isolated`.
+    /// Whether no other test may run beside a test at or below the node. Javadoc `Isolated`.
     fn isolated(&self, node: ContextNo) -> bool
         ensures { result ≡ (suite_view self.now).is_isolated node };
 
-    /// Whether it is a test; else it is a container.
+    /// Whether the node is a test; otherwise it is a container.
     fn is_test(&self, node: ContextNo) -> bool
         ensures { result ≡ (suite_view self.now).is_test node };
 
-    /// How many locks it names. Javadoc `ResourceLock`.
+    /// How many locks the node names. Javadoc `ResourceLock`.
     fn lock_count(&self, node: ContextNo) -> usize
         ensures { result ≡ length ((suite_view self.now).locks node) };
 
-    /// One of them, from 0, and `None` past the last. Javadoc `ResourceLock`.
+    /// Answers one of the locks that the node names, from 0, and `None` past the last. Javadoc
+    /// `ResourceLock`.
     fn lock<'a>(&'a self, node: ContextNo, i: usize) -> Option<LockRequest<'a>>
         ensures { option_map asks result ≡ slice_get ((suite_view self.now).locks node) i };
 
-    /// What closes the values of the node's context. A run that closes a context asks for it once, and gives the context's values to no
-    /// other action; that it asks for no second one is tested, since a clause can't speak of an action that was let go again. JUnit 5 User
+    /// Answers what closes the values of the node's context. A run that closes a context asks for
+    /// it once, and gives the context's values to no other action; that it asks for no second one
+    /// is tested, since a clause can't speak of an action that was let go again. JUnit 5 User
     /// Guide, section "Keeping State in Extensions"; that the suite gives it is an own rule.
     fn action(&self, node: ContextNo) -> Self::Action
         ensures { action_gives self.now node result };
 
-    /// The node starts. Told once for each node that is not skipped, by the thread that runs it, before the first of its calls and before a test
-    /// waits for its locks; not where memory for its lists or for its locks is refused. `lane` is the number of the first lane of its
-    /// share, on which its calls are made. Does nothing, unless the suite says otherwise. JUnit Platform, Javadoc `EngineExecutionListener`,
+    /// Called when the node starts, once for each node that is not skipped. The thread that runs
+    /// the node calls it before the first of the node's calls, and before a test waits for its
+    /// locks. It is not called where memory for its lists or for its locks is refused. `lane` is
+    /// the number of the first lane of its share, on which its calls are made. Does nothing, unless
+    /// the suite says otherwise. JUnit Platform, Javadoc `EngineExecutionListener`,
     /// `executionStarted`; that lanes are told is an own rule.
     fn started(&self, _node: ContextNo, _lane: LaneNo) {}
 
-    /// The node has ended: its calls were made and its context was closed. Told once for each node of which that is so, by the thread that ran
-    /// it, and not for those that were skipped, nor where the run is refused before that. Does nothing, unless the suite says otherwise.
-    /// JUnit Platform, Javadoc `EngineExecutionListener`, `executionFinished`.
+    /// Called when the node has ended, once for each node whose calls were made and whose context
+    /// was closed, by the thread that ran it. It is not called for nodes that were skipped, nor
+    /// where the run is refused before that. Does nothing, unless the suite says otherwise. JUnit
+    /// Platform, Javadoc `EngineExecutionListener`, `executionFinished`.
     fn ended(&self, _node: ContextNo) {}
 
-    /// Makes one call of the node, on a lane of the store: a callback of the node or of one above it, or the test. A test is lent the
-    /// locks that it holds, and a container none. The store is one that the suite may be run over. What memory the call takes, and for
-    /// whom it waits, is its own matter: want of memory is an outcome.
+    /// Makes one call of the node, on a lane of the store: a callback of the node or of one above
+    /// it, or the test. A test is lent the locks that it holds, and a container none. The suite may
+    /// be run over the store. What memory the call takes, and for whom it waits, is its own matter:
+    /// want of memory is an outcome.
     fn call<R: Wait>(
         &self,
         rt: &R,

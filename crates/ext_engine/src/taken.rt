@@ -1,4 +1,4 @@
-//! Closers and lanes, one at a time, of those that were opened.
+//! Closers and lanes taken, one at a time, out of those that were opened.
 ghost use Rattle.std.specs.Prelude.{◌≡◌, ◌++◌, [], All, IfNone, IfSome, MatchOption, option_to_list};
 ghost use Rattle.ext_store.specs.Stores.{IsCloserOf, IsLaneOf};
 ghost use Rattle.ext_engine.specs.Opening.{HasNone, IsTaken};
@@ -7,7 +7,8 @@ use crate::node::place_of;
 use ext_model::ContextNo;
 use ext_store::{Closer, Lane, Store, StoreValue};
 
-/// Takes the first closer of this context out of those of the store; the others stay, in their order. `None` where there is none.
+/// Takes the first closer of this context out of the store's closers; the others stay, in their
+/// order. `None` where there is none.
 pub fn take_closer<V: StoreValue + Drop>(
     store: &Store<V>,
     closers: &mut Vec<Closer>,
@@ -22,7 +23,7 @@ pub fn take_closer<V: StoreValue + Drop>(
     Some(closers.remove(at))
 }
 
-/// Takes the last lane out of those of the store; the others stay. `None` where there is none.
+/// Takes the last lane out of the store's lanes; the others stay. `None` where there is none.
 pub fn take_lane<V: StoreValue + Drop>(
     store: &Store<V>,
     lanes: &mut Vec<Lane<V>>,

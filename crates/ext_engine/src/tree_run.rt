@@ -25,40 +25,48 @@ use std::alloc::Global;
 use std::sync::Wait;
 use std::thread::Threads;
 
-/// How many levels a tree has at most.
+/// The most levels of a tree.
 const LEVELS: usize = 16;
 
 /// Runs all nodes of the store's tree, and gives one result a node, in the order of their contexts.
 ///
-/// A container's before-callbacks are called, its children are run where all of these were successful, then its after-callbacks
-/// are called, and its context is closed. Before its children are run all lanes of its share are shown what the first one has
-/// seen, and when the concurrent ones have ended the first is shown what all have seen; neither is an event. Its concurrent
-/// children are drawn by as many workers as its share has lanes, or as there are such children where these are fewer, each with
-/// its own part of the share; when all of them have ended, the others are run one after another, each with the whole share. The
-/// root has all lanes, so a run has at most as many threads at work as lanes. A test takes the global lock and those named at
-/// itself and at its ancestors, all its calls are lent them, and they are given back once its context is closed. The calls of a
-/// node are made on the first lane of its share. A node is skipped exactly where a node above it did not run its children: then
-/// nothing of it is called, and its context is not closed. `gate` is told when each concurrent child begins and when it has
-/// ended, by its index among those of its container, and nothing of the root and of other children.
+/// A container's before-callbacks are called, its children are run if all of these were successful,
+/// then its after-callbacks are called, and its context is closed. Before the children all lanes of
+/// its share are shown what the first one has seen, and after the concurrent ones the first is
+/// shown what all have seen; neither is an event. The concurrent children are drawn by as many
+/// workers as the share has lanes, or fewer if there are fewer such children, each with its own
+/// part of the share. When all of them have ended, the others are run one after another, each with
+/// the whole share. The root has all lanes, so a run has at most as many threads at work as lanes.
 ///
-/// There are 1 to 16 lanes of the store and as many of the locks, which hold nothing. The closers are those of all contexts, in
-/// order. The locks have every name that a node asks for, and no node is below a test. The store is one that the suite may be run
-/// over.
+/// A test takes the global lock and those named at itself and at its ancestors. All its calls are
+/// lent them, and they are given back once its context is closed. The calls of a node are made on
+/// the first lane of its share. A node is skipped exactly where a node above it did not run its
+/// children: then nothing of it is called, and its context is not closed. `gate` is told when each
+/// concurrent child begins and when it has ended, by its index among those of its container, and
+/// nothing of the root and of other children.
 ///
-/// Refused as `Memory` where memory is refused for the lists of a node, of which nothing was done then, or for the workers of a
-/// container's concurrent children, of which none was begun then; and as `Unjoined`, with its context and the number, where a context
-/// can't be closed, as no lane of its node's share knows a value that remains in it. All calls of that node were made then, its close
-/// action was not called, and a test's locks are given back. Of the root's context, and of those of same-thread children of such
-/// nodes, these are all lanes, as they are after the run. Else they are the lanes of the concurrent child in which that happened, as it
-/// left them: lanes of another share may know the value, and a lane that ran another child afterwards may have been shown it since.
+/// There are 1 to 16 lanes of the store and as many of the locks, which hold nothing. The closers
+/// are those of all contexts, in order. The locks have every name that a node asks for, and no node
+/// is below a test. The suite may be run over the store.
 ///
-/// A container ends early where a child does. Its concurrent children are all run then, and the first of them in their order that was
-/// refused is told; of the others none is run after one that is refused. No after-callback of the container is called, and its context
-/// is not closed. Contexts that are not closed stay open, and their closers are dropped; the lock lanes hold nothing. `NoThread` is
-/// never answered. Takes memory, and may wait: it promises its clauses if it returns.
+/// Refused as `Memory` where memory is refused for the lists of a node, of which nothing was done
+/// then, or for the workers of a container's concurrent children, of which none was begun then.
+/// Refused as `Unjoined`, with its context and the number, where a context can't be closed, as no
+/// lane of its node's share knows a value that remains in it. All calls of that node were made
+/// then, its close action was not called, and a test's locks are given back. For the root's
+/// context, and for those of same-thread children of such nodes, the share is all lanes, as they
+/// are after the run. Otherwise it is the lanes of the concurrent child in which that happened, as
+/// it left them: lanes of another share may know the value, and a lane that ran another child
+/// afterwards may have been shown it since.
 ///
-/// JUnit 5 User Guide, sections "Relative Execution Order of User Code and Extensions", "Parallel Execution" and "Synchronization"; shares,
-/// lanes, modes and locks of ancestors are own rules.
+/// A container ends early where a child does. All its concurrent children are run then, and the
+/// first refusal in their order is answered; of the others none is run after one that is refused.
+/// No after-callback of the container is called, and its context is not closed. Contexts that are
+/// not closed stay open, and their closers are dropped; the lock lanes hold nothing. `NoThread` is
+/// never answered. Takes memory, and may wait.
+///
+/// JUnit 5 User Guide, sections "Relative Execution Order of User Code and Extensions", "Parallel
+/// Execution" and "Synchronization"; shares, lanes, modes and locks of ancestors are own rules.
 pub fn run_tree<
     R: Threads + Wait + Sync,
     V: StoreValue + Drop + Send + Sync,
@@ -111,8 +119,8 @@ impl<
     S: Suite<V> + Sync,
     G: Gate + Sync,
 > TreeRunner<'a, R, V, S, G> {
-    /// A node and all below it: a test, or a container with its before-callbacks, its children where these were all successful, its
-    /// after-callbacks, and its close.
+    /// Runs a node and all below it: a test, or a container with its before-callbacks, its children
+    /// if all of these were successful, its after-callbacks, and its close.
     #[cycle(tree)]
     fn run_node(
         &self,
@@ -145,8 +153,8 @@ impl<
         Ok(gathered(ran, own, below))
     }
 
-    /// The children of a container, where they are to be run: those that run beside one another, and then the others, where none of those was
-    /// refused.
+    /// Runs the children of a container, if they are to be run: those that run beside one another,
+    /// and then the others, unless one of the first was refused.
     #[cycle(tree)]
     fn run_body(
         &self,
@@ -188,7 +196,8 @@ impl<
         })
     }
 
-    /// The children that run one after another, each with the whole share of the lanes, up to one that is refused. There is room for what they give.
+    /// Runs children one after another, each with the whole share of the lanes, up to one that is
+    /// refused. There is room for what they give.
     #[cycle(tree)]
     fn run_in_turn(
         &self,
@@ -215,7 +224,7 @@ impl<
         Ok(outcomes)
     }
 
-    /// The children that run beside one another, each with a share of the lanes.
+    /// Runs children beside one another, each with a share of the lanes.
     #[cycle(tree)]
     fn run_beside(
         &self,

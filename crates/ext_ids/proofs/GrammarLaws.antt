@@ -1,10 +1,10 @@
--- The laws of specs/Laws: one reading, one spelling, characters spelled one by one, and each text decided.
+-- The laws of specs/SpellingLaws: one reading, one spelling, characters spelled one by one, and each text decided.
 use Rattle.std.proofs.Common.{inl, inr, ◌⊎◌, Result, Err, ◌≡◌, ℕ, ◌<◌, List, [], ◌∷◌, ◌++◌, Ok, refl, ap, sym, ◌∙◌, encode_utf8, arith}
 use Rattle.std.specs.Prelude.{encode_utf8_all}
 use Rattle.std.specs.List.{flat_map, AllByRecursion}
 use Rattle.ext_ids.specs.Grammar.{Pair, IsIdText, part_text, spelled}
 use Rattle.ext_ids.specs.Reading.{read_id}
-use Rattle.ext_ids.specs.Laws.{TextTellsPairs, PairsTellText, SpellsCharacters, EachTextIsDecided}
+use Rattle.ext_ids.specs.SpellingLaws.{TextTellsPairs, PairsTellText, SpellsCharacters, EachTextIsDecided}
 use Rattle.ext_ids.specs.declared.fault.IdFault.{IdFault}
 use Rattle.ext_ids.specs.Faults.{HasFault}
 use Rattle.ext_ids.proofs.IdsFound.{id_found}

@@ -2,6 +2,6 @@ pub mod Grammar
 pub mod Faults
 pub mod FaultLines
 pub mod Ids
-pub mod Laws
+pub mod SpellingLaws
 pub mod Reading
 pub mod InnerTraits

@@ -4,7 +4,7 @@ ghost use Rattle.ext_ids.specs.Grammar.{IsPartText, part_text, escape_of};
 
 use std::alloc::{AllocError, Global};
 
-/// The character that is escaped by the two that follow a `%`.
+/// The character that is spelled by a `%` and the two bytes at the beginning of `rest`.
 pub fn escape_of(rest: &[u8]) -> Option<char>
     ensures { result ≡ escape_of rest.now }
 {
@@ -19,7 +19,7 @@ pub fn escape_of(rest: &[u8]) -> Option<char>
     }
 }
 
-/// The part that a text spells.
+/// The part that `part` spells, its escapes decoded.
 pub fn decoded(alloc: Global, part: &str) -> Result<String, AllocError>
     requires { IsPartText part.now }
     ensures { IfOk result (λ s. part.now ≡ part_text (string_bytes s)) }
@@ -35,7 +35,7 @@ pub fn decoded(alloc: Global, part: &str) -> Result<String, AllocError>
     Ok(text)
 }
 
-/// Writes a part at the end of a text.
+/// Appends a part to a text, its marks escaped.
 pub fn write_part(part: &str, text: &mut String) -> Result<(), AllocError>
     ensures { OnOk result (string_bytes text.new ≡ string_bytes text.old ++ part_text part.now) }
 {
@@ -45,7 +45,7 @@ pub fn write_part(part: &str, text: &mut String) -> Result<(), AllocError>
     Ok(())
 }
 
-/// Writes a character of a part at the end of a text.
+/// Appends a character of a part to a text, escaped if it is a mark.
 fn write_character(c: char, text: &mut String) -> Result<(), AllocError>
     ensures { OnOk result (string_bytes text.new ≡ string_bytes text.old ++ part_text (encode_utf8 c)) }
 {

@@ -1,4 +1,4 @@
-//! Why a text is no unique id.
+//! Why a text is not a unique id.
 ghost use Rattle.std.specs.Prelude.{◌≡◌};
 ghost use Rattle.ext_ids.specs.declared.fault.IdFault.TheVariants.{Memory};
 
@@ -6,23 +6,23 @@ use std::alloc::{AllocError, AllocFailed};
 use std::fmt;
 use thiserror::Error;
 
-/// The first fault of a text, from the left, or want of memory.
+/// The first fault of a text, from the left, or a failed allocation.
 ///
-/// A place is a byte offset in the text, from 0; where the text ended too early it is the text's length.
-/// Each variant prints as its code and its place, as `id: I6 at 9`.
+/// A place is a byte offset from 0; if the text ends too early, it is the text's length. Each
+/// variant prints as its code and its place, such as `id: I6 at 9`.
 #[derive(Clone, Copy, Debug, PartialEq, Eq, Error)]
 pub enum IdFault {
     /// I1: the text is empty.
     Empty,
-    /// I2: where a segment begins stands no `[`.
+    /// I2: a segment does not begin with `[`.
     NoOpen(usize),
-    /// I3: a type ends, at a `]` or with the text, before its `:`.
+    /// I3: a type has no `:`: a `]` or the end of the text comes first.
     NoSeparator(usize),
     /// I4: the text ends within a value.
     NoClose(usize),
     /// I5: the `%` at this place begins none of the six escapes.
     BadEscape(usize),
-    /// I6: a mark stands here unescaped, or what follows a segment is no `/`.
+    /// I6: an unescaped mark, or something other than `/` after a segment.
     RawCharacter(usize),
     /// I7: the type or the value that ends here is empty.
     EmptyPart(usize),

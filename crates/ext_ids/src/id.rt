@@ -18,8 +18,8 @@ use std::marker::Model;
 
 /// The unique id of a test context: 1 to 16 segments, from the engine's down to the context's own.
 ///
-/// The form `[type:value]/[type:value]..` is that of JUnit's `UniqueId` (Javadoc of the JUnit Platform).
-/// What is accepted, and each fault, is an own rule. No call waits, and only those that say so take memory.
+/// The form `[type:value]/[type:value]..` is that of JUnit's `UniqueId` (Javadoc of the JUnit
+/// Platform); which texts are accepted, and each fault, is an own rule.
 #[derive(Debug, Drop)]
 pub struct UniqueId {
     segments: Vec<Segment>,
@@ -38,22 +38,23 @@ impl Model for UniqueId {
 }
 
 impl UniqueId {
-    /// The id that a text spells, its escapes decoded; takes memory.
+    /// Parses the id that a text spells, and decodes its escapes. Takes memory.
     ///
-    /// The text is checked whole, from the left, before memory is taken. A text that is no id is refused for
-    /// its first fault, I1 to I8; I9 comes only where the text is an id.
+    /// The whole text is checked, from the left, before memory is taken. A text that is not an id
+    /// is refused for its first fault, I1 to I8; I9 comes only if the text is an id.
     pub fn parse(alloc: Global, text: &str) -> Result<UniqueId, IdFault>
-        // What is accepted was spelled so, and what is spelled so is accepted while there is memory.
+        // An accepted text spells the id, and a text that spells an id is accepted while there is
+        // memory.
         ensures found { IfOk result (λ id. IsIdText text.now id) }
         ensures only { (pairs : List Pair) → IsIdText text.now pairs → MatchResult result (λ id. id ≡ pairs) (λ e. e ≡ Memory) }
 
-        // What it is refused for is its first fault, and each text with a fault is refused for it.
+        // A refusal names the first fault, and a text with a fault is refused for it.
         ensures fault { IfErr result (λ e. e ≢ Memory → HasFault text.now e) }
         ensures first { (e : IdFault) → HasFault text.now e → IsErrOf result e }
 
         ensures memory { IfErr result (λ e. e ≡ Memory → (pairs : List Pair) × IsIdText text.now pairs) }
 
-        // All this as one function of the text, for a caller whose own result is one.
+        // The same as one function of the text, for a caller whose own result is one.
         ensures exact { GivesOrMemory result (read_id text.now) }
     {
         check(text.as_bytes())?;
@@ -69,7 +70,7 @@ impl UniqueId {
         self.segments.len()
     }
 
-    /// The type and the value of segment `i`, counted from 0 at the engine's, decoded.
+    /// The decoded type and value of segment `i`; segment 0 is the engine's.
     pub fn segment(&self, i: usize) -> (&str, &str)
         requires { i < length self.now }
         ensures { slice_get self.now i ≡ Some (result.0.now, result.1.now) }
@@ -77,28 +78,29 @@ impl UniqueId {
         self.segments[i].parts()
     }
 
-    /// The id as it is written, in its only spelling; takes memory, and I9 is its only fault.
+    /// The text of the id, in its only spelling. Takes memory, and I9 is its only fault.
     pub fn write(&self, alloc: Global) -> Result<String, IdFault>
         ensures text { IfOk result (λ s. string_bytes s ≡ id_text self.now) }
         ensures spelled { IfOk result (λ s. IsIdText (string_bytes s) self.now) }
         ensures memory { IfErr result (λ e. e ≡ Memory) }
     {
-        // For the proof alone: the use of a field brings in what is true of every id.
+        // For the proof only: using a field brings in what is true of every id.
         let _ = &self.segments;
         let mut text = String::new(alloc);
         self.write_to(&mut text)?;
         Ok(text)
     }
 
-    /// Writes the id at the end of a text, which may take memory. Where that is refused nothing is said of
-    /// what the text then holds.
+    /// Appends the id to a text, which may take memory. If memory is refused, the contents of the
+    /// text are not specified.
     pub fn write_to(&self, text: &mut String) -> Result<(), AllocError>
         ensures { OnOk result (string_bytes text.new ≡ string_bytes text.old ++ id_text self.now) }
     {
         write_segments(self.segments.as_slice(), text)
     }
 
-    /// Tests whether the other id is this one with one segment more: its parent in the tree of contexts.
+    /// Tests whether the other id is this one with one more segment: this one is its parent in the
+    /// tree of contexts.
     pub fn is_parent_of(&self, other: &UniqueId) -> bool
         ensures exact { result ≡ is_parent self.now other.now }
         ensures child { IsTrue result ↔ ((p : Pair) × (other.now ≡ self.now ++ p ∷ [])) }
@@ -113,7 +115,7 @@ impl UniqueId {
 impl Clone for UniqueId {
     ghost is_clone = { λ id copy. copy ≡ id };
 
-    /// An equal id; takes memory.
+    /// An equal id. Takes memory.
     fn clone(&self) -> Result<UniqueId, AllocError> {
         let segments = self.segments.clone()?;
         Ok(UniqueId { segments })
@@ -138,7 +140,7 @@ impl Eq for UniqueId {
     ghost laws = { lists_equiv pair_eq_equiv };
 }
 
-/// The segments of a text that `check` has passed, so nothing but memory can fail.
+/// The segments of a text that `check` has passed, so only an allocation can fail.
 fn segments_of(alloc: Global, text: &str) -> Result<Vec<Segment>, AllocError>
     requires { IsOk (read_id text.now) }
     ensures { IfOk result (λ v. read_id text.now ≡ Ok v.items) }

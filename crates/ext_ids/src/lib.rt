@@ -1,10 +1,9 @@
 //! Unique ids of test contexts: `[type:value]/[type:value]..`, from text to segments and back.
 //!
-//! `UniqueId` is seen as the list of its segments, each a type and a value as they are after decoding.
-//! A text is refused for its first fault from the left, with its place (`IdFault`).
+//! Contracts see a `UniqueId` as the list of its segments, each a decoded type and value. A text is
+//! refused for its first fault from the left, with its place (`IdFault`).
 //!
-//! Unless its comment says otherwise, a public call takes no memory and waits for nobody. Ids are
-//! written as JUnit's `UniqueId` writes them; the rest is an own rule.
+//! Ids are written as JUnit's `UniqueId` writes them.
 #![tactic(auto)]
 
 mod escape;

@@ -7,10 +7,10 @@ ghost use Rattle.ext_ids.specs.Reading.{Gives, closing, part_end, at_colon, at_b
 use crate::escape::escape_of;
 use crate::fault::IdFault;
 
-/// How many segments an id has at most.
+/// The greatest number of segments of an id.
 pub const MAX_SEGMENTS: usize = 16;
 
-/// Reads a text whole, and keeps nothing.
+/// Checks a whole text, and keeps nothing of it.
 pub fn check(text: &[u8]) -> Result<(), IdFault>
     ensures ok { OnOk result (IsOk (read_id text.now)) }
     ensures fault { IfErr result (λ e. read_id text.now ≡ Err e) }
@@ -41,7 +41,7 @@ pub enum Part {
     Value,
 }
 
-/// Where the part ends that begins at `from`: the place of its closing mark.
+/// The place of the closing mark of the part that begins at `from`.
 pub fn part_end(text: &[u8], from: usize, part: Part) -> Result<usize, IdFault>
     requires { from ≤ length text.now }
     ensures exact { Gives (λ n. n) result (part_end part from false (drop from text.now)) }
@@ -65,7 +65,7 @@ pub fn part_end(text: &[u8], from: usize, part: Part) -> Result<usize, IdFault>
     })
 }
 
-/// What a `:` is in a part of which `some` says whether it has an item: it ends a type.
+/// What a `:` means: it ends a type. `some` is whether the part has an item.
 fn at_colon(part: Part, some: bool, at: usize) -> Result<usize, IdFault>
     ensures { Gives (λ n. n) result (at_colon part some at) }
 {
@@ -76,7 +76,7 @@ fn at_colon(part: Part, some: bool, at: usize) -> Result<usize, IdFault>
     }
 }
 
-/// What a `]` is in a part of which `some` says whether it has an item: it ends a value.
+/// What a `]` means: it ends a value. `some` is whether the part has an item.
 fn at_bracket(part: Part, some: bool, at: usize) -> Result<usize, IdFault>
     ensures { Gives (λ n. n) result (at_bracket part some at) }
 {
@@ -87,7 +87,7 @@ fn at_bracket(part: Part, some: bool, at: usize) -> Result<usize, IdFault>
     }
 }
 
-/// The segment that begins at a place: where its type and its value end.
+/// Where the type and the value of a segment end.
 #[derive(Clone, Copy, Debug)]
 pub struct Ends {
     pub kind: usize,

@@ -52,7 +52,7 @@ impl Segment {
         (self.kind.as_str(), self.value.as_str())
     }
 
-    /// Writes the segment at the end of a text.
+    /// Appends the segment to a text.
     fn write_to(&self, text: &mut String) -> Result<(), AllocError>
         ensures { OnOk result (string_bytes text.new ≡ string_bytes text.old ++ segment_text self.now) }
     {
@@ -89,7 +89,7 @@ impl Eq for Segment {
     ghost laws = { pair_eq_equiv };
 }
 
-/// Writes segments at the end of a text, with `/` between two.
+/// Appends segments to a text, with `/` between two.
 pub fn write_segments(segments: &[Segment], text: &mut String) -> Result<(), AllocError>
     ensures { OnOk result (string_bytes text.new ≡ string_bytes text.old ++ id_text segments.now) }
 {
@@ -102,7 +102,7 @@ pub fn write_segments(segments: &[Segment], text: &mut String) -> Result<(), All
     }
 }
 
-/// Writes segments at the end of a text, each after a `/`.
+/// Appends segments to a text, each after a `/`.
 fn write_further(segments: &[Segment], text: &mut String) -> Result<(), AllocError>
     ensures { OnOk result (string_bytes text.new ≡ string_bytes text.old ++ flat_map further_text segments.now) }
 {

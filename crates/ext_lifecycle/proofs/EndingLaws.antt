@@ -7,7 +7,7 @@ use Rattle.ext_model.proofs.CountedCloses.{IsCountOf, close_faults-cons, close_w
 use Rattle.ext_lifecycle.specs.declared.status.Status.{Status}
 use Rattle.ext_lifecycle.specs.declared.status.Status.TheVariants as statuses
 use Rattle.ext_lifecycle.specs.Endings.{Ending, successful, aborted, failed, Total, is_successful, all_successful, fault_in, abort_in, first_fault, first_abort, unsuccessful, total_by, total_of}
-use Rattle.ext_lifecycle.specs.InnerHelpers.{with_ending, with_closes}
+use Rattle.ext_lifecycle.specs.InnerTotals.{with_ending, with_closes}
 use Rattle.ext_lifecycle.specs.Results.{close_ending}
 
 -- the status of a node of which every call so far was successful

@@ -10,7 +10,7 @@ use Rattle.ext_lifecycle.specs.declared.outcome.Outcome.{Outcome}
 use Rattle.ext_lifecycle.specs.declared.tally.Tally.{Tally}
 use Rattle.ext_lifecycle.specs.Endings.{Total, total_of}
 use Rattle.ext_lifecycle.specs.Lifecycle.{ending_of, endings_of, computed_in, found_in, tally_of}
-use Rattle.ext_lifecycle.specs.InnerHelpers.{total_in, with_ending, with_closes}
+use Rattle.ext_lifecycle.specs.InnerTotals.{total_in, with_ending, with_closes}
 use Rattle.ext_lifecycle.specs.Results.{ResultOf, result_of}
 use Rattle.ext_lifecycle.proofs.EndingLaws.{total_of-closed, total_of-more}
 

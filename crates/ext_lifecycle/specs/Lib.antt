@@ -4,5 +4,5 @@ pub mod Results
 pub mod Lifecycle
 pub mod Callbacks
 pub mod FaultTexts
-pub mod InnerHelpers
+pub mod InnerTotals
 pub mod Modes

@@ -9,7 +9,7 @@ pub enum Kind {
     BeforeAll,
     /// Before each test at or below the node that registered it.
     BeforeEach,
-    /// The test itself.
+    /// The call of the test itself.
     Test,
     /// After each test at or below the node that registered it.
     AfterEach,
@@ -20,7 +20,7 @@ pub enum Kind {
 /// One call of a node.
 #[derive(Clone, Copy, Debug, PartialEq, Eq)]
 pub struct Call {
-    /// What is called.
+    /// The kind of the call.
     pub kind: Kind,
     /// The node that registered the callback, a number from 0; for a test the test itself.
     pub from: ContextNo,

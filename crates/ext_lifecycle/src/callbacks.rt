@@ -6,7 +6,7 @@ use crate::{Call, Kind};
 use ext_model::ContextNo;
 use std::alloc::{AllocError, Global};
 
-/// What tells how many callbacks the nodes of a run registered.
+/// A source of how many callbacks the nodes of a run registered.
 pub trait Callbacks {
     ghost use Rattle.std.specs.Prelude.{◌≡◌, ◌≤◌, ℕ};
     ghost use Rattle.ext_lifecycle.specs.declared.call.Kind.{Kind};
@@ -14,18 +14,18 @@ pub trait Callbacks {
     /// How many callbacks of a kind a node registered.
     ghost registered: { Self → Kind → ℕ → ℕ };
 
-    /// How many callbacks of a kind a node registered: at most 1,048,576. Of `Test` it is never asked.
+    /// How many callbacks of a kind a node registered: at most 1,048,576. Never called for `Test`.
     fn count(&self, kind: Kind, node: ContextNo) -> usize
         ensures count { result ≡ registered self.now kind node }
         ensures few { result ≤ 1048576 };
 }
 
-/// The before-callbacks of a node with this path, which begins with the node and ends with the root, in the order in
-/// which they are called: of a test the `BeforeEach` of all contexts on the path, outer ones first; of a container
-/// its own `BeforeAll`.
+/// The before-callbacks of a node, in the order in which they are called. For a test these are the
+/// `BeforeEach` of all contexts on the path, outer ones first; for a container its own `BeforeAll`.
+/// The path begins with the node and ends with the root.
 ///
-/// Takes memory for the list. `AllocError` comes only where that is refused. Source: JUnit 5 User Guide, section
-/// "Wrapping Behavior of Callbacks"; the four kinds are an own rule.
+/// Takes memory for the list; `AllocError` comes only if that is refused. Source: JUnit 5 User
+/// Guide, section "Wrapping Behavior of Callbacks"; the four kinds are an own rule.
 pub fn befores_of<S: Callbacks>(
     alloc: Global,
     suite: &S,
@@ -46,12 +46,12 @@ pub fn befores_of<S: Callbacks>(
     Ok(calls)
 }
 
-/// The after-callbacks of a node with this path, in the order in which they are called, which is the reverse of
-/// the order of registration: of a test the `AfterEach` of all contexts on the path, inner ones first; of a
-/// container its own `AfterAll`.
+/// The after-callbacks of a node, in the order in which they are called: the reverse of the order
+/// of registration. For a test these are the `AfterEach` of all contexts on the path, inner ones
+/// first; for a container its own `AfterAll`. The path is that of `befores_of`.
 ///
-/// Takes memory for the list. `AllocError` comes only where that is refused. Source: JUnit 5 User Guide, section
-/// "Wrapping Behavior of Callbacks"; the four kinds are an own rule.
+/// Takes memory for the list; `AllocError` comes only if that is refused. Source: JUnit 5 User
+/// Guide, section "Wrapping Behavior of Callbacks"; the four kinds are an own rule.
 pub fn afters_of<S: Callbacks>(
     alloc: Global,
     suite: &S,
@@ -73,10 +73,11 @@ pub fn afters_of<S: Callbacks>(
     Ok(calls)
 }
 
-/// The before-callbacks and the after-callbacks of a node with this path, as `befores_of` and `afters_of` have them.
+/// The before-callbacks and the after-callbacks of a node with this path, as `befores_of` and
+/// `afters_of` give them.
 ///
-/// Takes memory for the lists. `AllocError` comes only where that is refused. Source: JUnit 5 User Guide, section
-/// "Wrapping Behavior of Callbacks"; the four kinds are an own rule.
+/// Takes memory for the lists; `AllocError` comes only if that is refused. Source: JUnit 5 User
+/// Guide, section "Wrapping Behavior of Callbacks"; the four kinds are an own rule.
 pub fn calls_round<S: Callbacks>(
     alloc: Global,
     suite: &S,

@@ -1,14 +1,14 @@
-//! How a node is run: which of its calls are made, in which order, what their outcomes come to, and what is
-//! told of the node.
+//! How a node is run: which of its calls are made, in which order, what its result is, and what is
+//! reported of it.
 //!
-//! A node's before-callbacks are called up to the first that isn't successful (`run_befores`), then its body where
-//! there is no such one (`run_body`; of a container that is its children), then all its after-callbacks (`run_afters`).
-//! Their outcomes make the node's `Tally`, and the closes of its context its `NodeResult`. `befores_of` and `afters_of`
-//! give the callbacks in the order in which they are called. What each call does is the `Caller`'s. Whether a node may
-//! be run beside its siblings is its `Mode`. A `RunListener` is told how far a run is.
+//! A node's before-callbacks are called up to the first that is not successful (`run_befores`),
+//! then its body if there is no such one (`run_body`; for a container that is its children), then
+//! all its after-callbacks (`run_afters`). Their outcomes make the node's `Tally`, and the closes
+//! of its context its `NodeResult`. `befores_of` and `afters_of` give the callbacks in the order in
+//! which they are called. What each call does is the `Caller`'s. A node's `Mode` says whether it
+//! may be run beside its siblings. A `RunListener` follows the progress of a run.
 //!
-//! Unless its comment says otherwise, a public call takes no memory and waits for nobody. What a trait's
-//! method takes is for whoever implements it to say. What names no source in JUnit is an own rule.
+//! Whether a method of a trait takes memory or waits is for its implementation to say.
 #![tactic(auto)]
 
 mod call;

@@ -6,7 +6,7 @@ ghost use Rattle.ext_lifecycle.specs.declared.outcome.Outcome.{Outcome};
 
 use crate::{Call, Outcome, Tally};
 
-/// What makes the calls of a node.
+/// An object that makes the calls of a node.
 pub trait Caller {
     ghost use Rattle.std.specs.Prelude.{◌≡◌, ℕ};
     ghost use Rattle.ext_lifecycle.specs.declared.call.Call.{Call};
@@ -21,7 +21,8 @@ pub trait Caller {
     /// What a call does: the caller before it, the call, its outcome, and the caller after it.
     ghost call_gives: { Self → Call → Outcome → Self → Type 0 };
 
-    /// Makes one call. It has no error: want of memory, too, is an outcome.
+    /// Makes one call and answers its outcome. It has no error: a failed allocation, too, is an
+    /// outcome.
     fn call(&mut self, call: &Call) -> Outcome
         requires ready { ready self.old }
         ensures call { call_gives self.old call.now result self.new }
@@ -29,11 +30,12 @@ pub trait Caller {
         ensures ready { ready self.new };
 }
 
-/// Makes the calls of a node whose body is a call, as a test: `run_befores`, `run_body` and `run_afters`, one after
-/// another, with one caller and one tally.
+/// Makes the calls of a node whose body is a call, such as a test. It runs `run_befores`,
+/// `run_body` and `run_afters`, one after another, with one caller and one tally.
 ///
-/// The calls are fewer than 2^32, so that all counts are exact. Waits where the caller does. Source: JUnit 5 User
-/// Guide, section "Relative Execution Order of User Code and Extensions"; which calls are skipped is an own rule.
+/// There must be fewer than 2^32 calls, so that all counts are exact. It waits if the caller does.
+/// Source: JUnit 5 User Guide, section "Relative Execution Order of User Code and Extensions";
+/// which calls are skipped is an own rule.
 pub fn run_calls<C: Caller>(befores: &[Call], body: Call, afters: &[Call], caller: &mut C) -> Tally
     requires ready { C.ready caller.old }
     requires few { length befores.now + 1 + length afters.now < 2 ^ 32 }
@@ -48,11 +50,11 @@ pub fn run_calls<C: Caller>(befores: &[Call], body: Call, afters: &[Call], calle
     tally
 }
 
-/// Makes these before-callbacks, in order, up to the first that isn't successful, with it.
+/// Makes these before-callbacks, in order, up to and including the first that is not successful.
 ///
-/// There are fewer than 2^32 of them, so that all counts are exact. Waits where the caller does. Source:
-/// JUnit 5 User Guide, section "Relative Execution Order of User Code and Extensions"; that the later ones
-/// are skipped is an own rule.
+/// There must be fewer than 2^32 of them, so that all counts are exact. It waits if the caller
+/// does. Source: JUnit 5 User Guide, section "Relative Execution Order of User Code and
+/// Extensions"; that the later ones are skipped is an own rule.
 pub fn run_befores<C: Caller>(befores: &[Call], caller: &mut C) -> Tally
     requires ready { C.ready caller.old }
     requires few { length befores.now < 2 ^ 32 }
@@ -75,9 +77,9 @@ pub fn run_befores<C: Caller>(befores: &[Call], caller: &mut C) -> Tally
     tally
 }
 
-/// Makes the call that is the body of a test where all calls so far were successful, and else none.
+/// Makes the call that is the body of a test if all calls so far were successful, and else none.
 ///
-/// Waits where the caller does.
+/// It waits if the caller does.
 pub fn run_body<C: Caller>(call: Call, caller: &mut C, tally: &mut Tally)
     requires ready { C.ready caller.old }
     requires room { IsRoomy 1 tally.old }
@@ -94,10 +96,10 @@ pub fn run_body<C: Caller>(call: Call, caller: &mut C, tally: &mut Tally)
     }
 }
 
-/// Makes all of these after-callbacks, in order, however the calls before them and each of them ended.
+/// Makes all of these after-callbacks, in order, however any call ended.
 ///
-/// Waits where the caller does. Source: JUnit 5 User Guide, section "Relative Execution Order of User Code
-/// and Extensions"; that none is skipped is an own rule.
+/// It waits if the caller does. Source: JUnit 5 User Guide, section "Relative Execution Order of
+/// User Code and Extensions"; that none is skipped is an own rule.
 pub fn run_afters<C: Caller>(afters: &[Call], caller: &mut C, tally: &mut Tally)
     requires ready { C.ready caller.old }
     requires room { IsRoomy (length afters.now) tally.old }

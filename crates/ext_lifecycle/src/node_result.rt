@@ -1,19 +1,19 @@
-//! What became of a node.
+//! The result of a node.
 ghost use Rattle.std.specs.Prelude.{◌≡◌};
 ghost use Rattle.ext_lifecycle.specs.Results.{told, skipped_result};
 
 use crate::Status;
 use ext_model::{ContextNo, Fault};
 
-/// What became of one node of a run. Whoever makes it sees that the fields fit together: nothing here checks
-/// that a successful node has no fault.
+/// The result of one node of a run. Nothing here checks that the fields fit together, such as that
+/// a successful node has no fault.
 #[derive(Debug, Drop, PartialEq, Eq)]
 pub struct NodeResult {
     /// The node's context, a number from 0.
     pub node: ContextNo,
     /// Whether the node is a test; else it is a container.
     pub is_test: bool,
-    /// How the node ended.
+    /// The status with which the node ended.
     pub status: Status,
     /// The first fault of a failed node, the first abort of an aborted one.
     pub fault: Option<Fault>,
@@ -21,16 +21,16 @@ pub struct NodeResult {
     pub more: u64,
     /// How many values the node's calls computed.
     pub computed: u64,
-    /// How many values the node's calls found where they would have computed one.
+    /// How many values the node's calls found instead of computing one.
     pub found: u64,
-    /// How many values were closed with the node's context, those whose close failed among them.
+    /// How many values were closed with the node's context, including those whose close failed.
     pub closed: u64,
     /// How many of these closes failed.
     pub close_faults: u64,
 }
 
 impl NodeResult {
-    /// The result of a node that did not run: skipped, with no fault and no counts.
+    /// The result of a node that did not run: skipped, with no fault and all counts 0.
     pub fn skipped(node: ContextNo, is_test: bool) -> NodeResult
         ensures { told result ≡ skipped_result node is_test }
     {

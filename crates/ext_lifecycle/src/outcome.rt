@@ -1,4 +1,4 @@
-//! How a call ended.
+//! How a call ended, and what it computed.
 ghost use Rattle.std.specs.Prelude.{◌≡◌, option_map};
 
 use ext_model::Fault;
@@ -8,7 +8,7 @@ use ext_model::Fault;
 pub enum Verdict {
     /// It did what it should.
     Successful,
-    /// It was given up, with this text.
+    /// It was aborted, with this fault.
     Aborted(Fault),
     /// It failed, with this fault.
     Failed(Fault),
@@ -30,7 +30,7 @@ impl Verdict {
         }
     }
 
-    /// The fault of a call that failed or was aborted; none of one that was successful.
+    /// The fault of a call that failed or was aborted, or `None` if it was successful.
     pub fn fault(&self) -> Option<&Fault>
         ensures { option_map (λ fault. fault.now) result ≡ or_else (fault_in (ending_of self.now)) (abort_in (ending_of self.now)) }
     {
@@ -42,19 +42,19 @@ impl Verdict {
     }
 }
 
-/// What one call came to.
+/// The outcome of one call.
 #[derive(Debug, Drop, PartialEq, Eq)]
 pub struct Outcome {
-    /// How it ended.
+    /// The verdict on how the call ended.
     pub verdict: Verdict,
     /// How many values it computed.
     pub computed: u32,
-    /// How many values it found where it would have computed one.
+    /// How many values it found instead of computing one.
     pub found: u32,
 }
 
 impl Outcome {
-    /// Of a call that computed nothing, and found nothing in its place.
+    /// The outcome of a call that computed nothing, and found nothing in its place.
     pub fn of(verdict: Verdict) -> Outcome
         ensures verdict { result.verdict ≡ verdict }
         ensures computed { result.computed ≡ 0 }

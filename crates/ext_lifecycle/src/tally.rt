@@ -1,20 +1,20 @@
-//! What the outcomes of a node's calls come to.
+//! The combined outcomes of a node's calls.
 ghost use Rattle.std.specs.Prelude.{◌≡◌, ◌++◌, ◌∷◌, ◌+◌, ◌<◌, ◌^◌, ℕ, [], List, Option};
 ghost use Rattle.ext_model.specs.declared.look.Fault.{Fault};
 ghost use Rattle.ext_lifecycle.specs.declared.outcome.Outcome.{Outcome};
 ghost use Rattle.ext_lifecycle.specs.Endings.{aborted, all_successful, failed};
 ghost use Rattle.ext_lifecycle.specs.Lifecycle.{IsRoomy, computed_in, endings_of, found_in, tally_of};
-ghost use Rattle.ext_lifecycle.specs.InnerHelpers.{total_in, with_ending};
+ghost use Rattle.ext_lifecycle.specs.InnerTotals.{total_in, with_ending};
 ghost use Rattle.ext_lifecycle.specs.Results.{result_of, told};
 ghost use Rattle.ext_model.specs.Closed.{closed_of};
 
 use crate::{NodeResult, Outcome, Status, Verdict};
 use ext_model::{Closed, ContextNo, Fault};
 
-/// What the outcomes of a node's calls come to.
+/// The combined outcomes of a node's calls.
 #[derive(Debug, Drop, PartialEq, Eq)]
 pub struct Tally {
-    /// Failed where a call failed, else aborted where one aborted, else successful.
+    /// Failed if a call failed, else aborted if one aborted, else successful.
     pub status: Status,
     /// The first fault of a failed node, the first abort of an aborted one.
     pub fault: Option<Fault>,
@@ -22,12 +22,12 @@ pub struct Tally {
     pub more: u64,
     /// How many values the calls computed.
     pub computed: u64,
-    /// How many values the calls found where they would have computed one.
+    /// How many values the calls found instead of computing one.
     pub found: u64,
 }
 
 impl Tally {
-    /// Before the first call.
+    /// The tally before the first call.
     pub fn new() -> Tally
         ensures tally { result ≡ tally_of [] }
         ensures room { (n : ℕ) → n < 2 ^ 32 → IsRoomy n result }
@@ -73,7 +73,7 @@ impl Tally {
         }
     }
 
-    /// The result of the node: what the closes of its context came to, after its calls.
+    /// The result of the node, from the outcomes of its calls and then the closes of its context.
     pub fn result(self, node: ContextNo, is_test: bool, closes: Closed) -> NodeResult
         requires room { IsRoomy 1 self }
         ensures { (outcomes : List Outcome) (closed : List (Option Fault)) → self ≡ tally_of outcomes → closes ≡ closed_of closed
@@ -104,7 +104,6 @@ impl Tally {
         }
     }
 
-    /// Adds an abort.
     fn add_abort(&mut self, fault: Fault)
         requires { self.old.more < 18446744073709551615 }
         ensures total { total_in self.new ≡ with_ending (total_in self.old) (aborted fault) }
@@ -120,7 +119,6 @@ impl Tally {
         }
     }
 
-    /// Adds a fault.
     fn add_fault(&mut self, fault: Fault)
         requires { self.old.more < 18446744073709551615 }
         ensures total { total_in self.new ≡ with_ending (total_in self.old) (failed fault) }

@@ -7,4 +7,4 @@ pub mod Opening
 pub mod InnerWords
 pub mod InnerRule
 pub mod InnerSteps
-pub mod Laws
+pub mod LockLaws

@@ -3,11 +3,12 @@ use crate::{LockLane, LockSet};
 use std::marker::Model;
 use std::snapshot::Snapshot;
 
-/// A set of locks that a lane holds. It has to be given back: it cannot be dropped.
+/// A set of locks that a lane holds. It must be given back: it cannot be dropped.
 ///
-/// Contracts see the lane, the names of its locks, the set, and the lane's own lock events as they were once the set was
-/// taken: so who has this, and not the locks, knows the set by names and modes. JUnit 5
-/// User Guide, section "Synchronization": a test holds its locks from before its callbacks until it has ended.
+/// Contracts see the lane, the names of its locks, the set, and the lane's own lock events as they
+/// were once the set was taken. So a caller that has this, and not the locks, knows the set by
+/// names and modes. JUnit 5 User Guide, section "Synchronization": a test holds its locks from
+/// before its callbacks until it has ended.
 pub struct Held {
     pub(crate) set: LockSet,
     pub(crate) taken: Snapshot<LockLane>,

@@ -2,9 +2,10 @@
 use crate::rule::LaneSeat;
 use std::marker::Model;
 
-/// A lane of some locks. It is owned by one thread at a time, and may be moved to another.
+/// A lane of some locks, owned by one thread at a time. It may be moved to another thread.
 ///
-/// Contracts see the locks that it belongs to, how many lanes these have, and its number, from 0, with the histories that it saw.
+/// Contracts see the locks that it belongs to, how many lanes these have, its number, from 0, and
+/// the histories that it saw.
 #[derive(Drop)]
 pub struct LockLane {
     pub(crate) seat: LaneSeat,
@@ -34,7 +35,7 @@ impl LockLane {
     ghost use Rattle.ext_history.specs.Histories.{seen_by, Follow};
     ghost use Rattle.ext_locks.specs.History.{IsLegal};
 
-    /// The lane's number, from 0: it is below the count of lanes, and no other lane of these locks has it.
+    /// The lane's number, from 0, below the count of lanes; no other lane of these locks has it.
     pub fn number(&self) -> usize
         ensures number { result ≡ self.now.view.number }
         ensures below { result < self.now.lanes }
@@ -42,8 +43,8 @@ impl LockLane {
         self.number
     }
 
-    /// Shows what is true of every lane: all that it has seen is legal, and each history goes on from the one before it.
-    /// Does nothing when it runs.
+    /// Proves what is true of every lane: all that it has seen is legal, and each history goes on
+    /// from the one before it. It does nothing when it runs.
     pub fn recall(&self)
         ensures lane { self.now.view.number < self.now.lanes }
         ensures lanes { self.now.lanes ≤ 16 }

@@ -1,7 +1,7 @@
-//! What is true of all lock histories, calls and merged sets, as the contract of a function that does nothing.
-ghost use Rattle.ext_locks.specs.Laws.{LegalIsLawful, OwnEventsDecide, FreeIsNotHeld, EmptyIsLegal, FreshIsEmpty, OnlyLanesHold, BeginningsAreLegal, CallsCompose, NoCall, OneMergedSet};
+//! Laws of lock histories, calls and merged sets, as the contract of an empty function.
+ghost use Rattle.ext_locks.specs.LockLaws.{LegalIsLawful, OwnEventsDecide, FreeIsNotHeld, EmptyIsLegal, FreshIsEmpty, OnlyLanesHold, BeginningsAreLegal, CallsCompose, NoCall, OneMergedSet};
 
-/// Proves the laws of lock histories, of calls and of merged sets. It does nothing when it runs.
+/// Proves the laws of lock histories, of calls and of merged sets.
 ///
 /// JUnit 5 User Guide, section "Synchronization", for `lawful`; the others are own rules.
 pub fn lock_laws()

@@ -1,14 +1,13 @@
-//! Resource locks of parallel tests: a test takes all its locks or none, or waits for each in turn; readers together, a
-//! writer alone.
+//! Resource locks of parallel tests: a test takes all its locks or none, or waits for each in turn;
+//! readers together, a writer alone.
 //!
-//! Follows the JUnit 5 User Guide, section "Synchronization", and the Javadoc of `ResourceLock`. Each lock is one word, and
-//! each lock event one atomic step on it. Contracts speak of the history of these events and of what each lane has seen of
-//! it, in the words of `ext_history`: `specs/History` has what an event is, who holds what and when an event may come,
-//! `Views` what a lane of locks is, `Sets` sets of locks, `Refusals` when a set is refused, `Names` names and requests, and
-//! `Opening` fresh locks. `InnerWords` and `InnerRule` are the words and what holds of them between any two steps.
-//!
-//! Unless its comment says otherwise, a public call takes no memory and waits for nobody. What
-//! names no source in JUnit is an own rule.
+//! Follows the JUnit 5 User Guide, section "Synchronization", and the Javadoc of `ResourceLock`.
+//! Each lock is one word, and each lock event one atomic step on it. Contracts speak of the history
+//! of these events and of what each lane has seen of it, in the words of `ext_history`.
+//! `specs/History` has what an event is, who holds what and when an event may come, `Views` lanes,
+//! `Sets` sets of locks, `Refusals` when a set is refused, `Names` names and requests, and
+//! `Opening` fresh locks. `InnerWords` and `InnerRule` have the words and what holds of them
+//! between any two steps.
 #![tactic(auto)]
 
 mod event;

@@ -20,10 +20,10 @@ use std::marker::Model;
 use std::snapshot::Snapshot;
 use std::sync::Wait;
 
-/// How many exchanges a call may be told to make for one lock.
+/// The greatest number of exchanges that a call may make for one lock.
 const MAX_TRIES: u32 = 64;
 
-/// The global lock and named ones, one word for each. They are shared by reference: only lanes change them.
+/// The global lock and named ones, one word for each, shared by reference. Only lanes change them.
 ///
 /// Contracts see the table of words, the names, the number of lanes, and the tries.
 #[derive(Drop)]
@@ -65,15 +65,16 @@ impl Locks {
     ghost use Rattle.ext_locks.specs.Names.{IsNamed, IsMerged, IsNotMerged};
     ghost use Rattle.ext_locks.specs.Opening.{AreLocks, IsOpened, IsNotOpened};
 
-    /// Locks that nobody holds: the global one, and one for each name. The names, of which there are at most 63, get the
-    /// numbers from 1 on in the order of their bytes. Also gives the lanes, 1 to 16 of them, numbered from 0. A call
-    /// that does not wait makes at most `tries` exchanges, 1 to 64, for each lock. Takes memory; no other call does.
+    /// Opens the global lock and one lock for each name, which nobody holds, and their lanes. The
+    /// names, at most 63, are numbered from 1 in the order of their bytes, and the lanes, 1 to 16,
+    /// from 0. A call that does not wait makes at most `tries` exchanges, 1 to 64, for each lock.
+    /// Takes memory; no other call does.
     ///
-    /// These are all lanes that there are: only they can make events, and none of them has made any. So nobody holds a
-    /// lock, and nobody but these lanes ever will (`fresh` and `only_lanes` of `lock_laws`).
+    /// Only these lanes can make events, and none of them has made any. So nobody holds a lock, and
+    /// nobody but these lanes ever will (`fresh` and `only_lanes` of `lock_laws`).
     ///
-    /// Refused, in this order, as `BadLimit`, `TooMany`, `Twice(at)` and `Memory`. JUnit 5 User Guide, section
-    /// "Synchronization"; limits and refusals are own rules.
+    /// Refused, in this order, as `BadLimit`, `TooMany`, `Twice(at)` and `Memory`. JUnit 5 User
+    /// Guide, section "Synchronization"; limits and refusals are own rules.
     pub fn open(
         alloc: Global,
         names: &[&str],
@@ -98,11 +99,12 @@ impl Locks {
         }
     }
 
-    /// The set of locks that requests ask for: each lock once, in the strongest mode in which it is asked for, the global
-    /// one first, then the named ones by the bytes of their names. A name is found by halves.
+    /// The set of locks that the requests ask for: each lock once, in the strongest mode asked for.
+    /// The global one comes first, then the named ones by the bytes of their names. A name is found
+    /// by binary search.
     ///
-    /// Refused as `UnknownResource(at)`, at the first request of a name that these locks don't have. JUnit 5 User Guide,
-    /// section "Synchronization"; the order is an own rule.
+    /// Refused as `UnknownResource(at)`, at the first request of a name that these locks do not
+    /// have. JUnit 5 User Guide, section "Synchronization"; the order is an own rule.
     pub fn merge(&self, requests: &[LockRequest]) -> Result<LockSet, LockFault>
         ensures merged { IfOk result (IsMerged self.now.names requests.now) }
         ensures within { IfOk result (AllBelow (length self.now.names + 1)) }
@@ -123,22 +125,24 @@ impl Locks {
         Some(self.names[lock - 1].as_str())
     }
 
-    /// Shows what is true of all locks: that no name stands twice, so that requests have one merged set, and that there is
-    /// at least one try. Does nothing when it runs.
+    /// Proves what is true of all locks: the names are at most 63, different and in the order of
+    /// their bytes, and lanes and tries are within their limits. So requests have one merged set.
+    /// It does nothing when it runs.
     pub fn recall(&self)
         ensures { AreLocks self.now }
     {
         let _tries = self.tries;
     }
 
-    /// Takes all locks of a set, in the order of their numbers, or none. Waits for nobody: for each lock it loads the word
-    /// once and makes at most `tries` exchanges.
+    /// Takes all locks of a set, in the order of their numbers, or none. For each lock it loads the
+    /// word once and makes at most `tries` exchanges. The lane must hold nothing before.
     ///
-    /// Refused as `Taken(lock)` where another lane held that lock, in a mode that excludes the one wanted, at a moment of
-    /// the call, and as `Contended(lock)` where other lanes made at least as many lock events during the call as there are
-    /// tries, though the lock was free when its word was last read. After either the lane holds nothing: what it had taken
-    /// it gave back, and it has then woken the lanes that wait for locks. JUnit 5 User Guide, section "Synchronization";
-    /// refusals in place of waiting are an own rule.
+    /// Refused as `Taken(lock)` if another lane held that lock, in a mode that excludes the one
+    /// wanted, at a moment of the call, and as `Contended(lock)` if other lanes made at least
+    /// `tries` lock events during the call, though the lock was free when its word was last read.
+    /// After either the lane holds nothing: it has given back what it took, and woken the lanes
+    /// that wait for locks. JUnit 5 User Guide, section "Synchronization"; refusals in place of
+    /// waiting are an own rule.
     pub fn try_take(&self, lane: &mut LockLane, set: &LockSet) -> Result<Held, LockRefusal>
         requires lane { lane.old.table ≡ self.now.table }
         requires free_hands { HoldsNothing lane.old }
@@ -172,15 +176,17 @@ impl Locks {
         }
     }
 
-    /// Takes all locks of a set, one after another in the order of their numbers, and keeps what it has while it waits for
-    /// the next. Where another lane holds a lock, in a mode that excludes the one wanted, it waits, parked, until a lane has
-    /// given locks back, and tries that lock again; where other lanes were in the way it tries again at once. So it is never
-    /// refused. It may wait: it promises its clauses if it returns.
+    /// Takes all locks of a set, one after another in the order of their numbers, and waits for
+    /// each until it is free. It keeps what it has while it waits for the next. If another lane
+    /// holds a lock, in a mode that excludes the one wanted, it waits, parked, until a lane has
+    /// given locks back, and tries that lock again; if other lanes were in the way, it tries again
+    /// at once. So it is never refused, but may wait. The lane must hold nothing before.
     ///
-    /// Two lanes that wait here never wait for each other: each began with empty hands and takes its locks in the one order
-    /// of their numbers, so it waits only for a lock above all that it holds. A lane that sleeps holds the locks of its set
-    /// below the one that it waits for, so `try_take` may be refused by these; and a writer may wait as long as readers
-    /// keep coming, since no lock is kept free for it. JUnit 5 User Guide, section "Synchronization".
+    /// Two lanes that wait here never wait for each other: each takes its locks in the one order of
+    /// their numbers, so it waits only for a lock above all that it holds. A sleeping lane holds
+    /// the locks of its set below the one that it waits for, so `try_take` may be refused by these.
+    /// A writer may wait as long as readers keep coming, since no lock is kept free for it. JUnit 5
+    /// User Guide, section "Synchronization".
     pub fn take_wait<R: Wait>(&self, rt: &R, lane: &mut LockLane, set: &LockSet) -> Held
         requires lane { lane.old.table ≡ self.now.table }
         requires free_hands { HoldsNothing lane.old }
@@ -203,8 +209,8 @@ impl Locks {
         }
     }
 
-    /// Gives back what a lane holds, in the order of the locks' numbers, by one step each, and then wakes the lanes that
-    /// wait for locks. Cannot fail.
+    /// Gives back the locks that a lane holds, in the order of their numbers, and then wakes the
+    /// lanes that wait for locks. Each lock takes one step. It cannot fail.
     ///
     /// JUnit 5 User Guide, section "Synchronization".
     pub fn give(&self, lane: &mut LockLane, held: Held)
@@ -224,8 +230,8 @@ impl Locks {
         self.waiters.wake_all();
     }
 
-    /// Shows that of two different lanes, where one writes by a lock, the other holds nothing on it. Each loads
-    /// one word once and makes no event. Cannot fail.
+    /// Shows of two different lanes that if one holds a lock for writing, the other does not hold
+    /// it. Each loads one word once and makes no event. It cannot fail.
     ///
     /// JUnit 5 User Guide, section "Synchronization".
     pub fn exclusive(&self, one: &mut LockLane, other: &mut LockLane)
@@ -250,14 +256,14 @@ impl Locks {
     }
 }
 
-/// So many words, all zero; takes memory.
+/// `count` words, all zero. Takes memory.
 fn zero_words(alloc: Global, count: usize) -> Result<Vec<u64>, AllocError>
     ensures { IfOk result (λ v. v.items ≡ replicate count 0) }
 {
     Vec::from_elem(alloc, 0, count)
 }
 
-/// The table of so many locks that nobody holds, and the seat that gives the lanes theirs; takes memory.
+/// The table of locks that nobody holds, and the seat that gives the lanes theirs. Takes memory.
 fn zero_table(alloc: Global, counts: &LockCounts) -> Result<(LockTable, LaneSeat), AllocError>
     requires { counts.now.lanes ≤ 16 }
     ensures { IfOk result (λ r. (r.0.shared.table_id.words ≡ counts.now.locks) × (r.0.shared.key ≡ counts.now) × (r.1.table_id ≡ r.0.shared.table_id) × (r.1.me.0 ≡ founder counts.now.lanes)) }
@@ -266,7 +272,7 @@ fn zero_table(alloc: Global, counts: &LockCounts) -> Result<(LockTable, LaneSeat
     Table::of_words(alloc, zeros.as_slice(), counts)
 }
 
-/// A lane for each number, whose seat the dealer gives, which has none left then; takes memory.
+/// A lane for each number, with a seat from the dealer, which then has none left. Takes memory.
 fn deal_lanes(
     words: &LockWords,
     alloc: Global,
@@ -287,7 +293,7 @@ fn deal_lanes(
     Ok(made)
 }
 
-/// The locks of these names, which nobody holds, and their lanes; takes memory.
+/// The locks of these names, which nobody holds, and their lanes. Takes memory.
 fn open_words(
     alloc: Global,
     names: &[&str],

@@ -1,4 +1,4 @@
-//! The names of locks: what is asked of them at opening, and the place of one among them.
+//! The names of locks: how they are checked at opening, and the place of one among them.
 ghost use Rattle.std.specs.Prelude.{◌≡◌, IfOk, IfSome, MatchOption, Some, None, Contains, IsPermutation, map, slice_get, length, string_bytes};
 ghost use Rattle.std.specs.List.Sorted.{IsSorted};
 ghost use Rattle.std.specs.String.{string_cmp};
@@ -18,7 +18,7 @@ pub(crate) fn first_twice(names: &[&str]) -> Option<usize>
     None
 }
 
-/// Copies of the names, in the order of their bytes; takes memory.
+/// Copies of the names, in the order of their bytes. Takes memory.
 pub(crate) fn sorted_copies(alloc: Global, names: &[&str]) -> Result<Vec<String>, AllocError>
     requires { AreDifferent (texts_of names.now) }
     ensures names { IfOk result (λ v. IsPermutation (texts_of names.now) (map string_bytes v.items)) }
@@ -33,7 +33,7 @@ pub(crate) fn sorted_copies(alloc: Global, names: &[&str]) -> Result<Vec<String>
     Ok(copies)
 }
 
-/// The place of a name among names in the order of their bytes, found by halves.
+/// The place of a name among names in the order of their bytes, found by binary search.
 pub(crate) fn place_of(names: &[String], name: &str) -> Option<usize>
     requires { IsSorted string_cmp names.now }
     ensures found { IfSome result (λ at. slice_get (map string_bytes names.now) at ≡ Some name.now) }

@@ -1,4 +1,5 @@
-//! The rule of the table of lock words, what its steps tell, and how seats are split off and joined in.
+//! The rule of the table of lock words, what its steps show, and how seats are split off and joined
+//! in.
 use crate::seat::SeatView;
 use atomic_table::{Join, Play, Seat, Shared, Split, Table, TableRule};
 use std::alloc::Global;
@@ -19,7 +20,8 @@ pub(crate) type LockWords = Shared<(), SeatView, LockCounts, LockRule>;
 /// A lane's seat at these words.
 pub(crate) type LaneSeat = Seat<(), SeatView>;
 
-/// Each word has the bits of its lock's holders in one legal history, of which every lane has seen beginnings.
+/// Each word has the bits of its lock's holders in one legal history, of which every lane has seen
+/// prefixes.
 pub(crate) struct LockRule;
 
 impl TableRule<(), SeatView, LockCounts> for LockRule {
@@ -50,7 +52,7 @@ impl Play<(), SeatView> for TakesWrite {
     ghost then = { Takes ReadWrite };
 }
 
-/// A lock that was held for reading is given back.
+/// Gives back a lock that was held for reading.
 pub(crate) struct GivesRead;
 
 impl Play<(), SeatView> for GivesRead {
@@ -60,7 +62,7 @@ impl Play<(), SeatView> for GivesRead {
     ghost then = { GivesBack Read };
 }
 
-/// A lock that was held for reading and writing is given back.
+/// Gives back a lock that was held for reading and writing.
 pub(crate) struct GivesWrite;
 
 impl Play<(), SeatView> for GivesWrite {

@@ -2,12 +2,12 @@
 use crate::{LockMode, LockNo};
 use std::marker::Model;
 
-/// How many locks there can be: the global one and 63 named ones.
+/// The greatest number of locks: the global one and 63 named ones.
 pub(crate) const MAX_LOCKS: usize = 64;
 
 /// A set of locks, each once and in one mode, of a fixed size.
 ///
-/// Contracts see it as the list of its locks with their modes, in the order of their numbers.
+/// Contracts see the list of its locks with their modes, in the order of their numbers.
 #[derive(Drop)]
 pub struct LockSet {
     pub(crate) modes: [Option<LockMode>; MAX_LOCKS],
@@ -26,7 +26,8 @@ impl Model for LockSet {
 impl LockSet {
     ghost use Rattle.std.specs.Prelude.{◌≡◌, slice_get};
 
-    /// The lock at place `i`, from 0, in the order of the locks' numbers, and its mode; `None` past the last one.
+    /// The lock at place `i`, from 0, in the order of the locks' numbers, and its mode, or `None`
+    /// past the last one.
     pub fn get(&self, i: usize) -> Option<(LockNo, LockMode)>
         ensures { result ≡ slice_get self.now i }
     {

@@ -9,11 +9,12 @@ ghost use Rattle.ext_locks.specs.InnerSteps.{IsLane};
 use crate::rule::{GivesRead, GivesWrite, LaneSeat, LockTable, Notes, Sees, TakesRead, TakesWrite};
 use crate::{LockMode, LockNo};
 
-/// How many lanes there can be: each has one bit for reading in a word, and one for writing above these.
+/// The greatest number of lanes: each has one bit for reading in a word, and one for writing above
+/// these.
 pub(crate) const MAX_LANES: usize = 16;
 
-/// The words of the locks once they are open. They are reached from this module alone, and each function of it that reads or
-/// changes one is a step of a lane's seat: so no call has another look at them.
+/// The words of open locks. Only this module reaches them, and each function of it that reads or
+/// changes one is a step of a lane's seat: so no call can look at them otherwise.
 #[derive(Drop)]
 pub(crate) struct LockSteps {
     table: LockTable,
@@ -68,7 +69,6 @@ pub(crate) fn take_if(
     }
 }
 
-/// Gives a lock back.
 pub(crate) fn give_back(
     words: &LockSteps,
     seat: &mut LaneSeat,
@@ -101,7 +101,7 @@ pub(crate) fn load(words: &LockSteps, seat: &mut LaneSeat, lane: usize, lock: Lo
     words.table.shared.load::<Sees>(seat, lock)
 }
 
-/// Tells a lane of all that another has seen, and loads the global lock's word for it.
+/// Shows a lane all that another has seen, and loads the global lock's word for it.
 pub(crate) fn tell(words: &LockSteps, from: &mut LaneSeat, to: &mut LaneSeat, lane: usize) -> u64
     requires from { from.old.table_id ≡ words.now.table.shared.table_id }
     requires to { IsLane words.now.table.shared.table_id words.now.table.shared.key.locks to.old lane }

@@ -23,8 +23,8 @@ fn is_free(mode: LockMode, word: u64) -> bool
     }
 }
 
-/// Takes a lock, by at most so many exchanges. A failed exchange is a load, and what it found decides anew:
-/// once more after the last one, so that a lock that is held is never reported as contended.
+/// Takes a lock, by at most `tries` exchanges. A failed exchange is a load, and the word that it
+/// found decides anew, also after the last: so a lock that is held is never reported as contended.
 pub(crate) fn take_lock(
     words: &LockSteps,
     seat: &mut LaneSeat,
@@ -62,7 +62,7 @@ pub(crate) fn take_lock(
     }
 }
 
-/// Gives back the locks of a set below a number.
+/// Gives back the locks of a set below `end`.
 pub(crate) fn give_locks(
     words: &LockSteps,
     seat: &mut LaneSeat,
@@ -85,7 +85,7 @@ pub(crate) fn give_locks(
     }
 }
 
-/// Takes all locks of a set, or none: what was taken before the lock that is refused is given back.
+/// Takes all locks of a set, or none: what was taken before a refused lock is given back.
 pub(crate) fn take_locks(
     words: &LockSteps,
     seat: &mut LaneSeat,

@@ -1,4 +1,4 @@
-//! A lane is told of what another has seen.
+//! A lane is shown what another has seen.
 ghost use Rattle.std.specs.Prelude.{◌≡◌, ◌≢◌, ◌+◌, ◌<◌, [], length};
 ghost use mathlib.Core.List.{IsPrefix};
 ghost use Rattle.ext_history.specs.Histories.{seen};
@@ -8,10 +8,11 @@ ghost use Rattle.ext_locks.specs.InnerSteps.{lane_at, IsLane, Makes};
 use crate::rule::LaneSeat;
 use crate::steps::{LockSteps, tell};
 
-/// Two lanes are told of each other: where one writes by a lock, the other holds nothing on it.
+/// Two lanes are shown what the other has seen: if one holds a lock for writing, the other does not
+/// hold it.
 ///
-/// What the other lane loads is of a history that goes on from all that the one has seen. Only the telling back shows
-/// that in this history the one lane holds what it held when it was asked.
+/// What the other lane loads is of a history that goes on from all that the one has seen. Only the
+/// second step shows that in this history the one lane holds what it held when it was asked.
 pub(crate) fn exclude(
     words: &LockSteps,
     one: &mut LaneSeat,

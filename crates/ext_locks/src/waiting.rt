@@ -13,7 +13,8 @@ use crate::{LockMode, LockNo, LockRefusal};
 use ext_waiters::Waiters;
 use std::sync::Wait;
 
-/// What all lanes share: the words of the locks, who waits for one, and how many exchanges a try makes at most.
+/// What all lanes share: the words of the locks, the lanes that wait, and the greatest number of
+/// exchanges of a try.
 #[derive(Drop)]
 pub(crate) struct SharedLocks<'a> {
     pub words: &'a LockSteps,
@@ -21,8 +22,8 @@ pub(crate) struct SharedLocks<'a> {
     pub tries: u32,
 }
 
-/// Takes a lock, however often it has to try: what met another holder is done again after a wake, and what other lanes
-/// were in the way of at once.
+/// Takes a lock, however often it has to try: after a wake if another lane held it, and at once if
+/// other lanes were in the way.
 fn wait_for_lock<R: Wait>(
     rt: &R,
     locks: &SharedLocks<'_>,

@@ -9,7 +9,7 @@ use Rattle.ext_model.specs.declared.slot.Slot.{Slot}
 use Rattle.ext_model.specs.declared.slot.Slot.TheVariants as slot
 use Rattle.ext_model.specs.Events.{slot_after, is_on}
 use Rattle.ext_model.specs.History.{History, Limits, by, lane_of, own, state_after, version_of, IsQuiet, IsAllowed, IsLegal}
-use Rattle.ext_model.specs.Words.{word_of}
+use Rattle.ext_model.specs.CellWords.{word_of}
 use Rattle.ext_model.specs.Allowed.{IsOpen, IsPresent, Permits}
 use Rattle.ext_history.proofs.Lists.{bools}
 use Rattle.ext_history.proofs.Lanes.{own_yes, own_not}

@@ -7,7 +7,7 @@ use Rattle.ext_model.specs.declared.event.Act.TheVariants.{Fill, Fail, Abandon}
 use Rattle.ext_model.specs.declared.slot.Slot.TheVariants as slot
 use Rattle.ext_model.specs.Events.{is_on}
 use Rattle.ext_model.specs.History.{History, Limits, by, state_after, version_of, IsQuiet, IsAllowed, IsLegal}
-use Rattle.ext_model.specs.Words.{word_of}
+use Rattle.ext_model.specs.CellWords.{word_of}
 use Rattle.ext_model.specs.CallActs.{MayStore, LaneView, events_by, Calls, IsHeld, MayStoreNow, GoesOn}
 use Rattle.ext_history.specs.Histories.{seen_by}
 use Rattle.ext_model.proofs.Allowed.{allowed}

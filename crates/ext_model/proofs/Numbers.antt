@@ -11,7 +11,7 @@ use Rattle.ext_model.specs.declared.slot.Slot.TheVariants as slot
 use Rattle.ext_model.specs.State.{standing_value}
 use Rattle.ext_model.specs.Events.{Happens, Refuses, NumbersFull, slot_after, drawn_after, is_on, apply}
 use Rattle.ext_model.specs.History.{History, Limits, state_after, by, IsAllowed, IsLegal}
-use Rattle.ext_model.specs.Words.{number_code}
+use Rattle.ext_model.specs.CellWords.{number_code}
 use Rattle.ext_history.proofs.Legal.{legal_steps}
 use Rattle.ext_model.proofs.Words.{after-push}
 

@@ -10,7 +10,7 @@ use Rattle.ext_model.specs.declared.slot.Slot.TheVariants as slot
 use Rattle.ext_model.specs.State.{State, opening}
 use Rattle.ext_model.specs.Events.{is_on, apply, slot_after}
 use Rattle.ext_model.specs.History.{History, Limits, state_after, version_of, IsLegal}
-use Rattle.ext_model.specs.Words.{state_code, number_code, word, word_of}
+use Rattle.ext_model.specs.CellWords.{state_code, number_code, word, word_of}
 use Rattle.ext_model.specs.declared.event.Act.{Act}
 use Rattle.ext_model.specs.Events.{place_of, is_at}
 use Rattle.ext_history.proofs.Lists.{contains_here, contains_later}

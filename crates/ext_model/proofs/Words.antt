@@ -6,7 +6,7 @@ use Rattle.ext_model.specs.declared.event.Event.{Event}
 use Rattle.ext_model.specs.State.{opening}
 use Rattle.ext_model.specs.Events.{is_on, slot_after, drawn_after, apply}
 use Rattle.ext_model.specs.History.{History, state_after, version_of}
-use Rattle.ext_model.specs.Words.{state_code, number_code, word, word_of}
+use Rattle.ext_model.specs.CellWords.{state_code, number_code, word, word_of}
 
 pub after-push : (h : History) (e : Event ℕ) → state_after (h ++ e ∷ []) ≡ apply nat_eq (state_after h) e
 after-push h e = fold-append (apply nat_eq) opening h (e ∷ [])

@@ -6,7 +6,7 @@ use Rattle.ext_model.specs.declared.event.Act.{Act}
 use Rattle.ext_model.specs.declared.event.Act.TheVariants.{Fill, Fail, Abandon}
 use Rattle.ext_model.specs.Events.{is_on}
 use Rattle.ext_model.specs.History.{History, Limits, by, IsAllowed, IsLegal}
-use Rattle.ext_model.specs.Words.{word_of}
+use Rattle.ext_model.specs.CellWords.{word_of}
 use Rattle.ext_model.specs.CallActs.{MayStore, LaneView, IsAnswerPoint, IsPointAfter, Calls, IsOvertaken, IsCrowded, IsHeld, MayStoreNow, GoesOn}
 use Rattle.ext_history.specs.Histories.{seen_by, moved, call_fronts, first_front, IsStepped, IsPoint}
 

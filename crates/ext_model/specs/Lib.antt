@@ -1,9 +1,9 @@
 pub mod State
 pub mod Events
 pub mod Plain
-pub mod Laws
+pub mod StateLaws
 pub mod History
-pub mod Words
+pub mod CellWords
 pub mod Allowed
 pub mod CallActs
 pub mod Closing

@@ -7,7 +7,7 @@ use Rattle.ext_model.specs.declared.event.Event.{Event}
 use Rattle.ext_model.specs.declared.slot.Slot.TheVariants.{Claim}
 use Rattle.ext_model.specs.Events.{slot_after, drawn_after, is_on}
 use Rattle.ext_model.specs.History.{History, Limits, state_after, version_of, IsQuiet, IsLegal}
-use Rattle.ext_model.specs.Words.{number_code, word, slot_word, word_of}
+use Rattle.ext_model.specs.CellWords.{number_code, word, slot_word, word_of}
 use Rattle.ext_model.specs.Allowed.{IsOpen}
 
 -- ---- one event

@@ -9,7 +9,7 @@ use Rattle.ext_model.specs.declared.look.Look.TheVariants as look
 use Rattle.ext_model.specs.declared.slot.Slot.TheVariants.{Entry, Fault, Sealed}
 use Rattle.ext_model.specs.Events.{Reply, Happens, Answers, Refuses, NumbersFull, Busy, Closed, Standing, FaultStanding, Exhausted, Barred, put_reply, claim_reply, is_worn, is_worn_for_claim}
 use Rattle.ext_model.specs.History.{History, Limits, by, own, slots_in, reply_after}
-use Rattle.ext_model.specs.Words.{slot_word, word_of}
+use Rattle.ext_model.specs.CellWords.{slot_word, word_of}
 use Rattle.ext_model.specs.Closing.{remaining}
 use Rattle.ext_model.specs.CallActs.{look_after}
 

@@ -1,14 +1,14 @@
-//! What the closes of a context came to.
+//! The result of closing a context.
 ghost use Rattle.std.specs.Prelude.{◌≡◌, ◌<◌, ◌≤◌, ◌+◌, ◌++◌, ◌∷◌, [], List, Option};
 ghost use Rattle.ext_model.specs.declared.look.Fault.{Fault};
 ghost use Rattle.ext_model.specs.Closed.{closed_of};
 
 use crate::Fault;
 
-/// What the closes of a context came to: how many values were closed, and which closes failed.
+/// The result of closing a context: how many values were closed, and which closes failed.
 #[derive(Debug, Drop, PartialEq, Eq)]
 pub struct Closed {
-    /// How many values were closed, those whose close failed among them.
+    /// How many values were closed, including those whose close failed.
     pub closed: u32,
     /// The fault of the first close that failed.
     pub first_fault: Option<Fault>,
@@ -17,7 +17,7 @@ pub struct Closed {
 }
 
 impl Closed {
-    /// Before the first close.
+    /// The result before the first close: nothing was closed, and nothing failed.
     pub fn new() -> Closed
         ensures { result ≡ closed_of [] }
     {
@@ -28,7 +28,7 @@ impl Closed {
         }
     }
 
-    /// Counts one more close, by its fault if it failed.
+    /// Counts one more close; `close` is its fault if it failed.
     pub fn add(&mut self, close: Option<Fault>)
         requires room { self.old.closed < 4294967295 }
         requires bounded { self.old.more_faults ≤ self.old.closed }

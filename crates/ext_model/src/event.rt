@@ -9,38 +9,40 @@ pub type KeyNo = usize;
 /// A cell: a context and a key in one number, from 0.
 pub type CellNo = usize;
 
-/// A lane: whoever acts on the store, one step after another. Lanes are numbered from 0.
+/// A lane, numbered from 0: an actor on the store, which makes one step after another.
 pub type LaneNo = usize;
 
-/// What a lane can do to the store, at a place of type `P`. Numbers of values and of kept faults are from 1.
+/// What a lane can do to the store, at a place of type `P`. Values and kept faults are numbered
+/// from 1.
 ///
-/// `Put` and `Remove` are those of `ExtensionContext.Store`, and `Claim` with `Fill` or `Abandon` are
-/// the parts of its `getOrComputeIfAbsent`. `Keep`, `Fail` and `Seal` are own rules.
+/// `Put` and `Remove` are those of `ExtensionContext.Store`, and `Claim` with `Fill` or `Abandon`
+/// are the parts of its `getOrComputeIfAbsent`. `Keep`, `Fail` and `Seal` are own rules.
 #[derive(Clone, Copy, Debug, PartialEq, Eq)]
 pub enum Act<P> {
-    /// The number of a value or of a fault is drawn: the next one.
+    /// Draws the next number, for a value or a fault.
     Keep(u32),
-    /// The number is stored at the place, over one that stands there.
+    /// Stores the number at the place, over one that stands there.
     Put(P, u32),
-    /// The number that stands at the place goes, of a value or of a kept fault.
+    /// Removes the number that stands at the place, of a value or of a kept fault.
     Remove(P),
-    /// The empty place is claimed by the lane, which then computes a value for it.
+    /// Claims the empty place for the lane, which then computes a value for it.
     Claim(P),
-    /// The lane's claim ends, and the number is stored at the place.
+    /// Ends the lane's claim and stores the number at the place.
     Fill(P, u32),
-    /// The lane's claim ends, and the number is kept at the place as that of a fault.
+    /// Ends the lane's claim and keeps the number at the place as that of a fault.
     Fail(P, u32),
-    /// The lane's claim ends, and the place is empty.
+    /// Ends the lane's claim and leaves the place empty.
     Abandon(P),
-    /// The place is closed for good, and keeps the number of the value that stands there. A fault is not kept on.
+    /// Closes the place for good: it keeps the number of a value that stands there, but not of a
+    /// fault.
     Seal(P),
 }
 
-/// An act by a lane, which happened.
+/// An act that a lane has made.
 #[derive(Clone, Copy, Debug, PartialEq, Eq)]
 pub struct Event<P> {
-    /// Who did it.
+    /// The lane that made it.
     pub lane: LaneNo,
-    /// What was done.
+    /// What the lane did.
     pub act: Act<P>,
 }

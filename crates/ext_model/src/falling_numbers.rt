@@ -1,18 +1,18 @@
-//! Numbers, the greatest first.
+//! A list of numbers, the greatest first.
 ghost use Rattle.std.specs.Prelude.{ℕ, ◌≡◌, ◌≤◌, ◌<◌, ◌+◌, [], length, slice_index, EachIndex, IfNone, IfSome};
 ghost use Rattle.ext_model.specs.Closing.{IsFalling, put_in, put_in_kept};
 
 use arrayvec::ArrayVec;
 use std::marker::Model;
 
-// How many keys a context has at most, and so how many numbers its seals keep.
+// The greatest number of keys of a context, and so of numbers that its seals keep.
 const KEYS: usize = 64;
 
-/// The numbers that the seals of a context keep: at most 64, the greatest first, each once. They lie in the value
-/// itself, so that no call takes memory.
+/// The numbers that the seals of a context keep: at most 64, the greatest first, without
+/// repetition. They are stored inline.
 ///
-/// JUnit 5 User Guide, section "Keeping State in Extensions": the values of a context are closed in the inverse order
-/// in which they were added. The type is an own rule.
+/// JUnit 5 User Guide, section "Keeping State in Extensions": the values of a context are closed in
+/// the inverse order in which they were added.
 #[derive(Drop)]
 pub struct FallingNumbers {
     numbers: ArrayVec<u32, KEYS>,
@@ -30,7 +30,7 @@ impl Model for FallingNumbers {
 }
 
 impl FallingNumbers {
-    /// None yet.
+    /// Makes an empty list of numbers.
     pub fn new() -> FallingNumbers
         ensures { result ≡ [] }
     {
@@ -48,9 +48,8 @@ impl FallingNumbers {
         self.numbers.as_slice()
     }
 
-    /// Puts a number in, any one, where it belongs: before the first that is less. One that is there already is not put in again.
-    ///
-    /// It is a condition that there are fewer than 64.
+    /// Inserts the number before the first smaller one, unless it is already there. There must be
+    /// fewer than 64 numbers.
     pub fn put_in(&mut self, number: u32)
         requires room { length self.old < 64 }
         ensures numbers { self.new ≡ put_in number self.old }
@@ -65,9 +64,7 @@ impl FallingNumbers {
         }
     }
 
-    /// Puts in what a seal keeps, if it keeps a number.
-    ///
-    /// It is a condition that there are fewer than 64.
+    /// Inserts the number that a seal keeps, if it keeps one. There must be fewer than 64 numbers.
     pub fn put_in_kept(&mut self, kept: Option<u32>)
         requires room { length self.old < 64 }
         ensures numbers { self.new ≡ put_in_kept kept self.old }
@@ -79,7 +76,7 @@ impl FallingNumbers {
     }
 }
 
-// Where the first stands that is not greater than this number.
+// The place of the first number that is not greater than this one.
 fn place_for(numbers: &[u32], number: u32) -> Option<usize>
     ensures within { IfSome result (λ at. at < length numbers.now) }
     ensures not_greater { IfSome result (λ at. slice_index numbers.now at ≤ number) }

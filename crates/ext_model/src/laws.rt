@@ -1,13 +1,15 @@
-//! What is true of look-ups, of acts on every state and of all legal histories, as the contracts of functions that do nothing.
+//! Laws of look-ups, acts, histories, words and calls, as the contracts of functions that do
+//! nothing.
 ghost use Rattle.ext_model.specs.CallLaws.{StepsAreCalls, EventsAreCalls, CallsCompose, FrontsCompose, FirstStepDecides, FirstStepIsEarlier, SeenGoesOn, PointsAreLegal, AnswerPointsArePoints, LaterPointsServe, EarlierPointsServe, StepsStay, PointsOfSecond, PointsOfFirst, AnswersComeFirst, SeenIsPoint, OvertakenIsCrowded, QuietCrowdedIsOvertaken, CrowdedBySecond, CrowdedByFirst, ClaimsAreHeld, HeldWordsStay, HeldCellsMayBeFilled, HeldCellsMayBeFailed, HeldCellsMayBeAbandoned, OwnNumbersMayBeStored};
 ghost use Rattle.ext_model.specs.ClosingLaws.{RemainingIsSo, RemainingIsOne, NothingFollowsClose, ClosedStaysClosed, RemainingStays, RemainingAreValues, SecondLooksStand};
 ghost use Rattle.ext_model.specs.HistoryLaws.{PrefixesAreLegal, AllowedEventsFollow, EmptyIsLegal, LegalInduction, AllowedByCases, QuietIsNoEvent, RemoveBetweenFills, RemoveAfterFail, NothingFollowsSeal, ClaimsStand, NumbersAreDrawnOnce, NumbersAreStoredOnce, LanesStoreOwnNumbers, OwnPastSuffices, UsedCellsAreWithin, EventsAreByLanes, NoLaneNoEvent, FaultsWereKept, ValuesAreNoFaults, SealsKeepNoFaults, NoFaults, KeepingAddsFails};
 ghost use Rattle.ext_model.specs.WordLaws.{EventChangesItsWord, OtherWordsStay, CountChangesByAct, QuietCellsKeepWords, QuietCellsStay, EqualWordsLeaveNoEvent, VersionsRiseWithEvents, UnequalWordsRaiseVersions, NumbersFit, VersionsFit, ClaimsCanEnd, CellsCanBeSealed, WordsBetweenAreEqual, WordsTellParts};
-ghost use Rattle.ext_model.specs.Laws.{NearestDecides, EmptyPathIsAbsent, MetFaultStands, PutIsFound, FaultIsMet, PlacesAreTold, OthersStay, SealsStay, SealPassesFault, ClaimsStay, AbandonUndoesClaim};
+ghost use Rattle.ext_model.specs.StateLaws.{NearestDecides, EmptyPathIsAbsent, MetFaultStands, PutIsFound, FaultIsMet, PlacesAreTold, OthersStay, SealsStay, SealPassesFault, ClaimsStay, AbandonUndoesClaim};
 
-/// Proves the laws of look-ups and of acts on one state. It does nothing when it runs.
+/// Proves the laws of look-ups and of acts on one state.
 ///
-/// JUnit 5 User Guide, section "Keeping State in Extensions", for look-ups; claims, kept faults and seals are own rules.
+/// JUnit 5 User Guide, section "Keeping State in Extensions", for look-ups; claims, kept faults and
+/// seals are own rules.
 pub fn store_laws()
     ensures nearest { NearestDecides }
     ensures absent { EmptyPathIsAbsent }
@@ -22,7 +24,7 @@ pub fn store_laws()
     ensures abandoned { AbandonUndoesClaim }
 {}
 
-/// Proves the laws of histories. It does nothing when it runs.
+/// Proves the laws of histories.
 pub fn history_laws()
     ensures prefixes { PrefixesAreLegal }
     ensures one_more { AllowedEventsFollow }
@@ -48,7 +50,7 @@ pub fn history_laws()
     ensures keeping { KeepingAddsFails }
 {}
 
-/// Proves the laws of words and versions. It does nothing when it runs.
+/// Proves the laws of words and versions.
 pub fn word_laws()
     ensures event { EventChangesItsWord }
     ensures elsewhere { OtherWordsStay }
@@ -66,7 +68,7 @@ pub fn word_laws()
     ensures seals_left { CellsCanBeSealed }
 {}
 
-/// Proves the laws of calls that follow one another on a lane. It does nothing when it runs.
+/// Proves the laws of calls that follow one another on a lane.
 pub fn call_laws()
     ensures step { StepsAreCalls }
     ensures event { EventsAreCalls }
@@ -96,7 +98,7 @@ pub fn call_laws()
     ensures own_numbers { OwnNumbersMayBeStored }
 {}
 
-/// Proves the laws of closed contexts and of second looks. It does nothing when it runs.
+/// Proves the laws of closed contexts and of second looks.
 pub fn closing_laws()
     ensures remaining { RemainingIsSo }
     ensures one_list { RemainingIsOne }

@@ -1,19 +1,18 @@
-//! What a store of values for the contexts of a test run does, step by step: places, acts and events,
-//! the look-up through ancestors, and `PlainStore`, the store of one thread.
+//! What a store of values for the contexts of a test run does, step by step: places, acts and
+//! events, the look-up through ancestors, and `PlainStore`, the store of one thread.
 //!
 //! Follows the JUnit 5 User Guide, section "Keeping State in Extensions", and the Javadoc of
-//! `ExtensionContext.Store` and `NamespacedHierarchicalStore`. Values are seen by their numbers, and
-//! claims, seals and refusals are own rules. The definitions are in `specs/`: `State` has the state
-//! and the look-up, `Events` what each act answers and leaves, and `Plain` the words of `PlainStore`.
-//! For several lanes, `History` and `Allowed` have lists of events and which of them are legal, `Words`
-//! a cell in one word, `CallActs` what the contract of a call on a lane says and what is looked up under a claim,
-//! `Closing` what a closed context still has, and `Closed` what closes came to; `FallingNumbers` holds the numbers
-//! that a closed context still has. What is true of the definitions is in `Laws`, `HistoryLaws`, `WordLaws`,
-//! `CallLaws` and `ClosingLaws`, and examples are in `Worked` and `WorkedCalls`: functions that do nothing
-//! prove them.
+//! `ExtensionContext.Store` and `NamespacedHierarchicalStore`. Values are seen by their numbers;
+//! claims, seals and refusals are own rules.
 //!
-//! Unless its comment says otherwise, a public call takes no memory and waits for nobody. What
-//! names no source in JUnit is an own rule.
+//! The definitions are in `specs/`: `State` has the state and the look-up, `Events` what each act
+//! answers and leaves, and `Plain` the words of `PlainStore`. For several lanes, `History` and
+//! `Allowed` define lists of events and which of them are legal, `CellWords` a cell in one word,
+//! `CallActs` what the contract of a call on a lane says and what is looked up under a claim,
+//! `Closing` what a closed context still has, and `Closed` the result of the closes.
+//! `FallingNumbers` holds the numbers that a closed context still has. The laws are in `StateLaws`,
+//! `HistoryLaws`, `WordLaws`, `CallLaws` and `ClosingLaws`, and examples in `Worked` and
+//! `WorkedCalls`; functions that do nothing prove them.
 #![tactic(auto)]
 
 mod closed;

@@ -2,16 +2,17 @@
 use crate::ContextNo;
 use thiserror::Error;
 
-/// What a look-up from a context through its ancestors finds: the nearest of them where anything stands
-/// under the key decides.
+/// The answer of a look-up from a context through its ancestors: the nearest of them where anything
+/// stands under the key decides.
 ///
 /// JUnit 5 User Guide, section "Keeping State in Extensions", and `ExtensionContext.Store`, `get`.
 /// `Fault`, `Busy` and `Closed` are own rules.
 #[derive(Clone, Copy, Debug, PartialEq, Eq)]
 pub enum Look {
-    /// The context that decides is `at`, and has the value of this number, from 1.
+    /// Context `at` decides, and has the value of this number, from 1.
     Found { at: ContextNo, number: u32 },
-    /// The context that decides is `at`: a factory for it failed, and its fault is kept under this number, from 1.
+    /// Context `at` decides: a factory for it failed, and its fault is kept under this number, from
+    /// 1.
     Fault { at: ContextNo, number: u32 },
     /// Nothing stands under the key in any of the contexts.
     Absent,
@@ -27,7 +28,7 @@ pub enum Fault {
     /// The caller's own text.
     #[error("{0}")]
     Text(String),
-    /// Memory ran out.
+    /// An allocation failed.
     #[error("no memory")]
     Memory,
 }

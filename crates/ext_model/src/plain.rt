@@ -11,12 +11,13 @@ use std::alloc::Global;
 use std::collections::BTreeMap;
 use std::marker::Model;
 
-/// The store of one thread. It holds the numbers of values and of kept faults: whoever draws a number keeps what it stands for.
+/// The store of one thread. It holds the numbers of values and of kept faults; a caller that draws
+/// a number keeps what it stands for.
 ///
-/// A place is a context and a key; any two numbers may be named. Only the lane of a claim may fill, fail or abandon it.
-/// Faults are kept where the caller keeps them, by `fail`: a caller that never does meets none.
-/// Callers are to store only numbers that they drew, each at most once: nothing here checks it or rests on it.
-/// A refusal leaves the store as it was, and no call waits.
+/// A place is a context and a key; any two numbers may be named. Only the lane of a claim may fill,
+/// fail or abandon it. Only `fail` keeps faults: a caller that never calls it meets none. Callers
+/// should store only numbers that they drew, each at most once; nothing here checks this or relies
+/// on it. A refusal leaves the store as it was.
 ///
 /// JUnit's `NamespacedHierarchicalStore`, for one thread and with numbers in place of values.
 #[derive(Drop)]
@@ -38,8 +39,8 @@ impl Model for PlainStore {
 }
 
 impl PlainStore {
-    /// An empty store whose numbers are 1 to `numbers`, which is any; with 0, `keep` is always refused.
-    /// Takes no memory: the allocator is for later calls.
+    /// An empty store whose numbers are 1 to `numbers`. If `numbers` is 0, `keep` is always
+    /// refused. The allocator is for later calls.
     pub fn new(alloc: Global, numbers: u32) -> PlainStore
         ensures state { state_of result ≡ opening }
         ensures numbers { result.numbers ≡ numbers }
@@ -51,9 +52,9 @@ impl PlainStore {
         }
     }
 
-    /// Draws the next number and answers it: the first is 1, each is the last plus one.
+    /// Draws the next number and answers it: the first is 1, each further one is the last plus one.
     ///
-    /// Refused as `NumbersFull` where all numbers of the store were drawn.
+    /// Refused as `NumbersFull` if all numbers of the store were drawn.
     pub fn keep(&mut self) -> Result<u32, PlainFault>
         ensures reply { IsReply number_drawn any_lane (act.Keep (self.old.drawn + 1)) self.old result }
         ensures state { IsStep any_lane (act.Keep (self.old.drawn + 1)) self.old self.new }
@@ -73,8 +74,9 @@ impl PlainStore {
         Ok(self.drawn)
     }
 
-    /// Looks the key up along the path, a context and its ancestors from the nearest on: the first where anything
-    /// stands decides. On a path with no context, or where nothing stands, the answer is `Absent`.
+    /// Looks the key up along the path: the first context where anything stands under it decides.
+    /// The path is a context and its ancestors, the nearest first. The answer is `Absent` if the
+    /// path is empty or nothing stands along it.
     ///
     /// JUnit 5 User Guide, section "Keeping State in Extensions"; `ExtensionContext.Store`, `get`.
     #[tactic(auto, using(crate::proofs::Lookups::lookup_here, crate::proofs::Lookups::lookup_past))]
@@ -103,11 +105,12 @@ impl PlainStore {
         Look::Absent
     }
 
-    /// Stores the number at the place, and answers the number that stood there, of a value or of a fault, which it replaces. Any number will do:
-    /// who wants each value stored once, as in JUnit's store, puts numbers that `keep` gave, each once. May take memory where nothing stood.
+    /// Stores the number at the place, and answers the number that it replaces there, of a value or
+    /// of a fault. Any number will do: to store each value once, as JUnit's store does, put numbers
+    /// that `keep` gave, each once. May take memory if nothing stood there.
     ///
-    /// Refused, in this order, as `Busy` where a lane claims the place, `Closed` where it is sealed, and
-    /// `Memory`, which can come only where nothing stood. `ExtensionContext.Store`, `put`.
+    /// Refused, in this order, as `Busy` if a lane claims the place, `Closed` if it is sealed, and
+    /// `Memory`, which can come only if nothing stood there. `ExtensionContext.Store`, `put`.
     pub fn put(&mut self, at: ContextNo, key: KeyNo, number: u32) -> Result<Option<u32>, PlainFault>
         ensures reply { UnlessMemory result (IsReply what_stood any_lane (act.Put (at, key) number) self.old result) }
         ensures state { UnlessMemory result (IsStep any_lane (act.Put (at, key) number) self.old self.new) }
@@ -133,10 +136,10 @@ impl PlainStore {
         Ok(stood)
     }
 
-    /// Takes the number from the place, of a value or of a fault, and answers it: `None` where nothing stood. A number that stands under
-    /// the key in another context, such as an ancestor, is left alone.
+    /// Removes the number from the place, of a value or of a fault, and answers it, or `None` if
+    /// nothing stood there. A number under the key in another context, such as an ancestor, stays.
     ///
-    /// Refused as `Busy` where a lane claims the place, and as `Closed` where it is sealed.
+    /// Refused as `Busy` if a lane claims the place, and as `Closed` if it is sealed.
     /// `ExtensionContext.Store`, `remove`.
     pub fn remove(&mut self, at: ContextNo, key: KeyNo) -> Result<Option<u32>, PlainFault>
         ensures reply { IsReply what_stood any_lane (act.Remove (at, key)) self.old result }
@@ -165,12 +168,13 @@ impl PlainStore {
         }
     }
 
-    /// Claims the empty place for the lane, until it fills, fails or abandons it. May take memory.
+    /// Claims the empty place for the lane, until the lane fills, fails or abandons it. May take
+    /// memory.
     ///
-    /// Refused, in this order, as `Busy` where a lane claims the place, this one or another, `Closed` where it is
-    /// sealed, `Taken` with the number of the value that stands there, `FaultStands` with that of the fault that is
-    /// kept there, and `Memory`. The first part of `getOrComputeIfAbsent` of
-    /// `ExtensionContext.Store`.
+    /// Refused, in this order, as `Busy` if a lane claims the place, this one or another, `Closed`
+    /// if it is sealed, `Taken` with the number of the value that stands there, `FaultStands` with
+    /// that of the fault that is kept there, and `Memory`. The first part of `getOrComputeIfAbsent`
+    /// of `ExtensionContext.Store`.
     pub fn claim(&mut self, at: ContextNo, key: KeyNo, lane: LaneNo) -> Result<(), PlainFault>
         ensures reply { UnlessMemory result (IsReply done lane (act.Claim (at, key)) self.old result) }
         ensures state { UnlessMemory result (IsStep lane (act.Claim (at, key)) self.old self.new) }
@@ -198,11 +202,11 @@ impl PlainStore {
         }
     }
 
-    /// Ends the lane's claim: the number is stored at the place. It always answers `Ok`, and takes no memory, since
-    /// the place is in use.
+    /// Ends the lane's claim and stores the number at the place. It always answers `Ok`: the place
+    /// is in use, so no memory is needed.
     ///
-    /// Only the lane of the claim may call it, as `is_claimed_by` tells; any number will do, as for `put`. The last part
-    /// of `getOrComputeIfAbsent` of `ExtensionContext.Store`.
+    /// Only the lane of the claim may call it (`is_claimed_by`); any number will do, as for `put`.
+    /// The last part of `getOrComputeIfAbsent` of `ExtensionContext.Store`.
     pub fn fill(
         &mut self,
         at: ContextNo,
@@ -221,11 +225,11 @@ impl PlainStore {
         self.set(at, key, Slot::Entry(number))
     }
 
-    /// Ends the lane's claim: the number is kept at the place as that of a fault, until it is removed or replaced. It
-    /// always answers `Ok`, and takes no memory, since the place is in use.
+    /// Ends the lane's claim and keeps the number at the place as that of a fault, until it is
+    /// removed or replaced. It always answers `Ok`: the place is in use, so no memory is needed.
     ///
-    /// Only the lane of the claim may call it, as `is_claimed_by` tells; any number will do, as for `put`. It is what
-    /// becomes of a factory that failed, where its fault is kept.
+    /// Only the lane of the claim may call it (`is_claimed_by`); any number will do, as for `put`.
+    /// For a factory that failed and whose fault is kept.
     pub fn fail(
         &mut self,
         at: ContextNo,
@@ -244,10 +248,10 @@ impl PlainStore {
         self.set(at, key, Slot::Fault(number))
     }
 
-    /// Ends the lane's claim: the place is empty. It never fails.
+    /// Ends the lane's claim and leaves the place empty. It never fails.
     ///
-    /// Only the lane of the claim may call it, as `is_claimed_by` tells. A factory that fails leaves its place
-    /// empty, where its fault is not kept.
+    /// Only the lane of the claim may call it (`is_claimed_by`). For a factory that failed and
+    /// whose fault is not kept.
     pub fn abandon(&mut self, at: ContextNo, key: KeyNo, lane: LaneNo)
         requires { under (state_of self.old) key at ≡ Some (slot.Claim lane) }
         ensures reply { plain_reply self.old.numbers (state_of self.old) lane (act.Abandon (at, key)) ≡ Happens None }
@@ -260,11 +264,12 @@ impl PlainStore {
         self.clear(at, key);
     }
 
-    /// Closes the place for good, and answers the number that it keeps: that of the value that stood there, if one did. A fault
-    /// that is kept there goes. A sealed place answers what it keeps, and stays as it is. May take memory where nothing stood.
+    /// Closes the place for good, and answers the number that it keeps: that of the value that
+    /// stood there, if one did. A kept fault is dropped. A sealed place answers what it keeps, and
+    /// stays as it is. May take memory if nothing stood there.
     ///
-    /// Refused, in this order, as `Busy` where a lane claims the place, and `Memory`, which can come only where
-    /// nothing stood. It is what closing a context does to each of its places.
+    /// Refused, in this order, as `Busy` if a lane claims the place, and `Memory`, which can come
+    /// only if nothing stood there. Closing a context does this to each of its places.
     #[tactic(auto, using(crate::proofs::Changes::seal_happens, crate::proofs::Changes::seal_again))]
     pub fn seal(&mut self, at: ContextNo, key: KeyNo) -> Result<Option<u32>, PlainFault>
         ensures reply { UnlessMemory result (IsReply what_stood any_lane (act.Seal (at, key)) self.old result) }
@@ -310,7 +315,7 @@ impl PlainStore {
         self.slots.get(&(at, key)).copied()
     }
 
-    // From now on this stands at the place. Only an empty place takes memory.
+    // Sets what stands at the place. Only an empty place takes memory.
     fn set(&mut self, at: ContextNo, key: KeyNo, slot: Slot) -> Result<(), PlainFault>
         ensures state { OnOk result (state_of self.new ≡ with_slot (state_of self.old) (at, key) (Some slot)) }
         ensures stands { OnOk result (under (state_of self.new) key at ≡ Some slot) }
@@ -325,7 +330,6 @@ impl PlainStore {
         }
     }
 
-    // From now on nothing stands at the place.
     fn clear(&mut self, at: ContextNo, key: KeyNo)
         ensures state { state_of self.new ≡ with_slot (state_of self.old) (at, key) None }
         ensures gone { under (state_of self.new) key at ≡ None }

@@ -1,10 +1,11 @@
 //! Why a call of the plain store was refused.
 use thiserror::Error;
 
-/// Why a call of the plain store was refused. Where several apply, the first in the order `Busy`, `Closed`,
-/// `Taken`, `FaultStands`, `Memory` is answered. After any of them the store is as it was.
+/// Why a call of the plain store was refused. If several reasons apply, the first in the order
+/// `Busy`, `Closed`, `Taken`, `FaultStands`, `Memory` is answered. The store is as it was.
 ///
-/// Own rule: `NamespacedHierarchicalStore` waits for a value that is being computed, and throws after closing.
+/// JUnit's `NamespacedHierarchicalStore` waits for a value that is being computed, and throws after
+/// closing.
 #[derive(Clone, Copy, Debug, PartialEq, Eq, Error)]
 pub enum PlainFault {
     /// A lane's claim stands at the place.
@@ -13,16 +14,16 @@ pub enum PlainFault {
     /// The place is sealed.
     #[error("closed")]
     Closed,
-    /// This number stands at the place that was to be claimed. `claim` alone answers it.
+    /// This number stands at the place that was to be claimed. Only `claim` answers it.
     #[error("number {0} stands there")]
     Taken(u32),
-    /// A fault of this number is kept at the place that was to be claimed. `claim` alone answers it.
+    /// A fault of this number is kept at the place that was to be claimed. Only `claim` answers it.
     #[error("fault {0} stands there")]
     FaultStands(u32),
-    /// All numbers of the store were drawn. `keep` alone answers it.
+    /// All numbers of the store were drawn. Only `keep` answers it.
     #[error("numbers full")]
     NumbersFull,
-    /// Memory ran out. It can come only where the place was empty.
+    /// An allocation failed. It can come only if the place was empty.
     #[error("no memory")]
     Memory,
 }

@@ -1,9 +1,10 @@
 //! What stands at a place.
 use crate::LaneNo;
 
-/// What stands at a place, a context with a key, that is not empty.
+/// What stands at a place, a context and a key, that is not empty.
 ///
-/// `NamespacedHierarchicalStore` keeps values and values being computed; seals and kept faults are own rules.
+/// `NamespacedHierarchicalStore` keeps values and values being computed; seals and kept faults are
+/// own rules.
 #[derive(Clone, Copy, Debug, PartialEq, Eq)]
 pub enum Slot {
     /// The number of a value, from 1.

@@ -2,8 +2,8 @@
 ghost use Rattle.ext_model.specs.Worked.{FoundFromBelow, RemovedNothing, Replaced, ReplacedWord, RemovedWord, HeldHides, HeldIsBusy, HeldIsNotFilledByOthers, HeldIsNotSealed, FilledStands, AbandonedIsEmpty, OwnEvents, FailedIsMet, FailedStands, FailedIsReplaced, FailedIsRemoved, FailedIsPassed, RemainingPassesFault, RemainingFalls, SealedIsClosed, SealedAgain, ClosedHides, NumbersRunOut, PresentWord, FailedWord, SealedWord, EmptyWord, LastPut, NoClaimAtLastPut, NoPutAfterLast};
 ghost use Rattle.ext_model.specs.WorkedCalls.{CallHasOneFront, AnsweredNow, NotFromMemory, RootIsLegal, NotWithAnothersNumber, NotTwice, NotWithoutClaim, RemoveAnswered, PutAnswered, NoAnswerWithoutStep, SecondLookFinds, TwoFronts, EitherPoint, OvertakenByOne, NotOvertakenByTwo, NotOvertakenByLagging, NotCrowdedByItself, SixAreLegal, NotByAnotherLane, KeptFaultIsLegal, NotWithoutKeeping};
 
-/// Computes the definitions on small histories: values, claims, kept faults, seals, words, versions at their limits, and fronts.
-/// It does nothing when it runs.
+/// Proves what the definitions give on small histories: values, claims, kept faults, seals, words,
+/// versions at their limits, and fronts. It does nothing when it runs.
 pub fn worked_histories()
     ensures found_from_below { FoundFromBelow }
     ensures removed_nothing { RemovedNothing }

@@ -22,11 +22,12 @@ use Rattle.ext_plain.specs.StepRuns.{StepEnd}
 use Rattle.ext_plain.specs.NodeCalls.{CallsEnd, and_call, call_run, make, make_all, make_befores, make_if_successful, no_calls}
 use Rattle.ext_plain.specs.PlainRun.{outcome_of}
 use Rattle.ext_parallel.specs.StoreCalls.{PlanLane}
-use Rattle.ext_one_report.specs.Matching.{RunView, Places}
-use Rattle.ext_one_report.specs.Steps.{EndAlike}
-use Rattle.ext_one_report.specs.Calls.{AreBeside, StepFinds, StepsHaveRoom}
-use Rattle.ext_one_report.specs.CallLists.{AreComparedCalls, BeforesHaveRoom, CallFits, CallsAlike, CallsFind, CallsHaveRoom, Makes}
-use Rattle.ext_one_report.proofs.Alone.{alone_first, alone_later}
+use Rattle.ext_one_report.proofs.MatchingWords.{RunView, Places}
+use Rattle.ext_one_report.proofs.StepsWords.{EndAlike}
+use Rattle.ext_one_report.proofs.CallsWords.{AreBeside, StepsHaveRoom}
+use Rattle.ext_one_report.specs.FullRuns.{StepFinds}
+use Rattle.ext_one_report.proofs.CallListsWords.{AreComparedCalls, BeforesHaveRoom, CallFits, CallsAlike, CallsFind, CallsHaveRoom, Makes}
+use Rattle.ext_one_report.proofs.NodesAlone.{alone_first, alone_later}
 use Rattle.ext_one_report.proofs.Calls.{all_first, all_later, call_alike, lane_before, steps_faults, steps_go, steps_lane, steps_memory, told_so}
 
 -- ---- whether all were successful

@@ -37,10 +37,11 @@ use Rattle.ext_parallel.specs.Saying.{no_memory}
 use Rattle.ext_parallel.specs.StoreCalls.{HasFrame, PlanLane}
 use Rattle.ext_parallel.specs.StoreSteps.{StepRun, StepsRun}
 use Rattle.ext_parallel.specs.PlanSuites.{RunsCall}
-use Rattle.ext_one_report.specs.Matching.{RunView, IsRunView, Places, Matches, IsNumbered}
-use Rattle.ext_one_report.specs.Steps.{EndAlike, FindsAll, IsAlone, IsLaneIn}
-use Rattle.ext_one_report.specs.Calls.{AreComparedAll, StepFinds, StepHasRoom, StepWithin, name_of}
-use Rattle.ext_one_report.proofs.Alone.{alone_first, alone_later}
+use Rattle.ext_one_report.proofs.MatchingWords.{RunView, IsRunView, Places, Matches, IsNumbered}
+use Rattle.ext_one_report.proofs.StepsWords.{EndAlike, IsAlone, IsLaneIn}
+use Rattle.ext_one_report.specs.FullRuns.{FindsAll, StepFinds, name_of}
+use Rattle.ext_one_report.proofs.CallsWords.{AreComparedAll, StepHasRoom, StepWithin}
+use Rattle.ext_one_report.proofs.NodesAlone.{alone_first, alone_later}
 use Rattle.ext_one_report.proofs.StepLooks.{wants_end_alike, nones_end_alike}
 use Rattle.ext_one_report.proofs.Changes.{removes_end_alike, puts_end_alike, closeable_puts_end_alike, fails_end_alike, aborts_end_alike}
 use Rattle.ext_one_report.proofs.Computes.{values_end_alike, closeable_values_end_alike}

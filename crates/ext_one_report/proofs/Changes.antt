@@ -25,10 +25,10 @@ use Rattle.ext_plan.specs.StepCalls.{label_of, start_of}
 use Rattle.ext_plan.specs.StoreKeys.{is_there, key_of_step, place_of_key}
 use Rattle.ext_plan.specs.Values.{ValueText}
 use Rattle.ext_plan.specs.Verdicts.{refused, unless_refused}
-use Rattle.ext_store_cells.specs.ContextCalls as store_cells
-use Rattle.ext_store_cells.specs.ContextCalls.{put_acts, remove_acts, result_at, with_kept}
-use Rattle.ext_store_cells.specs.declared.fault.Refusal.{Refusal}
-use Rattle.ext_store_cells.specs.declared.fault.Refusal.TheVariants as refusal
+use Rattle.ext_store_core.specs.ContextCalls as store_core
+use Rattle.ext_store_core.specs.ContextCalls.{put_acts, remove_acts, result_at, with_kept}
+use Rattle.ext_store_core.specs.declared.fault.Refusal.{Refusal}
+use Rattle.ext_store_core.specs.declared.fault.Refusal.TheVariants as refusal
 use Rattle.ext_store.specs.declared.fault.KeepFault.{KeepFault}
 use Rattle.ext_store.specs.declared.fault.KeepFault.TheVariants as keep_fault
 use Rattle.ext_store.specs.Stores.{StoreView, cell_in}
@@ -38,14 +38,13 @@ use Rattle.ext_plain.specs.StepRuns.{StepEnd, act_ends, ended, kept_or_refused, 
 use Rattle.ext_parallel.specs.Saying.{Ends, EndsUnkept, no_memory}
 use Rattle.ext_parallel.specs.StoreCalls.{PlanLane, EndsChange, EndsPut, StoresThere}
 use Rattle.ext_parallel.specs.StoreSteps.{PutsKept, StepPuts, call_of}
-use Rattle.ext_one_report.specs.Standings.{Meaning, Standing, nothing, value, fault, sealed, AreMatched, puts, removes, of_value}
-use Rattle.ext_one_report.specs.Matching.{RunView, IsRunView, HasNumberIn, Places, Matches, IsNumbered, cell_of, plain_meaning}
-use Rattle.ext_one_report.specs.MatchingLaws.{AreEqualEvents, after_event}
-use Rattle.ext_one_report.specs.Steps.{IsAlone, FindsAll, AreCompared, ActsWithin, EndAlike, StepEndsAlike}
-use Rattle.ext_one_report.specs.StepLaws.{EndsAnywhere}
+use Rattle.ext_one_report.proofs.StandingsWords.{Meaning, Standing, nothing, value, fault, sealed, AreMatched, puts, removes, of_value}
+use Rattle.ext_one_report.proofs.MatchingWords.{RunView, IsRunView, HasNumberIn, Places, Matches, IsNumbered, cell_of, plain_meaning, AreEqualEvents, after_event}
+use Rattle.ext_one_report.proofs.StepsWords.{IsAlone, AreCompared, ActsWithin, EndAlike, StepEndsAlike, EndsAnywhere}
+use Rattle.ext_one_report.specs.FullRuns.{FindsAll}
 use Rattle.ext_one_report.proofs.Standings.{Holds, holds}
 use Rattle.ext_one_report.proofs.Matching.{plain_there, equal_events_keep_matches, equal_events_keep_numbered, values_keep_matches, values_keep_numbered, draw_happens, kept_drawn, value_last}
-use Rattle.ext_one_report.proofs.Alone.{alone_first, alone_later, matches_after, matches_to}
+use Rattle.ext_one_report.proofs.NodesAlone.{alone_first, alone_later, matches_after, matches_to}
 use Rattle.ext_one_report.proofs.Numbered.{IsNamed, named}
 use Rattle.ext_one_report.proofs.StepLooks.{said, has_room, key_found}
 
@@ -133,7 +132,7 @@ module _ (run : RunView) (places : Places) (view : IsRunView run) (name label : 
 
   pub removes_alike : (result : Result (Option ℕ) Refusal) → Removes run.store context number a.cells b.cells result → EndsChange name label result o
       → EndAlike run places o b (act_ends name label (Remove (context, place_of_key t.keys key)) t)
-  unfolding store_cells.Removes
+  unfolding store_core.Removes
   removes_alike result removed ends =
       let cell : ℕ = cell_of run number context in
       let act' : Act Place = Remove (context, place_of_key t.keys key) in
@@ -176,7 +175,7 @@ module _ (run : RunView) (places : Places) (view : IsRunView run) (name label : 
 
   pub puts_alike : (kept : ℕ) (v : ValueText) → run.meaning.values kept ≡ Some v → value_of t.values t.store.drawn ≡ Some v → (result : Result (Option ℕ) (ℕ × Refusal))
       → Puts run.store context number kept a.cells b.cells result → EndsPut name label result o → EndAlike run places o b (act_ends name label (Put (context, place_of_key t.keys key) t.store.drawn) t)
-  unfolding store_cells.Puts
+  unfolding store_core.Puts
   puts_alike kept v ours theirs result made ends =
       let cell : ℕ = cell_of run number context in
       let act' : Act Place = Put (context, place_of_key t.keys key) t.store.drawn in
@@ -212,7 +211,7 @@ module _ (run : RunView) (places : Places) (view : IsRunView run) (name label : 
 -- the events of a put that was not refused because others were in the way
 put_calls : (store : StoreView) (context key number : ℕ) (a b : Lane) (result : Result (Option ℕ) (ℕ × Refusal)) → Puts store context key number a b result → result ≢ Err (number, refusal.Contended)
     → Calls a.cells.limits a.view b.view (put_acts (cell_in store key context) number result)
-unfolding store_cells.Puts
+unfolding store_core.Puts
 put_calls store context key number a b result made decided = (made.replied decided).calls
 
 -- ---- the steps

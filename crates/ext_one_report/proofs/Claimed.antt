@@ -16,8 +16,7 @@ use Rattle.ext_plan.specs.StoreKeys.{is_there, place_of_key}
 use Rattle.ext_plan.specs.Values.{ValueText}
 use Rattle.ext_plain.specs.ValueStates.{ValueState, after_act, keep_value, next_number, reply_to, run_numbers, value_of, refusal as plain_refusal}
 use Rattle.ext_plain.specs.StepRuns.{StepEnd, claim_and, factory_gave, or_refused}
-use Rattle.ext_one_report.specs.Matching.{RunView, Places, Matches, IsNumbered, plain_slot}
-use Rattle.ext_one_report.specs.MatchingLaws.{after_event}
+use Rattle.ext_one_report.proofs.MatchingWords.{RunView, Places, Matches, IsNumbered, plain_slot, after_event}
 use Rattle.ext_one_report.proofs.Matching.{draw_happens, draw_slots, event_keeps_numbered, kept_drawn, place_then, plain_there, value_last, values_keep_matches, values_keep_numbered}
 use Rattle.ext_one_report.proofs.OwnCell.{but, others_event}
 
@@ -47,9 +46,6 @@ absent_rest slots at path none =
 -- ---- the claim, and the value of the factory
 
 module _ (t : ValueState) (context : ℕ) (key : KeyValue) (there : is_there t.keys key ≡ true) (empty : t.store.slots (context, place_of_key t.keys key) ≡ None) where
-  abbrev pub its_place : Place
-  its_place = (context, place_of_key t.keys key)
-
   -- the state under the claim
   abbrev pub claimed : ValueState
   claimed = after_event any_lane (Claim (context, place_of_key t.keys key)) t

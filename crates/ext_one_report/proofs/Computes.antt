@@ -30,10 +30,10 @@ use Rattle.ext_plan.specs.StepCalls.{label_of, start_of}
 use Rattle.ext_plan.specs.StoreKeys.{is_there, key_of_step, place_of_key}
 use Rattle.ext_plan.specs.Values.{ValueText}
 use Rattle.ext_plan.specs.Verdicts.{SeenText, refused, none_verdict}
-use Rattle.ext_store_cells.specs.Claiming as claiming
-use Rattle.ext_store_cells.specs.Waiting.{VainAttempts}
-use Rattle.ext_store_cells.specs.declared.fault.Refusal.{Refusal}
-use Rattle.ext_store_cells.specs.declared.fault.Refusal.TheVariants as refusal
+use Rattle.ext_store_core.specs.Claiming as claiming
+use Rattle.ext_store_core.specs.Waiting.{VainAttempts}
+use Rattle.ext_store_core.specs.declared.fault.Refusal.{Refusal}
+use Rattle.ext_store_core.specs.declared.fault.Refusal.TheVariants as refusal
 use Rattle.ext_store.specs.declared.fault.KeepFault.{KeepFault}
 use Rattle.ext_store.specs.declared.fault.KeepFault.TheVariants as keep_fault
 use Rattle.ext_store.specs.declared.computed.Compute.{Compute}
@@ -47,13 +47,14 @@ use Rattle.ext_parallel.specs.declared.steps.stored_value.StoredValue.{StoredVal
 use Rattle.ext_parallel.specs.Saying.{Ends, EndsRefused, EndsUnkept}
 use Rattle.ext_parallel.specs.StoreCalls.{PlanLane, ComputesValue, EndsCompute, Shows, stored_view}
 use Rattle.ext_parallel.specs.StoreSteps.{StepComputes, call_of}
-use Rattle.ext_one_report.specs.OnCells.{events_at}
-use Rattle.ext_one_report.specs.Standings.{Meaning, Shown, absent, found, met, closed, value_shown, fault_shown, shown_of, ShowTheSame, nothing, value, standing_of, value_stands}
-use Rattle.ext_one_report.specs.Matching.{RunView, IsRunView, HasNumberIn, Places, Matches, IsNumbered, cell_of, plain_meaning, plain_slot, text_of}
-use Rattle.ext_one_report.specs.Steps.{IsAlone, IsLaneIn, AreCompared, LooksWithin, EndAlike, FindsAll, StepEndsAlike}
+use Rattle.ext_one_report.specs.Changing.{events_at}
+use Rattle.ext_one_report.proofs.StandingsWords.{Meaning, Shown, absent, found, met, closed, value_shown, fault_shown, shown_of, ShowTheSame, nothing, value, standing_of, value_stands}
+use Rattle.ext_one_report.proofs.MatchingWords.{RunView, IsRunView, HasNumberIn, Places, Matches, IsNumbered, cell_of, plain_meaning, plain_slot, text_of}
+use Rattle.ext_one_report.proofs.StepsWords.{IsAlone, IsLaneIn, AreCompared, LooksWithin, EndAlike, StepEndsAlike}
+use Rattle.ext_one_report.specs.FullRuns.{FindsAll}
 use Rattle.ext_one_report.proofs.OnCells.{then_there}
 use Rattle.ext_one_report.proofs.Matching.{plain_there}
-use Rattle.ext_one_report.proofs.Alone.{alone_first, alone_later, matches_to}
+use Rattle.ext_one_report.proofs.NodesAlone.{alone_first, alone_later, matches_to}
 use Rattle.ext_one_report.proofs.Numbered.{IsNamed, named}
 use Rattle.ext_one_report.proofs.OwnCell.{but, matches_join, OnlyAt, others_after, slot_by_own}
 use Rattle.ext_one_report.proofs.Claimed.{absent_first, absent_rest, claims_first, factory_gives, filled, filled_numbered, filled_others, filled_slot, filled_value}
@@ -176,9 +177,6 @@ module _ (run : RunView) (places : Places) (view : IsRunView run) (tree : IsTree
 
   abbrev cell : ℕ
   cell = cell_of run number context
-
-  abbrev plain_number : ℕ
-  plain_number = place_of_key t.keys key
 
   looks : (p : History) → Matches run places p t → ShowTheSame run.meaning (plain_meaning t.values) (look_after (cell_of run number) (context ∷ ancestors) p) (found_along (place_of_key t.keys key) (context ∷ ancestors) t)
   looks p matches = looks_same run places p t key number (context ∷ ancestors) matches has there within

@@ -16,8 +16,7 @@ use Rattle.ext_plan.specs.StoreKeys.{is_there, place_of_key}
 use Rattle.ext_plan.specs.Values.{ValueText}
 use Rattle.ext_plain.specs.ValueStates.{ValueState, after_act, next_number, reply_to, run_numbers, value_of, refusal as plain_refusal}
 use Rattle.ext_plain.specs.StepRuns.{StepEnd, ended, factory_failed, or_refused}
-use Rattle.ext_one_report.specs.Matching.{RunView, Places, Matches, IsNumbered, plain_slot, text_of}
-use Rattle.ext_one_report.specs.MatchingLaws.{after_event}
+use Rattle.ext_one_report.proofs.MatchingWords.{RunView, Places, Matches, IsNumbered, plain_slot, text_of, after_event}
 use Rattle.ext_one_report.proofs.Matching.{draw_happens, event_keeps_numbered, place_then, plain_there, values_keep_matches, values_keep_numbered}
 use Rattle.ext_one_report.proofs.OwnCell.{but, others_event}
 use Rattle.ext_one_report.proofs.Claimed.{claimed, filled_value, kept_claimed, still_claimed}

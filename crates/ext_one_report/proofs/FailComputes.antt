@@ -30,10 +30,10 @@ use Rattle.ext_plan.specs.StepCalls.{label_of, start_of}
 use Rattle.ext_plan.specs.StoreKeys.{is_there, key_of_step, place_of_key}
 use Rattle.ext_plan.specs.Values.{ValueText}
 use Rattle.ext_plan.specs.Verdicts.{SeenText, refused, none_verdict, fail_verdict}
-use Rattle.ext_store_cells.specs.Claiming as claiming
-use Rattle.ext_store_cells.specs.Waiting.{VainAttempts}
-use Rattle.ext_store_cells.specs.declared.fault.Refusal.{Refusal}
-use Rattle.ext_store_cells.specs.declared.fault.Refusal.TheVariants as refusal
+use Rattle.ext_store_core.specs.Claiming as claiming
+use Rattle.ext_store_core.specs.Waiting.{VainAttempts}
+use Rattle.ext_store_core.specs.declared.fault.Refusal.{Refusal}
+use Rattle.ext_store_core.specs.declared.fault.Refusal.TheVariants as refusal
 use Rattle.ext_store.specs.declared.fault.KeepFault.{KeepFault}
 use Rattle.ext_store.specs.declared.fault.KeepFault.TheVariants as keep_fault
 use Rattle.ext_store.specs.declared.computed.Compute.{Compute}
@@ -46,12 +46,13 @@ use Rattle.ext_plain.specs.StepRuns.{StepEnd, ended, computefail_looked, compute
 use Rattle.ext_parallel.specs.declared.steps.stored_value.StoredValue.{StoredValue}
 use Rattle.ext_parallel.specs.Saying.{Ends, EndsRefused, EndsUnkept}
 use Rattle.ext_parallel.specs.StoreCalls.{PlanLane, ComputesFault, EndsComputeFail, Shows}
-use Rattle.ext_one_report.specs.OnCells.{events_at}
-use Rattle.ext_one_report.specs.Standings.{absent, found, met, closed, value_shown, fault_shown, shown_of, ShowTheSame, fault, standing_of, fault_stands}
-use Rattle.ext_one_report.specs.Matching.{RunView, IsRunView, HasNumberIn, Places, Matches, IsNumbered, cell_of, plain_meaning, text_of}
-use Rattle.ext_one_report.specs.Steps.{IsAlone, IsLaneIn, AreCompared, LooksWithin, EndAlike, FindsAll, StepEndsAlike, words_of}
+use Rattle.ext_one_report.specs.Changing.{events_at}
+use Rattle.ext_one_report.proofs.StandingsWords.{absent, found, met, closed, value_shown, fault_shown, shown_of, ShowTheSame, fault, standing_of, fault_stands}
+use Rattle.ext_one_report.proofs.MatchingWords.{RunView, IsRunView, HasNumberIn, Places, Matches, IsNumbered, cell_of, plain_meaning, text_of}
+use Rattle.ext_one_report.proofs.StepsWords.{IsAlone, IsLaneIn, AreCompared, LooksWithin, EndAlike, StepEndsAlike, words_of}
+use Rattle.ext_one_report.specs.FullRuns.{FindsAll}
 use Rattle.ext_one_report.proofs.OnCells.{then_there}
-use Rattle.ext_one_report.proofs.Alone.{alone_later, matches_to}
+use Rattle.ext_one_report.proofs.NodesAlone.{alone_later, matches_to}
 use Rattle.ext_one_report.proofs.Numbered.{IsNamed, named}
 use Rattle.ext_one_report.proofs.OwnCell.{but, matches_join, OnlyAt, others_after, slot_by_own}
 use Rattle.ext_one_report.proofs.Computes.{InVain, fault_form, fault_not_absent, given_up_leaves, meets_alike, plain_absent, vains, value_form, value_not_absent}

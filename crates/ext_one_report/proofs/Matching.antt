@@ -22,9 +22,8 @@ use Rattle.ext_plan.specs.Values.{ValueText}
 use Rattle.ext_plan.proofs.KeyLists.{has_place, is_contained, not_contained, place_last, place_within}
 use Rattle.ext_plain.specs.ValueStates.{ValueState, keep_value, next_number, run_numbers, value_of, value_opening, with_number}
 use Rattle.ext_plain.proofs.Numberings.{there_by}
-use Rattle.ext_one_report.specs.Standings.{Meaning, AreMatched, KnowsMore, nothing}
-use Rattle.ext_one_report.specs.Matching.{RunView, IsRunView, HasNumberIn, Places, Matches, AreNotAt, IsNumbered, cell_of, plain_meaning, plain_slot, text_of}
-use Rattle.ext_one_report.specs.MatchingLaws.{AreEqualEvents, after_event}
+use Rattle.ext_one_report.proofs.StandingsWords.{Meaning, AreMatched, KnowsMore, nothing}
+use Rattle.ext_one_report.proofs.MatchingWords.{RunView, IsRunView, HasNumberIn, Places, Matches, AreNotAt, IsNumbered, cell_of, plain_meaning, plain_slot, text_of, AreEqualEvents, after_event}
 use Rattle.ext_one_report.proofs.Standings.{matched_acts, matched_by_more}
 
 -- ---- numbers of keys in a plain run

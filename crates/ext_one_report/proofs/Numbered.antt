@@ -10,7 +10,7 @@ use Rattle.ext_plan.proofs.KeyLists.{place_last, not_contained}
 use Rattle.ext_plain.specs.ValueStates.{ValueState, enough, key_limit, with_number}
 use Rattle.ext_plain.specs.StepRuns.{StepEnd, number_by, numbered_by}
 use Rattle.ext_plain.proofs.Numberings.{is_known, is_next, there_then}
-use Rattle.ext_one_report.specs.Matching.{RunView, Places, Matches, IsNumbered}
+use Rattle.ext_one_report.proofs.MatchingWords.{RunView, Places, Matches, IsNumbered}
 use Rattle.ext_one_report.proofs.Matching.{keys_keep_matches, keys_keep_numbered}
 
 -- The state in which the key has its number, and what of the state before is so of it at these places

@@ -21,14 +21,13 @@ use Rattle.ext_tree.proofs.Equalities.{keys_Decides}
 use Rattle.ext_tree.proofs.KeyPlacing.{one_key, one_number}
 use Rattle.ext_plan.specs.StoreKeys.{is_there, place_of_key}
 use Rattle.ext_plain.specs.ValueStates.{ValueState}
-use Rattle.ext_one_report.specs.OnCells.{events_at}
-use Rattle.ext_one_report.specs.Standings.{AreMatched}
-use Rattle.ext_one_report.specs.Matching.{RunView, IsRunView, HasNumberIn, Places, Matches, AreNotAt, cell_of, plain_meaning, plain_slot}
-use Rattle.ext_one_report.specs.MatchingLaws.{after_event}
-use Rattle.ext_one_report.specs.Steps.{IsAlone}
+use Rattle.ext_one_report.specs.Changing.{events_at}
+use Rattle.ext_one_report.proofs.StandingsWords.{AreMatched}
+use Rattle.ext_one_report.proofs.MatchingWords.{RunView, IsRunView, HasNumberIn, Places, Matches, AreNotAt, cell_of, plain_meaning, plain_slot, after_event}
+use Rattle.ext_one_report.proofs.StepsWords.{IsAlone}
 use Rattle.ext_one_report.proofs.OnCells.{passes, passes_not, quiet_at, slot_from, then_there}
 use Rattle.ext_one_report.proofs.Matching.{cells_apart, one_of_place, place_then, plain_none, plain_there}
-use Rattle.ext_one_report.proofs.Alone.{contains_left, matches_after}
+use Rattle.ext_one_report.proofs.NodesAlone.{contains_left, matches_after}
 
 -- ---- all places but one
 

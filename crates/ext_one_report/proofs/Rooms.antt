@@ -19,17 +19,22 @@ use Rattle.ext_plan.specs.Values.{ValueText}
 use Rattle.ext_plan.proofs.KeyLists.{not_contained}
 use Rattle.ext_plain.specs.ValueStates.{Numbering, ValueState, after_act, enough, full, keep_value, key_limit, known, next, next_number, numbering_of, run_numbers, why_refused, with_number}
 use Rattle.ext_plain.specs.StepRuns.{StepEnd, claim_and, compute_looked, compute_numbered, computefail_looked, computefail_numbered, ended, factory_failed, factory_gave, found_along, kept_or_refused, none_numbered, number_by, numbered_by, or_refused, put_in, remove_numbered, step_run, steps_run, want_numbered}
-use Rattle.ext_plain.specs.Laws.{HasValues, NamesOneOf}
+use Rattle.ext_plain.specs.PlainRunLaws.{HasValues, NamesOneOf, NumbersKeys}
 use Rattle.ext_plain.proofs.Kept.{IsKept, IsKeptNaming, step-kept-by, steps-kept-by}
 use Rattle.ext_plain.proofs.Named.{OfKeys, numbers-once, of-keys}
 use Rattle.ext_plain.proofs.Numberings.{is_full}
 use Rattle.ext_plain.proofs.Rooms.{has_room}
 use Rattle.ext_plain.proofs.Values.{act-values, keep-drawn}
-use Rattle.ext_one_report.specs.Steps.{HasRoom}
-use Rattle.ext_one_report.specs.Calls.{StepsHaveRoom}
-use Rattle.ext_one_report.specs.Rooms.{GaveFew}
+use Rattle.ext_one_report.proofs.StepsWords.{HasRoom}
+use Rattle.ext_one_report.proofs.CallsWords.{StepsHaveRoom}
 use Rattle.ext_one_report.proofs.Calls.{all_first, all_later, plain_goes, plain_stops, step_memory}
 use Rattle.ext_plain.proofs.Stepping.{steps_run-nil}
+
+-- Each number that was drawn is that of a value, each key has one number at most, and only keys of this list have any
+pub record GaveFew (names : List KeyValue) (s : ValueState) : Type 0 where
+  pub values : HasValues s
+  pub keys : NumbersKeys s
+  pub named : All (Contains names) s.keys
 
 -- ---- a step keeps one value at most
 

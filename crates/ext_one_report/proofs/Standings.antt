@@ -8,7 +8,7 @@ use Rattle.ext_model.specs.declared.slot.Slot.{Slot}
 use Rattle.ext_model.specs.declared.slot.Slot.TheVariants as slot
 use Rattle.ext_model.specs.State.{lookup, look_at, look_in, standing_value}
 use Rattle.ext_model.specs.Events.{slot_after}
-use Rattle.ext_one_report.specs.Standings.{Meaning, Standing, nothing, value, fault, sealed, value_stands, fault_stands, seal_stands, standing_of, AreMatched, Shown, absent, found, met, closed, value_shown, fault_shown, shown_of, ShowTheSame, Deed, draws, puts, removes, claims, fills, fails, abandons, seals, of_value, of_fault, deed_of, IsCompared, DoTheSame, KnowsMore}
+use Rattle.ext_one_report.proofs.StandingsWords.{Meaning, Standing, nothing, value, fault, sealed, value_stands, fault_stands, seal_stands, standing_of, AreMatched, Shown, absent, found, met, closed, value_shown, fault_shown, shown_of, ShowTheSame, Deed, draws, puts, removes, claims, fills, fails, abandons, seals, of_value, of_fault, deed_of, IsCompared, DoTheSame, KnowsMore}
 
 -- ---- one context of a path
 

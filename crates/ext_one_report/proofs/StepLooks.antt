@@ -28,8 +28,8 @@ use Rattle.ext_plan.specs.StepCalls.{label_of, start_of}
 use Rattle.ext_plan.specs.StoreKeys.{is_there, key_of_step, place_of_key}
 use Rattle.ext_plan.specs.Values.{ValueText}
 use Rattle.ext_plan.specs.Verdicts.{SeenText, seen_value, seen_fault, seen_nothing, seen_refused, refused, want_verdict, none_verdict}
-use Rattle.ext_store_cells.specs.ContextCalls as store_cells
-use Rattle.ext_store_cells.specs.declared.fault.Refusal.{Refusal}
+use Rattle.ext_store_core.specs.ContextCalls as store_core
+use Rattle.ext_store_core.specs.declared.fault.Refusal.{Refusal}
 use Rattle.ext_cells.specs.Lanes.{Lane}
 use Rattle.ext_store.specs.Stores.{StoreView, cell_in}
 use Rattle.ext_store.specs.LaneCalls.{Gets, IsKeyRefused, key_refusal}
@@ -38,12 +38,13 @@ use Rattle.ext_plain.specs.StepRuns.{StepEnd, ended, found_along, seen_by as pla
 use Rattle.ext_parallel.specs.Saying.{Says, Ends, EndsRefused, no_memory}
 use Rattle.ext_parallel.specs.StoreCalls.{PlanLane, Sees, Shows, fault_seen, stored_view}
 use Rattle.ext_parallel.specs.StoreSteps.{StepLooks, call_of}
-use Rattle.ext_one_report.specs.Standings.{Shown, absent, found, met, closed, fault_shown, value_shown, shown_of, AreMatched, ShowTheSame}
-use Rattle.ext_one_report.specs.Matching.{RunView, HasNumberIn, Places, Matches, cell_of, plain_meaning, text_of}
-use Rattle.ext_one_report.specs.Steps.{IsLaneIn, IsForRoom, FindsAll, AreCompared, LooksWithin, EndAlike, StepEndsAlike, words_of}
+use Rattle.ext_one_report.proofs.StandingsWords.{Shown, absent, found, met, closed, fault_shown, value_shown, shown_of, AreMatched, ShowTheSame}
+use Rattle.ext_one_report.proofs.MatchingWords.{RunView, HasNumberIn, Places, Matches, cell_of, plain_meaning, text_of}
+use Rattle.ext_one_report.proofs.StepsWords.{IsLaneIn, AreCompared, LooksWithin, EndAlike, StepEndsAlike, words_of}
+use Rattle.ext_one_report.specs.FullRuns.{IsForRoom, FindsAll}
 use Rattle.ext_one_report.proofs.Standings.{matched_looks}
 use Rattle.ext_one_report.proofs.Matching.{plain_there}
-use Rattle.ext_one_report.proofs.Alone.{matches_to}
+use Rattle.ext_one_report.proofs.NodesAlone.{matches_to}
 use Rattle.ext_one_report.proofs.Numbered.{IsNamed, named}
 
 -- ---- what a step says
@@ -139,7 +140,7 @@ ok_is x y e = cc e
 
 pub look_point : (store : StoreView) (context key : ℕ) (path : List ℕ) (a b : Lane) (answer : Look) → IsTree store.tree → IsPathOf store.tree context path → Gets store context key a b (Ok answer)
     → LookPoint store key path a.view b.view answer
-unfolding store_cells.Gets
+unfolding store_core.Gets
 look_point store context key path a b answer tree is gets =
     let holds = gets.2.replied (λ e. absurd (cc e)) in
     let same : gets.0 ≡ path = one_path store.tree tree context gets.0 path gets.1 is in

@@ -19,11 +19,11 @@ use Rattle.ext_plain.specs.StepRuns.{StepEnd}
 use Rattle.ext_plain.specs.NodeCalls.{CallsEnd, befores_run, call_run, make, make_befores, make_if_successful, no_calls, test_run}
 use Rattle.ext_plain.proofs.NodeCalls.{texts-successful}
 use Rattle.ext_parallel.specs.StoreCalls.{PlanLane}
-use Rattle.ext_one_report.specs.Matching.{RunView, Places}
-use Rattle.ext_one_report.specs.Calls.{AreBeside, StepsHaveRoom}
-use Rattle.ext_one_report.specs.CallLists.{CallFits, CallsAlike, CallsFind, Makes}
-use Rattle.ext_one_report.specs.TestCalls.{MakesTest, TestFinds, TestFits, TestHasRoom, afters_round, befores_round, plain_test}
-use Rattle.ext_one_report.proofs.Alone.{alone_first, alone_later}
+use Rattle.ext_one_report.proofs.MatchingWords.{RunView, Places}
+use Rattle.ext_one_report.proofs.CallsWords.{AreBeside, StepsHaveRoom}
+use Rattle.ext_one_report.proofs.CallListsWords.{CallFits, CallsAlike, CallsFind, Makes}
+use Rattle.ext_one_report.proofs.TestCallsWords.{MakesTest, TestFinds, TestFits, TestHasRoom, afters_round, befores_round, plain_test}
+use Rattle.ext_one_report.proofs.NodesAlone.{alone_first, alone_later}
 use Rattle.ext_one_report.proofs.Calls.{lane_before, steps_faults, steps_lane, steps_memory}
 use Rattle.ext_one_report.proofs.CallLists.{all_alike, all_go, befores_first, befores_go, if_made, none_alike}
 

@@ -1,8 +1,8 @@
 -- What the lanes of a run know is so in one view of it.
 use Rattle.std.proofs.Common.{◌≡◌, inl, inr, ℕ, zero, suc, ◌<◌, List, [], ◌∷◌, Contains, Option, Some, None, length, refl, ap, sym, subst, ◌∙◌, arith}
-use Rattle.std.specs.Prelude.{All, AllPairs, slice_index_or}
+use Rattle.std.specs.Prelude.{All, AllPairs}
 use Rattle.std.specs.List.{AllZip}
-use Rattle.std.proofs.lemmas.List.Elements.{All-nil, All-cons, All-head, All-tail, All-contains, All-map, Contains-get_or}
+use Rattle.std.proofs.lemmas.List.Elements.{All-nil, All-cons, All-head, All-tail, All-contains, All-map}
 use Rattle.ext_history.proofs.Lists.{contains_cons, contains_here, contains_later, contains_none}
 use Rattle.ext_history.proofs.Once.{contains-from_map, contains-map}
 use Rattle.ext_model.specs.declared.look.Fault.{Fault}
@@ -13,16 +13,15 @@ use Rattle.ext_cells.specs.Lanes.{fresh_lanes}
 use Rattle.ext_plan.specs.Values.{ValueText}
 use Rattle.ext_store.specs.Stores.{StoreView, fresh_store_lane}
 use Rattle.ext_engine.specs.Order.{LaneGoesOn}
-use Rattle.ext_engine.proofs.Finer.{tree_finer}
-use Rattle.ext_engine.proofs.Going.{goes_met, goes_same, goes_sealed, goes_then, tree_goes}
+use Rattle.ext_engine.proofs.Going.{tree_goes}
 use Rattle.ext_parallel.specs.declared.steps.stored_value.StoredValue.{StoredValue}
 use Rattle.ext_parallel.specs.Finding.{PlansGoOn}
 use Rattle.ext_parallel.specs.Opened.{all_faults, all_known}
 use Rattle.ext_parallel.specs.ParallelRun.{setting_of_plan}
 use Rattle.ext_parallel.specs.StoreCalls.{PlanLane, stored_view}
-use Rattle.ext_one_report.specs.Matching.{RunView, TextMeaning}
-use Rattle.ext_one_report.specs.Steps.{IsLaneIn, words_of}
-use Rattle.ext_one_report.specs.Views.{AreSeenAsOne, CallsAreInView, EarlierIsSo, KnowsFault, KnowsValue, MakesCallIn, RunsAreSeenAsOne}
+use Rattle.ext_one_report.proofs.MatchingWords.{RunView, TextMeaning}
+use Rattle.ext_one_report.proofs.StepsWords.{words_of}
+use Rattle.ext_one_report.proofs.ViewsWords.{AreSeenAsOne, EarlierIsSo, KnowsFault, KnowsValue, RunsAreSeenAsOne}
 
 -- ---- what any of several notes knows of a number
 
@@ -176,11 +175,3 @@ module _ (moves : PlansGoOn) where
       let first : All (KeysOf keys) run.first.first = subst (λ (l : List PlanLane). All (KeysOf keys) l) (sym run.fresh) (All-map (KeysOf keys) make fresh (λ i d within. key_places_of-nothing keys)) in
       let go = tree_goes (setting_of_plan plan store run.locks) (moves plan store) 16 0 run.first run.ran run.after run.run in
       seen_as_one store run.numbered.numbering run.after.first run.store_is.key_places (keys_stay keys run.first.first run.after.first go first) run.numbered.parts run.shared.agree run.shared.agree_faults
-
-  pub calls_are_in_view : CallsAreInView
-  calls_are_in_view plan lanes results run view each =
-      tree_finer (setting_of_plan plan run.store run.locks) (MakesCallIn plan run.store view)
-      LaneGoesOn goes_same goes_then (moves plan run.store) (goes_met run.store) (goes_sealed run.store) (IsLaneIn view) (earlier_is_so view)
-      (λ node call held a o b made so. record { made = made; before_in = earlier_is_so view a b (moves plan run.store node call held a o b made) so; after_in = so })
-      16 0 run.first run.ran run.after run.run
-      (λ i d within. each (slice_index_or run.after.first i d) (Contains-get_or run.after.first i d within))

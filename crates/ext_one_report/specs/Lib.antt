@@ -1,15 +1,10 @@
-pub mod OnCells
-pub mod CellLaws
-pub mod WorkedCells
-pub mod Standings
-pub mod StandingLaws
-pub mod WorkedStandings
-pub mod Matching
-pub mod MatchingLaws
-pub mod Steps
-pub mod StepLaws
-pub mod Views
-pub mod Calls
-pub mod CallLists
-pub mod TestCalls
-pub mod Rooms
+-- What the clauses of this crate speak of.
+pub mod Alone
+pub mod AloneLaws
+pub mod Apart
+pub mod Changing
+pub mod FullRuns
+pub mod OneReport
+pub mod Shares
+pub mod ToldLacks
+pub mod WorkedPlans

@@ -42,8 +42,8 @@ use Rattle.ext_store.specs.declared.computed.Compute.TheVariants as computes
 use Rattle.ext_store.specs.LaneCalls.{Gets}
 use Rattle.ext_store.specs.Computing.{Computes, ComputesFrom, Meets}
 use Rattle.ext_store.specs.Waiting.{ComputesAfterWaits}
-use Rattle.ext_store_cells.specs.ContextCalls as store_cells
-use Rattle.ext_store_cells.specs.Claiming as claiming
+use Rattle.ext_store_core.specs.ContextCalls as store_core
+use Rattle.ext_store_core.specs.Claiming as claiming
 use Rattle.ext_plan.specs.StepCalls.{CallText, label_of, start_of}
 use Rattle.ext_plan.specs.Verdicts.{SeenText, none_verdict, seen_fault, seen_nothing, seen_no_memory, seen_refused, seen_value, want_verdict}
 use Rattle.ext_parallel.specs.declared.steps.stored_value.StoredValue.{StoredValue}
@@ -253,7 +253,7 @@ module _ (plan : PlanText) (lanes : ℕ) (results : List (ResultOf Fault)) (run 
 
     found_kept : (context : ℕ) (a : PlanLane) (at number : ℕ) → Gets store context key a.cells b.cells (Ok (look.Found at number)) → (value : StoredValue) → known_at b.known number ≡ Some value
         → IsKeptByPlan plan name (stored_view value).text
-    unfolding store_cells.Gets
+    unfolding store_core.Gets
     found_kept context a at number gets value known =
         let point = (gets.2.replied (λ is. absurd (cc is))).point in
         let found : look_after (cell_in store key) gets.0 point.0 ≡ look.Found at number = cc point.2 in
@@ -261,7 +261,7 @@ module _ (plan : PlanText) (lanes : ℕ) (results : List (ResultOf Fault)) (run 
 
     fault_met : (context : ℕ) (a : PlanLane) (at number : ℕ) → Gets store context key a.cells b.cells (Ok (look.Fault at number)) → (fault : Fault) → known_at b.faults number ≡ Some fault
         → IsSeenOfPlan plan name (fault_seen fault)
-    unfolding store_cells.Gets
+    unfolding store_core.Gets
     fault_met context a at number gets fault known =
         let point = (gets.2.replied (λ is. absurd (cc is))).point in
         let met : look_after (cell_in store key) gets.0 point.0 ≡ look.Fault at number = cc point.2 in

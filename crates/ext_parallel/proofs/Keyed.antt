@@ -8,7 +8,7 @@ use Rattle.ext_lifecycle.specs.FaultTexts.{VerdictText}
 use Rattle.ext_tree.specs.Keys.{KeyValue, KnownPlace, IsKeyFault, IsKeyNumber, PlacesOnly}
 use Rattle.ext_tree.proofs.KeyPlacing.{places_nothing}
 use Rattle.ext_cells.specs.Lanes.{Lane}
-use Rattle.ext_store_cells.specs.declared.fault.Refusal.{Refusal}
+use Rattle.ext_store_core.specs.declared.fault.Refusal.{Refusal}
 use Rattle.ext_store.specs.declared.computed.Compute.{Compute}
 use Rattle.ext_store.specs.declared.computed.Compute.TheVariants as computes
 use Rattle.ext_store.specs.Stores.{StoreView, StoreLane}

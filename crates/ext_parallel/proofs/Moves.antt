@@ -28,8 +28,8 @@ use Rattle.ext_plan.specs.StoreKeys.{key_of_step}
 use Rattle.ext_plan.specs.PlanCalls.{steps_of_call}
 use Rattle.ext_values.specs.Known.{Known, known_at}
 use Rattle.ext_cells.specs.Lanes.{Lane}
-use Rattle.ext_store_cells.specs.declared.fault.Refusal.{Refusal}
-use Rattle.ext_store_cells.specs.declared.fault.Refusal.TheVariants as refusal
+use Rattle.ext_store_core.specs.declared.fault.Refusal.{Refusal}
+use Rattle.ext_store_core.specs.declared.fault.Refusal.TheVariants as refusal
 use Rattle.ext_store.specs.declared.fault.KeepFault.{KeepFault}
 use Rattle.ext_store.specs.declared.fault.KeepFault.TheVariants as keep_fault
 use Rattle.ext_store.specs.declared.computed.Compute.{Compute}
@@ -37,7 +37,7 @@ use Rattle.ext_store.specs.declared.computed.Compute.TheVariants as computes
 use Rattle.ext_store.specs.Stores.{StoreView, IsLaneOf, cell_in}
 use Rattle.ext_store.specs.LaneCalls.{Frame}
 use Rattle.ext_store.specs.Computing.{Uses}
-use Rattle.ext_store_cells.specs.ContextCalls.{put_acts, remove_acts}
+use Rattle.ext_store_core.specs.ContextCalls.{put_acts, remove_acts}
 use Rattle.ext_parallel.specs.Saying.{EndsRefused}
 use Rattle.ext_closing.specs.Sealing.{MakesSeals, seals_of}
 use Rattle.ext_plan.specs.StepCalls.{CallText, label_of, start_of}

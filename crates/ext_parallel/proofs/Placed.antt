@@ -8,14 +8,14 @@ use Rattle.ext_tree.specs.Keys.{KeyValue, KnownPlace, IsKeyFault}
 use Rattle.ext_tree.specs.declared.key_fault.KeyFault.{KeyFault}
 use Rattle.ext_tree.specs.declared.key_fault.KeyFault.TheVariants as key_fault
 use Rattle.ext_cells.specs.Lanes.{Lane}
-use Rattle.ext_store_cells.specs.declared.fault.Refusal.{Refusal}
-use Rattle.ext_store_cells.specs.declared.fault.Refusal.TheVariants as refusal
+use Rattle.ext_store_core.specs.declared.fault.Refusal.{Refusal}
+use Rattle.ext_store_core.specs.declared.fault.Refusal.TheVariants as refusal
 use Rattle.ext_store.specs.declared.computed.Compute.{Compute}
 use Rattle.ext_store.specs.declared.computed.Compute.TheVariants as computes
 use Rattle.ext_store.specs.Stores.{StoreView, cell_in}
 use Rattle.ext_store.specs.LaneCalls.{Gets, Puts, Removes, reply_to, result_at, with_kept, IsKeyRefused, OfKey, key_refusal}
-use Rattle.ext_store_cells.specs.ContextCalls as cells
-use Rattle.ext_store_cells.specs.Claiming as claiming
+use Rattle.ext_store_core.specs.ContextCalls as cells
+use Rattle.ext_store_core.specs.Claiming as claiming
 use Rattle.ext_store.specs.Computing.{ComputesFrom, Computes}
 use Rattle.ext_store.specs.Waiting.{ComputesAfterWaits, IsDecided}
 use Rattle.ext_parallel.specs.declared.steps.stored_value.StoredValue.{StoredValue}

@@ -12,13 +12,13 @@ use Rattle.ext_model.specs.History.{Limits}
 use Rattle.ext_model.specs.CallActs.{Calls, LaneView}
 use Rattle.ext_values.specs.Known.{known_at}
 use Rattle.ext_cells.specs.Lanes.{Lane}
-use Rattle.ext_store_cells.specs.declared.fault.Refusal.{Refusal}
-use Rattle.ext_store_cells.specs.declared.fault.Refusal.TheVariants as refusal
-use Rattle.ext_store_cells.specs.declared.claim.Unused.TheVariants as unused
-use Rattle.ext_store_cells.specs.ContextCalls.{put_acts, remove_acts}
-use Rattle.ext_store_cells.specs.ContextCalls as shared
-use Rattle.ext_store_cells.specs.Claiming as claiming
-use Rattle.ext_store_cells.specs.Waiting.{VainAttempts}
+use Rattle.ext_store_core.specs.declared.fault.Refusal.{Refusal}
+use Rattle.ext_store_core.specs.declared.fault.Refusal.TheVariants as refusal
+use Rattle.ext_store_core.specs.declared.claim.Unused.TheVariants as unused
+use Rattle.ext_store_core.specs.ContextCalls.{put_acts, remove_acts}
+use Rattle.ext_store_core.specs.ContextCalls as shared
+use Rattle.ext_store_core.specs.Claiming as claiming
+use Rattle.ext_store_core.specs.Waiting.{VainAttempts}
 use Rattle.ext_store.specs.declared.fault.KeepFault.{KeepFault}
 use Rattle.ext_store.specs.declared.fault.KeepFault.TheVariants as keep_fault
 use Rattle.ext_store.specs.declared.computed.Compute.{Compute}

@@ -1,5 +1,5 @@
 pub mod Finding
-pub mod InnerHelpers
+pub mod InnerSuites
 pub mod InnerKeys
 pub mod InnerMeeting
 pub mod Lacking

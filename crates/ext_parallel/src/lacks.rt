@@ -1,4 +1,4 @@
-//! Whether the results of a run tell that a step may have lacked something.
+//! Whether a run may have lacked something, judged by its results.
 ghost use Rattle.std.specs.Prelude.{◌≡◌, string_bytes, option_map};
 ghost use Rattle.ext_lifecycle.specs.FaultTexts.{fault_text, result_view, results_view};
 ghost use Rattle.ext_parallel.specs.Lacking.{fault_tells_lack, may_have_lacked, may_lack, tells_lack};
@@ -6,10 +6,13 @@ ghost use Rattle.ext_parallel.specs.Lacking.{fault_tells_lack, may_have_lacked, 
 use ext_lifecycle::{NodeResult, Status};
 use ext_model::Fault;
 
-/// Tests whether a step or a close of a run with these results may have lacked something: whether a node failed with `no memory`, or as a step does that
-/// is refused for want of a number, a key or a place, or is not shown what stands in its place; or with further faults or aborts, of which no text is told.
+/// Tests whether a step or close of a run with these results may have lacked something. This is
+/// true if a node failed with `no memory`, or with the fault of a step that was refused for want of
+/// a number, a key or a place, or was not shown what stands in its place; or with further faults or
+/// aborts, whose texts are not reported.
 ///
-/// Where it is false none did (`ext_same_report::told_lack_laws`). Where it is true one need not have: a step `fail` may say the same.
+/// If it is false, nothing was lacking (`ext_one_report::told_lack_laws`). If it is true, perhaps
+/// nothing was: a step `fail` may report the same text.
 pub fn may_have_lacked(results: &[NodeResult]) -> bool
     ensures { result ≡ may_have_lacked (results_view results.now) }
 {
@@ -21,7 +24,7 @@ pub fn may_have_lacked(results: &[NodeResult]) -> bool
     false
 }
 
-/// The same of one node.
+/// Tests the result of one node.
 fn may_lack(node: &NodeResult) -> bool
     ensures { let r = result_view node.now in result ≡ may_lack r.status r.fault r.more }
 {
@@ -33,7 +36,7 @@ fn may_lack(node: &NodeResult) -> bool
     }
 }
 
-/// Tests whether a fault may be that of a step that lacked something.
+/// Tests whether a fault may be that of a step or close that lacked something.
 fn fault_tells_lack(fault: &Option<Fault>) -> bool
     ensures { result ≡ fault_tells_lack (option_map fault_text fault.now) }
 {
@@ -44,7 +47,8 @@ fn fault_tells_lack(fault: &Option<Fault>) -> bool
     }
 }
 
-/// Tests whether a text is `no memory`, or ends as that of a step that was refused for want of room.
+/// Tests whether a text is `no memory`, or ends like the fault of a step that lacked something
+/// else.
 fn tells_lack(text: &str) -> bool
     ensures { result ≡ tells_lack text.now }
 {

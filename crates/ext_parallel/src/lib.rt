@@ -1,15 +1,14 @@
 //! Runs plans on several lanes: over a store for several threads and resource locks, by the engine.
 //!
-//! `parallel_results` opens a store with a plan's contexts and locks with its names, runs the tree of its nodes over them, and gives
-//! one result a node. What such a run is stands in `specs/ParallelRun`, by the definitions of `ext_engine`, and what its steps find
-//! in `specs/Finding`. `may_have_lacked` tells from the results whether a step may have lacked something (`specs/Lacking`).
+//! `parallel_results` opens a store with the contexts of a plan and locks with its names, runs the
+//! tree of its nodes over them, and returns one result for each node. `specs/ParallelRun` defines
+//! such a run in terms of `ext_engine`, and `specs/Finding` what its steps find. `may_have_lacked`
+//! tells from the results whether a step may have lacked something (`specs/Lacking`).
 //!
-//! `PlanSuite` is what the nodes of a plan are to the engine: a call of a node makes the steps of the plan on a lane of the store
-//! (module `steps`). `PlanAction` closes the values of a context. `specs/PlanSuites` says what the nodes are and what a call does,
-//! `specs/PlanActions` what a close does, and `specs/StoreSteps` what steps do one after another.
-//!
-//! Unless its comment says otherwise, a public call takes no memory and waits for nobody. What
-//! names no source in JUnit is an own rule.
+//! `PlanSuite` presents the nodes of a plan to the engine: a call of a node makes the plan's steps
+//! on a lane of the store (module `steps`). `PlanAction` closes the values of a context.
+//! `specs/PlanSuites` says what the nodes are and what a call does, `specs/PlanActions` what a
+//! close does, and `specs/StoreSteps` what a sequence of steps does.
 #![tactic(auto)]
 
 mod lacks;

@@ -10,9 +10,10 @@ ghost use Rattle.ext_parallel.specs.Opened.{ShareHistory, ShareKeys, all_faults,
 
 use ext_store::{Lane, Store, StoreValue};
 
-/// Lets each lane meet the next one, then each the one before it, and then each all others. What they had seen is one history, and
-/// each had seen all of its own events in it. What two of them knew of a number, as a value or as a fault, was the same in both, and
-/// what all knew of the places of keys was part of one numbering.
+/// Lets each lane meet the next one, then each the one before it, and then each all others. This
+/// shows that what the lanes had seen is one history that contains all events of each. Any two
+/// agree on what they know of a number, as a value or as a fault, and what all know of the places
+/// of keys is part of one numbering.
 pub(crate) fn meet_all<V: StoreValue + Drop>(store: &Store<V>, lanes: &mut [Lane<V>])
     requires lanes { All (IsLaneOf store.now.id) lanes.old }
     ensures shared { ShareHistory store.now lanes.old }
@@ -34,7 +35,7 @@ fn turn_all<V: StoreValue + Drop>(store: &Store<V>, lanes: &mut [Lane<V>])
     }
 }
 
-/// Lets a lane meet the first of the others, that one the next, and so on, and back.
+/// Lets a lane meet the first of the others, that one the next, and so on, and then back.
 fn meet_rest<V: StoreValue + Drop>(store: &Store<V>, lane: &mut Lane<V>, others: &mut [Lane<V>])
     requires lane { IsLaneOf store.now.id lane.old }
     requires others { All (IsLaneOf store.now.id) others.old }
@@ -49,7 +50,7 @@ fn meet_rest<V: StoreValue + Drop>(store: &Store<V>, lane: &mut Lane<V>, others:
     }
 }
 
-/// Lets each lane meet all that come after it.
+/// Lets each lane meet all lanes after it.
 fn agree_all<V: StoreValue + Drop>(store: &Store<V>, lanes: &mut [Lane<V>])
     requires lanes { All (IsLaneOf store.now.id) lanes.old }
     ensures agree { AllPairs AllAgree (all_known lanes.old) }
@@ -78,7 +79,7 @@ fn agree_rest<V: StoreValue + Drop>(store: &Store<V>, first: &mut Lane<V>, other
     }
 }
 
-/// Shows what is true of each of these lanes. Does nothing when it runs.
+/// Shows what is true of each of these lanes, and does nothing when it runs.
 fn recall_all<V: StoreValue + Drop>(lanes: &[Lane<V>])
     ensures { All HasRecalled lanes.now }
 {

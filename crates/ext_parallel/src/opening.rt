@@ -12,13 +12,13 @@ use ext_plan::Plan;
 use ext_store::{Closer, Lane, Limits, Store, StoreFault, StoreValue};
 use std::alloc::{AllocError, Global};
 
-/// How many exchanges a call makes at most before it waits or begins anew.
+/// How many exchanges a call tries before it waits or starts over.
 const TRIES: u32 = 64;
 
 /// How many numbers the store of a run draws at most.
 const NUMBERS: u32 = 65_535;
 
-/// A store of the plan's contexts, its lanes, and a closer for each context.
+/// Opens a store of the plan's contexts, with its lanes and a closer for each context.
 pub(crate) fn open_store<V: StoreValue + Drop>(
     alloc: Global,
     plan: &Plan,
@@ -46,7 +46,7 @@ pub(crate) fn open_store<V: StoreValue + Drop>(
     }
 }
 
-/// Locks of the names that the plan's nodes name, and their lanes.
+/// Opens locks with the names that the plan's nodes name, and their lanes.
 pub(crate) fn open_locks(
     alloc: Global,
     plan: &Plan,
@@ -61,7 +61,8 @@ pub(crate) fn open_locks(
     match Locks::open(alloc, names.as_slice(), lanes, TRIES) {
         Ok(opened) => Ok(opened),
         Err(LockFault::Memory) => Err(AllocError),
-        // The limits are within their ranges, and the names are few and different; a request's key is no fault of opening.
+        // The limits are within their ranges, and the names are few and different; opening requests
+        // no lock.
         Err(LockFault::BadLimit) => unreachable!(),
         Err(LockFault::TooMany) => unreachable!(),
         Err(LockFault::Twice(_)) => unreachable!(),

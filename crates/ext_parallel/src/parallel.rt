@@ -24,17 +24,23 @@ use std::alloc::Global;
 use std::sync::Wait;
 use std::thread::Threads;
 
-/// Runs a plan on so many lanes, 1 to 16, each at most by one thread, and gives one result a node, in the order of the plan.
+/// Runs a plan on `lanes` lanes (1 to 16) and returns one result for each node, in the order of the
+/// plan.
 ///
-/// A store with the plan's contexts and locks with its names are opened for this run, and the tree of the nodes is run over them by
-/// `ext_engine::run_tree`. A key gets its number where a lane first names it, the same in all lanes. The listener is told when a node starts, with its lane, of each fault of its calls
-/// and of its closes as they come, and that it has ended. Steps make the calls of the store that wait. Each plan that `ext_plan_reading::read_plan` gives is runnable.
+/// It opens a store with the plan's contexts and locks with its names, and runs the tree of the
+/// nodes over them (`ext_engine::run_tree`), each lane on at most one thread. A key gets its number
+/// when a lane first names it, the same in all lanes. Steps make the store's waiting calls. The
+/// listener is notified when a node starts, with its lane, of each fault of its calls and closes as
+/// it comes, and when the node has ended. Each plan from `ext_plan_reading::read_plan` is runnable.
 ///
-/// Refused as `Memory` where memory for the suite, the locks or the store is refused, before anything is run, which no clause can tell; or where the run ended early for want of memory, as
-/// `run_tree` says, which takes none of a node that ran. Refused as `Unjoined` where a context can't be closed, as no lane in hand knows a value that remains in it: then the run ended early, too; no plan is known for which it comes.
-/// `NoThread` is never answered. Want of memory in a step is the step's own fault, and `may_have_lacked` tells whether there may have been such a step. Takes memory, and may wait: it promises its clauses if it returns.
+/// Refused as `Memory` if memory for the suite, the locks or the store is refused, before anything
+/// runs, which no clause states; or if the run ended early for want of memory, as `run_tree` says.
+/// Refused as `Unjoined` if a context cannot be closed because no lane in hand knows a value that
+/// remains in it. Then, too, the run ended early; no plan is known that causes it. `NoThread` is
+/// never answered. A step that lacks memory fails by itself, and `may_have_lacked` tells whether
+/// there may have been one. Takes memory, and may wait.
 ///
-/// JUnit 5 User Guide, section "Parallel Execution"; lanes are an own rule.
+/// Source: JUnit 5 User Guide, section "Parallel Execution"; lanes are an own rule.
 pub fn parallel_results<R: Threads + Wait + Sync, L: RunListener + Sync>(
     rt: &R,
     alloc: Global,
@@ -58,7 +64,8 @@ pub fn parallel_results<R: Threads + Wait + Sync, L: RunListener + Sync>(
     )
 }
 
-/// Runs the tree of the suite over this store and these locks, and then lets all lanes meet, whatever came of it.
+/// Runs the tree of the suite over this store and these locks, and then lets all lanes meet,
+/// however it ended.
 fn results_of<'a, R: Threads + Wait + Sync, L: RunListener + Sync>(
     rt: &R,
     alloc: Global,

@@ -1,4 +1,4 @@
-//! How the values of a plan's run are closed.
+//! The close action of a plan's run.
 ghost use Rattle.std.specs.Prelude.{◌≡◌};
 ghost use Rattle.ext_plan.specs.Values.{close_fault};
 ghost use Rattle.ext_parallel.specs.StoreCalls.{stored_view};
@@ -12,11 +12,13 @@ use ext_plan::close_fault;
 use std::alloc::Global;
 use std::marker::Model;
 
-/// The close action of a node in a plan's run: it fails with `close TEXT` for a value whose text begins with `bad`, and succeeds for each other value.
-/// It is seen as the node, and a listener is told of each close that fails, as of a fault of that node.
+/// The close action of a node in a plan's run. It fails with `close TEXT` for a value whose text
+/// begins with `bad`, and succeeds for each other value. Contracts see it as its node. Each fault
+/// is reported to the listener, as one of that node.
 ///
-/// It takes memory for the text of that fault, and fails with `Fault::Memory` where that is refused. Source: Javadoc type
-/// `ExtensionContext.Store.CloseableResource`; which closes fail is an own rule.
+/// It takes memory for the text of the fault, and fails with `Fault::Memory` if that is refused.
+/// Source: Javadoc type `ExtensionContext.Store.CloseableResource`; which closes fail is an own
+/// rule.
 #[derive(Drop)]
 pub struct PlanAction<'a, L> {
     alloc: Global,
@@ -33,7 +35,7 @@ impl<'a, L> Model for PlanAction<'a, L> {
 }
 
 impl<'a, L> PlanAction<'a, L> {
-    // The action of a node, which takes memory of this allocator.
+    // The action of a node, which takes memory from this allocator.
     pub(crate) fn new(alloc: Global, node: ContextNo, listener: &'a L) -> PlanAction<'a, L>
         ensures { result ≡ node }
     {
@@ -56,7 +58,7 @@ impl<'a, L: RunListener> CloseAction<StoredValue<'a>> for PlanAction<'_, L> {
     }
 }
 
-/// What a close of the value answers.
+/// The answer of a close of the value.
 fn answer_of(alloc: Global, value: &StoredValue<'_>) -> Result<(), Fault>
     ensures { AnswersClose (close_fault (stored_view value.now)) result }
 {

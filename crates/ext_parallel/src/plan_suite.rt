@@ -18,20 +18,21 @@ use std::alloc::{AllocError, Global};
 use std::marker::Model;
 use std::sync::Wait;
 
-/// The suite of a plan: its nodes are those of the plan, in the order of the plan, and their calls make the plan's steps. It is seen as
-/// the plan. A listener is told when a node starts, of each fault of its calls and of its closes, and that it has ended.
+/// A plan as a suite for the engine: the nodes are the plan's, in its order, and their calls make
+/// the plan's steps. Contracts see it as the plan. The listener is notified when a node starts, of
+/// each fault of its calls and closes, and when the node has ended.
 #[derive(Drop)]
 pub struct PlanSuite<'a, L> {
     alloc: Global,
     plan: &'a Plan,
     listener: &'a L,
-    // For each label, in the order of the plan.
+    // The key of each label, in the order of the plan.
     keys: Vec<Key>,
 }
 
 impl<'a, L> Model for PlanSuite<'a, L> {
     ghost use Rattle.ext_plan.specs.Plans.{PlanText, plan_view};
-    ghost use Rattle.ext_parallel.specs.InnerHelpers.{IsSuiteOf};
+    ghost use Rattle.ext_parallel.specs.InnerSuites.{IsSuiteOf};
 
     ghost Value = { PlanText };
 
@@ -41,11 +42,12 @@ impl<'a, L> Model for PlanSuite<'a, L> {
 }
 
 impl<'a, L> PlanSuite<'a, L> {
-    /// The suite of a plan, and who is told of its nodes. It takes memory for the keys of the plan's labels, which it makes, and for what the steps of a run take:
-    /// among it for the key of a step that names no label, which is made where the step runs.
+    /// Makes the suite of a plan, which reports the events of its nodes to `listener`. Takes memory
+    /// for the keys of the plan's labels. `alloc` also serves the steps of a run, among them a step
+    /// that names no label, whose key is made when it runs.
     ///
-    /// A namespace that is given has a part; lists of steps and of callbacks are not longer than a plan's. All this holds of each plan that was read. `AllocError` comes only where
-    /// memory is refused.
+    /// A created namespace has a part, and the lists of steps and callbacks are within a plan's
+    /// limits, as in each plan that was read. Fails with `AllocError` only if memory is refused.
     pub fn new(
         alloc: Global,
         plan: &'a Plan,
@@ -110,22 +112,21 @@ impl<'a, L: RunListener + Sync> Suite<StoredValue<'a>> for PlanSuite<'a, L> {
         Some(request(lock))
     }
 
-    /// An action that closes the node's values, as it does those of each node, and tells the listener of its faults.
+    /// An action that closes the node's values, and reports each fault to the listener.
     fn action(&self, node: ContextNo) -> PlanAction<'a, L> {
         PlanAction::new(self.alloc, node, self.listener)
     }
 
-    /// Tells the listener.
     fn started(&self, node: ContextNo, lane: LaneNo) {
         self.listener.started(node, lane);
     }
 
-    /// Tells the listener.
     fn ended(&self, node: ContextNo) {
         self.listener.ended(node, self.plan.nodes.len());
     }
 
-    /// Makes the steps of the call, in the node's context, up to the first that isn't successful, and tells the listener of that one's fault.
+    /// Makes the steps of the call in the node's context, up to the first that is not successful,
+    /// and reports the fault of that one to the listener.
     fn call<R: Wait>(
         &self,
         rt: &R,

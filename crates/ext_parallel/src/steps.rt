@@ -1,9 +1,10 @@
-//! The steps of plans over a store for several threads, by its waiting forms.
+//! The steps of plans over a store for several threads, by its waiting calls.
 //!
-//! `StoreSteps` makes the steps of a test or a callback on a lane of the store, in order, up to the first that isn't
-//! successful. The store keeps each value of a plan as a `StoredValue`. What each call of a step does stands in
-//! `specs/StoreCalls`, by the contracts of the store's calls, and what the steps do one after another in
-//! `specs/StoreSteps`; what a step says is that of `ext_plan`. Want of memory is the step's own fault.
+//! `StoreSteps` runs the steps of a test or a callback on a lane of the store, in order, up to the
+//! first that is not successful. The store keeps each value of a plan as a `StoredValue`.
+//! `specs/StoreCalls` says what each call of a step does, by the contracts of the store's calls,
+//! and `specs/StoreSteps` what a sequence of steps does. The texts of steps are those of
+//! `ext_plan`. A step that lacks memory fails by itself.
 
 mod calls;
 mod changes;

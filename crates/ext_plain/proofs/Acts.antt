@@ -11,7 +11,7 @@ use Rattle.ext_model.specs.State.{State}
 use Rattle.ext_model.specs.Plain.{Place, number_drawn, result_of}
 use Rattle.ext_plain.specs.ValueStates.{Memory, ValueState, refusal}
 use Rattle.ext_plain.specs.StepRuns.{StepEnd, compute_numbered, computefail_numbered, keeping_by, keyed_by, none_numbered, remove_numbered, want_numbered}
-use Rattle.ext_plain.specs.InnerHelpers.{KeyedText}
+use Rattle.ext_plain.specs.InnerSteps.{KeyedText}
 use Rattle.ext_tree.specs.Keys.{KeyValue}
 use Rattle.ext_plan.specs.Values.{ValueText, value_view}
 

@@ -13,7 +13,7 @@ use Rattle.ext_lifecycle.specs.Endings.{all_successful}
 use Rattle.ext_lifecycle.specs.FaultTexts.{NodeOutcome}
 use Rattle.ext_lifecycle.specs.Modes.{in_run_order}
 use Rattle.ext_plain.specs.ContextEnds.{seal_keys, faults_of_closes}
-use Rattle.ext_plain.specs.Laws.{HasRun}
+use Rattle.ext_plain.specs.PlainRunLaws.{HasRun}
 use Rattle.ext_plan.specs.PlanCalls.{test_of, concurrent_of}
 use Rattle.ext_plain.specs.NodeCalls.{befores_run}
 use Rattle.ext_plain.specs.PlainRun.{RunState, body_run, container_run, node_run, outcome_of, plain_run_by, run_opening, skipped_from, test_node_run}

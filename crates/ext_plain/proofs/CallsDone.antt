@@ -8,7 +8,7 @@ use Rattle.ext_plan.specs.PlanCalls.{steps_of_call}
 use Rattle.ext_tree.specs.Trees.{IsTree, IsPathOf}
 use Rattle.ext_tree.proofs.TreeLaws.{paths_are_unique}
 use Rattle.ext_plain.specs.declared.callers.NodeCaller.{NodeCaller}
-use Rattle.ext_plain.specs.InnerHelpers.{DoesCall, plan_in, state_view, step_end}
+use Rattle.ext_plain.specs.InnerSteps.{DoesCall, plan_in, state_view, step_end}
 use Rattle.ext_plain.specs.NodeCalls.{call_run}
 use Rattle.ext_plain.specs.StepRuns.{no_memory, steps_run}
 use Rattle.ext_plain.specs.ValueStates.{Memory, with_memory}

@@ -14,7 +14,7 @@ use Rattle.ext_plan.specs.ReadPlans.{ids_of_nodes, NodesAreTree}
 use Rattle.ext_plain.specs.ValueStates.{key_limit}
 use Rattle.ext_plain.specs.NodeCalls.{befores_run}
 use Rattle.ext_plain.specs.ContextEnds.{seal_keys, faults_of_closes}
-use Rattle.ext_plain.specs.InnerHelpers.{AllBelow}
+use Rattle.ext_plain.specs.InnerSteps.{AllBelow}
 use Rattle.ext_plain.specs.PlainRun.{RunState, body_run, container_run, node_run, outcome_of, test_node_run}
 use Rattle.ext_plain.proofs.Below.{children-all}
 use Rattle.ext_plain.proofs.Ends.{body_end, container_end, test_end}

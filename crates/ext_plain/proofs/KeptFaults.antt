@@ -27,7 +27,7 @@ use Rattle.ext_plan.specs.Verdicts.{seen_fault, fail_verdict, none_verdict, want
 use Rattle.ext_plain.specs.ValueStates.{enough, ValueState, run_numbers, reply_to, after_act, why_refused, next_number, keep_value, value_of, Numbering, known, next, full, numbering_of, with_number}
 use Rattle.ext_plain.specs.StepRuns.{StepEnd, ended, or_refused, shown, shown_fault, seen_by, factory_failed, claim_and, compute_looked, compute_numbered, computefail_looked, computefail_numbered, found_along, none_numbered, number_by, numbered_by, step_run, want_numbered}
 use Rattle.ext_plain.specs.PlainRun.{RunState, node_run}
-use Rattle.ext_plain.specs.Laws.{HasNoFaults, HasValues, MeetsFault, named_by}
+use Rattle.ext_plain.specs.PlainRunLaws.{HasNoFaults, HasValues, MeetsFault, named_by}
 use Rattle.ext_plain.proofs.Kept.{IsKept, IsKeptNumbered, node-kept}
 use Rattle.ext_plain.proofs.Numberings.{known_then}
 use Rattle.ext_plain.proofs.Seals.{failed_here, was_empty}

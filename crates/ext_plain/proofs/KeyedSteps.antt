@@ -15,7 +15,7 @@ use Rattle.ext_plain.specs.declared.lack.Lack.TheVariants as lacks
 use Rattle.ext_plain.specs.declared.lack.StepLack.{StepLack}
 use Rattle.ext_plain.specs.ValueStates.{Memory, enough, no_words, full, numbering_of, with_number, ValueState, keep_value, next_number, why_refused}
 use Rattle.ext_plain.specs.StepRuns.{StepEnd, ended, no_memory, said_by, lacks_key, lacks_number, lacks_value, made_by, number_by, numbered_by, keeping_by, keyed_by, kept_or_refused, put_by, put_in}
-use Rattle.ext_plain.specs.InnerHelpers.{HasBeenNumbered, HasNoNumber, IsKeptAs, IsNotKept, Numbers, Says, answer_end, end_of_step, lifted, memory_of, memory_of_step}
+use Rattle.ext_plain.specs.InnerSteps.{HasBeenNumbered, HasNoNumber, IsKeptAs, IsNotKept, Numbers, Says, answer_end, end_of_step, lifted, memory_of, memory_of_step}
 use Rattle.ext_plain.proofs.Lacks.{says-by}
 
 -- what is done once the key has its number lacks neither memory for the key nor for the number

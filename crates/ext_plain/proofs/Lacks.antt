@@ -20,7 +20,7 @@ use Rattle.ext_plain.specs.declared.lack.Lack.{Lack}
 use Rattle.ext_plain.specs.declared.lack.Lack.TheVariants as lacks
 use Rattle.ext_plain.specs.ValueStates.{Memory, enough, no_key, no_value, no_number, no_place, no_words, ValueState, after_act, refusal, why_refused, next_number, keep_value}
 use Rattle.ext_plain.specs.StepRuns.{StepEnd, act_ends, claim_and, compute_by, compute_looked, computefail_by, computefail_looked, factory_gave, factory_failed, ended, no_memory, or_refused, said_by, without_words}
-use Rattle.ext_plain.specs.InnerHelpers.{Fails, Gives, IsKeptAs, LacksFailed, LacksGiven, Says, answer_end, counted_found, lack_end, lacking, memory_of, step_end}
+use Rattle.ext_plain.specs.InnerSteps.{Fails, Gives, IsKeptAs, LacksFailed, LacksGiven, Says, answer_end, counted_found, lack_end, lacking, memory_of, step_end}
 
 -- a call answers that it lacked this
 pub at_lack : (F : Memory → StepEnd) (r : Result Outcome Lack) (new : ValueState) (told lack : Lack) → IsErrAnd r (λ l. l ≡ told) → told ≡ lack → lack_end new lack ≡ F (lacking lack)

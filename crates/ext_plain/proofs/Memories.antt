@@ -18,7 +18,7 @@ use Rattle.ext_plain.specs.ValueStates.{Memory, enough, no_key, no_value, no_num
 use Rattle.ext_plan.specs.Verdicts.{none_verdict, want_verdict}
 use Rattle.ext_plain.specs.StepRuns.{StepEnd, ended, no_memory, said_by, lacks_key, lacks_value, lacks_number, lacks_place, made_by, number_by, numbered_by, or_refused, kept_or_refused, put_kept, put_in, put_by, factory_gave, factory_failed, if_empty, if_absent, claim_and, compute_looked, compute_by, computefail_looked, computefail_by, found_along, keeping_by, keyed_by, step_by, next_step, act_ends, want_numbered, none_numbered, remove_numbered, compute_numbered, computefail_numbered, seen_by}
 use Rattle.ext_plain.specs.ContextEnds.{seal_keys}
-use Rattle.ext_plain.specs.InnerHelpers.{step_end}
+use Rattle.ext_plain.specs.InnerSteps.{step_end}
 
 abbrev pub end_with : List Memory → StepEnd → StepEnd
 end_with memory end = record { state = with_memory memory end.state; verdict = end.verdict; computed = end.computed; found = end.found }

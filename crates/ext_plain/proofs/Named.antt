@@ -16,7 +16,7 @@ use Rattle.ext_plan.specs.Verdicts.{refused, none_verdict, want_verdict}
 use Rattle.ext_plain.specs.ValueStates.{key_limit, Memory, enough, no_key, no_value, no_number, no_place, no_words, ValueState, why_refused, next_number, keep_value, Numbering, known, next, full, numbering_of, with_number}
 use Rattle.ext_model.specs.declared.event.Act.TheVariants.{Remove}
 use Rattle.ext_plain.specs.StepRuns.{StepEnd, ended, no_memory, said_by, lacks_key, lacks_number, lacks_value, number_by, numbered_by, keeping_by, keyed_by, kept_or_refused, found_along, put_by, put_in, step_by, act_ends, want_numbered, none_numbered, remove_numbered, compute_numbered, computefail_numbered, seen_by}
-use Rattle.ext_plain.specs.Laws.{IsUnchangedButKept, KeepsNumber, NumbersKeys, NumbersOnce, kept_first}
+use Rattle.ext_plain.specs.PlainRunLaws.{IsUnchangedButKept, KeepsNumber, NumbersKeys, NumbersOnce, kept_first}
 use Rattle.ext_plain.proofs.Kept.{IsKept, IsKeptNumbered, compute_by-kept, computefail_by-kept, node-kept, put_in-kept, said-kept, step-kept, steps-kept}
 use Rattle.ext_plain.proofs.Numberings.{known_is, next_is, number_stays, there_then}
 

@@ -9,7 +9,7 @@ use Rattle.ext_lifecycle.specs.Endings.{Ending, all_successful, is_successful, w
 use Rattle.ext_lifecycle.specs.FaultTexts.{VerdictText, fault_text, verdict_text}
 use Rattle.ext_lifecycle.specs.Lifecycle.{MakesAll, MakesBefores, MakesIf, MakesCalls, ending_of, endings_of}
 use Rattle.ext_lifecycle.proofs.OtherFaults.{is_successful-to}
-use Rattle.ext_plain.specs.InnerHelpers.{TellsLacks, calls_end, step_end}
+use Rattle.ext_plain.specs.InnerSteps.{TellsLacks, calls_end, step_end}
 use Rattle.ext_plain.specs.NodeCalls.{CallsEnd, and_call, make, make_all, make_befores, make_if_successful}
 use Rattle.ext_plain.specs.StepRuns.{StepEnd, no_memory}
 use Rattle.ext_plain.specs.ValueStates.{Memory, ValueState}

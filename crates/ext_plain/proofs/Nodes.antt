@@ -14,7 +14,7 @@ use Rattle.ext_lifecycle.specs.Results.{result_of, told, with_fault_told}
 use Rattle.ext_lifecycle.proofs.OtherFaults.{result_of-to}
 use Rattle.ext_plan.specs.StepCalls.{start_of}
 use Rattle.ext_plain.specs.ContextEnds.{seal_keys, faults_of_closes}
-use Rattle.ext_plain.specs.InnerHelpers.{calls_end}
+use Rattle.ext_plain.specs.InnerSteps.{calls_end}
 use Rattle.ext_plan.specs.PlanCalls.{test_of}
 use Rattle.ext_plain.specs.NodeCalls.{CallsEnd}
 use Rattle.ext_plain.specs.PlainRun.{RunState, container_run, outcome_of, with_result, node_end, node_run, test_node_run}

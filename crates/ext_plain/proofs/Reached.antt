@@ -18,7 +18,7 @@ use Rattle.ext_lifecycle.specs.Modes.{in_run_order}
 use Rattle.ext_lifecycle.specs.Results.{close_ending}
 use Rattle.ext_plan.specs.StepCalls.{start_of}
 use Rattle.ext_plain.specs.ContextEnds.{seal_keys, faults_of_closes}
-use Rattle.ext_plain.specs.Laws.{HasNoBeforeAlls, HasRun, goes_on}
+use Rattle.ext_plain.specs.PlainRunLaws.{HasNoBeforeAlls, HasRun, goes_on}
 use Rattle.ext_plan.specs.PlanCalls.{callbacks_in, test_in, test_of, concurrent_of}
 use Rattle.ext_plain.specs.NodeCalls.{CallsEnd, befores_run, call_run, make_befores, no_calls}
 use Rattle.ext_plain.specs.PlainRun.{RunState, body_run, container_run, node_run, outcome_of, plain_run_by, run_opening, test_node_run}

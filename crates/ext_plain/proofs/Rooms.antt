@@ -16,7 +16,7 @@ use Rattle.ext_plan.proofs.KeyLists.{not_contained}
 use Rattle.ext_plan.proofs.PlanCalls.{of_steps_called}
 use Rattle.ext_plain.specs.ValueStates.{key_limit, ValueState, full, numbering_of}
 use Rattle.ext_plain.specs.NodeCalls.{call_run}
-use Rattle.ext_plain.specs.Laws.{NamesOneOf, NamesOnly, NumbersOnly}
+use Rattle.ext_plain.specs.PlainRunLaws.{NamesOneOf, NamesOnly, NumbersOnly}
 use Rattle.ext_plain.proofs.Kept.{IsKeptNaming, node-kept-by, step-kept-by, steps-kept-by}
 use Rattle.ext_plain.proofs.Named.{OfKeys, of-keys}
 use Rattle.ext_plain.proofs.Numberings.{full_is, there_by}

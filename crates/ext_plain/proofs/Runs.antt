@@ -17,7 +17,7 @@ use Rattle.ext_lifecycle.specs.FaultTexts.{NodeOutcome}
 use Rattle.ext_lifecycle.specs.Lifecycle.{MakesAll, MakesBefores, MakesCalls, endings_of, tally_of}
 use Rattle.ext_plain.specs.declared.callers.NodeCaller.{NodeCaller}
 use Rattle.ext_plain.specs.declared.setting.Setting.{Setting}
-use Rattle.ext_plain.specs.InnerHelpers.{ChildrenRun, ChildrenSpared, DoesCall, EndsNode, IsSpared, NodeRuns, NodeSpared, RunSoFar, TellsLacks, any_child, calls_end, chosen, plan_in, run_with, state_view}
+use Rattle.ext_plain.specs.InnerSteps.{ChildrenRun, ChildrenSpared, DoesCall, EndsNode, IsSpared, NodeRuns, NodeSpared, RunSoFar, TellsLacks, any_child, calls_end, chosen, plan_in, run_with, state_view}
 use Rattle.ext_plan.specs.PlanCalls.{registered, test_of, concurrent_of}
 use Rattle.ext_plain.specs.NodeCalls.{CallsEnd, afters_run, befores_run, call_run, make_all, make_befores, make_if_successful}
 use Rattle.ext_plain.specs.ContextEnds.{faults_of_closes, seal_keys}

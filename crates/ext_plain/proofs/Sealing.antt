@@ -14,7 +14,7 @@ use Rattle.ext_model.specs.declared.look.Fault.{Fault}
 use Rattle.ext_model.specs.declared.closed.Closed.{Closed}
 use Rattle.ext_model.specs.Closed.{closed_of}
 use Rattle.ext_lifecycle.specs.FaultTexts.{fault_text}
-use Rattle.ext_plain.specs.InnerHelpers.{only_closeable, HasClosed}
+use Rattle.ext_plain.specs.InnerSteps.{only_closeable, HasClosed}
 use Rattle.ext_plan.specs.Values.{ValueText, close_fault}
 
 pub seal_keys-zero : (at : ℕ) (s : ValueState) → seal_keys 0 at s ≡ s

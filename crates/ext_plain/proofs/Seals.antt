@@ -16,7 +16,7 @@ use Rattle.ext_plan.specs.Plans.{PlanText}
 use Rattle.ext_plain.specs.ValueStates.{key_limit, ValueState, run_numbers, refusal, reply_to, after_act, why_refused, next_number, keep_value}
 use Rattle.ext_plain.specs.ContextEnds.{seal_keys}
 use Rattle.ext_plain.specs.PlainRun.{RunState, container_run, node_end, node_run, test_node_run}
-use Rattle.ext_plain.specs.Laws.{HasNoClaims}
+use Rattle.ext_plain.specs.PlainRunLaws.{HasNoClaims}
 use Rattle.ext_plain.proofs.Ends.{body_end, container_end, test_end}
 use Rattle.ext_plain.proofs.Kept.{IsKept, IsKeptNumbered, container-open, node-kept, seals-kept, test-open}
 use Rattle.ext_lifecycle.specs.FaultTexts.{NodeOutcome}

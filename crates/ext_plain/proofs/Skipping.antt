@@ -18,7 +18,7 @@ use Rattle.ext_plan.specs.PlanCalls.{concurrent_of, test_of}
 use Rattle.ext_plan.specs.ReadPlans.{ids_of_nodes, NodesAreTree, TestsHaveNoChildren}
 use Rattle.ext_plain.specs.ValueStates.{key_limit, Memory}
 use Rattle.ext_plain.specs.ContextEnds.{seal_keys, faults_of_closes}
-use Rattle.ext_plain.specs.Laws.{HasRun}
+use Rattle.ext_plain.specs.PlainRunLaws.{HasRun}
 use Rattle.ext_plain.specs.Ancestors.{before_node, begins, levels_left, opened, ordered, went_on, IsSkipped, SkipsOn}
 use Rattle.ext_plain.specs.PlainRun.{RunState, body_run, container_run, node_run, outcome_of, plain_run_by, run_opening, test_node_run}
 use Rattle.ext_plain.proofs.Below.{children-all, not_yet}

@@ -8,7 +8,7 @@ use Rattle.ext_lifecycle.specs.Endings.{Ending, first_abort, first_fault, succes
 use Rattle.ext_lifecycle.specs.FaultTexts.{NodeOutcome, VerdictText, fault_text, verdict_text}
 use Rattle.ext_lifecycle.specs.Lifecycle.{endings_of}
 use Rattle.ext_lifecycle.specs.Results.{close_ending}
-use Rattle.ext_plain.specs.InnerHelpers.{IsSpared}
+use Rattle.ext_plain.specs.InnerSteps.{IsSpared}
 use Rattle.ext_plain.specs.NodeCalls.{CallsEnd}
 use Rattle.ext_plain.specs.PlainRun.{may_lack, may_lack_memory, outcome_of, says_no_memory}
 use Rattle.ext_plain.specs.StepRuns.{no_memory}

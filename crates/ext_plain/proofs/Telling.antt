@@ -1,6 +1,6 @@
 -- Whether a step lacked memory, told over steps that follow one another.
 use Rattle.std.proofs.Common.{◌≡◌, Bool, List, ap, sym, ◌∙◌}
-use Rattle.ext_plain.specs.InnerHelpers.{TellsLacks}
+use Rattle.ext_plain.specs.InnerSteps.{TellsLacks}
 use Rattle.ext_plain.specs.ValueStates.{Memory}
 
 -- between no steps

@@ -19,7 +19,7 @@ use Rattle.ext_plain.specs.ValueStates.{key_limit, Memory, ValueState, enough, f
 use Rattle.ext_plain.specs.StepRuns.{StepEnd, and_then, next_step, no_memory, step_by, step_run, steps_run, unless_ended}
 use Rattle.ext_plain.specs.NodeCalls.{CallsEnd, and_call, befores_run, call_run, make, make_all, make_befores, make_if_successful, no_calls, test_run}
 use Rattle.ext_plain.specs.ContextEnds.{seal_keys, faults_of_closes}
-use Rattle.ext_plain.specs.InnerHelpers.{AllBelow, NodeSpared}
+use Rattle.ext_plain.specs.InnerSteps.{AllBelow, NodeSpared}
 use Rattle.ext_plain.specs.PlainRun.{HasNoFailed, RunState, body_run, container_run, may_lack_memory, node_end, node_run, outcome_of, plain_run, plain_run_by, run_opening, test_node_run}
 use Rattle.ext_plain.proofs.Below.{children-all}
 use Rattle.ext_plain.proofs.Elsewhere.{longer, one-path, set-at, siblings-keep}

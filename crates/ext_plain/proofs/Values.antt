@@ -17,7 +17,7 @@ use Rattle.ext_lifecycle.specs.Endings.{successful, failed}
 use Rattle.ext_plain.specs.ValueStates.{run_numbers, enough, ValueState, refusal, reply_to, after_act, why_refused, next_number, keep_value, value_of, Numbering, known, next, full, numbering_of, with_number}
 use Rattle.ext_plain.specs.StepRuns.{StepEnd, kept_or_refused, number_by, numbered_by, put_in, put_kept, seen_by, shown, step_run, want_numbered}
 use Rattle.ext_plain.specs.PlainRun.{RunState, node_run}
-use Rattle.ext_plain.specs.Laws.{HasValues}
+use Rattle.ext_plain.specs.PlainRunLaws.{HasValues}
 use Rattle.ext_plain.proofs.Kept.{IsKept, IsKeptNumbered, node-kept}
 use Rattle.ext_plan.specs.StepCalls.{label_of, start_of}
 use Rattle.ext_plain.proofs.Numberings.{known_then}

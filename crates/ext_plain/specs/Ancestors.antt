@@ -11,7 +11,7 @@ use Rattle.ext_plan.specs.ReadPlans.{ids_of_nodes, NodesAreTree, TestsHaveNoChil
 use Rattle.ext_plain.specs.ValueStates.{Memory}
 use Rattle.ext_plain.specs.NodeCalls.{befores_run}
 use Rattle.ext_plain.specs.PlainRun.{RunState, node_run, plain_run_by, run_opening}
-use Rattle.ext_plain.specs.Laws.{goes_on}
+use Rattle.ext_plain.specs.PlainRunLaws.{goes_on}
 
 -- the nodes that stand before this one
 abbrev pub before_node : ℕ → List ℕ → List ℕ

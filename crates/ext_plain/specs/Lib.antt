@@ -1,7 +1,7 @@
 pub mod Ancestors
 pub mod ContextEnds
-pub mod InnerHelpers
-pub mod Laws
+pub mod InnerSteps
+pub mod PlainRunLaws
 pub mod NodeCalls
 pub mod PlainRun
 pub mod StepRuns

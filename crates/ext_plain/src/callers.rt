@@ -5,7 +5,7 @@ use ext_lifecycle::{Call, Caller, Outcome, RunListener, tell_fault};
 use ext_model::ContextNo;
 use std::alloc::Global;
 
-/// Makes the calls of one node after another, and tells the listener of each of their faults.
+/// Makes the calls of one node after another, and reports each of their faults to the listener.
 #[derive(Drop)]
 pub struct NodeCaller<'a, L> {
     pub alloc: Global,
@@ -21,7 +21,7 @@ pub struct NodeCaller<'a, L> {
 impl<L> NodeCaller<'_, L> {
     ghost use Rattle.std.specs.Prelude.{◌≡◌, false};
 
-    /// Whether a step has lacked memory, before or now.
+    /// Tests whether a step has lacked memory, before or now.
     fn has_lacked(&self, now: bool) -> bool
         ensures before { result ≡ false → self.now.lacked ≡ false }
         ensures now { result ≡ false → now ≡ false }
@@ -32,7 +32,7 @@ impl<L> NodeCaller<'_, L> {
 }
 
 impl<L: RunListener> Caller for NodeCaller<'_, L> {
-    ghost use Rattle.ext_plain.specs.InnerHelpers.{DoesCall, IsReady};
+    ghost use Rattle.ext_plain.specs.InnerSteps.{DoesCall, IsReady};
 
     ghost ready = { λ c. IsReady c };
 

@@ -3,7 +3,7 @@ ghost use Rattle.std.specs.Prelude.{◌≡◌, ◌≤◌, length, map, option_ma
 ghost use Rattle.ext_plan.specs.Values.{close_fault, value_view};
 ghost use Rattle.ext_plain.specs.ValueStates.{value_of};
 ghost use Rattle.ext_plain.specs.ContextEnds.{seal_keys, numbers_left, closeables};
-ghost use Rattle.ext_plain.specs.InnerHelpers.{state_view, only_closeable, HasClosed};
+ghost use Rattle.ext_plain.specs.InnerSteps.{state_view, only_closeable, HasClosed};
 
 use crate::value_store::ValueStore;
 use ext_lifecycle::{RunListener, tell_fault};
@@ -12,8 +12,8 @@ use ext_plan::{PlanValue, close_fault};
 use std::alloc::{AllocError, Global};
 
 impl<'a> ValueStore<'a> {
-    /// Seals the first so many keys of a context, in order, and answers the numbers that the seals keep, the greatest
-    /// first.
+    /// Seals the first `keys` keys of a context, in order, and returns the numbers that the seals
+    /// keep, the greatest first.
     pub fn seal_keys(&mut self, keys: usize, at: ContextNo) -> Result<FallingNumbers, AllocError>
         requires { keys ≤ 64 }
         ensures state { OnOk result (state_view self.new ≡ seal_keys keys at (state_view self.old)) }
@@ -27,8 +27,9 @@ impl<'a> ValueStore<'a> {
         Ok(numbers)
     }
 
-    /// Closes the closeable ones among the values of these numbers, in order, each once, and counts them. A close that
-    /// fails does not stop the others, and the listener is told of its fault, as one of this node.
+    /// Closes the closeable ones among the values with these numbers, in order, each once, and
+    /// counts them. A close that fails does not stop the others. Its fault is reported to the
+    /// listener, as one of the node `at`.
     pub fn close_values<L: RunListener>(
         &self,
         alloc: Global,
@@ -50,7 +51,7 @@ impl<'a> ValueStore<'a> {
         Ok(closes)
     }
 
-    /// The value of a number, if it is closeable.
+    /// The value with this number, if it is closeable.
     fn closeable(&self, number: u32) -> Option<PlanValue<'a>>
         ensures { option_map value_view result ≡ only_closeable (value_of (state_view self.now).values number) }
     {

@@ -6,7 +6,7 @@ ghost use Rattle.ext_model.specs.Plain.{any_lane};
 ghost use Rattle.ext_plain.specs.StepRuns.{compute_by, compute_numbered, computefail_by, computefail_numbered};
 ghost use Rattle.ext_plan.specs.StepCalls.{call_view};
 ghost use Rattle.ext_plan.specs.Values.{value_view};
-ghost use Rattle.ext_plain.specs.InnerHelpers.{answer_end, memory_of, place_of_call, state_view, Fails, Gives};
+ghost use Rattle.ext_plain.specs.InnerSteps.{answer_end, memory_of, place_of_call, state_view, Fails, Gives};
 
 use crate::lack::Lack;
 use crate::said::say_refused;
@@ -17,8 +17,8 @@ use ext_plan::{PlanValue, Reason, StepCall};
 use std::alloc::Global;
 
 impl<'a> ValueStore<'a> {
-    /// A step `compute` or `compute!`, whose key has this number: looks up along the path, and computes where nothing is found. A kept fault that it meets
-    /// fails it.
+    /// Runs a step `compute` or `compute!` whose key has this number: looks up along the path, and
+    /// computes if nothing is found. A kept fault fails the step.
     pub fn compute(
         &mut self,
         alloc: Global,
@@ -42,7 +42,8 @@ impl<'a> ValueStore<'a> {
         }
     }
 
-    /// Where nothing was found: claims the place, and then the factory gives its value.
+    /// After a look-up that found nothing: claims the place, and fills it with the value of the
+    /// factory.
     fn compute_absent(
         &mut self,
         alloc: Global,
@@ -59,8 +60,8 @@ impl<'a> ValueStore<'a> {
         }
     }
 
-    /// Keeps the value that the factory gave, and stores it in the place of the claim; where no number is left, or no
-    /// memory, the claim goes.
+    /// Keeps the value of the factory and stores it in the claimed place. If no number or no memory
+    /// is left, the claim is abandoned.
     fn fill_claim(
         &mut self,
         alloc: Global,
@@ -91,9 +92,10 @@ impl<'a> ValueStore<'a> {
         }
     }
 
-    /// A step `computefail`, whose key has this number: looks up along the path. Where nothing is found the place is claimed, and the factory fails with
-    /// this text. Where faults are kept its fault then stands in the place; else it comes back, and the claim goes. The step
-    /// passes in both, and where it meets a kept fault of the same text.
+    /// Runs a step `computefail` whose key has this number: looks up along the path. If nothing is
+    /// found, the place is claimed and the factory fails with this text. Its fault then stands in
+    /// the place if the store keeps faults; otherwise it comes back and the claim is abandoned. The
+    /// step passes in both cases, and if it meets a kept fault with the same text.
     pub fn computefail(
         &mut self,
         alloc: Global,
@@ -113,7 +115,8 @@ impl<'a> ValueStore<'a> {
         }
     }
 
-    /// Where nothing was found: claims the place, and ends the claim once the factory failed.
+    /// After a look-up that found nothing: claims the place, and ends the claim by the failed
+    /// factory.
     fn fail_claimed(
         &mut self,
         alloc: Global,
@@ -130,8 +133,8 @@ impl<'a> ValueStore<'a> {
         }
     }
 
-    /// Ends the claim of a factory that failed with this text: keeps its fault where faults are kept. Where they are not, or
-    /// where no number is left, or no memory, the claim goes.
+    /// Ends the claim of a factory that failed with this text: keeps its fault if the store keeps
+    /// faults. Otherwise, or if no number or no memory is left, the claim is abandoned.
     fn end_failed(
         &mut self,
         alloc: Global,

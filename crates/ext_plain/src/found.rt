@@ -1,11 +1,11 @@
-//! Steps that look whether a value is found, and what it is.
+//! Steps that look up and compare what they find.
 ghost use Rattle.std.specs.Prelude.{◌≡◌, option_map};
 ghost use Rattle.ext_plan.specs.StepCalls.{call_view};
 ghost use Rattle.ext_plan.specs.Values.{value_view};
 ghost use Rattle.ext_plan.specs.Verdicts.{fail_verdict, none_verdict, seen_view, want_verdict};
 ghost use Rattle.ext_plain.specs.StepRuns.{ended, found_along, none_numbered, said_by, seen_by, shown, shown_fault, want_numbered};
 ghost use Rattle.ext_plain.specs.ValueStates.{value_of};
-ghost use Rattle.ext_plain.specs.InnerHelpers.{answer_end, counted_found, memory_of, state_view};
+ghost use Rattle.ext_plain.specs.InnerSteps.{answer_end, counted_found, memory_of, state_view};
 
 use crate::lack::Lack;
 use crate::said::said;
@@ -16,7 +16,8 @@ use ext_plan::{PlanValue, Reason, Seen, StepCall, fail_verdict, none_verdict, wa
 use std::alloc::Global;
 
 impl<'a> ValueStore<'a> {
-    /// A step `want`, whose key has this number: looks up along the path, and compares the text of the value found.
+    /// Runs a step `want` whose key has this number: looks up along the path, and compares the text
+    /// of the value found.
     pub fn want(
         &self,
         alloc: Global,
@@ -30,7 +31,8 @@ impl<'a> ValueStore<'a> {
         said(want_verdict(alloc, call, text, self.see(call, key)))
     }
 
-    /// A step `none`, whose key has this number: looks up along the path, where nothing is to be found.
+    /// Runs a step `none` whose key has this number: looks up along the path, and fails if
+    /// something is found.
     pub fn none(&self, alloc: Global, call: &StepCall<'_>, key: KeyNo) -> Result<Outcome, Lack>
         ensures { answer_end (state_view self.now) result ≡ none_numbered (memory_of result) (call_view call.now).name (call_view call.now).label
             (call_view call.now).path key (state_view self.now) }
@@ -38,7 +40,8 @@ impl<'a> ValueStore<'a> {
         said(none_verdict(alloc, call, self.see(call, key)))
     }
 
-    /// A step `computefail` that finds the value of this number: says which, and counts it.
+    /// Ends a step `computefail` that found the value with this number: names the value and counts
+    /// it.
     pub fn fail_found(
         &self,
         alloc: Global,
@@ -58,7 +61,7 @@ impl<'a> ValueStore<'a> {
         }
     }
 
-    /// A step `compute` that meets the kept fault of this number: says which.
+    /// Ends a step `compute` that met the kept fault with this number: names the fault.
     pub fn fault_met(
         &self,
         alloc: Global,
@@ -71,8 +74,8 @@ impl<'a> ValueStore<'a> {
         said(none_verdict(alloc, call, shown_fault(self.value_of(number))))
     }
 
-    /// A step `computefail` of this text that meets the kept fault of this number: passes where it has the same text, and else
-    /// says which.
+    /// Ends a step `computefail` of this text that met the kept fault with this number: passes if
+    /// the texts are equal, and otherwise names the fault.
     pub fn fault_met_failing(
         &self,
         alloc: Global,
@@ -100,7 +103,7 @@ impl<'a> ValueStore<'a> {
     }
 }
 
-/// What a look-up shows that found the number of this value.
+/// What a look-up shows that found this value by its number.
 pub fn shown<'a>(value: Option<PlanValue<'a>>) -> Seen<'a>
     ensures { seen_view result ≡ shown (option_map value_view value.entry) }
 {
@@ -110,7 +113,7 @@ pub fn shown<'a>(value: Option<PlanValue<'a>>) -> Seen<'a>
     }
 }
 
-/// What a look-up shows that met the number of this kept fault.
+/// What a look-up shows that found this kept fault by its number.
 pub fn shown_fault<'a>(fault: Option<PlanValue<'a>>) -> Seen<'a>
     ensures { seen_view result ≡ shown_fault (option_map value_view fault.entry) }
 {

@@ -1,9 +1,9 @@
-//! Steps that name a key: the key is made, gets its number, and then the step does what it does under that number.
+//! Steps that name a key: each makes its key, numbers it, and then acts under that number.
 ghost use Rattle.std.specs.Prelude.{◌≡◌, false};
 ghost use Rattle.ext_plan.specs.StepCalls.{call_view};
 ghost use Rattle.ext_plan.specs.Values.{value_view};
 ghost use Rattle.ext_plain.specs.StepRuns.{compute_numbered, computefail_numbered, keeping_by, keyed_by, lacks_value, none_numbered, put_in, remove_numbered, want_numbered};
-ghost use Rattle.ext_plain.specs.InnerHelpers.{answer_end, end_of_step, keyed_view, memory_of, memory_of_step, place_of_call, state_view};
+ghost use Rattle.ext_plain.specs.InnerSteps.{answer_end, end_of_step, keyed_view, memory_of, memory_of_step, place_of_call, state_view};
 
 use crate::keyed_step::KeyedStep;
 use crate::lack::{Lack, StepLack};
@@ -15,8 +15,8 @@ use ext_plan::{PlanValue, StepCall};
 use std::alloc::Global;
 
 impl<'a> ValueStore<'a> {
-    /// A step `put` or `put!`: keeps the value, which draws its number, then numbers the key, and stores the value's number in
-    /// the context.
+    /// Runs a step `put` or `put!`: keeps the value, which draws its number, then numbers the key,
+    /// and stores the value's number in the context.
     pub fn put_step(
         &mut self,
         alloc: Global,
@@ -37,7 +37,7 @@ impl<'a> ValueStore<'a> {
         }
     }
 
-    /// Stores the number that was drawn last, under the key of this number.
+    /// Stores the number that was drawn last under this key.
     fn put_value(
         &mut self,
         alloc: Global,
@@ -53,7 +53,6 @@ impl<'a> ValueStore<'a> {
         say_unless_refused(alloc, call, why)
     }
 
-    /// A step `want`.
     pub fn want_step(
         &mut self,
         alloc: Global,
@@ -71,7 +70,6 @@ impl<'a> ValueStore<'a> {
         }
     }
 
-    /// A step `none`.
     pub fn none_step(
         &mut self,
         alloc: Global,
@@ -88,7 +86,6 @@ impl<'a> ValueStore<'a> {
         }
     }
 
-    /// A step `remove`.
     pub fn remove_step(
         &mut self,
         alloc: Global,
@@ -105,7 +102,7 @@ impl<'a> ValueStore<'a> {
         }
     }
 
-    /// Removes what stands under the key of this number.
+    /// Removes what stands under this key.
     fn remove_value(
         &mut self,
         alloc: Global,
@@ -118,7 +115,7 @@ impl<'a> ValueStore<'a> {
         say_unless_refused(alloc, call, why)
     }
 
-    /// A step `compute` or `compute!`.
+    /// Runs a step `compute` or `compute!`.
     pub fn compute_step(
         &mut self,
         alloc: Global,
@@ -136,7 +133,7 @@ impl<'a> ValueStore<'a> {
         }
     }
 
-    /// A step `computefail`, whose factory fails with this text.
+    /// Runs a step `computefail`, whose factory fails with this text.
     pub fn computefail_step(
         &mut self,
         alloc: Global,

@@ -4,7 +4,7 @@ ghost use Rattle.ext_plan.specs.Plans.{step_key_view};
 ghost use Rattle.ext_plan.specs.StoreKeys.{key_of_step};
 ghost use Rattle.ext_plan.specs.StepCalls.{call_key, call_view, is_made, keys_in, label_of};
 ghost use Rattle.ext_plain.specs.declared.lack.StepLack.TheVariants as step_lacks;
-ghost use Rattle.ext_plain.specs.InnerHelpers.{keyed, keyed_view};
+ghost use Rattle.ext_plain.specs.InnerSteps.{keyed, keyed_view};
 
 use crate::lack::StepLack;
 use ext_model::ContextNo;
@@ -17,18 +17,18 @@ use std::alloc::Global;
 pub struct KeyedStep<'b, 'k> {
     /// The declared keys of its plan.
     pub keys: &'b StepKeys<'k>,
-    /// Its first word.
+    /// The step's first word.
     pub name: &'b str,
     /// The key that it names.
     pub key: &'b StepKey,
     /// The path of the context in which it runs.
     pub path: &'b [ContextNo],
-    /// How many contexts up it acts.
+    /// How many contexts above that one it acts.
     pub up: usize,
 }
 
 impl<'b, 'k> KeyedStep<'b, 'k> {
-    /// A step of this name that runs in the context of this path, and acts so many contexts up.
+    /// A step of this name that runs in the context of `path` and acts `up` contexts above it.
     pub fn of(
         keys: &'b StepKeys<'k>,
         path: &'b [ContextNo],
@@ -47,7 +47,7 @@ impl<'b, 'k> KeyedStep<'b, 'k> {
         }
     }
 
-    /// The key of the store, which is made for the step unless it is a label's.
+    /// The key of the store, which is made for the step unless a label declares it.
     pub fn made(&self, alloc: Global) -> Result<CallKey<'k>, StepLack>
         ensures key { IfOk result (λ k. call_key k ≡ key_of_step (keyed_view self.now).keys (keyed_view self.now).key) }
         ensures lacks { IfErr result (λ lack. lack ≡ step_lacks.Key) }
@@ -59,7 +59,7 @@ impl<'b, 'k> KeyedStep<'b, 'k> {
         }
     }
 
-    /// What it calls the store with, once its key is made.
+    /// The step's call of the store, once its key is made.
     pub fn call<'c>(&'c self, made: &'c Key) -> StepCall<'c>
         ensures { call_view result ≡ record {
           name = (keyed_view self.now).name;

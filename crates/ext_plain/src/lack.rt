@@ -1,4 +1,4 @@
-//! What a step found no memory for.
+//! What a step lacked memory for.
 ghost use Rattle.std.specs.Prelude.{◌≡◌};
 ghost use Rattle.ext_lifecycle.specs.declared.outcome.Verdict.TheVariants as verdicts;
 ghost use Rattle.ext_model.specs.declared.look.Fault.TheVariants as faults;
@@ -7,28 +7,29 @@ use ext_lifecycle::{Outcome, Verdict};
 use ext_model::Fault;
 use std::alloc::{AllocError, AllocFailed};
 
-/// What a step found no memory for, but for its key. The step then fails with `no memory`, and the run goes on.
+/// What a step, other than its key, lacked memory for. The step then fails with `no memory`, and
+/// the run goes on.
 #[derive(Clone, Copy)]
 pub enum Lack {
-    /// A value that was to be kept.
+    /// Keeping a value.
     Value,
-    /// A place of the store that was to be used.
+    /// Using a place of the store.
     Place,
-    /// What the step was to say.
+    /// The text of the step's fault.
     Words {
-        /// How many values the step had found where it would have computed one.
+        /// How many values the step had found in place of computing one.
         found: u32,
     },
 }
 
-/// What a whole step found no memory for.
+/// What a whole step lacked memory for.
 #[derive(Clone, Copy)]
 pub enum StepLack {
-    /// The key of the store that is made for it.
+    /// Making the key of the store.
     Key,
-    /// The number of its key.
+    /// Numbering the key.
     Number,
-    /// What it does besides.
+    /// The rest of the step.
     Act(Lack),
 }
 
@@ -50,16 +51,16 @@ impl From<AllocError> for Lack {
 
     ghost from_gives = { λ _ lack. lack ≡ Words 0 };
 
-    // Only the words of a step take memory by themselves.
+    // Only the texts of steps take memory by themselves.
     fn from(_error: AllocError) -> Lack {
         Lack::Words { found: 0 }
     }
 }
 
 impl StepLack {
-    ghost use Rattle.ext_plain.specs.InnerHelpers.{lifted, step_found};
+    ghost use Rattle.ext_plain.specs.InnerSteps.{lifted, step_found};
 
-    /// The same answer, of a whole step.
+    /// The same answer, for a whole step.
     pub fn of(answer: Result<Outcome, Lack>) -> Result<Outcome, StepLack>
         ensures { result ≡ lifted answer }
     {
@@ -69,7 +70,7 @@ impl StepLack {
         }
     }
 
-    /// How a step ends that lacks memory.
+    /// The outcome of a step that lacked memory.
     pub fn outcome(self) -> Outcome
         ensures { result ≡ record {
           verdict = verdicts.Failed faults.Memory;
@@ -91,9 +92,9 @@ impl StepLack {
 }
 
 impl Lack {
-    ghost use Rattle.ext_plain.specs.InnerHelpers.{found_lacking};
+    ghost use Rattle.ext_plain.specs.InnerSteps.{found_lacking};
 
-    /// How many values the step had found where it would have computed one.
+    /// How many values the step had found in place of computing one.
     fn found(self) -> u32
         ensures { result ≡ found_lacking self }
     {

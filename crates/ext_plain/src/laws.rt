@@ -1,11 +1,12 @@
-//! What is true of the plain run of every plan, whatever memory its steps find, as the contract of a function that does nothing.
+//! What is true of the plain run of every plan, whichever steps lack memory.
 ghost use Rattle.ext_plain.specs.Ancestors.{SkipsBelow};
-ghost use Rattle.ext_plain.specs.Laws.{HasResultOfEachNode, HasTestsOfPlan, RunsEachNode, DoesOrLacks, RunsAsPlanned, RunsNode, RunsBody, SkipsBody, RunsParents, OpensClear, MakesNoClaims, SealsContexts, KeepsValues, NumbersOnce, KeepsNumbers, KnowsNumbers, ChangesNothingUnnumbered, NumbersOnlyNamed, HasRoom, FindsWhatWasPut, KeepsFault, KeepsNoFault, NeverFaults};
+ghost use Rattle.ext_plain.specs.PlainRunLaws.{HasResultOfEachNode, HasTestsOfPlan, RunsEachNode, DoesOrLacks, RunsAsPlanned, RunsNode, RunsBody, SkipsBody, RunsParents, OpensClear, MakesNoClaims, SealsContexts, KeepsValues, NumbersOnce, KeepsNumbers, KnowsNumbers, ChangesNothingUnnumbered, NumbersOnlyNamed, HasRoom, FindsWhatWasPut, KeepsFault, KeepsNoFault, NeverFaults};
 
-/// Proves laws of the plain run. It does nothing when it runs.
+/// Proves the laws of the plain run: of its results, its order, the values and faults that it
+/// finds, and what it seals.
 ///
-/// JUnit 5 User Guide, section "Keeping State in Extensions", for closed contexts; the order of results, and
-/// which nodes are skipped, are own rules.
+/// Source: JUnit 5 User Guide, section "Keeping State in Extensions", for closed contexts. The
+/// order of results, and which nodes are skipped, are own rules.
 pub fn plain_run_laws()
     ensures results { HasResultOfEachNode }
     ensures tests { HasTestsOfPlan }

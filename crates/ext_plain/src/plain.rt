@@ -28,29 +28,38 @@ pub struct PlainRunner<'a, L> {
     pub results: Vec<NodeResult>,
 }
 
-/// What a plain run tells.
+/// The outcome of a plain run.
 #[derive(Drop)]
 pub struct PlainRun {
     /// The results of the nodes, in the order of the plan.
     pub results: Vec<NodeResult>,
-    /// Whether a step lacked memory. Where it is false none did; where it is true a node failed with `no memory`, or with further faults besides the one that is told.
+    /// Whether a step lacked memory. If it is true, a node failed with `no memory`, or with further
+    /// faults besides the one that is reported.
     pub lacked: bool,
 }
 
-/// The results of the plain run of a plan, in the order of its nodes, which are the contexts of the tree. The listener is told when a node starts,
-/// on lane 0, of each fault of its calls and of its closes as they come, and that it has ended.
+/// Runs a plan on this thread and returns one result for each node, in the order of the plan.
+/// `tree` has to be the tree of its nodes' contexts. The listener is notified when a node starts,
+/// on lane 0, of each fault of its calls and closes as it comes, and when the node has ended.
 ///
-/// Where the plan keeps faults, the fault of a factory that failed stands in its place until it is removed or replaced, and
-/// the steps that meet it say so; it is never closed. Where the plan does not, the fault comes back, and the place is empty.
+/// If the plan keeps faults, the fault of a factory stays in its place until it is removed or
+/// replaced. The steps that meet it report it, and it is never closed. Otherwise the fault comes
+/// back, and the place is empty.
 ///
-/// A key gets its number where a step first names it, and keeps it to the end of the run. At most 64 keys have one: a step that names a further one fails with
-/// `directory full`. A step that puts has kept its value before, which drew a number. The end of a node seals all 64 places of its context.
+/// A key gets its number when a step first names it, and keeps it to the end of the run. At most 64
+/// keys have one: a step that names another fails with `directory full`. A step that puts has kept
+/// its value before, which drew a number. The end of a node seals all 64 places of its context.
 ///
-/// Takes memory for the keys, the lists of calls, the store, the values, the texts of faults and the results. A step that finds none
-/// fails with `Fault::Memory`, and the run goes on: the results are those of the plain run in which these steps found none. Whether there was such a step
-/// is told as `lacked`: where it is false there was none, and the results are those of the one plain run that the plan has.
-/// `AllocError` comes only where memory is refused elsewhere, as for the declared keys, for results or for the end of a context. Source: JUnit 5 User Guide, sections "Keeping State in Extensions" and "Relative
-/// Execution Order of User Code and Extensions"; what is run in which order, and what is told of a node, are own rules.
+/// Takes memory for the keys, the lists of calls, the store, the values, the texts of faults and
+/// the results. A step that finds none fails with `Fault::Memory`, and the run goes on: the results
+/// are those of the plain run in which these steps lack memory. `lacked` tells whether there was
+/// such a step. If not, the results are those of the only plain run that the plan has. `AllocError`
+/// comes only if memory is refused elsewhere, as for the declared keys, for results or for the end
+/// of a context.
+///
+/// Source: JUnit 5 User Guide, sections "Keeping State in Extensions" and "Relative Execution Order
+/// of User Code and Extensions". What runs in which order, and what is reported of a node, are own
+/// rules.
 pub fn run_plain<'x, L: RunListener>(
     alloc: Global,
     plan: &'x Plan,
@@ -78,7 +87,7 @@ pub fn run_plain<'x, L: RunListener>(
         caller,
         results: skipped(alloc, plan.nodes.as_slice())?,
     };
-    // No tree is deeper than it has nodes, so that as many levels reach all of them.
+    // No tree is deeper than it has nodes, so this many levels reach all of them.
     let levels = plan.nodes.len();
     runner.run_node(alloc, levels, 0)?;
     Ok(PlainRun {
@@ -90,9 +99,9 @@ pub fn run_plain<'x, L: RunListener>(
 impl<'a, L: RunListener> PlainRunner<'a, L> {
     ghost use Rattle.ext_plan.specs.PlanCalls.{test_of, concurrent_of};
     ghost use Rattle.ext_plain.specs.PlainRun.{body_run, container_run, node_run, test_node_run, with_result};
-    ghost use Rattle.ext_plain.specs.InnerHelpers.{ChildrenRun, EndsNode, NodeRuns, any_child, chosen, plan_in, run_view};
+    ghost use Rattle.ext_plain.specs.InnerSteps.{ChildrenRun, EndsNode, NodeRuns, any_child, chosen, plan_in, run_view};
 
-    /// Runs a node and what is below it, so many levels deep.
+    /// Runs a node and those below it, `levels` levels in all.
     #[cycle(nodes)]
     fn run_node(&mut self, alloc: Global, levels: usize, at: ContextNo) -> Result<(), AllocError>
         requires within { at < length self.old.caller.setting.tree.now }
@@ -109,7 +118,8 @@ impl<'a, L: RunListener> PlainRunner<'a, L> {
         self.run_container(alloc, levels - 1, at)
     }
 
-    /// Runs a test: its before-callbacks, its steps and its after-callbacks, and then the end of its context.
+    /// Runs a test: its before-callbacks, its steps, its after-callbacks, and the end of its
+    /// context.
     fn run_test(&mut self, alloc: Global, at: ContextNo) -> Result<(), AllocError>
         requires within { at < length self.old.caller.setting.tree.now }
         requires tree { IsTree self.old.caller.setting.tree.now }
@@ -135,8 +145,8 @@ impl<'a, L: RunListener> PlainRunner<'a, L> {
         self.end_node(alloc, at, true, tally)
     }
 
-    /// Runs a container: its before-callbacks, its children so many levels deep, where these were all successful, and
-    /// its after-callbacks, and then the end of its context.
+    /// Runs a container: its before-callbacks, then, if all were successful, its children, down to
+    /// `levels` levels, then its after-callbacks, and the end of its context.
     #[cycle(nodes)]
     fn run_container(
         &mut self,
@@ -161,7 +171,7 @@ impl<'a, L: RunListener> PlainRunner<'a, L> {
         self.end_node(alloc, at, false, tally)
     }
 
-    /// Runs the children of a container, so many levels deep, unless its body is skipped: first the concurrent ones, then
+    /// Runs the children of a container unless its body is skipped: first the concurrent ones, then
     /// the others.
     #[cycle(nodes)]
     fn run_body(
@@ -183,7 +193,7 @@ impl<'a, L: RunListener> PlainRunner<'a, L> {
         self.run_children(alloc, levels, at, false)
     }
 
-    /// Runs those children of a container that are concurrent, or those that aren't, in order, so many levels deep.
+    /// Runs the children of a container that are concurrent, or those that are not, in order.
     #[cycle(nodes)]
     fn run_children(
         &mut self,
@@ -210,8 +220,9 @@ impl<'a, L: RunListener> PlainRunner<'a, L> {
         Ok(())
     }
 
-    /// Seals the places of all keys in the context of a node, also of those that have no number yet. Closes the closeable values that the seals kept, and puts the node's result
-    /// in its place. Then tells the listener that the node has ended.
+    /// Seals the places of all keys in a node's context, including keys without a number. Closes
+    /// the closeable values that the seals kept, stores the node's result, and then notifies the
+    /// listener that the node has ended.
     fn end_node(
         &mut self,
         alloc: Global,
@@ -234,7 +245,7 @@ impl<'a, L: RunListener> PlainRunner<'a, L> {
         Ok(())
     }
 
-    /// Puts the result of a node in its place, where there is one.
+    /// Stores the result of a node, if the list has a place for it.
     fn set_result(&mut self, ended: NodeResult)
         ensures results { results_view self.new.results.items ≡ with_result (result_view ended) (results_view self.old.results.items) }
         ensures caller { self.new.caller ≡ self.old.caller }

@@ -1,17 +1,17 @@
-//! How a step ends that does nothing more than say so.
+//! Outcomes of steps that only report.
 ghost use Rattle.std.specs.Prelude.{◌≡◌, false, string_bytes, IfErr, IfOk};
 ghost use Rattle.ext_lifecycle.specs.Endings.{aborted, failed, is_successful};
 ghost use Rattle.ext_lifecycle.specs.FaultTexts.{VerdictText, verdict_text};
 ghost use Rattle.ext_plan.specs.StepCalls.{call_view};
 ghost use Rattle.ext_plan.specs.Verdicts.{refused, unless_refused};
-ghost use Rattle.ext_plain.specs.InnerHelpers.{Says};
+ghost use Rattle.ext_plain.specs.InnerSteps.{Says};
 
 use crate::lack::Lack;
 use ext_lifecycle::{Outcome, Verdict};
 use ext_plan::{Reason, StepCall, aborted, failed, refused, unless_refused};
 use std::alloc::{AllocError, Global};
 
-/// The end of a step with this verdict, which lacks memory where there was none for its words.
+/// The outcome of a step with this verdict, or that its text lacked memory.
 pub fn said(verdict: Result<Verdict, AllocError>) -> Result<Outcome, Lack>
     ensures { (v : VerdictText) → IfOk verdict (λ verdict. verdict_text verdict ≡ v) → IfErr verdict (λ _. is_successful v ≡ false) → Says v result }
 {
@@ -21,14 +21,14 @@ pub fn said(verdict: Result<Verdict, AllocError>) -> Result<Outcome, Lack>
     }
 }
 
-/// The end of a step whose call of the store was refused.
+/// The outcome of a step whose call of the store was refused.
 pub fn say_refused(alloc: Global, call: &StepCall<'_>, why: Reason) -> Result<Outcome, Lack>
     ensures { Says (refused (call_view call.now).name (call_view call.now).label why) result }
 {
     said(refused(alloc, call, why))
 }
 
-/// The end of a step by why its last call of the store was refused, if it was.
+/// The outcome of a step whose last call of the store was refused for `why`, if it was.
 pub fn say_unless_refused(
     alloc: Global,
     call: &StepCall<'_>,
@@ -39,14 +39,14 @@ pub fn say_unless_refused(
     said(unless_refused(alloc, call, why))
 }
 
-/// The end of a step `fail`, whose words are this text.
+/// The outcome of a step `fail` with this text.
 pub fn say_failed(text: &String) -> Result<Outcome, Lack>
     ensures { Says (failed (string_bytes text.now)) result }
 {
     Ok(Outcome::of(failed(text.clone()?)))
 }
 
-/// The end of a step `abort`, whose words are this text.
+/// The outcome of a step `abort` with this text.
 pub fn say_aborted(text: &String) -> Result<Outcome, Lack>
     ensures { Says (aborted (string_bytes text.now)) result }
 {

@@ -25,10 +25,10 @@ pub struct Setting<'a> {
 }
 
 impl<'a> Setting<'a> {
-    ghost use Rattle.ext_plain.specs.InnerHelpers.{plan_in};
+    ghost use Rattle.ext_plain.specs.InnerSteps.{plan_in};
     ghost use Rattle.ext_plan.specs.PlanCalls.{steps_of_call, test_of, concurrent_of};
 
-    /// The plan with its tree, and with the keys of the store that its labels name, in order.
+    /// Joins the plan with its tree and the keys of the store that its labels name, in order.
     pub fn of(plan: &'a Plan, made: &'a [Key], tree: &'a Tree) -> Setting<'a>
         requires keys { made.now ≡ map named_key (keys_view plan.now.keys.items) }
         requires nodes { tree.now ≡ map (λ n. n.id) plan.now.nodes.items }
@@ -51,14 +51,14 @@ impl<'a> Setting<'a> {
         self.plan.is_test(at)
     }
 
-    /// Tests whether a node may be run beside its siblings.
+    /// Tests whether a node may run concurrently with its siblings.
     pub fn is_concurrent(&self, at: ContextNo) -> bool
         ensures { result ≡ concurrent_of (plan_in self.now) at }
     {
         self.plan.mode(at).is_concurrent()
     }
 
-    /// The steps of a call.
+    /// The steps of a call, in order.
     pub fn steps_of(&self, call: &Call) -> &'a [Step]
         ensures steps { map step_view result.now ≡ steps_of_call (plan_in self.now) call.now }
         ensures short { length result.now ≤ step_limit }
@@ -69,7 +69,7 @@ impl<'a> Setting<'a> {
 }
 
 impl Callbacks for Setting<'_> {
-    ghost use Rattle.ext_plain.specs.InnerHelpers.{plan_in};
+    ghost use Rattle.ext_plain.specs.InnerSteps.{plan_in};
     ghost use Rattle.ext_plan.specs.PlanCalls.{registered};
 
     ghost registered = { λ s kind node. registered (plan_in s) kind node };

@@ -8,7 +8,7 @@ use ext_lifecycle::NodeResult;
 use ext_plan::PlanNode;
 use std::alloc::{AllocError, Global};
 
-/// A result for each node before any has run: each is skipped.
+/// A result for each node before any has run, all of them skipped.
 pub fn skipped(alloc: Global, nodes: &[PlanNode]) -> Result<Vec<NodeResult>, AllocError>
     ensures { IfOk result (λ v. results_view v.items ≡ skipped_from 0 (nodes_view nodes.now)) }
 {

@@ -5,7 +5,7 @@ ghost use Rattle.ext_plan.specs.Plans.{step_view};
 ghost use Rattle.ext_plan.specs.StepCalls.{keys_in};
 ghost use Rattle.ext_plain.specs.ValueStates.{Memory, enough, with_memory};
 ghost use Rattle.ext_plain.specs.StepRuns.{no_memory, step_by, steps_run};
-ghost use Rattle.ext_plain.specs.InnerHelpers.{end_of_step, end_view, memory_of_step, state_view, step_end, AreFew};
+ghost use Rattle.ext_plain.specs.InnerSteps.{end_of_step, end_view, memory_of_step, state_view, step_end, AreFew};
 
 use crate::keyed_step::KeyedStep;
 use crate::lack::StepLack;
@@ -16,7 +16,7 @@ use ext_model::ContextNo;
 use ext_plan::{PlanValue, Step, StepKeys};
 use std::alloc::Global;
 
-/// How a step, or the steps of a call, ended, and whether one of them lacked memory.
+/// The outcome of a step, or of the steps of a call, and whether one of them lacked memory.
 #[derive(Drop)]
 pub struct StepsOutcome {
     pub outcome: Outcome,
@@ -24,7 +24,8 @@ pub struct StepsOutcome {
 }
 
 impl<'a> ValueStore<'a> {
-    /// The steps of a call in the context of this path, in order, up to the first that isn't successful.
+    /// Runs the steps of a call in the context of this path, in order, up to the first that is not
+    /// successful.
     pub fn run_steps(
         &mut self,
         alloc: Global,
@@ -65,7 +66,7 @@ impl<'a> ValueStore<'a> {
         }
     }
 
-    /// A step in the context of this path, which fails with `no memory` where it lacks memory.
+    /// Runs a step in the context of this path. It fails with `no memory` if it lacks memory.
     fn make_step(
         &mut self,
         alloc: Global,
@@ -91,7 +92,7 @@ impl<'a> ValueStore<'a> {
         }
     }
 
-    /// A step in the context of this path.
+    /// Runs a step in the context of this path, and returns what it lacked memory for as an error.
     fn run_step(
         &mut self,
         alloc: Global,

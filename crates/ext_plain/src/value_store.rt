@@ -19,29 +19,30 @@ use std::alloc::{AllocError, Global};
 /// How many numbers a run's store draws at most.
 const NUMBERS: u32 = 65_535;
 
-/// How many keys have numbers at most: as many as a directory has.
+/// How many keys have numbers at most, as many as a directory has.
 pub const KEYS: usize = 64;
 
 /// The one lane of a plain run.
 const LANE: LaneNo = 0;
 
-/// The store of a plain run. A call of a step that is refused answers why, and else that it lacks memory.
+/// The store of a plain run. A step's call that is refused returns the reason, or that it lacked
+/// memory.
 #[derive(Drop)]
 pub struct ValueStore<'a> {
     keep_faults: bool,
     store: PlainStore,
     /// The keys that have a number.
     keys: Directory,
-    /// The values that were kept: the first has number 1. A kept fault's text stands among them, as a value that is not
-    /// closeable.
+    /// The kept values; the first has number 1. The text of a kept fault is among them, as a value
+    /// that is not closeable.
     values: Vec<PlanValue<'a>>,
     ghost limit: { store.numbers ≡ 65535 },
 }
 
 impl<'a> ValueStore<'a> {
-    ghost use Rattle.ext_plain.specs.InnerHelpers.{state_view, Keeps, Numbers};
+    ghost use Rattle.ext_plain.specs.InnerSteps.{state_view, Keeps, Numbers};
 
-    /// An empty store, which keeps the faults of factories or not.
+    /// Makes an empty store, which keeps the faults of factories or not.
     pub fn new(alloc: Global, keep_faults: bool) -> ValueStore<'a>
         ensures { state_view result ≡ value_opening keep_faults }
     {
@@ -53,14 +54,13 @@ impl<'a> ValueStore<'a> {
         }
     }
 
-    /// Whether it keeps faults.
     pub fn keeps_faults(&self) -> bool
         ensures { result ≡ (state_view self.now).keep_faults }
     {
         self.keep_faults
     }
 
-    /// The number of a key from now on: its own where it has one, or else the next; or why it gets none.
+    /// The number of a key, which gets the next one if it has none; or why it gets none.
     pub fn number(&mut self, key: &Key) -> Result<Result<KeyNo, Reason>, StepLack>
         ensures { Numbers key.now (state_view self.old) (state_view self.new) result }
     {
@@ -79,32 +79,33 @@ impl<'a> ValueStore<'a> {
         }
     }
 
-    /// Keeps a value, and answers the number that is drawn for it.
+    /// Keeps a value, and returns the number that it draws.
     pub fn keep(&mut self, value: PlanValue<'a>) -> Result<Result<u32, Reason>, Lack>
         ensures kept { IfOk result (Keeps (value_view value.entry) (state_view self.old) (state_view self.new)) }
         ensures lacks { IfErr result (λ lack. lack ≡ lacks.Value) }
         ensures unchanged { OnErr result (state_view self.new ≡ state_view self.old) }
     {
-        // The first number is 1: the value of number n is the n-th that was pushed, before the number is drawn.
+        // The first number is 1: the value with number n is the n-th that was pushed, before its
+        // number is drawn.
         self.values.push(value)?;
         match self.store.keep() {
             Ok(number) => Ok(Ok(number)),
             Err(_) => {
-                // It is refused only where all numbers are drawn.
+                // It is refused only if all numbers have been drawn.
                 let _ = self.values.pop();
                 Ok(Err(Reason::NumbersFull))
             }
         }
     }
 
-    /// What is found along a path.
+    /// Looks up along a path.
     pub fn look(&self, path: &[ContextNo], key: KeyNo) -> Look
         ensures { result ≡ lookup (under (state_view self.now).store key) path.now }
     {
         self.store.get(path, key)
     }
 
-    /// The value of a number, from 1; `None` for a number that was never drawn.
+    /// The value with this number, from 1; `None` if the number was never drawn.
     pub fn value_of(&self, number: u32) -> Option<PlanValue<'a>>
         ensures { option_map value_view result ≡ value_of (state_view self.now).values number }
     {
@@ -114,7 +115,7 @@ impl<'a> ValueStore<'a> {
         }
     }
 
-    /// Stores a number, or tells why not.
+    /// Stores a number, or returns why it is refused.
     pub fn put(&mut self, at: ContextNo, key: KeyNo, number: u32) -> Result<Option<Reason>, Lack>
         ensures state { OnOk result (state_view self.new ≡ after_act (act.Put (at, key) number) (state_view self.old)) }
         ensures why { IfOk result (λ why. why ≡ why_refused (act.Put (at, key) number) (state_view self.old)) }
@@ -125,7 +126,7 @@ impl<'a> ValueStore<'a> {
         told(self.store.put(at, key, number))
     }
 
-    /// Removes the number that stands there, or tells why not.
+    /// Removes what stands there, or returns why it is refused.
     pub fn remove(&mut self, at: ContextNo, key: KeyNo) -> Option<Reason>
         ensures state { state_view self.new ≡ after_act (act.Remove (at, key)) (state_view self.old) }
         ensures why { result ≡ why_refused (act.Remove (at, key)) (state_view self.old) }
@@ -137,7 +138,7 @@ impl<'a> ValueStore<'a> {
         }
     }
 
-    /// Claims an empty place, or tells why not.
+    /// Claims an empty place, or returns why it is refused.
     pub fn claim(&mut self, at: ContextNo, key: KeyNo) -> Result<Option<Reason>, Lack>
         ensures state { OnOk result (state_view self.new ≡ after_act (act.Claim (at, key)) (state_view self.old)) }
         ensures why { IfOk result (λ why. why ≡ why_refused (act.Claim (at, key)) (state_view self.old)) }
@@ -149,25 +150,25 @@ impl<'a> ValueStore<'a> {
         told(self.store.claim(at, key, LANE))
     }
 
-    /// Stores a number in the place of the claim.
+    /// Stores a number in a claimed place.
     pub fn fill(&mut self, at: ContextNo, key: KeyNo, number: u32)
         requires { under (state_view self.old).store key at ≡ Some (slot.Claim any_lane) }
         ensures { state_view self.new ≡ after_act (act.Fill (at, key) number) (state_view self.old) }
     {
-        // A fill is never refused: the place is in use already, so that it takes no memory.
+        // A fill is never refused: a claimed place is in use already, so the fill takes no memory.
         let _ = self.store.fill(at, key, LANE, number);
     }
 
-    /// Stores the number of a kept fault in the place of the claim.
+    /// Stores the number of a kept fault in a claimed place.
     pub fn fail(&mut self, at: ContextNo, key: KeyNo, number: u32)
         requires { under (state_view self.old).store key at ≡ Some (slot.Claim any_lane) }
         ensures { state_view self.new ≡ after_act (act.Fail (at, key) number) (state_view self.old) }
     {
-        // A fail is never refused, as a fill is not.
+        // Like a fill, it is never refused.
         let _ = self.store.fail(at, key, LANE, number);
     }
 
-    /// Ends the claim: the place is empty.
+    /// Ends a claim: the place is empty.
     pub fn abandon(&mut self, at: ContextNo, key: KeyNo)
         requires { under (state_view self.old).store key at ≡ Some (slot.Claim any_lane) }
         ensures { state_view self.new ≡ after_act (act.Abandon (at, key)) (state_view self.old) }
@@ -175,7 +176,7 @@ impl<'a> ValueStore<'a> {
         self.store.abandon(at, key, LANE);
     }
 
-    /// Seals a place, and answers the number that the seal keeps.
+    /// Seals a place, and returns the number that the seal keeps.
     pub fn seal(&mut self, at: ContextNo, key: KeyNo) -> Result<Option<u32>, AllocError>
         ensures state { OnOk result (state_view self.new ≡ after_act (act.Seal (at, key)) (state_view self.old)) }
         ensures kept { IfOk result (λ kept. kept ≡ kept_by (under (state_view self.new).store key at)) }
@@ -183,7 +184,7 @@ impl<'a> ValueStore<'a> {
         match self.store.seal(at, key) {
             Ok(kept) => Ok(kept),
             Err(PlainFault::Memory) => Err(AllocError),
-            // By a claim, which never comes: one thread has no claims between two steps.
+            // It would be refused by a claim, but one thread has no claims between two steps.
             Err(_) => Ok(None),
         }
     }

@@ -5,20 +5,20 @@ ghost use Rattle.ext_tree.specs.Keys.{global_namespace, key_of};
 use ext_tree::{Key, Namespace};
 use std::alloc::{AllocError, Global};
 
-/// The key of the store that a step calls it with.
+/// The key with which a step calls the store.
 #[derive(Debug, Drop)]
 pub enum CallKey<'b> {
-    /// That of a label, which was made before.
+    /// The key of a label, made before.
     Declared(&'b Key),
-    /// One that was made for the step.
+    /// A key made for the step.
     Made(Key),
 }
 
 impl<'b> CallKey<'b> {
     ghost use Rattle.ext_plan.specs.StepCalls.{call_key};
 
-    /// The key of this name in the global namespace. Takes memory for it; `AllocError` comes only where that is refused. Source: Javadoc
-    /// type `ExtensionContext.Namespace`, `GLOBAL`.
+    /// The key of this name in the global namespace. Takes memory for it, and fails only if that is
+    /// refused. Source: Javadoc type `ExtensionContext.Namespace`, `GLOBAL`.
     pub(crate) fn global(alloc: Global, name: &str) -> Result<CallKey<'b>, AllocError>
         ensures { IfOk result (λ k. call_key k ≡ key_of global_namespace name.now) }
     {
@@ -28,7 +28,7 @@ impl<'b> CallKey<'b> {
         }
     }
 
-    /// The key.
+    /// Returns the key, whether it was declared or made for the step.
     pub fn key(&self) -> &Key
         ensures { result.now ≡ call_key self.now }
     {

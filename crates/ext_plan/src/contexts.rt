@@ -10,8 +10,10 @@ use ext_tree::{Tree, TreeFault};
 use std::alloc::{AllocError, Global};
 
 impl Plan {
-    /// The tree of the nodes' contexts, numbered as the plan lists the nodes. Takes memory: it holds copies of the ids. `AllocError` comes
-    /// only where that is refused. The ids are those of a tree, as in each plan that was read.
+    /// Makes the tree of the nodes' contexts, numbered in the order of the plan. The ids have to be
+    /// those of a tree, as they are in each plan that was read.
+    ///
+    /// Takes memory for copies of the ids, and fails with `AllocError` only if that is refused.
     pub fn tree(&self, alloc: Global) -> Result<Tree, AllocError>
         requires { NodesAreTree (plan_view self.now) }
         ensures { IfOk result (λ tree. tree ≡ ids_of_nodes (plan_view self.now).nodes) }
@@ -20,7 +22,7 @@ impl Plan {
     }
 }
 
-/// The tree of the nodes' contexts, where their ids are those of one.
+/// The tree of the nodes' contexts, if their ids form one.
 fn tree_of(alloc: Global, nodes: &[PlanNode]) -> Result<Tree, AllocError>
     requires { IsTree (map (λ n. n.id) nodes.now) }
     ensures { IfOk result (λ tree. tree ≡ map (λ n. n.id) nodes.now) }

@@ -14,9 +14,10 @@ impl PlanKey {
     ghost use Rattle.ext_plan.specs.StoreKeys.{named_key, HasParts};
     ghost use Rattle.ext_plan.specs.Plans.{key_view};
 
-    /// The key of the store that the label names: of the key's namespace, which has a part where it was created, and of the
-    /// key's name. Takes memory for both; refused as `Memory` alone. Source: Javadoc types `ExtensionContext.Store` and
-    /// `ExtensionContext.Namespace`, `create`.
+    /// Makes the key of the store that the label names, from the namespace and the name in the
+    /// plan. A created namespace has to have a part. Takes memory for both, and fails only as
+    /// `Memory`. Source: Javadoc types `ExtensionContext.Store` and `ExtensionContext.Namespace`,
+    /// `create`.
     pub fn store_key(&self, alloc: Global) -> Result<Key, TreeFault>
         requires { HasParts (key_view self.now) }
         ensures value { IfOk result (λ k. k ≡ named_key (key_view self.now)) }
@@ -34,10 +35,11 @@ impl PlanKey {
 }
 
 impl Plan {
-    /// The keys of the store that the labels name, one for each label, in the order of the plan. Takes memory for them and for their
-    /// list; `AllocError` comes only where that is refused.
+    /// Makes the key of the store for each label, in the order of the plan. Each created namespace
+    /// has to have a part, as in each plan that was read.
     ///
-    /// Each namespace that is given has a part, as in each plan that was read. Source: Javadoc type `ExtensionContext.Store`.
+    /// Takes memory for the keys and for their list, and fails with `AllocError` only if that is
+    /// refused. Source: Javadoc type `ExtensionContext.Store`.
     pub fn store_keys(&self, alloc: Global) -> Result<Vec<Key>, AllocError>
         requires { NamespacesHaveParts (plan_view self.now) }
         ensures { IfOk result (λ v. v.items ≡ map named_key (plan_view self.now).keys) }
@@ -61,9 +63,11 @@ fn store_keys_of(alloc: Global, keys: &[PlanKey]) -> Result<Vec<Key>, AllocError
     Ok(list)
 }
 
-/// Tests whether the labels of these keys name at most 64 different keys. Each namespace that is given has a part.
+/// Tests whether the labels of these keys name at most 64 different keys. Each created namespace
+/// has to have a part.
 ///
-/// Takes memory for up to 64 of the keys, which it gives back before it returns; `AllocError` comes only where that is refused.
+/// Takes memory for up to 64 of the keys, and gives it back. Fails with `AllocError` only if that
+/// is refused.
 pub fn keys_are_few(alloc: Global, keys: &[PlanKey]) -> Result<bool, AllocError>
     requires { All HasParts (keys_view keys.now) }
     ensures { IfOk result (λ few. few ≡ nat_le (length (different_keys (keys_view keys.now))) 64) }
@@ -79,7 +83,7 @@ pub fn keys_are_few(alloc: Global, keys: &[PlanKey]) -> Result<bool, AllocError>
     Ok(true)
 }
 
-/// The number of the key that a label names, from now on.
+/// The number of the key that a label names, which it is given if it has none.
 fn declare(alloc: Global, directory: &mut Directory, key: &PlanKey) -> Result<KeyNo, TreeFault>
     requires parts { HasParts (key_view key.now) }
     requires few { length directory.old ≤ 64 }
@@ -92,7 +96,7 @@ fn declare(alloc: Global, directory: &mut Directory, key: &PlanKey) -> Result<Ke
     directory.declare(key)
 }
 
-/// The texts, each where it lies.
+/// Borrows each text, in order.
 fn texts_of<'a>(alloc: Global, texts: &'a [String]) -> Result<Vec<&'a str>, AllocError>
     ensures { IfOk result (λ v. map (λ t. t.now) v.items ≡ map string_bytes texts.now) }
 {

@@ -1,16 +1,18 @@
-//! What a plan of a test run is, however it was written, and what its steps call a store with, make of its answers, and say.
+//! Plans of test runs: keys, nodes and steps, the calls that steps make of a store, and their
+//! verdicts.
 //!
-//! A `Plan` has `PlanKey`s and `PlanNode`s; callbacks and tests are lists of `Step`s, each of which names its key by a `StepKey`.
-//! `Plan::store_keys` makes the keys of the labels, and `keys_are_few` counts them. A plan is seen by `plan_view` of
-//! `specs/Plans.antt`; what holds of each plan that was read stands in `specs/ReadPlans.antt`.
+//! A `Plan` has `PlanKey`s and `PlanNode`s; callbacks and tests are lists of `Step`s, each of which
+//! names its key by a `StepKey`. `Plan::store_keys` makes the keys of the labels, and
+//! `keys_are_few` counts them. Contracts see a plan by `plan_view` (`specs/Plans.antt`);
+//! `specs/ReadPlans.antt` says what holds of each plan that was read.
 //!
-//! A step's call of the store is a `StepCall`, which `StepKeys` makes with the key that the step names. What a look-up shows a
-//! step is `Seen`, and why a call was refused a `Reason`. `want_verdict`, `none_verdict`, `fail_verdict`, `unless_refused` and
-//! `refused` give the verdict that a step makes of them, with its text. `PlanValue` is a value of a run, and `close_fault` its
-//! close action. Nothing here knows a store, so that each run goes by the same words.
+//! A step's call of the store is a `StepCall`, which `StepKeys` makes with the key that the step
+//! names. What a look-up shows a step is `Seen`, and why a call was refused is a `Reason`.
+//! `want_verdict`, `none_verdict`, `fail_verdict`, `unless_refused` and `refused` turn them into
+//! the step's verdict and its text. `PlanValue` is a value of a run, and `close_fault` its close
+//! action. Nothing here depends on a store, so that all runs share these texts.
 //!
-//! Unless its comment says otherwise, a public call takes no memory and waits for nobody. JUnit has
-//! no plans: what names no source in it is an own rule.
+//! JUnit has no plans.
 #![tactic(auto)]
 
 mod call_key;

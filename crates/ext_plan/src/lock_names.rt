@@ -9,10 +9,11 @@ use crate::plan::{Plan, PlanLock};
 use std::alloc::{AllocError, Global};
 
 impl Plan {
-    /// The names of the resource locks that the nodes name, each once, in the order in which the nodes first name them. At most 63 in a plan
-    /// that was read.
+    /// Lists the names of the resource locks of all nodes, without repetition, in the order in
+    /// which the nodes first name them. A plan that was read has at most 63.
     ///
-    /// Takes memory for the list; `AllocError` comes only where that is refused. Source: JUnit 5 User Guide, section "Synchronization".
+    /// Takes memory for the list, and fails with `AllocError` only if that is refused. Source:
+    /// JUnit 5 User Guide, section "Synchronization".
     pub fn lock_names(&self, alloc: Global) -> Result<Vec<&str>, AllocError>
         ensures { IfOk result (λ names. map (λ n. n.now) names.items ≡ lock_names (nodes_view self.now.nodes.items)) }
     {
@@ -24,7 +25,7 @@ impl Plan {
     }
 }
 
-/// Adds the names of locks, each unless it is there.
+/// Adds the names of the locks that are not there yet.
 fn add_names<'a>(names: &mut Vec<&'a str>, locks: &'a [PlanLock]) -> Result<(), AllocError>
     ensures { OnOk result (map (λ n. n.now) names.new.items ≡ fold with_name (map (λ n. n.now) names.old.items) (map (λ l. lock_name (lock_view l)) locks.now)) }
 {
@@ -34,7 +35,7 @@ fn add_names<'a>(names: &mut Vec<&'a str>, locks: &'a [PlanLock]) -> Result<(), 
     Ok(())
 }
 
-/// Adds a name, unless it is there.
+/// Adds a name if it is not there yet.
 fn add_name<'a>(names: &mut Vec<&'a str>, name: &'a str) -> Result<(), AllocError>
     ensures { OnOk result (map (λ n. n.now) names.new.items ≡ with_name (map (λ n. n.now) names.old.items) name.now) }
 {

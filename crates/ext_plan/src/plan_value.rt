@@ -7,17 +7,17 @@ use crate::step_text::close_text;
 use ext_model::Fault;
 use std::alloc::{AllocError, Global};
 
-/// A value of a run: its text, which the plan has, and whether it is closed with its context.
+/// A value of a run: its text, and whether it is closed with its context.
 #[derive(Clone, Copy, Debug, PartialEq, Eq)]
 pub struct PlanValue<'a> {
-    /// The value's text.
+    /// The value's text, borrowed from the plan.
     pub text: &'a str,
-    /// Whether it is closed with its context, as a `CloseableResource` of JUnit 5.
+    /// Whether it is closed with its context, like a `CloseableResource` of JUnit 5.
     pub closeable: bool,
 }
 
 impl<'a> PlanValue<'a> {
-    /// A value that isn't closeable.
+    /// Makes a value with this text that is not closeable.
     pub fn not_closeable(text: &'a str) -> PlanValue<'a>
         ensures { value_view result ≡ record { text = text.now; closeable = false } }
     {
@@ -27,7 +27,7 @@ impl<'a> PlanValue<'a> {
         }
     }
 
-    /// A closeable value.
+    /// Makes a closeable value with this text.
     pub fn closeable(text: &'a str) -> PlanValue<'a>
         ensures { value_view result ≡ record { text = text.now; closeable = true } }
     {
@@ -38,10 +38,12 @@ impl<'a> PlanValue<'a> {
     }
 }
 
-/// The close action of a run: the fault `close TEXT` of a value whose text begins with `bad`, and `None` for each other value.
+/// Returns the fault of closing a value: `close TEXT` if its text begins with `bad`, and otherwise
+/// none.
 ///
-/// Takes memory for the fault's text; `AllocError` comes only where that is refused, and so never for a value whose close succeeds.
-/// Source: Javadoc type `ExtensionContext.Store.CloseableResource`; which closes fail is an own rule.
+/// Takes memory for the fault's text. Fails with `AllocError` only if that is refused, and so never
+/// for a value whose close succeeds. Source: Javadoc type
+/// `ExtensionContext.Store.CloseableResource`; which closes fail is an own rule.
 pub fn close_fault(alloc: Global, value: &PlanValue<'_>) -> Result<Option<Fault>, AllocError>
     ensures fault { IfOk result (λ fault. option_map fault_text fault ≡ close_fault (value_view value.now)) }
     ensures memory { IfErr result (λ _. IsSome (close_fault (value_view value.now))) }

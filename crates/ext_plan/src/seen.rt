@@ -11,27 +11,29 @@ use ext_lifecycle::Verdict;
 use ext_model::Fault;
 use std::alloc::{AllocError, Global};
 
-/// What a look-up shows a step. Source: Javadoc type `ExtensionContext.Store`, `get`; that a fault is kept and that a
-/// look-up may be refused are own rules.
+/// What a look-up shows a step. Source: Javadoc type `ExtensionContext.Store`, `get`. That faults
+/// are kept and that look-ups may be refused are own rules.
 #[derive(Clone, Copy, Debug, PartialEq, Eq)]
 pub enum Seen<'a> {
     /// A value of this text was found.
     Value(&'a str),
     /// A kept fault of this text was found.
     Fault(&'a str),
-    /// A kept fault was found that is want of memory.
+    /// The kept fault `Fault::Memory` was found.
     NoMemory,
     /// Nothing was found.
     Nothing,
-    /// The look-up was refused, or the value of the number that it found is not shown.
+    /// The look-up was refused, or the value or fault that it found is not shown.
     Refused(Reason),
 }
 
-/// How a step `want` of this text ends: successful where a value of that text was found. It fails with
-/// `want KEY TEXT: got OTHER`, with `want KEY TEXT: fault OTHER`, with `want KEY TEXT: none` or, where the look-up was
-/// refused, with `NAME KEY: REASON`. It fails with a met fault that is want of memory.
+/// Returns the verdict of a step `want` with this text: successful if a value of that text was
+/// found. Otherwise it fails with `want KEY TEXT: got OTHER`, `want KEY TEXT: fault OTHER`,
+/// `want KEY TEXT: none`, or, if the look-up was refused, `NAME KEY: REASON`. The kept fault
+/// `Fault::Memory` is passed on.
 ///
-/// Takes memory for the text of a failure; `AllocError` comes only where that is refused, and so never in place of a success.
+/// Takes memory for the text of a failure. Fails with `AllocError` only if that is refused, and so
+/// never in place of a success.
 pub fn want_verdict(
     alloc: Global,
     call: &StepCall<'_>,
@@ -51,11 +53,13 @@ pub fn want_verdict(
     }
 }
 
-/// How a step ends that is to find nothing, as `none`, and as `compute` where it meets a kept fault: successful where nothing
-/// was found. It fails with `NAME KEY: got OTHER`, with `NAME KEY: fault OTHER` or, where the look-up was refused, with
-/// `NAME KEY: REASON`. It fails with a met fault that is want of memory.
+/// Returns the verdict of a step that should find nothing: successful if nothing was found. It is
+/// the verdict of `none`, and of `compute` where it meets a kept fault. Otherwise the step fails
+/// with `NAME KEY: got OTHER`, `NAME KEY: fault OTHER`, or, if the look-up was refused,
+/// `NAME KEY: REASON`. The kept fault `Fault::Memory` is passed on.
 ///
-/// Takes memory for the text of a failure; `AllocError` comes only where that is refused, and so never in place of a success.
+/// Takes memory for the text of a failure. Fails with `AllocError` only if that is refused, and so
+/// never in place of a success.
 pub fn none_verdict(
     alloc: Global,
     call: &StepCall<'_>,
@@ -73,10 +77,12 @@ pub fn none_verdict(
     }
 }
 
-/// How a step `computefail` ends, whose factory is to fail with this text: successful where nothing was found, as the factory
-/// runs then, and where a kept fault of the same text was found. It fails as `none` else.
+/// Returns the verdict of a step `computefail`: successful if it found nothing, or a kept fault of
+/// the same text. If it found nothing, its factory ran and failed with this text. Otherwise the
+/// verdict is `none_verdict`.
 ///
-/// Takes memory for the text of a failure; `AllocError` comes only where that is refused, and so never in place of a success.
+/// Takes memory for the text of a failure. Fails with `AllocError` only if that is refused, and so
+/// never in place of a success.
 pub fn fail_verdict(
     alloc: Global,
     call: &StepCall<'_>,

@@ -10,7 +10,7 @@ use ext_model::ContextNo;
 use ext_tree::Key;
 use std::alloc::{AllocError, Global};
 
-/// The declared keys of a plan, and for each of them the key of the store that was made of it.
+/// The declared keys of a plan, each with the key of the store that was made of it.
 #[derive(Clone, Copy)]
 pub struct StepKeys<'b> {
     keys: &'b [PlanKey],
@@ -21,7 +21,8 @@ pub struct StepKeys<'b> {
 impl<'b> StepKeys<'b> {
     ghost use Rattle.ext_plan.specs.StepCalls.{call_key, call_view, is_made, keys_in, label_of};
 
-    /// The declared keys, with the key of the store of each, in order (`Plan::store_keys`).
+    /// Pairs the declared keys with the keys of the store that `Plan::store_keys` made of them, in
+    /// order.
     pub fn of(keys: &'b [PlanKey], made: &'b [Key]) -> StepKeys<'b>
         requires { made.now ≡ map named_key (keys_view keys.now) }
         ensures { keys_in result ≡ keys_view keys.now }
@@ -29,10 +30,12 @@ impl<'b> StepKeys<'b> {
         StepKeys { keys, made }
     }
 
-    /// The key of the store that a step names: that of its label, or the one of its name in the global namespace. A label that the plan
-    /// doesn't have names the key of the empty name in the global namespace.
+    /// Returns the key of the store that a step names: its label's, or the key of its name in the
+    /// global namespace. A label that the plan does not have names the key of the empty name in the
+    /// global namespace.
     ///
-    /// Takes memory for a key that is no label's; `AllocError` comes only where that is refused.
+    /// Takes memory for a key that no label names, and fails with `AllocError` only if that is
+    /// refused.
     pub fn key_of(&self, alloc: Global, key: &StepKey) -> Result<CallKey<'b>, AllocError>
         ensures key { IfOk result (λ k. call_key k ≡ key_of_step (keys_in self.now) (step_key_view key.now)) }
         ensures made { IfErr result (λ _. is_made (keys_in self.now) (step_key_view key.now) ≡ true) }
@@ -46,8 +49,9 @@ impl<'b> StepKeys<'b> {
         }
     }
 
-    /// The call of a step of this name and this key, which goes up so many contexts on the path of the context in which it runs. `made`
-    /// is the key of the store. A label that the plan doesn't have is the empty text.
+    /// Makes the call of a step that runs in the context of `path` and acts `up` contexts above it.
+    /// `name` is the step's first word, and `made` the key of the store. A label that the plan does
+    /// not have is the empty text.
     pub fn call<'c>(
         &'c self,
         name: &'c str,
@@ -85,7 +89,7 @@ impl<'b> StepKeys<'b> {
     }
 }
 
-/// The path of the ancestor so many contexts up.
+/// The path of the ancestor `up` contexts up.
 fn ancestor(path: &[ContextNo], up: usize) -> &[ContextNo]
     ensures { result.now ≡ drop up path.now }
 {

@@ -1,4 +1,4 @@
-//! How a step ended, with its text.
+//! Verdicts of steps, with their texts.
 ghost use Rattle.std.specs.Prelude.{◌≡◌, false, string_bytes, IfOk, IfErr};
 ghost use Rattle.ext_lifecycle.specs.Endings.{aborted, failed, is_successful};
 ghost use Rattle.ext_lifecycle.specs.FaultTexts.{verdict_text};
@@ -11,32 +11,35 @@ use ext_lifecycle::Verdict;
 use ext_model::Fault;
 use std::alloc::{AllocError, Global};
 
-/// Failed with this text.
+/// Makes the verdict that a step failed with this text.
 pub fn failed(text: String) -> Verdict
     ensures { verdict_text result ≡ failed (string_bytes text) }
 {
     Verdict::Failed(Fault::Text(text))
 }
 
-/// Aborted with this text.
+/// Makes the verdict that a step aborted with this text.
 pub fn aborted(text: String) -> Verdict
     ensures { verdict_text result ≡ aborted (string_bytes text) }
 {
     Verdict::Aborted(Fault::Text(text))
 }
 
-/// How a step ends whose call of the store was refused: failed with `NAME KEY: REASON`.
+/// Returns the verdict of a step whose call of the store was refused: failed with
+/// `NAME KEY: REASON`.
 ///
-/// Takes memory for the text; `AllocError` comes only where that is refused.
+/// Takes memory for the text, and fails with `AllocError` only if that is refused.
 pub fn refused(alloc: Global, call: &StepCall<'_>, why: Reason) -> Result<Verdict, AllocError>
     ensures { IfOk result (λ v. verdict_text v ≡ refused (call_view call.now).name (call_view call.now).label why) }
 {
     Ok(failed(refused_text(alloc, call.name, call.label, why.words())?))
 }
 
-/// How a step ends by why its call of the store was refused, if it was: else it is successful.
+/// Returns the verdict of a step by its call of the store: successful, or that of `refused` if the
+/// call was refused.
 ///
-/// Takes memory for the text of a refusal; `AllocError` comes only where that is refused, and so never in place of a success.
+/// Takes memory for the text of a refusal. Fails with `AllocError` only if that is refused, and so
+/// never in place of a success.
 pub fn unless_refused(
     alloc: Global,
     call: &StepCall<'_>,

@@ -12,7 +12,7 @@ use Rattle.std.proofs.lemmas.List.Sums.{prefix_len-le-length}
 use Rattle.std.proofs.lemmas.Map.Text.{btree_map_updates_str}
 use Rattle.ext_plan.specs.Labels.{is_label}
 use Rattle.ext_plan_reading.specs.KeyReading.{label_number}
-use Rattle.ext_plan_reading.specs.InnerHelpers.{number_in}
+use Rattle.ext_plan_reading.specs.InnerSketches.{number_in}
 
 -- where no element passes, the first place is the one behind the last
 none_passes_at : {X : Type 0} (p : X → Bool) (x : X) (xs : List X) (b : Bool) → p x ≡ b → (list_any p xs ≡ false → position_or_len p xs ≡ length xs)

@@ -1,4 +1,5 @@
 pub mod CallbackReading
+pub mod ChildDepths
 pub mod FieldNames
 pub mod Gave
 pub mod KeyReading

@@ -25,8 +25,9 @@ use Rattle.ext_plan_reading.specs.Depths.{Outline, least_test_depth}
 use Rattle.ext_plan_reading.specs.Faults.{check, Gives}
 use Rattle.ext_plan_reading.specs.Fields.{has_only, tables_or_none, truth_or_false}
 use Rattle.ext_plan_reading.specs.KeyReading.{keys_after}
-use Rattle.ext_plan_reading.specs.NodeReading.{Sketch, ids_of, outline_of, outlines_of, has_children, sketches_after, nodes_of_tables}
+use Rattle.ext_plan_reading.specs.NodeReading.{ids_of, outlines_of, has_children, sketches_after, nodes_of_tables}
 use Rattle.ext_plan_reading.specs.Reading.{top_fields, plan_of, plan_of_tables}
+use Rattle.ext_plan_reading.proofs.ChildDepths.{ids_in-sketches}
 use Rattle.ext_plan_reading.proofs.Gave.{ok_value, both_gave, passed}
 use Rattle.ext_plan_reading.proofs.KeyReading.{keys_are_own, no_keys}
 use Rattle.ext_plan_reading.proofs.NodeReading.{NodeFits, IsAlone, KindFits, FitsIn, outline_of_node, outlines_of_nodes, if_is_test, nodes_are_read, childless}
@@ -100,9 +101,6 @@ stays_below_root labels plan fit = record {
 
 ids_in-nodes : (nodes : List NodeText) → map (λ o. o.0) (outlines_of_nodes nodes) ≡ ids_of_nodes nodes
 ids_in-nodes nodes = map-map (λ (o : Outline). o.0) outline_of_node nodes
-
-ids_in-sketches : (sketches : List Sketch) → map (λ o. o.0) (outlines_of sketches) ≡ ids_of sketches
-ids_in-sketches sketches = map-map (λ (o : Outline). o.0) outline_of sketches
 
 is_read : (top : Members) (plan : PlanText) → plan_of top ≡ Ok plan → IsReadPlan plan
 unfolding plan_of plan_of_tables nodes_of_tables

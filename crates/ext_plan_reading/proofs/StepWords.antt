@@ -1,8 +1,10 @@
--- Texts that are no step: too few words, too many, an empty one, or a number that is no height.
-use Rattle.std.proofs.Common.{◌≡◌, ◌<◌, ◌≤◌, ℕ, suc, Bool, true, false, List, [], ◌∷◌, length, map, Option, option_map, position, None, refl, sym, ap, ◌∙◌, arith, Bor}
+-- What the first six words of a text tell: whether it is a step or a lock. No step are too few words, too many, an empty one, or a number that is no height.
+use Rattle.std.proofs.Common.{◌≡◌, ◌<◌, ◌≤◌, ℕ, suc, Bool, true, false, List, [], ◌∷◌, length, map, take, Option, option_map, position, None, refl, sym, ap, ◌∙◌, arith, Bor}
 use Rattle.std.specs.Prelude.{if◌then◌else◌, ◌==◌, codes}
 use Rattle.std.specs.List.{list_any, slice_split}
 use Rattle.std.specs.Str.{bytes_eq}
+use Rattle.ext_plan.specs.Plans.{StepText}
+use Rattle.ext_plan_reading.specs.LockReading.{lock_of, lock_of_words}
 use Rattle.ext_plan_reading.specs.StepReading.{heights, height_of, step_of_words, step_of}
 use Rattle.ext_plan_reading.specs.declared.steps.TheConstants.{HEIGHTS}
 use Rattle.ext_plan_reading.proofs.Lists.{list_any-map, position-map}
@@ -42,14 +44,43 @@ empty_at words labels b e = ap (λ empty. if empty then None else step_of_words 
 any_empty : (words : List (Bor (List ℕ))) (b : Bool) → b ≡ list_any (λ word. length word.now == 0) words → list_any (λ word. length word == 0) (map (λ w. w.now) words) ≡ b
 any_empty words b e = list_any-map (λ w. w.now) (λ word. length word == 0) words ∙ sym e
 
+same_either : {A : Type 0} (b : Bool) (x : A) → (if b then x else x) ≡ x
+same_either true x = refl
+same_either false x = refl
+
+-- the first six words tell whether there is a step, since none has so many
+first_six : (labels : List (List ℕ)) (words : List (List ℕ))
+    → (if list_any (λ word. length word == 0) (take 6 words) then None else step_of_words labels (take 6 words)) ≡ (if list_any (λ word. length word == 0) words then None else step_of_words labels words)
+first_six labels [] = refl
+first_six labels (a ∷ []) = refl
+first_six labels (a ∷ b ∷ []) = refl
+first_six labels (a ∷ b ∷ c ∷ []) = refl
+first_six labels (a ∷ b ∷ c ∷ d ∷ []) = refl
+first_six labels (a ∷ b ∷ c ∷ d ∷ e ∷ []) = refl
+first_six labels (a ∷ b ∷ c ∷ d ∷ e ∷ g ∷ more) =
+    same_either {A = Option StepText} (list_any (λ word. length word == 0) (a ∷ b ∷ c ∷ d ∷ e ∷ g ∷ [])) None ∙ sym (same_either {A = Option StepText} (list_any (λ word. length word == 0) (a ∷ b ∷ c ∷ d ∷ e ∷ g ∷ more)) None)
+
 -- a text with an empty word is no step
-pub no_step : (labels : List (List ℕ)) (text : List ℕ) (words : List (Bor (List ℕ))) → map (λ w. w.now) words ≡ slice_split (λ b. b == 32) text
+pub no_step : (labels : List (List ℕ)) (text : List ℕ) (words : List (Bor (List ℕ))) → map (λ w. w.now) words ≡ take 6 (slice_split (λ b. b == 32) text)
     → true ≡ list_any (λ word. length word.now == 0) words → step_of labels text ≡ None
 unfolding step_of
-no_step labels text words split e = rw (← split) (empty_at (map (λ w. w.now) words) labels true (any_empty words true e))
+no_step labels text words split e = sym (first_six labels (slice_split (λ b. b == 32) text)) ∙ rw (← split) (empty_at (map (λ w. w.now) words) labels true (any_empty words true e))
 
 -- any other is the step that its words are, if they are one
-pub step_of-words : (labels : List (List ℕ)) (text : List ℕ) (words : List (Bor (List ℕ))) → map (λ w. w.now) words ≡ slice_split (λ b. b == 32) text
+pub step_of-words : (labels : List (List ℕ)) (text : List ℕ) (words : List (Bor (List ℕ))) → map (λ w. w.now) words ≡ take 6 (slice_split (λ b. b == 32) text)
     → false ≡ list_any (λ word. length word.now == 0) words → step_of labels text ≡ step_of_words labels (map (λ w. w.now) words)
 unfolding step_of
-step_of-words labels text words split e = rw (← split) (empty_at (map (λ w. w.now) words) labels false (any_empty words false e))
+step_of-words labels text words split e = sym (first_six labels (slice_split (λ b. b == 32) text)) ∙ rw (← split) (empty_at (map (λ w. w.now) words) labels false (any_empty words false e))
+
+-- ---- locks
+
+lock_six : (words : List (List ℕ)) → lock_of_words (take 6 words) ≡ lock_of_words words
+lock_six [] = refl
+lock_six (a ∷ []) = refl
+lock_six (a ∷ b ∷ []) = refl
+lock_six (a ∷ b ∷ c ∷ more) = refl
+
+-- a text is the lock that its first words are, if they are one
+pub lock_of-words : (text : List ℕ) (words : List (List ℕ)) → words ≡ take 6 (slice_split (λ b. b == 32) text) → lock_of text ≡ lock_of_words words
+unfolding lock_of
+lock_of-words text words split = sym (lock_six (slice_split (λ b. b == 32) text)) ∙ ap lock_of_words (sym split)

@@ -1,9 +1,7 @@
 -- No test at or below a node has fewer segments in its id than the least number of them.
-use Rattle.std.proofs.Common.{◌≡◌, ℕ, zero, suc, ◌<◌, ◌≤◌, Bool, true, false, ◌&&◌, List, [], ◌∷◌, ◌++◌, length, drop, get_or, arith, refl, ap, ◌∙◌, IfSome}
-use Rattle.std.specs.Prelude.{fold, min, slice_get, if◌then◌else◌}
-use Rattle.std.proofs.Math.Bool.{and-false}
+use Rattle.std.proofs.Common.{◌≡◌, ℕ, zero, suc, ◌<◌, ◌≤◌, Bool, true, false, ◌&&◌, List, [], ◌∷◌, ◌++◌, length, get_or, arith, refl, ap, ◌∙◌}
+use Rattle.std.specs.Prelude.{fold, min, if◌then◌else◌}
 use Rattle.std.proofs.Math.Nat.{min-le_left, min-le_right}
-use Rattle.ext_ids.specs.Ids.{pair_eq}
 use Rattle.ext_ids.proofs.Pairs.{pair_eq-Decides}
 use Rattle.ext_tree.specs.Trees.{Id}
 use Rattle.ext_plan.specs.ReadPlans.{IsAtOrBelow}
@@ -17,25 +15,11 @@ begins (pair ∷ above) rest = rw ((pair_eq-Decides pair pair).1 refl) (begins a
 pub told_below : (above id : Id) → IsAtOrBelow above id → is_at_or_below above id ≡ true
 told_below above id below = ap (is_at_or_below above) below.1 ∙ begins above below.0
 
--- an id with fewer segments begins with no other
-pub too_short : (above id : Id) → length id < length above → is_at_or_below above id ≡ false
-too_short [] id less = absurd (omega (arith, less))
-too_short (pair ∷ above) [] less = refl
-too_short (pair ∷ above) (other ∷ id) less = rw (too_short above id (omega (arith, less))) (and-false (pair_eq pair other))
-
--- segment by segment
-pub one_segment : (above id : Id) (i : ℕ) (same : Bool) → i < length above → i < length id → IfSome (slice_get above i) (λ p. IfSome (slice_get id i) (λ q. same ≡ pair_eq p q))
-    → is_at_or_below (drop i above) (drop i id) ≡ (same && is_at_or_below (drop (suc i) above) (drop (suc i) id))
-one_segment [] id i same less within is = absurd (omega (arith, less))
-one_segment (p ∷ above) [] i same less within is = absurd (omega (arith, within))
-one_segment (p ∷ above) (q ∷ id) zero same less within is = rw is refl
-one_segment (p ∷ above) (q ∷ id) (suc i) same less within is = one_segment above id i same (omega (arith, less)) (omega (arith, within)) is
-
 lower : (b : Bool) (least depth : ℕ) → (if b then min least depth else least) ≤ least
 lower true least depth = min-le_left least depth
 lower false least depth = omega arith
 
-at_most : (above : Id) (least : ℕ) (nodes : List Outline) → fold (with_depth above) least nodes ≤ least
+pub at_most : (above : Id) (least : ℕ) (nodes : List Outline) → fold (with_depth above) least nodes ≤ least
 at_most above least [] = omega arith
 at_most above least (node ∷ nodes) =
     let one = lower (node.1 && is_at_or_below above node.0) least (length node.0) in
@@ -47,7 +31,7 @@ counted true least depth h = min-le_right least depth
 counted false least depth h = absurd cc
 
 -- from a least so far
-least_from : (above : Id) (least : ℕ) (nodes : List Outline) (k : ℕ) (d : Outline) → k < length nodes
+pub least_from : (above : Id) (least : ℕ) (nodes : List Outline) (k : ℕ) (d : Outline) → k < length nodes
     → ((get_or nodes k d).1 && is_at_or_below above (get_or nodes k d).0) ≡ true → fold (with_depth above) least nodes ≤ length (get_or nodes k d).0
 least_from above least [] k d less is = absurd (omega (arith, less))
 least_from above least (node ∷ nodes) zero d less is =

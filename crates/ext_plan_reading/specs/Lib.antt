@@ -5,7 +5,7 @@ pub mod ExplainingIds
 pub mod FaultPlaces
 pub mod Faults
 pub mod Fields
-pub mod InnerHelpers
+pub mod InnerSketches
 pub mod KeyReading
 pub mod LockReading
 pub mod ModeReading

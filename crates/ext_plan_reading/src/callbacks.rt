@@ -4,7 +4,7 @@ ghost use Rattle.toml.specs.View.{table_view};
 ghost use Rattle.ext_plan.specs.Plans.{callbacks_view};
 ghost use Rattle.ext_plan_reading.specs.CallbackReading.{are_of_container, callback_texts_at, callbacks_after, callbacks_at, node_callbacks_at};
 ghost use Rattle.ext_plan_reading.specs.Faults.{Gives};
-ghost use Rattle.ext_plan_reading.specs.InnerHelpers.{callback_steps_view, callback_texts_view, lists_view, words_view};
+ghost use Rattle.ext_plan_reading.specs.InnerSketches.{callback_steps_view, callback_texts_view, lists_view, words_view};
 
 use crate::fault::{Place, PlanFault};
 use crate::fields::text_lists_at;
@@ -14,10 +14,11 @@ use ext_plan::Step;
 use std::alloc::Global;
 use toml::Table;
 
-/// The greatest number of callbacks of a kind at a node. A text with more has over 3 MB.
+/// How many callbacks of a kind a node has at most. A text with more has over 3 MB.
 const CALLBACK_LIMIT: usize = 1_048_576;
 
-/// The callbacks of a node after the first pass: for each kind whose field is given, the texts of the steps of each.
+/// The callbacks of a node after the first pass: for each kind whose field is given, the texts of
+/// the steps of each callback.
 #[derive(Drop)]
 pub(crate) struct CallbackSketch<'a> {
     before_all: Option<Vec<Vec<&'a str>>>,
@@ -26,7 +27,7 @@ pub(crate) struct CallbackSketch<'a> {
     after_each: Option<Vec<Vec<&'a str>>>,
 }
 
-/// The callbacks of a node, of each kind in the order of the plan, each with its steps.
+/// The callbacks of a node, each with its steps, in the order of the plan.
 #[derive(Drop)]
 pub(crate) struct NodeCallbacks {
     pub before_all: Vec<Vec<Step>>,
@@ -36,7 +37,7 @@ pub(crate) struct NodeCallbacks {
 }
 
 impl<'a> CallbackSketch<'a> {
-    /// The callbacks that the table of a node writes. `node` is its place in the plan.
+    /// The callbacks in the table of a node. `node` is the node's index in the plan.
     #[tactic(auto, unfolding(crate::specs::CallbackReading::callback_texts_at))]
     pub fn of(alloc: Global, node: usize, table: &'a Table) -> Result<CallbackSketch<'a>, PlanFault>
         ensures { Gives callback_texts_view result (callback_texts_at node (table_view table.now)) }
@@ -54,8 +55,8 @@ impl<'a> CallbackSketch<'a> {
         })
     }
 
-    /// The field of each kind, the `depth` with which its steps are read, and the texts of the steps of each of its callbacks, in the order in which they
-    /// are read. The depths are as for `read`.
+    /// For each kind, in reading order: its field, the `depth` with which its steps are read, and
+    /// the texts of the steps of each callback. The depths are those of `read`.
     pub fn in_order(
         &self,
         own: usize,
@@ -69,15 +70,16 @@ impl<'a> CallbackSketch<'a> {
         ]
     }
 
-    /// Tests whether callbacks before or after all children are given, be they none.
+    /// Tests whether callbacks before or after all children are given, even if the array is empty.
     pub fn are_of_container(&self) -> bool
         ensures { result ≡ are_of_container (callback_texts_view self.now) }
     {
         self.before_all.is_some() || self.after_all.is_some()
     }
 
-    /// The callbacks with their steps, where `own` is how many segments the node's id has and `least` how many the id of a
-    /// test at or below it has at least. `node` is the node's place in the plan.
+    /// Reads the steps of the callbacks. `own` is the number of segments of the node's id, `least`
+    /// the least number of segments of a test's id at or below the node, and `node` the node's
+    /// index in the plan.
     #[tactic(auto, unfolding(crate::specs::CallbackReading::node_callbacks_at))]
     pub fn read(
         &self,
@@ -102,7 +104,7 @@ impl<'a> CallbackSketch<'a> {
     }
 }
 
-/// The texts of a field, none where it is left out.
+/// The texts of a field; empty if it is left out.
 fn texts_in<'b, 'a>(lists: &'b Option<Vec<Vec<&'a str>>>) -> &'b [Vec<&'a str>] {
     match lists {
         None => &[],
@@ -110,8 +112,8 @@ fn texts_in<'b, 'a>(lists: &'b Option<Vec<Vec<&'a str>>>) -> &'b [Vec<&'a str>] 
     }
 }
 
-/// The callbacks of a field, if they are not too many. `depth` is how many contexts the shortest path has on which one
-/// runs.
+/// The callbacks of a field, if there are not too many. `depth` is the length of the shortest path
+/// on which one of them runs.
 #[tactic(auto, unfolding(crate::specs::CallbackReading::callbacks_at))]
 fn callbacks_of(
     alloc: Global,
@@ -131,7 +133,7 @@ fn callbacks_of(
     callbacks_in_order(alloc, labels, depth, node, lists.as_slice())
 }
 
-/// The callbacks of a field, in order, however many there are.
+/// The callbacks of a field, in order, without the limit.
 fn callbacks_in_order(
     alloc: Global,
     labels: &Labels<'_>,

@@ -1,4 +1,4 @@
-//! What is meant by the fault of a plan that was refused.
+//! Explanations of the faults of plans.
 ghost use Rattle.std.specs.Prelude.{◌≡◌, ◌++◌, string_bytes, IfOk, OnOk};
 ghost use Rattle.ext_plan_reading.specs.Explaining.{Explains, place_words};
 
@@ -20,15 +20,18 @@ use toml::Table;
 use toml::de::Error;
 use words::said;
 
-/// What is meant by the fault for which the bytes of a plan are refused, in a line without its line feed: `the plan`, `key 1` or `node 2`, which is what
-/// the fault names, a colon, and then the field, the label, the id with its own fault, the lock or the step that is meant, or the place in the text.
-/// Texts of the plan stand in quotes, with a line feed as `\n`. Of a key or a node the line ends with the line of the plan where its table begins, if it has a header of
-/// its own there, and of a node with its id, if it has one. The contract speaks of the place that the fault names alone.
+/// Explains why the bytes of a plan were refused, in a line without a line feed. The line begins
+/// with the place that the fault names (`the plan`, `key 1` or `node 2`) and a colon. Then it names
+/// the field, the label, the id with its own fault, the lock or the step at fault, or the place in
+/// the text. Texts of the plan are quoted, with a line feed as `\n`. At the end are the line of the
+/// plan where the table of the key or node begins, if the table has a header of its own, and the
+/// node's id, if it has one. The contract covers only the place that the fault names.
 ///
-/// The fault is the one that `read_plan` answered to this text, or `NotUtf8` where it is none. Of any other fault the line says that the plan has another
-/// one, or none.
+/// The fault is the answer of `read_plan` to this text, or `NotUtf8` if the bytes are no text. For
+/// any other fault the line says that another one comes before, or that there is no such fault.
 ///
-/// Takes memory for what `read_plan` takes it for, and for the line; `AllocError` comes only where that is refused. It waits for nobody.
+/// Takes memory for the line, and for what `read_plan` takes it for; fails with `AllocError` only
+/// if that is refused.
 pub fn explain(alloc: Global, input: &[u8], fault: PlanFault) -> Result<String, AllocError>
     ensures { IfOk result (λ line. Explains fault (string_bytes line)) }
 {
@@ -36,7 +39,7 @@ pub fn explain(alloc: Global, input: &[u8], fault: PlanFault) -> Result<String, 
     line_of(alloc, fault, meaning.as_str())
 }
 
-/// The line that says this meaning of a fault, behind its place.
+/// The line with this meaning of a fault, after its place.
 fn line_of(alloc: Global, fault: PlanFault, meaning: &str) -> Result<String, AllocError>
     ensures { IfOk result (λ line. Explains fault (string_bytes line)) }
 {
@@ -58,7 +61,7 @@ fn write_place(line: &mut String, place: Place) -> Result<(), AllocError>
     }
 }
 
-/// What is told as the meaning of a fault of these bytes, whether they have it or not.
+/// The meaning of a fault of these bytes, or that they do not have it.
 fn told(alloc: Global, input: &[u8], fault: PlanFault) -> Result<String, AllocError> {
     match meaning(alloc, input, fault) {
         Ok(Some(meaning)) => Ok(meaning),
@@ -68,7 +71,8 @@ fn told(alloc: Global, input: &[u8], fault: PlanFault) -> Result<String, AllocEr
     }
 }
 
-/// What is meant by a fault of these bytes, if they have it. Another fault that comes before it is an error.
+/// The meaning of a fault of these bytes, if they have it. Another fault that comes before it is an
+/// error.
 fn meaning(alloc: Global, input: &[u8], fault: PlanFault) -> Result<Option<String>, PlanFault> {
     let text = match std::str::from_utf8(input) {
         Ok(text) => text,
@@ -80,12 +84,12 @@ fn meaning(alloc: Global, input: &[u8], fault: PlanFault) -> Result<Option<Strin
     }
 }
 
-/// Up to which byte the bytes are UTF-8.
+/// Says up to which byte the bytes are UTF-8.
 fn no_utf8(alloc: Global, at: usize) -> Result<Option<String>, PlanFault> {
     Ok(Some(format!(in alloc; "it is no UTF-8 at byte {at}")?))
 }
 
-/// Where and why a text is no TOML document, in the words of its reader.
+/// Says where and why a text is no TOML document, in the words of the TOML parser.
 fn no_toml(alloc: Global, text: &str, error: &Error) -> Result<Option<String>, PlanFault> {
     let Some(span) = error.span() else {
         return Err(PlanFault::Memory);
@@ -95,14 +99,15 @@ fn no_toml(alloc: Global, text: &str, error: &Error) -> Result<Option<String>, P
     Ok(Some(format!(in alloc; "line {line}: {message}")?))
 }
 
-/// The number of the line in which a byte of a text is, from 1.
+/// The number, from 1, of the line that contains a byte of a text.
 fn line_at(text: &str, byte: usize) -> usize {
     let before = text.as_bytes().iter().take(byte);
     let feeds = before.filter(|byte| **byte == b'\n').count();
     feeds.saturating_add(1)
 }
 
-/// What is meant by a fault of a document, if it has it, and where the table with the fault stands.
+/// The meaning of a fault of a document, if it has it, and the line where the table with the fault
+/// begins.
 fn meaning_with_end(
     alloc: Global,
     text: &str,
@@ -115,7 +120,7 @@ fn meaning_with_end(
     }
 }
 
-/// What is meant by a fault of a document, if it has it.
+/// The meaning of a fault of a document, if it has it.
 fn meaning_in(alloc: Global, top: &Table, fault: PlanFault) -> Result<Option<String>, PlanFault> {
     match fault {
         PlanFault::NotUtf8 | PlanFault::NotToml => Ok(None),

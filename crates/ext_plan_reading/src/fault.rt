@@ -9,7 +9,7 @@ use thiserror::Error;
 
 /// Where in a plan a fault is. Keys and nodes are numbered from 0 in the order of the plan.
 ///
-/// Its text stands behind a code: nothing for the plan as a whole, else as ` key 1` or ` node 2`.
+/// It is printed after a fault's code: nothing for the plan as a whole, else ` key 1` or ` node 2`.
 #[derive(Clone, Copy, Debug, PartialEq, Eq)]
 pub enum Place {
     /// The plan as a whole.
@@ -45,45 +45,53 @@ impl fmt::Display for Place {
 /// 6. For each node in order `BadTest`, `BadLock`, `BadStep`.
 /// 7. `TooMany`.
 ///
-/// `Memory` stands in place of any of them where a growth was refused. A number in a variant is that of the key or
-/// the node, from 0. The text of a fault is its line on standard error, as `plan: P5 key 1`.
+/// `Memory` takes the place of any of them if memory was refused. The number in a variant is that
+/// of the key or the node, from 0. A fault is printed as its line on standard error, such as
+/// `plan: P5 key 1`.
 #[derive(Clone, Copy, Debug, PartialEq, Eq, Error)]
 pub enum PlanFault {
-    /// P1: the bytes are no text in UTF-8. It is for callers that hold bytes: `read_plan` takes text and never answers it.
+    /// P1: the bytes are not UTF-8. This is for callers that hold bytes: `read_plan` takes text and
+    /// never answers it.
     NotUtf8,
     /// P2: the text is no TOML document.
     NotToml,
-    /// P3: a field other than `key` and `node` at the top, `label`, `name` and `namespace` in a key, `id`, `test`, `mode`,
-    /// `isolated`, `locks`, `before_all`, `after_all`, `before_each` and `after_each` in a node.
+    /// P3: there is a field other than `keep_faults`, `key` and `node` at the top, `label`, `name`
+    /// and `namespace` in a key, or `id`, `test`, `mode`, `isolated`, `locks`, `before_all`,
+    /// `after_all`, `before_each` and `after_each` in a node.
     UnknownField(Place),
-    /// P4: `key` or `node` is no array of tables; `label` or `id` is missing or no text; `name` or `mode` is no text;
-    /// `namespace`, `test` or `locks` is no array of texts; `isolated` is neither true nor false; `before_all`, `after_all`,
-    /// `before_each` or `after_each` is no array of arrays of texts.
+    /// P4: `key` or `node` is no array of tables; `label` or `id` is missing or no text; `name` or
+    /// `mode` is no text; `namespace`, `test` or `locks` is no array of texts; `keep_faults` or
+    /// `isolated` is neither true nor false; `before_all`, `after_all`, `before_each` or
+    /// `after_each` is no array of arrays of texts.
     BadField(Place),
-    /// P5: a key's label is empty, has a space or is that of a key before, or its namespace is an empty array.
+    /// P5: a key's label is empty, has a space or is that of a key before it, or its namespace is
+    /// an empty array.
     BadLabel(usize),
     /// P6: the id of a node is no unique id, or has more than 16 segments.
     BadId(usize),
-    /// P7: the ids are those of no tree: there is none or more than 256, the first has more than one segment, or a
-    /// further one stands twice, has one segment or has no parent before it.
+    /// P7: the ids do not form a tree. There is none or more than 256, the first has more than one
+    /// segment, or another one is repeated, has one segment or has no parent before it.
     BadTree,
     /// P8: a text in the `test` or in a callback of a node is no step, or goes up past the root
-    /// from a test or container in which it will run; or a test or a callback has 2^32 steps or more, or a node more than
-    /// 1,048,576 callbacks of a kind, which takes a text of over 12 GB or 3 MB.
+    /// from a test or container in which it will run. Or a test or callback has 2^32 steps or more,
+    /// which takes a text of over 12 GB, or a node has more than 1,048,576 callbacks of a kind,
+    /// which takes over 3 MB.
     BadStep(usize),
-    /// P9: a text in the `locks` of a node is not `READ NAME` or `READ_WRITE NAME`, with one space and one word NAME, or its
-    /// `mode` is another text than `same_thread` and `concurrent`.
+    /// P9: a text in the `locks` of a node is not `READ NAME` or `READ_WRITE NAME`, with one space
+    /// and one word NAME, or its `mode` is neither `same_thread` nor `concurrent`.
     BadLock(usize),
-    /// P10: a node is a test and has children, or has `before_all` or `after_all`, be it an empty array.
+    /// P10: a node is a test and has children, or has `before_all` or `after_all`, even as an empty
+    /// array.
     BadTest(usize),
-    /// P11: more than 64 different keys are declared, or there are more than 63 different names of locks.
+    /// P11: more than 64 different keys are declared, or the locks have more than 63 different
+    /// names.
     TooMany,
-    /// P12: memory was wanted and refused.
+    /// P12: memory was refused.
     Memory,
 }
 
 impl PlanFault {
-    /// Where in the plan the fault is.
+    /// Returns the place in the plan where the fault is.
     pub fn place(self) -> Place
         ensures { result ≡ place_of self }
     {

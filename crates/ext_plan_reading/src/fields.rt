@@ -6,7 +6,7 @@ ghost use Rattle.toml.specs.View.{view, table_view, items_view};
 ghost use Rattle.toml.specs.Data.{get_member};
 ghost use Rattle.ext_plan_reading.specs.Faults.{Gives};
 ghost use Rattle.ext_plan_reading.specs.Fields.{has_only, text_at, texts_in, tables_in, texts_after, tables_after, text_or_none, texts_or_none, text_lists_in, text_lists_after, text_lists_or_none, tables_or_none, truth_or_false};
-ghost use Rattle.ext_plan_reading.specs.InnerHelpers.{GivesAll, lists_view};
+ghost use Rattle.ext_plan_reading.specs.InnerSketches.{GivesAll, lists_view};
 
 use crate::fault::PlanFault;
 use std::alloc::Global;
@@ -45,7 +45,7 @@ fn is_among(names: &[&str], text: &str) -> bool
     names.iter().any(|name| *name == text)
 }
 
-/// The text at a name, if a text is there.
+/// The text under a name, if there is one.
 pub(crate) fn text_at<'a>(table: &'a Table, name: &str) -> Option<&'a str>
     ensures { option_map (λ s. s.now) result ≡ text_at name.now (table_view table.now) }
 {
@@ -55,7 +55,7 @@ pub(crate) fn text_at<'a>(table: &'a Table, name: &str) -> Option<&'a str>
     }
 }
 
-/// The text at a name, which may be left out, or the fault where something else is there.
+/// The text under a name, if the name is given; the fault if something else is there.
 pub(crate) fn text_if_given<'a>(
     table: &'a Table,
     name: &str,
@@ -72,7 +72,8 @@ pub(crate) fn text_if_given<'a>(
     }
 }
 
-/// The truth at a name, which may be left out and is false then, or the fault where something else is there.
+/// The truth value under a name, false if the name is left out; the fault if something else is
+/// there.
 pub(crate) fn truth_at(table: &Table, name: &str, fault: PlanFault) -> Result<bool, PlanFault>
     ensures { Gives (λ b. b) result (truth_or_false fault (get_member name.now (table_view table.now))) }
 {
@@ -85,7 +86,7 @@ pub(crate) fn truth_at(table: &Table, name: &str, fault: PlanFault) -> Result<bo
     }
 }
 
-/// The texts at a name, which may be left out, or the fault where something else is there.
+/// The texts under a name, if the name is given; the fault if something else is there.
 pub(crate) fn texts_at<'a>(
     alloc: Global,
     table: &'a Table,
@@ -103,7 +104,7 @@ pub(crate) fn texts_at<'a>(
     }
 }
 
-/// The lists of texts at a name, which may be left out, or the fault where something else is there.
+/// The lists of texts under a name, if the name is given; the fault if something else is there.
 pub(crate) fn text_lists_at<'a>(
     alloc: Global,
     table: &'a Table,
@@ -121,7 +122,7 @@ pub(crate) fn text_lists_at<'a>(
     }
 }
 
-/// The tables at a name, which may be left out, or the fault where something else is there.
+/// The tables under a name, none if the name is left out; the fault if something else is there.
 pub(crate) fn tables_at<'a>(
     alloc: Global,
     table: &'a Table,
@@ -172,7 +173,7 @@ fn tables_in<'a>(alloc: Global, value: &'a Value) -> Result<Option<Vec<&'a Table
     }
 }
 
-/// The texts that the items are, if each is one.
+/// The items as texts, if each is one.
 fn texts_of<'a>(alloc: Global, items: &'a [Value]) -> Result<Option<Vec<&'a str>>, PlanFault>
     ensures { GivesAll (option_map (λ v. map (λ t. t.now) v.items)) result (texts_after [] (items_view items.now)) }
 {
@@ -186,7 +187,7 @@ fn texts_of<'a>(alloc: Global, items: &'a [Value]) -> Result<Option<Vec<&'a str>
     Ok(Some(texts))
 }
 
-/// The lists of texts that the items are, if each is one.
+/// The items as lists of texts, if each is one.
 fn text_lists_of<'a>(
     alloc: Global,
     items: &'a [Value],
@@ -203,7 +204,7 @@ fn text_lists_of<'a>(
     Ok(Some(lists))
 }
 
-/// The tables that the items are, if each is one.
+/// The items as tables, if each is one.
 fn tables_of<'a>(alloc: Global, items: &'a [Value]) -> Result<Option<Vec<&'a Table>>, PlanFault>
     ensures { GivesAll (option_map (λ v. map (λ t. table_view t.now) v.items)) result (tables_after [] (items_view items.now)) }
 {
@@ -217,7 +218,6 @@ fn tables_of<'a>(alloc: Global, items: &'a [Value]) -> Result<Option<Vec<&'a Tab
     Ok(Some(tables))
 }
 
-/// The value at a name.
 fn field<'a>(table: &'a Table, name: &str) -> Option<&'a Value>
     ensures { option_map (λ v. view v.now) result ≡ get_member name.now (table_view table.now) }
 {

@@ -17,14 +17,14 @@ use toml::Table;
 /// The names of the fields of a key.
 pub(crate) const KEY_FIELDS: [&str; 3] = ["label", "name", "namespace"];
 
-/// The keys of a plan, and the set of their labels, which lie in the text's document.
+/// The keys of a plan, and the set of their labels, which are borrowed from the document.
 #[derive(Drop)]
 pub(crate) struct Keys<'a> {
     pub labels: Labels<'a>,
     pub keys: Vec<PlanKey>,
 }
 
-/// The keys that the tables write, in order.
+/// The keys in the tables, in order.
 pub(crate) fn keys_of<'a>(alloc: Global, tables: &[&'a Table]) -> Result<Keys<'a>, PlanFault>
     ensures exact { Gives (λ r. keys_view r.keys.items) result (keys_after [] (map (λ t. table_view t.now) tables.now)) }
     ensures labels { IfOk result (λ r. r.labels ≡ labels_of (keys_view r.keys.items)) }
@@ -39,7 +39,7 @@ pub(crate) fn keys_of<'a>(alloc: Global, tables: &[&'a Table]) -> Result<Keys<'a
     Ok(Keys { labels, keys })
 }
 
-/// The key that a table writes. `number` is its place in the plan. Its label is added to the labels.
+/// The key in a table, whose label it adds to the labels. `number` is the key's index in the plan.
 #[tactic(auto, unfolding(crate::specs::KeyReading::key_at))]
 fn key_of<'a>(
     alloc: Global,
@@ -90,14 +90,14 @@ fn copy_of(
     })
 }
 
-/// Tests whether a text is a word: at least one character, and no space.
+/// Tests whether a text is a word: not empty, and without a space.
 pub(crate) fn is_word(text: &str) -> bool
     ensures { result ≡ is_word text.now }
 {
     !text.is_empty() && !text.as_bytes().contains(&b' ')
 }
 
-/// Tests whether a namespace has a part, if one is given.
+/// Tests whether a namespace has a part, if it is given.
 pub(crate) fn has_parts(namespace: &Option<Vec<&str>>) -> bool
     ensures { result ≡ has_parts (option_map (λ v. map (λ t. t.now) v.items) namespace.now) }
 {
@@ -107,7 +107,7 @@ pub(crate) fn has_parts(namespace: &Option<Vec<&str>>) -> bool
     }
 }
 
-/// A copy of the parts of a namespace, if one is given.
+/// Copies the parts of a namespace, if it is given.
 fn namespace_of(
     alloc: Global,
     namespace: &Option<Vec<&str>>,
@@ -120,7 +120,7 @@ fn namespace_of(
     }
 }
 
-/// A copy of each text, in order.
+/// Copies each text, in order.
 fn copies_of(alloc: Global, texts: &[&str]) -> Result<Vec<String>, AllocError>
     ensures { IfOk result (λ v. texts_view v ≡ map (λ t. t.now) texts.now) }
 {

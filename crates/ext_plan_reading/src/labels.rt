@@ -1,4 +1,4 @@
-//! The labels of a plan's keys, each found without going over the others.
+//! The set of a plan's labels, each found without a scan of the others.
 ghost use Rattle.std.specs.Prelude.{◌≡◌, ◌++◌, ◌∷◌, [], not, length, if◌then◌else◌, is_ok, IfOk};
 ghost use Rattle.ext_plan.specs.Labels.{is_label};
 ghost use Rattle.ext_plan_reading.specs.KeyReading.{label_number};
@@ -7,8 +7,9 @@ use std::alloc::{AllocFailed, Global};
 use std::collections::BTreeMap;
 use std::marker::Model;
 
-/// Labels, all different, numbered from 0 in the order in which they were added. They are found by the order of their bytes and
-/// not by a hash: who writes a plan picks its labels, and could pick many of one hash.
+/// Different labels, numbered from 0 in the order in which they were added. They are found by the
+/// order of their bytes and not by a hash: the author of a plan chooses its labels, and could
+/// choose many with the same hash.
 #[derive(Drop)]
 pub(crate) struct Labels<'a> {
     labels: Vec<&'a str>,
@@ -18,7 +19,7 @@ pub(crate) struct Labels<'a> {
 impl<'a> Model for Labels<'a> {
     ghost use Rattle.std.specs.Prelude.{ℕ, List, map, ◌≡◌};
     ghost use Rattle.ext_plan_reading.specs.KeyReading.{label_number};
-    ghost use Rattle.ext_plan_reading.specs.InnerHelpers.{number_in};
+    ghost use Rattle.ext_plan_reading.specs.InnerSketches.{number_in};
 
     ghost Value = { List (List ℕ) };
 
@@ -28,7 +29,6 @@ impl<'a> Model for Labels<'a> {
 }
 
 impl<'a> Labels<'a> {
-    /// No labels.
     pub fn new(alloc: Global) -> Labels<'a>
         ensures { result ≡ [] }
     {
@@ -45,15 +45,14 @@ impl<'a> Labels<'a> {
         self.numbers.get(label).copied()
     }
 
-    /// How many labels there are.
     pub fn len(&self) -> usize
         ensures { result ≡ length self.now }
     {
         self.labels.len()
     }
 
-    /// Adds a label behind the others, and tells whether it is new. One that was added before stays where it is. After a
-    /// refused growth the labels are as before.
+    /// Adds a label after the others, and tells whether it is new. A label that was there keeps its
+    /// number. If memory is refused the labels are unchanged.
     pub fn add(&mut self, label: &'a str) -> Result<bool, AllocFailed<&'a str>>
         ensures new { IfOk result (λ added. added ≡ not (is_label self.old label.now)) }
         ensures labels { self.new ≡ (if is_ok result then (if is_label self.old label.now then self.old else self.old ++ label.now ∷ []) else self.old) }

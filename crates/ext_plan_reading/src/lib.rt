@@ -1,11 +1,10 @@
-//! Plans of test runs: the keys and the nodes, with their callbacks and tests, that a TOML document writes, or the first
-//! fault that it has.
+//! Reads plans of test runs from TOML documents, or reports the first fault of the text.
 //!
-//! `read_plan` reads, `Plan` is what was read, `PlanFault` is why a text was refused, and `explain` says what is meant by it, as `explain_id` does for an id. What a
-//! plan is stands in `ext_plan`, whose public names stand here too.
+//! `read_plan` reads, `Plan` is the result, and `PlanFault` is why a text was refused. `explain`
+//! explains such a fault, and `explain_id` the fault of an id. What a plan is stands in `ext_plan`,
+//! whose public names this crate exports too.
 //!
-//! Unless its comment says otherwise, a public call takes no memory and waits for nobody. JUnit has
-//! no plans: what names no source in it is an own rule.
+//! JUnit has no plans.
 #![tactic(auto)]
 
 mod callbacks;

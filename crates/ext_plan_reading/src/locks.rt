@@ -3,7 +3,7 @@ ghost use Rattle.std.specs.Prelude.{◌≡◌, [], map, fold, option_map, length
 ghost use Rattle.ext_plan.specs.Plans.{lock_view, locks_view, nodes_view};
 ghost use Rattle.ext_plan.specs.LockNames.{lock_limit, lock_name, lock_names, with_name};
 ghost use Rattle.ext_plan_reading.specs.Faults.{Gives};
-ghost use Rattle.ext_plan_reading.specs.InnerHelpers.{GivesAll};
+ghost use Rattle.ext_plan_reading.specs.InnerSketches.{GivesAll};
 ghost use Rattle.ext_plan_reading.specs.LockReading.{lock_at, lock_named, lock_of, lock_of_words, locks_after, locks_at};
 
 use crate::fault::PlanFault;
@@ -12,10 +12,10 @@ use crate::steps::words_of;
 use ext_plan::{PlanLock, PlanNode};
 use std::alloc::Global;
 
-/// How many different names of locks there may be.
+/// How many different names the locks of a plan have at most.
 const LOCK_LIMIT: usize = 63;
 
-/// The locks of a node, in order. `node` is its place in the plan.
+/// The locks of a node, in order. `node` is the node's index in the plan.
 #[tactic(auto, unfolding(crate::specs::LockReading::locks_at))]
 pub(crate) fn locks_of(
     alloc: Global,
@@ -30,7 +30,7 @@ pub(crate) fn locks_of(
     }
 }
 
-/// The locks that the texts of a node are, in order.
+/// The locks that the texts of a node spell, in order.
 fn locks_in_order(alloc: Global, node: usize, texts: &[&str]) -> Result<Vec<PlanLock>, PlanFault>
     ensures { Gives locks_view result (locks_after node [] (map (λ t. t.now) texts.now)) }
 {
@@ -42,7 +42,7 @@ fn locks_in_order(alloc: Global, node: usize, texts: &[&str]) -> Result<Vec<Plan
     Ok(locks)
 }
 
-/// The lock that a text of a node is, if it is one.
+/// The lock that a text of a node spells, or the node's fault.
 #[tactic(auto, unfolding(crate::specs::LockReading::lock_at))]
 pub(crate) fn lock_at(alloc: Global, node: usize, text: &str) -> Result<PlanLock, PlanFault>
     ensures { Gives lock_view result (lock_at node text.now) }
@@ -53,16 +53,16 @@ pub(crate) fn lock_at(alloc: Global, node: usize, text: &str) -> Result<PlanLock
     }
 }
 
-/// The lock that a text is, if it is one.
+/// The lock that a text spells, if it is one.
 #[tactic(auto, unfolding(crate::specs::LockReading::lock_of))]
 fn lock_of(alloc: Global, text: &str) -> Result<Option<PlanLock>, PlanFault>
     ensures { GivesAll (option_map lock_view) result (lock_of text.now) }
 {
-    let words = words_of(alloc, text)?;
+    let words = words_of(text);
     lock_of_words(alloc, words.as_slice())
 }
 
-/// The lock that the words are, if they are one.
+/// The lock that the words spell, if they are one.
 fn lock_of_words(alloc: Global, words: &[&str]) -> Result<Option<PlanLock>, PlanFault>
     ensures { GivesAll (option_map lock_view) result (lock_of_words (map (λ w. w.now) words.now)) }
 {
@@ -72,7 +72,7 @@ fn lock_of_words(alloc: Global, words: &[&str]) -> Result<Option<PlanLock>, Plan
     }
 }
 
-/// The lock of a mode and a name, if they are such.
+/// The lock with this mode and name, if both are valid.
 fn lock_named(alloc: Global, mode: &str, name: &str) -> Result<Option<PlanLock>, PlanFault>
     ensures { GivesAll (option_map lock_view) result (lock_named mode.now name.now) }
 {
@@ -98,7 +98,7 @@ pub(crate) fn locks_are_few(alloc: Global, nodes: &[PlanNode]) -> Result<bool, P
     Ok(names.len() <= LOCK_LIMIT)
 }
 
-/// Adds the names of locks, each unless it is there.
+/// Adds the names of the locks that are not there yet.
 fn add_names<'a>(names: &mut Labels<'a>, locks: &'a [PlanLock]) -> Result<(), PlanFault>
     ensures names { OnOk result (names.new ≡ fold with_name names.old (map (λ l. lock_name (lock_view l)) locks.now)) }
     ensures memory { IfErr result (λ e. e ≡ PlanFault.Memory) }

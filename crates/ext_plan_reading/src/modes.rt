@@ -6,7 +6,7 @@ ghost use Rattle.ext_plan_reading.specs.ModeReading.{mode_at, mode_of};
 use crate::fault::PlanFault;
 use ext_lifecycle::Mode;
 
-/// The mode of a node, `SameThread` where none is given. `node` is its place in the plan.
+/// The mode of a node, `SameThread` if none is given. `node` is the node's index in the plan.
 pub(crate) fn mode_at(node: usize, text: Option<&str>) -> Result<Mode, PlanFault>
     ensures { Gives (λ mode. mode) result (mode_at node (option_map (λ t. t.now) text.entry)) }
 {
@@ -19,7 +19,7 @@ pub(crate) fn mode_at(node: usize, text: Option<&str>) -> Result<Mode, PlanFault
     }
 }
 
-/// The mode that a text is, if it is one.
+/// The mode that a text spells, if it is one.
 fn mode_of(text: &str) -> Option<Mode>
     ensures { result ≡ mode_of text.now }
 {

@@ -4,7 +4,7 @@ ghost use Rattle.toml.specs.View.{table_view};
 ghost use Rattle.ext_ids.specs.Reading.{read_id};
 ghost use Rattle.ext_tree.specs.Decided.{is_tree};
 ghost use Rattle.ext_plan.specs.Plans.{node_view, nodes_view, steps_view};
-ghost use Rattle.ext_plan_reading.specs.InnerHelpers.{sketch_view};
+ghost use Rattle.ext_plan_reading.specs.InnerSketches.{sketch_view};
 ghost use Rattle.ext_plan_reading.specs.Faults.{check, Gives};
 ghost use Rattle.ext_plan_reading.specs.NodeReading.{id_or, sketch_at, sketches_after, ids_of, is_bad_test, test_at, node_at, nodes_after, nodes_of_tables};
 
@@ -35,7 +35,8 @@ pub(crate) const NODE_FIELDS: [&str; 9] = [
     "after_each",
 ];
 
-/// A node after the first pass: its fields have their types and its id is one, and its mode, locks and steps are still texts.
+/// A node after the first pass: its fields have their types and its id is valid; its mode, locks
+/// and steps are still texts.
 #[derive(Drop)]
 pub(crate) struct NodeSketch<'a> {
     pub id: UniqueId,
@@ -46,7 +47,7 @@ pub(crate) struct NodeSketch<'a> {
     pub test: Option<Vec<&'a str>>,
 }
 
-/// The nodes that the tables write, in order.
+/// The nodes in the tables, in order.
 #[tactic(auto, unfolding(crate::specs::NodeReading::nodes_of_tables))]
 pub(crate) fn nodes_of_tables(
     alloc: Global,
@@ -61,7 +62,7 @@ pub(crate) fn nodes_of_tables(
     nodes_of(alloc, labels, &tree, sketches.as_slice())
 }
 
-/// The first pass: the nodes that the tables write, in order.
+/// The first pass over the tables of the nodes, in order.
 pub(crate) fn sketches_of<'a>(
     alloc: Global,
     tables: &[&'a Table],
@@ -76,7 +77,7 @@ pub(crate) fn sketches_of<'a>(
     Ok(sketches)
 }
 
-/// The node that a table writes. `node` is its place in the plan.
+/// The first pass over a node's table. `node` is the node's index in the plan.
 #[tactic(auto, unfolding(crate::specs::NodeReading::sketch_at))]
 fn sketch_of<'a>(alloc: Global, node: usize, table: &'a Table) -> Result<NodeSketch<'a>, PlanFault>
     ensures { Gives sketch_view result (sketch_at node (table_view table.now)) }
@@ -104,7 +105,7 @@ fn sketch_of<'a>(alloc: Global, node: usize, table: &'a Table) -> Result<NodeSke
     })
 }
 
-/// The id that a node's text spells.
+/// The id that a node's text spells, or the node's fault.
 fn id_of(alloc: Global, node: usize, text: &str) -> Result<UniqueId, PlanFault>
     ensures { Gives (λ id. id) result (id_or (PlanFault.BadId node) (read_id text.now)) }
 {
@@ -115,8 +116,7 @@ fn id_of(alloc: Global, node: usize, text: &str) -> Result<UniqueId, PlanFault>
     }
 }
 
-/// The tree of the nodes.
-fn tree_of(alloc: Global, sketches: &[NodeSketch<'_>]) -> Result<Tree, PlanFault>
+pub(crate) fn tree_of(alloc: Global, sketches: &[NodeSketch<'_>]) -> Result<Tree, PlanFault>
     ensures exact { Gives (λ _. tt) result (check PlanFault.BadTree (is_tree (ids_of (map sketch_view sketches.now)))) }
     ensures ids { IfOk result (λ tree. tree ≡ ids_of (map sketch_view sketches.now)) }
     ensures few { IfOk result (λ _. length sketches.now ≤ 256) }
@@ -131,7 +131,7 @@ fn tree_of(alloc: Global, sketches: &[NodeSketch<'_>]) -> Result<Tree, PlanFault
     }
 }
 
-/// A copy of each node's id, in order.
+/// Copies each node's id, in order.
 pub(crate) fn ids_of(
     alloc: Global,
     sketches: &[NodeSketch<'_>],
@@ -145,7 +145,7 @@ pub(crate) fn ids_of(
     Ok(ids)
 }
 
-/// The second pass: the nodes of the sketches, in order, where this is their tree.
+/// The second pass over the nodes, in order. `tree` has to be the tree of their ids.
 fn nodes_of(
     alloc: Global,
     labels: &Labels<'_>,
@@ -160,15 +160,16 @@ fn nodes_of(
     for sketch in sketches {
         let number = nodes.len();
         let is_parent = !tree.children(number).is_empty();
-        let least = least_test_depth(sketches, &sketch.id);
+        let least = least_test_depth(tree, sketches, number);
         let node = node_of(alloc, labels, number, is_parent, least, sketch)?;
         nodes.push(node)?;
     }
     Ok(nodes)
 }
 
-/// The node of a sketch, where `least` is how many segments the id of a test at or below it has at least. A test that is a
-/// parent or has callbacks of one is refused before its mode and locks are read, and these before its steps.
+/// The second pass over a node. `least` is the least number of segments of a test's id at or below
+/// it. A test that has children or callbacks round them is refused before its mode and locks are
+/// read, and these before its steps.
 #[tactic(auto, unfolding(crate::specs::NodeReading::node_at))]
 fn node_of(
     alloc: Global,
@@ -201,14 +202,14 @@ fn node_of(
     })
 }
 
-/// Tests whether a node is a test, but has children or callbacks round them.
+/// Tests whether a node is a test that has children or callbacks round them.
 fn is_bad_test(is_parent: bool, sketch: &NodeSketch<'_>) -> bool
     ensures { result ≡ is_bad_test is_parent (sketch_view sketch.now) }
 {
     sketch.test.is_some() && (is_parent || sketch.callbacks.are_of_container())
 }
 
-/// The steps of a node, if it is a test. `depth` is how many segments its id has.
+/// The steps of a node, if it is a test. `depth` is the number of segments of its id.
 #[tactic(auto, unfolding(crate::specs::NodeReading::test_at))]
 fn test_of(
     alloc: Global,

@@ -14,45 +14,49 @@ use ext_plan::{Plan, keys_are_few};
 use std::alloc::Global;
 use toml::Table;
 
-/// Reads the plan that the text of a TOML document writes.
+/// Reads the plan in the text of a TOML document.
 ///
-/// The plan has the text's keys, nodes, callbacks and steps, each in the order of the text. The document has two arrays of
-/// tables, which may be left out.
+/// The plan has the keys, nodes, callbacks and steps of the text, in its order. The document may
+/// have `keep_faults`, true or by default false, and two arrays of tables, `key` and `node`.
 ///
-/// Each `key` has a `label` and, where they are given, a `name`, in place of the label, and a `namespace`, an array of
-/// texts. At most 64 of them are different.
+/// Each `key` has a `label`. It may have a `name`, which replaces the label, and a `namespace`, an
+/// array of texts with at least one. At most 64 keys are different.
 ///
-/// Each `node` has an `id` and, where it is a test, `test`, an array of steps. It may have `mode`, which is `same_thread`
-/// or `concurrent` and else `SameThread`; `isolated`, true or false; `locks`, an array of texts `READ NAME` or
-/// `READ_WRITE NAME`, with at most 63 different names in the plan; and `before_all`, `after_all`, `before_each` and
-/// `after_each`, each an array of at most 1,048,576 callbacks, which are arrays of steps. The ids are those of a tree
-/// (`ext_tree::Tree::build`): the first has one segment, and the parent of each further one stands before it. A test has
-/// no children, and neither `before_all` nor `after_all` is given in it, be it an empty array. A step is one of
+/// Each `node` has an `id` and, if it is a test, `test`, an array of steps. It may have `mode`,
+/// which is `concurrent` or by default `same_thread`; `isolated`, true or by default false;
+/// `locks`, an array of texts `READ NAME` or `READ_WRITE NAME`, with at most 63 different names in
+/// the plan; and `before_all`, `after_all`, `before_each` and `after_each`, each an array of at
+/// most 1,048,576 callbacks, which are arrays of steps. The ids form a tree
+/// (`ext_tree::Tree::build`): the first has one segment, and each other one comes after its parent.
+/// A test has no children, and neither `before_all` nor `after_all`, even as an empty array. A step
+/// is one of
 ///
 /// ```text
 /// none KEY      put KEY TEXT      want KEY TEXT       computefail KEY TEXT      fail TEXT
 /// remove KEY    put! KEY TEXT     compute KEY TEXT    compute! KEY TEXT         abort TEXT
 /// ```
 ///
-/// with one space between two words, where KEY and TEXT are words. A KEY is a label of the plan, or else the name of a key in the
-/// global namespace, which needs no declaration. All but `fail` and `abort` may end with ` up N`. There N is from 1 to 15, and less than the number of segments of the node's id; in `before_each` and
-/// `after_each` it is less than that of the id of each test at or below the node, which are the ones that these callbacks
-/// run round. A test and a callback have at most 2^32 - 1 steps.
+/// with one space between two words, where KEY and TEXT are words. A KEY is a label of the plan, or
+/// else the name of a key in the global namespace, which needs no declaration. All steps but `fail`
+/// and `abort` may end with ` up N`, where N is from 1 to 15 and less than the number of segments
+/// of the node's id. In `before_each` and `after_each`, N is less than that of the id of each test
+/// at or below the node, since these callbacks run round those tests. A test and a callback have at
+/// most 2^32 - 1 steps.
 ///
-/// Everything else is refused with its first fault. In order: `NotToml`; `UnknownField`, then `BadField`, of the top
-/// fields; for each key `UnknownField`, `BadField`, `BadLabel`; for each node `UnknownField`, `BadField`, `BadId`;
-/// `BadTree`; for each node `BadTest`, `BadLock`, `BadStep`; `TooMany`. `Memory` comes in place of any of these where a growth
-/// was refused. `NotUtf8` is never answered, since a `&str` is UTF-8.
+/// Everything else is refused with its first fault. In order: `NotToml`; `UnknownField`, then
+/// `BadField`, of the top fields; for each key `UnknownField`, `BadField`, `BadLabel`; for each
+/// node `UnknownField`, `BadField`, `BadId`; `BadTree`; for each node `BadTest`, `BadLock`,
+/// `BadStep`; `TooMany`. `Memory` takes the place of any of these if memory was refused. `NotUtf8`
+/// is never answered, since a `&str` is UTF-8.
 ///
-/// Memory is taken for the TOML document, for the lists of its tables and texts, for the set of labels, for the tree of
-/// the ids, for the words of one step at a time, for the different keys and for the plan, all in proportion to the
-/// text; all but the plan is given back before the call returns. It waits for nobody.
+/// Takes memory for the document, the lists of its tables and texts, the set of labels, the tree of
+/// the ids, the different keys and the plan, all in proportion to the text. All but the plan's is given back.
 #[tactic(auto, unfolding(crate::specs::Reading::plan_of_text))]
 pub fn read_plan(alloc: Global, text: &str) -> Result<Plan, PlanFault>
     ensures exact { Gives plan_view result (plan_of_text text.now) }
     ensures utf8 { result ≢ Err PlanFault.NotUtf8 }
 
-    // What holds of every plan, whatever the text was.
+    // This holds of every plan, whatever the text was.
     ensures plan { IfOk result (λ p. IsReadPlan (plan_view p)) }
 {
     match toml::table_from_str(alloc, text) {
@@ -62,7 +66,6 @@ pub fn read_plan(alloc: Global, text: &str) -> Result<Plan, PlanFault>
     }
 }
 
-/// The plan of a document.
 #[tactic(auto, unfolding(crate::specs::Reading::plan_of))]
 fn plan_of(alloc: Global, top: &Table) -> Result<Plan, PlanFault>
     ensures { Gives plan_view result (plan_of (table_view top.now)) }
@@ -81,7 +84,7 @@ fn plan_of(alloc: Global, top: &Table) -> Result<Plan, PlanFault>
     )
 }
 
-/// The plan of the tables of its keys and its nodes, whose store keeps faults or not.
+/// The plan with the keys and nodes in these tables.
 #[tactic(auto, unfolding(crate::specs::Reading::plan_of_tables))]
 fn plan_of_tables(
     alloc: Global,

@@ -1,15 +1,16 @@
 //! The steps of a test or of a callback.
-ghost use Rattle.std.specs.Prelude.{◌≡◌, ◌==◌, [], map, length, option_map, IfOk, IfSome, position, ◌<◌};
+ghost use Rattle.std.specs.Prelude.{◌≡◌, ◌==◌, [], map, take, length, option_map, IfOk, IfSome, position, ◌<◌};
 ghost use Rattle.std.specs.List.{slice_split, list_any};
 ghost use Rattle.std.specs.Str.{bytes_eq};
 ghost use Rattle.ext_plan.specs.Plans.{step_key_view, step_view, steps_view};
 ghost use Rattle.ext_plan.specs.Steps.{height};
 ghost use Rattle.ext_plan_reading.specs.Faults.{Gives};
-ghost use Rattle.ext_plan_reading.specs.InnerHelpers.{GivesAll};
+ghost use Rattle.ext_plan_reading.specs.InnerSketches.{GivesAll};
 ghost use Rattle.ext_plan_reading.specs.StepReading.{height_of, key_of_word, key_step, text_step, worded_key_step, worded_text_step, short_step, step_of_words, step_of, step_at, steps_after, steps_at};
 
 use crate::fault::PlanFault;
 use crate::labels::Labels;
+use arrayvec::ArrayVec;
 use ext_plan::{Step, StepKey};
 use std::alloc::{AllocError, Global};
 
@@ -105,22 +106,27 @@ pub(crate) fn step_of(
 ) -> Result<Option<Step>, PlanFault>
     ensures { GivesAll (option_map step_view) result (step_of labels.now text.now) }
 {
-    let words = words_of(alloc, text)?;
+    let words = words_of(text);
     if has_empty(words.as_slice()) {
         return Ok(None);
     }
     step_of_words(alloc, labels, words.as_slice())
 }
 
-/// The words of a text, with one space between two.
-pub(crate) fn words_of<'a>(alloc: Global, text: &'a str) -> Result<Vec<&'a str>, AllocError>
-    ensures { IfOk result (λ v. map (λ w. w.now) v.items ≡ slice_split (λ b. b == 32) text.now) }
+/// The words of a text, with one space between two, but no more than the first six: what has so many is no step, and no
+/// lock.
+pub(crate) fn words_of<'a>(text: &'a str) -> ArrayVec<&'a str, 6>
+    ensures { map (λ w. w.now) result.items ≡ take 6 (slice_split (λ b. b == 32) text.now) }
 {
-    text.split(' ').collect(alloc)
+    let mut words = ArrayVec::new();
+    for word in text.split(' ').take(6) {
+        words.push(word);
+    }
+    words
 }
 
 /// Tests whether one of the words has no character.
-pub(crate) fn has_empty(words: &[&str]) -> bool
+fn has_empty(words: &[&str]) -> bool
     ensures { result ≡ list_any (λ word. length word.now == 0) words.now }
 {
     words.iter().any(|word| word.is_empty())

@@ -10,7 +10,7 @@ use Rattle.ext_races.specs.declared.word.Word.{Word}
 use Rattle.ext_races.specs.declared.word.Word.TheVariants as words
 use Rattle.ext_races.specs.InnerTold.{race_eq, side_eq, touch_eq}
 use Rattle.ext_races.specs.Touches.{TouchText}
-use Rattle.ext_races.specs.Words.{word_code, word_eq}
+use Rattle.ext_races.specs.StepWords.{word_code, word_eq}
 
 pub both : (a b : Bool) → (a && b) ≡ true → (a ≡ true) × (b ≡ true)
 both true true h = (refl, refl)

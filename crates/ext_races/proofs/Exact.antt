@@ -6,7 +6,8 @@ use Rattle.ext_plan.specs.Plans.{PlanText}
 use Rattle.ext_races.specs.declared.race.Race.{Race}
 use Rattle.ext_races.specs.Clashes.{agree, clashes, closes_differ, may_fail}
 use Rattle.ext_races.specs.InnerGroups.{IsGrouped, close_group, group_at, place_group}
-use Rattle.ext_races.specs.InnerTold.{groups_told, nodes_beside, race}
+use Rattle.ext_races.specs.Beside.{nodes_beside}
+use Rattle.ext_races.specs.InnerTold.{groups_told, race}
 use Rattle.ext_races.specs.Races.{AreRaces, IsRace, race_of}
 use Rattle.ext_races.specs.Touches.{TouchText, touches_made}
 use Rattle.ext_races.proofs.Equalities.{both, both_true, equal}

@@ -6,8 +6,7 @@ use Rattle.std.proofs.lemmas.Bool.{cases_Bool, true≢false}
 use Rattle.std.proofs.lemmas.Bool.Decides.{Decides-eqb}
 use Rattle.ext_plan.specs.Plans.{PlanText}
 use Rattle.ext_plan.specs.PlanCalls.{concurrent_of}
-use Rattle.ext_races.specs.Beside.{AreBeside, IsBeside, PassesBy}
-use Rattle.ext_races.specs.InnerTold.{are_beside, comes_by_other, nodes_beside, turns}
+use Rattle.ext_races.specs.Beside.{AreBeside, IsBeside, PassesBy, are_beside, comes_by_other, nodes_beside, turns}
 use Rattle.ext_races.specs.MadeSteps.{plan_path}
 use Rattle.ext_races.proofs.Equalities.{both, both_true, equal}
 

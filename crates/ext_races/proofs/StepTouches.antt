@@ -11,7 +11,7 @@ use Rattle.ext_plan.specs.StoreKeys.{is_there, key_of_step, place_of_key}
 use Rattle.ext_races.proofs.Lists.{map-take_more}
 use Rattle.ext_races.specs.Acts.{ActText, act_of}
 use Rattle.ext_races.specs.InnerGroups.{HasGroups}
-use Rattle.ext_races.specs.Words.{changes, gives_value}
+use Rattle.ext_races.specs.StepWords.{changes, gives_value}
 use Rattle.ext_races.specs.MadeSteps.{MadeText, path_of}
 use Rattle.ext_races.specs.Touches.{below_act, below_computes, key_of_act, key_of_made, reach, touches_along, touches_of, touches_of_act}
 

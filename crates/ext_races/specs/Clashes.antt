@@ -5,7 +5,7 @@ use Rattle.std.specs.Prelude.{codes, Bool, not, ◌&&◌, ◌==◌, if◌then◌
 use Rattle.std.specs.Str.{bytes_eq}
 use Rattle.ext_plan.specs.Values.{begins_with}
 use Rattle.ext_races.specs.Touches.{TouchText}
-use Rattle.ext_races.specs.Words.{computes, leaves_closeable, word_eq}
+use Rattle.ext_races.specs.StepWords.{computes, leaves_closeable, word_eq}
 
 -- both compute one place, and come to the same whoever does
 abbrev pub agree : TouchText → TouchText → Bool

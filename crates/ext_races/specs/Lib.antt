@@ -8,4 +8,4 @@ pub mod MadeSteps
 pub mod RaceLines
 pub mod Races
 pub mod Touches
-pub mod Words
+pub mod StepWords

@@ -16,7 +16,7 @@ use Rattle.ext_races.specs.declared.race.Race.{Race}
 use Rattle.ext_races.specs.declared.race.Side.{Side}
 use Rattle.ext_races.specs.declared.found.Found.{Found}
 use Rattle.ext_races.specs.declared.found.Found.TheVariants as found
-use Rattle.ext_races.specs.Words.{word_text}
+use Rattle.ext_races.specs.StepWords.{word_text}
 
 -- how many races have a line
 abbrev pub line_limit : ℕ

@@ -11,7 +11,7 @@ use Rattle.ext_plan.specs.ReadPlans.{ids_of_nodes}
 use Rattle.ext_plan.specs.StoreKeys.{key_of_step, place_of_key, with_key}
 use Rattle.ext_races.specs.declared.touch.Touch.{Touch}
 use Rattle.ext_races.specs.declared.word.Word.{Word}
-use Rattle.ext_races.specs.Words.{changes, gives_value, has_text, looks_along}
+use Rattle.ext_races.specs.StepWords.{changes, gives_value, has_text, looks_along}
 use Rattle.ext_races.specs.Acts.{ActText, act_of, draws}
 use Rattle.ext_races.specs.MadeSteps.{MadeText, path_of, steps_made}
 

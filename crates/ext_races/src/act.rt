@@ -6,7 +6,8 @@ ghost use Rattle.ext_races.specs.Acts.{act_of, act_view, draws};
 use crate::Word;
 use ext_plan::{Step, StepKey};
 
-/// What a step does with the store: its word, its key, its text, which is empty where the step has none, and how far up it goes.
+/// What a step does with the store: its word, its key, its text, which is empty if the step has
+/// none, and how many contexts up it acts.
 #[derive(Clone, Copy, Debug)]
 pub(crate) struct StepAct<'p> {
     pub word: Word,
@@ -15,7 +16,7 @@ pub(crate) struct StepAct<'p> {
     pub up: usize,
 }
 
-/// What a step does with the store; `None` of `fail` and `abort`.
+/// What a step does with the store; `None` for `fail` and `abort`.
 pub(crate) fn act_of(step: &Step) -> Option<StepAct<'_>>
     ensures { option_map act_view result ≡ act_of (step_view step.now) }
 {
@@ -40,7 +41,8 @@ pub(crate) fn act_of(step: &Step) -> Option<StepAct<'_>>
     })
 }
 
-/// Whether a step may draw a number: it puts, or its factory gives a value, or a fault that is kept.
+/// Tests whether a step may draw a number: it puts, or its factory gives a value or a fault that is
+/// kept.
 pub(crate) fn draws(keep_faults: bool, step: &Step) -> bool
     ensures { result ≡ draws keep_faults (step_view step.now) }
 {

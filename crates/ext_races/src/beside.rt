@@ -2,14 +2,14 @@
 ghost use Rattle.std.specs.Prelude.{◌≡◌};
 ghost use Rattle.ext_plan.specs.Plans.{plan_view};
 ghost use Rattle.ext_plan.specs.ReadPlans.{ids_of_nodes};
-ghost use Rattle.ext_races.specs.InnerTold.{are_beside, comes_by_other, nodes_beside};
+ghost use Rattle.ext_races.specs.Beside.{are_beside, comes_by_other, nodes_beside};
 
 use crate::made::path_in;
 use ext_model::ContextNo;
 use ext_plan::Plan;
 use ext_tree::Tree;
 
-/// Whether two nodes of the plan may run beside one another.
+/// Tests whether two nodes of the plan may run beside one another.
 pub(crate) fn nodes_beside(plan: &Plan, tree: &Tree, first: ContextNo, second: ContextNo) -> bool
     requires { tree.now ≡ ids_of_nodes (plan_view plan.now).nodes }
     ensures { result ≡ nodes_beside (plan_view plan.now) first second }
@@ -20,7 +20,7 @@ pub(crate) fn nodes_beside(plan: &Plan, tree: &Tree, first: ContextNo, second: C
     are_beside(plan, path_in(tree, first), path_in(tree, second))
 }
 
-/// Whether nodes of these paths may.
+/// Tests whether nodes with these paths may run beside one another.
 fn are_beside(plan: &Plan, path: &[ContextNo], other: &[ContextNo]) -> bool
     ensures { result ≡ are_beside (plan_view plan.now) path.now other.now }
 {
@@ -29,7 +29,7 @@ fn are_beside(plan: &Plan, path: &[ContextNo], other: &[ContextNo]) -> bool
     })
 }
 
-/// Whether the path comes by another concurrent child of the container than this one.
+/// Tests whether the path passes through a concurrent child of the container other than this one.
 fn comes_by_other(plan: &Plan, child: ContextNo, container: ContextNo, path: &[ContextNo]) -> bool
     ensures { result ≡ comes_by_other (plan_view plan.now) child container path.now }
 {

@@ -13,17 +13,22 @@ use ext_plan::{Plan, StepKeys};
 use ext_tree::TreeFault;
 use std::alloc::{AllocError, Global};
 
-/// How many numbers a run has.
+/// How many numbers a run can draw.
 const NUMBERS: usize = 65_535;
 
-/// The races of a plan, at most so many: two nodes that may run beside one another, each with a step, where the steps touch one place that one of them may change, or
-/// leave values in one context whose closes may fail. Where fewer are told there are no others: a plan has none just where none is told, for `most` of at least 1.
+/// Lists at most `most` races of a plan, without repetition, or reports a limit that its steps
+/// exceed. A race is of two nodes that may run beside one another, each with a step. Both steps
+/// touch one place that one of them may change, and do not compute the same result there; or both
+/// leave values in one context whose closes may fail with different texts. If fewer than `most`
+/// races are listed there are no others: with `most` of at least 1, an empty list means that the
+/// plan has no race.
 ///
-/// A plan whose steps name more than 64 keys is told as `TooManyKeys`, and else one whose steps may draw more than 65,535 numbers as `TooManyNumbers`: it has no one
-/// report, whatever its nodes touch.
+/// `TooManyKeys` reports that the steps name more than 64 keys, and otherwise `TooManyNumbers` that
+/// they may draw more than 65,535 numbers. Such a plan has no one report, whatever its nodes touch.
 ///
-/// It takes memory for the steps that the plan may make, 32 bytes for each, and for what they touch; `AllocError` comes only where that is refused. Time: about that of the
-/// steps, and where two nodes may change one place that of the pairs of its touches. Own rule.
+/// Takes memory for the steps that the plan may make, 32 bytes each, and for what they touch; fails
+/// with `AllocError` only if that is refused. The time grows with the number of steps and, at
+/// places that two nodes may change, with the number of pairs of touches.
 pub fn races<'p>(alloc: Global, plan: &'p Plan, most: usize) -> Result<Found<'p>, AllocError>
     requires { IsRunnablePlan (plan_view plan.now) }
     ensures { IfOk result (IsFound (plan_view plan.now) most) }

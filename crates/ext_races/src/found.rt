@@ -1,17 +1,18 @@
-//! What is found of a plan's races.
+//! The result of looking for a plan's races.
 use crate::Race;
 use ext_plan::StepKey;
 
-/// What `races` finds.
+/// What `races` finds: races, or a limit that the plan's steps exceed.
 #[derive(Debug, Drop)]
 pub enum Found<'p> {
-    /// These races, and for each key that the plan's steps name the first step's word for it, by the key's number.
+    /// The races, and by the number of each key the word by which a step first names it.
     Races {
         races: Vec<Race>,
         names: Vec<&'p StepKey>,
     },
-    /// The steps name more than 64 different keys: which of them get a place depends on the order in which the steps are made.
+    /// The steps name more than 64 different keys: which of them get a place depends on the
+    /// schedule.
     TooManyKeys,
-    /// The steps may draw more than 65,535 numbers: which of them get one depends on the order.
+    /// The steps may draw more than 65,535 numbers: which of them get one depends on the schedule.
     TooManyNumbers,
 }

@@ -24,13 +24,13 @@ use std::alloc::{AllocError, Global};
 /// How many groups a context has: one for each of 64 keys, and one for closes.
 const GROUPS: usize = 65;
 
-/// The place of the last of them.
+/// The index of the group for closes.
 const CLOSES: usize = 64;
 
-/// How many of a group's last touches are compared with a further one.
+/// How many of a group's last touches are compared with a new one.
 const COMPARED: usize = 16;
 
-/// The touches of these steps, by the numbers of the keys, in groups. Takes memory for them.
+/// Groups the touches of these steps. Takes memory for them.
 pub(crate) fn groups_of<'p>(
     alloc: Global,
     keys: &StepKeys<'_>,
@@ -50,7 +50,6 @@ pub(crate) fn groups_of<'p>(
     Ok(groups)
 }
 
-/// So many groups of no touches.
 fn no_groups<'p>(alloc: Global, count: usize) -> Result<Vec<Vec<Touch<'p>>>, AllocError>
     ensures count { IfOk result (λ v. vec_len v ≡ count) }
     ensures empty { IfOk result (λ v. AreEmpty (groups_view v.items)) }
@@ -62,7 +61,7 @@ fn no_groups<'p>(alloc: Global, count: usize) -> Result<Vec<Vec<Touch<'p>>>, All
     Ok(groups)
 }
 
-/// Adds what a step touches. Its key is one of the directory's.
+/// Adds what a step touches. Its key has to be in the directory.
 fn add_step<'p>(
     alloc: Global,
     keys: &StepKeys<'_>,
@@ -87,7 +86,7 @@ fn add_step<'p>(
     Ok(())
 }
 
-/// The number of a key that a step names, which is one of the directory's.
+/// The number of a key that a step names, which has to be in the directory.
 fn key_number(
     alloc: Global,
     keys: &StepKeys<'_>,
@@ -103,7 +102,7 @@ fn key_number(
     Ok(directory.number_of(&called).unwrap_or(0))
 }
 
-/// The path of the ancestor so many contexts up.
+/// The path of the ancestor `up` contexts up.
 fn ancestor(path: &[ContextNo], up: usize) -> &[ContextNo]
     ensures { result.now ≡ drop up path.now }
 {
@@ -113,7 +112,7 @@ fn ancestor(path: &[ContextNo], up: usize) -> &[ContextNo]
     }
 }
 
-/// Adds what an act touches from the first context of this path on.
+/// Adds what an act touches on this path, which begins with the context that it acts on.
 fn add_act<'p>(
     groups: &mut Vec<Vec<Touch<'p>>>,
     node: ContextNo,
@@ -172,7 +171,7 @@ fn add<'p>(groups: &mut Vec<Vec<Touch<'p>>>, touch: Touch<'p>) -> Result<(), All
     Ok(())
 }
 
-/// Adds a touch to a group, unless it is one of its last.
+/// Adds a touch to a group, unless it equals one of the group's last.
 fn push_in<'p>(
     groups: &mut Vec<Vec<Touch<'p>>>,
     number: usize,
@@ -188,7 +187,7 @@ fn push_in<'p>(
     Ok(())
 }
 
-/// Tests whether the touch is one of the last of the group.
+/// Tests whether a touch equals one of the group's last.
 fn stands_last(group: &[Touch<'_>], touch: &Touch<'_>) -> bool
     ensures { result ≡ list_any (λ other. touch_eq (touch_view other) (touch_view touch.now)) (take COMPARED (reverse group.now)) }
 {

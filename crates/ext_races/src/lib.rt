@@ -1,10 +1,10 @@
-//! Which nodes of a plan may get into each other's way.
+//! Races of a plan: nodes that may run beside one another with steps that interfere.
 //!
-//! `races` tells the races of a plan: two nodes that may run beside one another, each with a step, where both steps touch one place, which one of them may change. What a
-//! plan's steps are is `MadeSteps` of `specs/`, what they touch is `Touches`, which nodes may run beside one another is `Beside`, which touches clash is `Clashes`, and what
-//! is told is `Races`.
+//! `races` lists them. In `specs/`, `MadeSteps` defines which steps a plan may make, `Touches` what
+//! they touch, `Beside` which nodes may run beside one another, `Clashes` which touches clash, and
+//! `Races` what is reported.
 //!
-//! JUnit has no such checker: what is said here is an own rule.
+//! JUnit has no such checker.
 #![tactic(auto)]
 
 mod act;

@@ -14,7 +14,7 @@ use ext_plan::{Plan, Step};
 use ext_tree::Tree;
 use std::alloc::{AllocError, Global};
 
-/// A step that a node may make, and the steps of the same call before it.
+/// A step that a node may make, with the steps of the same call before it.
 #[derive(Clone, Copy, Debug)]
 pub(crate) struct MadeStep<'p> {
     pub node: ContextNo,
@@ -22,7 +22,7 @@ pub(crate) struct MadeStep<'p> {
     pub before: &'p [Step],
 }
 
-/// A plan, as what tells how many callbacks its nodes registered.
+/// A plan, seen as the number of callbacks that each node registers.
 #[derive(Drop)]
 pub(crate) struct PlanCallbacks<'a> {
     plan: &'a Plan,
@@ -40,7 +40,8 @@ impl Callbacks for PlanCallbacks<'_> {
     }
 }
 
-/// The steps that a run of the plan may make, in the order of its nodes. Takes memory for the list: 32 bytes for each of them.
+/// Lists the steps that a run of the plan may make, in the order of its nodes. Takes memory for the
+/// list: 32 bytes for each step.
 pub(crate) fn steps_made<'p>(
     alloc: Global,
     plan: &'p Plan,
@@ -57,7 +58,6 @@ pub(crate) fn steps_made<'p>(
     Ok(made)
 }
 
-/// Adds the steps of a node.
 fn push_node<'p>(
     alloc: Global,
     plan: &'p Plan,
@@ -77,7 +77,6 @@ fn push_node<'p>(
     Ok(())
 }
 
-/// The calls of a node.
 fn calls_of(
     alloc: Global,
     plan: &Plan,
@@ -101,7 +100,7 @@ fn calls_of(
     Ok(calls)
 }
 
-/// The path of a node, from it to the root; none of a node that the tree does not have.
+/// The path from a node to the root; empty if the tree has no such node.
 pub(crate) fn path_in(tree: &Tree, node: ContextNo) -> &[ContextNo]
     ensures path { node < length tree.now → result.now ≡ path_of tree.now node }
     ensures few { length result.now ≤ 16 }
@@ -113,7 +112,7 @@ pub(crate) fn path_in(tree: &Tree, node: ContextNo) -> &[ContextNo]
     tree.path(node).as_slice()
 }
 
-/// Adds these steps, as the node's.
+/// Adds these steps as steps of the node.
 fn push_steps<'p>(
     node: ContextNo,
     steps: &'p [Step],

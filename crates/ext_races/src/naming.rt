@@ -16,9 +16,10 @@ use ext_plan::{Plan, StepKey, StepKeys};
 use ext_tree::{Directory, Key, TreeFault};
 use std::alloc::{AllocError, Global};
 
-/// The different keys that the steps name, in the order in which they first do, and the first step's word for each. Takes memory for them.
+/// The different keys that the steps name, in the order in which they are first named, and the word
+/// that first names each. Takes memory for them.
 ///
-/// Refused as `TooMany` where they are more than 64, and as `Memory`.
+/// Refused as `TooMany` if there are more than 64, and as `Memory`.
 pub(crate) fn keys_named<'p>(
     alloc: Global,
     keys: &StepKeys<'_>,
@@ -37,7 +38,7 @@ pub(crate) fn keys_named<'p>(
     Ok((directory, names))
 }
 
-/// Gives the key that the step names a number, unless it has one.
+/// Numbers the key that the step names, unless it has a number.
 fn name<'p>(
     alloc: Global,
     keys: &StepKeys<'_>,
@@ -62,7 +63,7 @@ fn name<'p>(
     Ok(())
 }
 
-/// The key of the store that a step names.
+/// Makes the key of the store that a step names.
 pub(crate) fn store_key(
     alloc: Global,
     keys: &StepKeys<'_>,
@@ -74,7 +75,7 @@ pub(crate) fn store_key(
     called.key().clone()
 }
 
-/// Gives the key a number, and says whether it had none before.
+/// Numbers the key, and tells whether it had no number before.
 fn declare(directory: &mut Directory, key: Key) -> Result<bool, TreeFault>
     requires { length directory.old ≤ 64 }
     ensures keys { OnOk result (directory.new ≡ with_key directory.old key) }
@@ -89,7 +90,7 @@ fn declare(directory: &mut Directory, key: Key) -> Result<bool, TreeFault>
     }
 }
 
-/// How many numbers the steps may draw.
+/// Counts the steps that may draw a number.
 pub(crate) fn numbers_drawn(plan: &Plan, made: &[MadeStep<'_>]) -> usize
     ensures { result ≡ count_by (λ made. draws (plan_view plan.now).keep_faults made.step) (map made_view made.now) }
 {

@@ -4,26 +4,28 @@ ghost use Rattle.std.specs.Prelude.{◌≡◌};
 use crate::Word;
 use ext_model::{ContextNo, KeyNo};
 
-/// One of two steps that race: the node in whose context it runs, its first word, and the number of its key.
+/// One of two steps that race: the node in whose context it runs, its first word, and the number of
+/// its key.
 #[derive(Clone, Copy, Debug)]
 pub struct Side {
-    /// The node, by its place in the plan.
+    /// The index of the node in the plan.
     pub node: ContextNo,
-    /// The step's first word.
+    /// The first word of the step.
     pub word: Word,
-    /// The number of its key among those that the plan's steps name.
+    /// The number of its key among the keys that the plan's steps name.
     pub key: KeyNo,
 }
 
-/// Two nodes, each with a step, that may run beside one another and get into each other's way. Where both keys are one the steps touch one place, which one of them may
-/// change; where they are two each step may leave a value there whose close fails.
+/// Two steps of two nodes that may run beside one another and interfere. If the keys are the same,
+/// both steps touch one place, which one of them may change. If the keys differ, each step may
+/// leave a value in the context whose close fails.
 #[derive(Clone, Copy, Debug)]
 pub struct Race {
-    /// The step of the node that stands first in the plan.
+    /// The step of the node that comes first in the plan.
     pub first: Side,
-    /// That of the other.
+    /// The step of the other node.
     pub second: Side,
-    /// The context of the place, by its node.
+    /// The context in which they interfere, by the index of its node.
     pub context: ContextNo,
 }
 

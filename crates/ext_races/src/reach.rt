@@ -1,4 +1,4 @@
-//! How far along the path of its node a step touches.
+//! How much of its node's path a step touches.
 ghost use Rattle.std.specs.Prelude.{◌≡◌, IfOk, map, take};
 ghost use Rattle.ext_plan.specs.Plans.{step_view};
 ghost use Rattle.ext_plan.specs.StepCalls.{keys_in};
@@ -14,7 +14,8 @@ use ext_plan::{Step, StepKeys};
 use ext_tree::Key;
 use std::alloc::{AllocError, Global};
 
-/// How far along a path an act reaches, after these steps of its call: a look-up only to below where one of them has computed a value of its key.
+/// The part of a path that an act reaches after these steps of the same call: a look-up stops below
+/// a context where one of them computed a value of its key.
 pub(crate) fn reach<'t>(
     alloc: Global,
     keys: &StepKeys<'_>,
@@ -35,7 +36,7 @@ pub(crate) fn reach<'t>(
     Ok(below)
 }
 
-/// The path below the context that the step computes a value of this key in.
+/// The part of the path below the context in which the step computes a value of this key.
 fn below_step<'t>(
     alloc: Global,
     keys: &StepKeys<'_>,
@@ -54,7 +55,7 @@ fn below_step<'t>(
     Ok(path)
 }
 
-/// Whether an act names this key.
+/// Tests whether an act names this key.
 fn is_of(
     alloc: Global,
     keys: &StepKeys<'_>,
@@ -67,7 +68,7 @@ fn is_of(
     Ok(called.key() == key)
 }
 
-/// The path up to so many contexts up.
+/// The first `up` contexts of the path.
 fn lower(path: &[ContextNo], up: usize) -> &[ContextNo]
     ensures { result.now ≡ take up path.now }
 {

@@ -1,4 +1,4 @@
-//! Races of touches, told.
+//! Races of touches.
 ghost use Rattle.std.specs.Prelude.{◌≡◌, ◌<◌, IfOk, OnOk, map};
 ghost use Rattle.std.specs.List.{list_any};
 ghost use Rattle.ext_plan.specs.Plans.{plan_view};
@@ -14,7 +14,7 @@ use ext_plan::Plan;
 use ext_tree::Tree;
 use std::alloc::{AllocError, Global};
 
-/// The races in these groups, at most so many. Takes memory for their list.
+/// Lists at most `most` races in these groups, without repetition. Takes memory for the list.
 pub(crate) fn races_told(
     alloc: Global,
     plan: &Plan,
@@ -32,7 +32,7 @@ pub(crate) fn races_told(
     Ok(told)
 }
 
-/// Tells the races in a group.
+/// Adds the races in a group.
 fn tell_group(
     plan: &Plan,
     tree: &Tree,
@@ -49,7 +49,7 @@ fn tell_group(
     Ok(())
 }
 
-/// Tells the races of a touch with those of its group.
+/// Adds the races of a touch with others of its group.
 fn tell_touch(
     plan: &Plan,
     tree: &Tree,
@@ -61,7 +61,8 @@ fn tell_touch(
     requires { tree.now ≡ ids_of_nodes (plan_view plan.now).nodes }
     ensures { OnOk result (told.new.items ≡ touch_told (plan_view plan.now) most (map touch_view group.now) told.old.items (touch_view touch.now)) }
 {
-    // Where it changes nothing no other touch is gone over, so that places at which all look cost no more than their touches.
+    // A touch that changes nothing is not compared, so that a place where all look up costs no more
+    // than its touches.
     if !touch.changes {
         return Ok(());
     }
@@ -74,7 +75,7 @@ fn tell_touch(
     Ok(())
 }
 
-/// Tells the race of two touches, if there is one.
+/// Adds the race of two touches, if there is one.
 fn tell_pair(
     plan: &Plan,
     tree: &Tree,
@@ -92,7 +93,7 @@ fn tell_pair(
     Ok(())
 }
 
-/// Tells a race, unless it was told, or so many were.
+/// Adds a race, unless it is listed or the list is full.
 fn tell(race: Race, most: usize, told: &mut Vec<Race>) -> Result<(), AllocError>
     ensures { OnOk result (told.new.items ≡ with_race most told.old.items race) }
 {
@@ -102,7 +103,7 @@ fn tell(race: Race, most: usize, told: &mut Vec<Race>) -> Result<(), AllocError>
     Ok(())
 }
 
-/// Tests whether the race was told.
+/// Tests whether the race is listed.
 fn is_told(told: &[Race], race: &Race) -> bool
     ensures { result ≡ list_any (λ other. race_eq other race.now) told.now }
 {

@@ -1,4 +1,4 @@
-//! What is found of a plan's races, in lines.
+//! The text of a plan's races.
 ghost use Rattle.std.specs.Prelude.{◌≡◌, ◌++◌, string_bytes, take, IfOk, OnOk};
 ghost use Rattle.std.specs.List.{flat_map, slice_get};
 ghost use Rattle.ext_plan.specs.Plans.{plan_view, step_key_view};
@@ -10,13 +10,15 @@ use ext_model::{ContextNo, KeyNo};
 use ext_plan::{Plan, StepKey};
 use std::alloc::{AllocError, Global};
 
-/// How many races are told in lines.
+/// How many races the text lists.
 const LINES: usize = 20;
 
-/// What is found of a plan's races, in lines: one for each of the first 20 races, as `put a of [engine:x]/[test:m] and want a of [engine:x]/[test:n] in [engine:x]`, and
-/// `and more` after them where more are handed in; `no races` where there is none; and a line that names the limit where the plan goes past one.
+/// Returns the text of what `races` found, in which each of the first 20 races has a line. Such a
+/// line is `put a of [engine:x]/[test:m] and want a of [engine:x]/[test:n] in [engine:x]`. The line
+/// `and more` follows if there are more, and `no races` stands alone if there are none. If the plan
+/// exceeds a limit, the only line names it.
 ///
-/// Takes memory for the text; `AllocError` comes only where that is refused. Own rule.
+/// Takes memory for the text, and fails with `AllocError` only if that is refused.
 pub fn races_text(alloc: Global, plan: &Plan, found: &Found<'_>) -> Result<String, AllocError>
     ensures { IfOk result (λ text. string_bytes text ≡ found_text (plan_view plan.now) found.now) }
 {
@@ -31,7 +33,6 @@ pub fn races_text(alloc: Global, plan: &Plan, found: &Found<'_>) -> Result<Strin
     Ok(text)
 }
 
-/// Adds the lines of these races.
 fn push_races(
     text: &mut String,
     plan: &Plan,
@@ -50,7 +51,7 @@ fn push_races(
     Ok(())
 }
 
-/// Adds the lines of the first of these races.
+/// Adds the lines of the first 20 of these races.
 fn push_first(
     text: &mut String,
     plan: &Plan,
@@ -66,7 +67,7 @@ fn push_first(
     Ok(())
 }
 
-/// The first of these races, which have lines.
+/// The races that have lines: the first 20.
 fn first_of(races: &[Race]) -> &[Race]
     ensures { result.now ≡ take line_limit races.now }
 {
@@ -76,7 +77,6 @@ fn first_of(races: &[Race]) -> &[Race]
     }
 }
 
-/// Adds the line of a race.
 fn push_race(
     text: &mut String,
     plan: &Plan,
@@ -109,7 +109,7 @@ fn push_side(
     push_id(text, plan, side.node)
 }
 
-/// The word by which the plan's steps first name the key of this number, if they name one.
+/// The word by which a step first names the key of this number; empty if no step does.
 fn name_at<'a>(plan: &'a Plan, names: &[&'a StepKey], key: KeyNo) -> &'a str
     ensures { result.now ≡ name_if (plan_view plan.now) (slice_get names.now key) }
 {

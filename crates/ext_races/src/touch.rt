@@ -7,7 +7,8 @@ use crate::act::StepAct;
 use crate::{Race, Side, Word};
 use ext_model::{ContextNo, KeyNo};
 
-/// A step of a node touches a place. Its text is kept where that tells whether the step races.
+/// A touch: a step of a node touches a place. The text is kept only if it decides whether the step
+/// races.
 #[derive(Clone, Copy, Debug)]
 pub(crate) struct Touch<'p> {
     pub node: ContextNo,
@@ -18,7 +19,7 @@ pub(crate) struct Touch<'p> {
     pub text: &'p str,
 }
 
-/// How an act of a node touches the place of the key with this number in a context.
+/// The touch by which an act of a node touches the place of this key in a context.
 pub(crate) fn touch_of<'p>(
     node: ContextNo,
     key: KeyNo,
@@ -48,7 +49,7 @@ impl Touch<'_> {
     ghost use Rattle.ext_races.specs.InnerTold.{touch_eq};
     ghost use Rattle.ext_races.specs.Races.{race_of, side_of};
 
-    /// Whether it is the same touch.
+    /// Tests whether the touches are equal.
     pub(crate) fn is_same(&self, other: &Touch<'_>) -> bool
         ensures { result ≡ touch_eq (touch_view self.now) (touch_view other.now) }
     {
@@ -60,7 +61,8 @@ impl Touch<'_> {
             && self.text == other.text
     }
 
-    /// Whether it may change a place that the other touches, and they don't agree; or whether their closes tell an order.
+    /// Tests whether it may change a place that the other touches, without agreeing with it; or
+    /// whether the report may show the order of their closes.
     pub(crate) fn clashes(&self, other: &Touch<'_>) -> bool
         ensures { result ≡ clashes (touch_view self.now) (touch_view other.now) }
     {
@@ -73,7 +75,7 @@ impl Touch<'_> {
             }
     }
 
-    /// Whether both compute one place, and come to the same whoever does.
+    /// Tests whether both compute one place with the same result, whichever factory runs.
     fn agrees(&self, other: &Touch<'_>) -> bool
         ensures { result ≡ agree (touch_view self.now) (touch_view other.now) }
     {
@@ -83,21 +85,21 @@ impl Touch<'_> {
             && self.text == other.text
     }
 
-    /// Whether of their closes either may be told first.
+    /// Tests whether the fault of either close may be reported first.
     fn closes_differ(&self, other: &Touch<'_>) -> bool
         ensures { result ≡ closes_differ (touch_view self.now) (touch_view other.now) }
     {
         self.may_fail() && other.may_fail() && self.text != other.text
     }
 
-    /// Whether it may leave a value whose close fails.
+    /// Tests whether it may leave a value whose close fails.
     pub(crate) fn may_fail(&self) -> bool
         ensures { result ≡ may_fail (touch_view self.now) }
     {
         self.changes && self.word.leaves_closeable() && self.text.as_bytes().starts_with(b"bad")
     }
 
-    /// The race with the other: that of the lower node comes first.
+    /// The race with the other touch. The node with the lower number comes first.
     pub(crate) fn race_with(&self, other: &Touch<'_>) -> Race
         ensures { result ≡ race_of (touch_view self.now) (touch_view other.now) }
     {

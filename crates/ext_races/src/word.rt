@@ -4,28 +4,28 @@ ghost use Rattle.std.specs.Prelude.{◌≡◌, codes};
 /// The first word of a step that calls the store. `fail` and `abort` call none.
 #[derive(Clone, Copy, Debug, PartialEq, Eq)]
 pub enum Word {
-    /// `put`.
+    /// `put` stores a value that is not closeable.
     Put,
-    /// `put!`.
+    /// `put!` stores a closeable value.
     PutCloseable,
-    /// `want`.
+    /// `want` expects to find a value with its text.
     Want,
-    /// `none`.
+    /// `none` expects to find nothing.
     None,
-    /// `remove`.
+    /// `remove` removes what stands in its place.
     Remove,
-    /// `compute`.
+    /// `compute` computes a value that is not closeable, unless one is found.
     Compute,
-    /// `compute!`.
+    /// `compute!` computes a closeable value, unless one is found.
     ComputeCloseable,
-    /// `computefail`.
+    /// `computefail` computes by a factory that fails.
     ComputeFail,
 }
 
 impl Word {
-    ghost use Rattle.ext_races.specs.Words.{changes, computes, gives_value, has_text, leaves_closeable, looks_along, word_code, word_text};
+    ghost use Rattle.ext_races.specs.StepWords.{changes, computes, gives_value, has_text, leaves_closeable, looks_along, word_code, word_text};
 
-    /// The word, as a plan has it.
+    /// Returns the word as a plan writes it.
     pub fn text(self) -> &'static str
         ensures { result.now ≡ word_text self }
     {
@@ -41,21 +41,21 @@ impl Word {
         }
     }
 
-    /// Whether a step of this word may change the place that it acts on: each but `want` and `none`.
+    /// Tests whether a step of this word may change its place: every word but `want` and `none`.
     pub fn changes(self) -> bool
         ensures { result ≡ changes self }
     {
         !matches!(self, Word::Want | Word::None)
     }
 
-    /// Whether a step of this word looks along the path of the context that it acts on: `want`, `none` and the computes.
+    /// Tests whether a step of this word looks up along the path: `want`, `none` and the computes.
     pub fn looks_along(self) -> bool
         ensures { result ≡ looks_along self }
     {
         !matches!(self, Word::Put | Word::PutCloseable | Word::Remove)
     }
 
-    /// Whether a step of this word has a factory.
+    /// Tests whether a step of this word has a factory.
     pub(crate) fn computes(self) -> bool
         ensures { result ≡ computes self }
     {
@@ -65,28 +65,29 @@ impl Word {
         )
     }
 
-    /// Whether a step of this word has a factory that gives a value.
+    /// Tests whether a step of this word has a factory that gives a value.
     pub(crate) fn gives_value(self) -> bool
         ensures { result ≡ gives_value self }
     {
         matches!(self, Word::Compute | Word::ComputeCloseable)
     }
 
-    /// Whether a step of this word may leave a closeable value.
+    /// Tests whether a step of this word may leave a closeable value.
     pub(crate) fn leaves_closeable(self) -> bool
         ensures { result ≡ leaves_closeable self }
     {
         matches!(self, Word::PutCloseable | Word::ComputeCloseable)
     }
 
-    /// Whether the text of such a step tells whether it races: of the computes, and of those that leave a closeable value.
+    /// Tests whether the text of such a step decides whether it races: the computes, and the words
+    /// that leave a closeable value.
     pub(crate) fn has_text(self) -> bool
         ensures { result ≡ has_text self }
     {
         !matches!(self, Word::Put | Word::Want | Word::None | Word::Remove)
     }
 
-    /// A number of its own for each word.
+    /// A distinct number for each word.
     pub(crate) fn code(self) -> u8
         ensures { result ≡ word_code self }
     {

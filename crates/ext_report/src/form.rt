@@ -10,20 +10,20 @@ use ext_lifecycle::NodeResult;
 use ext_tree::Tree;
 use std::alloc::{AllocError, Global};
 
-/// How the report of a run is written. Own rule.
+/// The form in which the report of a run is written.
 #[derive(Clone, Copy, Debug, PartialEq, Eq)]
 pub enum ReportForm {
     /// A line for each node, and two lines of totals: `report_text`.
     Text,
-    /// An object of JSON for each node, each in a line of its own: `json_report`.
+    /// A JSON object for each node, on a line of its own: `json_report`.
     Json,
-    /// A line for each node, further to the right than that of its parent, and two lines of totals: `tree_report`.
+    /// A line for each node, indented further than that of its parent, and two lines of totals:
+    /// `tree_report`.
     Tree,
 }
 
-/// The report of results in this form, each of a context of the tree, as its bytes in UTF-8.
-///
-/// Takes memory for the text. `AllocError` comes only where that is refused.
+/// Returns the report of results in this form, as UTF-8 bytes. Each result is of a context of the
+/// tree. Takes memory for the text, and fails with `AllocError` only if that is refused.
 pub fn report_in(
     alloc: Global,
     form: ReportForm,

@@ -4,7 +4,7 @@ ghost use Rattle.ext_report.specs.Report.{is_status};
 
 use ext_lifecycle::Status;
 
-/// Tests whether two statuses are one.
+/// Tests whether two statuses are equal.
 pub(crate) fn is_status(status: Status, other: Status) -> bool
     ensures { result ≡ is_status status other }
 {

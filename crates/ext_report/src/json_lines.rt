@@ -1,4 +1,4 @@
-//! The report of a run in JSON, by lines.
+//! The report of a run as JSON lines.
 ghost use Rattle.std.specs.Prelude.{◌≡◌, ◌<◌, ◌++◌, ◌∷◌, [], length, option_map, All, IfOk, OnOk};
 ghost use Rattle.ext_lifecycle.specs.FaultTexts.{fault_text, result_view, results_view};
 ghost use Rattle.json.specs.Token.{boolean, key, string};
@@ -13,13 +13,14 @@ use ext_tree::Tree;
 use json::Writer;
 use std::alloc::{AllocError, Global};
 
-/// The report of results in JSON, each of a context of the tree: an object for each in a line of its own, in the order of the list.
-/// A context may have no result, or several.
+/// Returns the report of results as JSON lines: an object for each result on its own line, in the
+/// order of the list. Each result is of a context of the tree. A context may have no result, or
+/// several.
 ///
-/// An object has the members `id`, `test`, `status`, `fault`, `more`, `computed`, `found`, `closed` and `close_faults`, in this order.
-/// `fault` is null where the result has none, whatever its status is.
+/// An object has the members `id`, `test`, `status`, `fault`, `more`, `computed`, `found`, `closed`
+/// and `close_faults`, in this order. `fault` is null if the result has none, whatever its status.
 ///
-/// Takes memory for the text. `AllocError` comes only where that is refused.
+/// Takes memory for the text, and fails with `AllocError` only if that is refused.
 pub fn json_report(
     alloc: Global,
     tree: &Tree,
@@ -37,7 +38,6 @@ pub fn json_report(
     Ok(lines)
 }
 
-/// The line of a node.
 fn line_of(alloc: Global, id: &UniqueId, node: &NodeResult) -> Result<Vec<u8>, AllocError>
     ensures { IfOk result (λ line. line.items ≡ json_line id.now (result_view node.now)) }
 {
@@ -74,7 +74,6 @@ fn write_ending(writer: &mut Writer, id: &str, node: &NodeResult) -> Result<(), 
     Ok(())
 }
 
-/// Writes the members that count.
 fn write_counts(writer: &mut Writer, node: &NodeResult) -> Result<(), AllocError>
     ensures before { OnOk result (writer.new.before ≡ writer.old.before) }
     ensures tokens { OnOk result
@@ -115,7 +114,7 @@ fn write_count(writer: &mut Writer, name: &str, count: u64) -> Result<(), AllocE
     writer.u64(count)
 }
 
-/// Writes a member whose value is a fault, or null.
+/// Writes a member whose value is a fault, or null if there is none.
 fn write_fault(writer: &mut Writer, name: &str, fault: &Option<Fault>) -> Result<(), AllocError>
     ensures before { OnOk result (writer.new.before ≡ writer.old.before) }
     ensures tokens { OnOk result (writer.new.tokens ≡ writer.old.tokens ++ key name.now ∷ fault_token (option_map fault_text fault.now) ∷ []) }

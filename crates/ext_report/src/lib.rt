@@ -1,7 +1,7 @@
-//! The report of a test run: as a text, in JSON by lines, and as a tree. The results of the nodes that it is made of are those of `ext_lifecycle`.
+//! The report of a test run, as text, as JSON lines or as a tree, from the results of its nodes
+//! (`ext_lifecycle`).
 //!
-//! Unless its comment says otherwise, a public call takes no memory and waits for nobody. The
-//! report is an own rule: JUnit has none of this form.
+//! JUnit has no report of this form.
 #![tactic(auto)]
 
 mod form;

@@ -21,7 +21,7 @@ pub(crate) fn write_line(
     write_outcome(text, node)
 }
 
-/// Writes how a node ended, and the end of its line, at the end of a text.
+/// Writes a node's outcome, which ends its line, at the end of a text.
 pub(crate) fn write_outcome(text: &mut String, node: &NodeResult) -> Result<(), AllocError>
     ensures { OnOk result
         (string_bytes text.new ≡ string_bytes text.old ++ outcome_part (result_view node.now)) }
@@ -33,7 +33,7 @@ pub(crate) fn write_outcome(text: &mut String, node: &NodeResult) -> Result<(), 
     text.push('\n')
 }
 
-/// Writes what a node tells of its faults at the end of a text: nothing, unless it aborted or failed.
+/// Writes a node's faults at the end of a text: nothing unless it aborted or failed.
 fn write_fault(text: &mut String, node: &NodeResult) -> Result<(), AllocError>
     ensures { OnOk result
         (string_bytes text.new ≡ string_bytes text.old ++ fault_part (result_view node.now)) }
@@ -47,7 +47,7 @@ fn write_fault(text: &mut String, node: &NodeResult) -> Result<(), AllocError>
     }
 }
 
-/// Writes a fault, and how many more there are, at the end of a text.
+/// Writes a fault, and how many others there are, at the end of a text.
 fn write_fault_and_further(text: &mut String, fault: &Fault, more: u64) -> Result<(), AllocError>
     ensures { OnOk result
         (string_bytes text.new ≡ string_bytes text.old
@@ -61,7 +61,6 @@ fn write_fault_and_further(text: &mut String, fault: &Fault, more: u64) -> Resul
     Ok(())
 }
 
-/// The word for a status.
 pub(crate) fn status_text(status: Status) -> &'static str
     ensures { result.now ≡ status_text status }
 {
@@ -73,7 +72,6 @@ pub(crate) fn status_text(status: Status) -> &'static str
     }
 }
 
-/// The text of a fault.
 pub(crate) fn fault_text(fault: &Fault) -> &str
     ensures { result.now ≡ fault_text fault.now }
 {

@@ -10,10 +10,11 @@ use ext_lifecycle::{NodeResult, Status};
 use ext_tree::Tree;
 use std::alloc::{AllocError, Global};
 
-/// The report of results, each of a context of the tree: one line for each, in the order of the list, and two
-/// lines of totals. A context may have no result, or several.
+/// Returns the report of results as text: one line for each, in the order of the list, and two
+/// lines of totals. Each result is of a context of the tree. A context may have no result, or
+/// several.
 ///
-/// Takes memory for the text. `AllocError` comes only where that is refused.
+/// Takes memory for the text, and fails with `AllocError` only if that is refused.
 pub fn report_text(alloc: Global, tree: &Tree, results: &[NodeResult]) -> Result<String, AllocError>
     requires in_tree { All (λ r. r.node < length tree.now) results.now }
     ensures { IfOk result
@@ -28,7 +29,7 @@ pub fn report_text(alloc: Global, tree: &Tree, results: &[NodeResult]) -> Result
     Ok(text)
 }
 
-/// Tests whether a node failed, be it a test or a container; aborted and skipped nodes did not.
+/// Tests whether a node failed, whether a test or a container; aborted and skipped nodes did not.
 pub fn any_failed(results: &[NodeResult]) -> bool
     ensures { result ≡ any_failed (results_view results.now) }
 {

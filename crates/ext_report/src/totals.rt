@@ -19,7 +19,7 @@ pub(crate) struct TestCounts {
 }
 
 impl TestCounts {
-    /// The counts of the tests among the results.
+    /// Counts the tests among the results.
     pub(crate) fn of(results: &[NodeResult]) -> TestCounts
         ensures { result ≡ counts_of (results_view results.now) }
     {
@@ -51,7 +51,6 @@ impl TestCounts {
     }
 }
 
-/// The sums over all nodes.
 #[derive(Debug, Drop)]
 pub(crate) struct NodeSums {
     computed: u128,
@@ -61,7 +60,8 @@ pub(crate) struct NodeSums {
 }
 
 impl NodeSums {
-    /// The sums over the nodes. A list has less than 2^64 of them, so that no sum of counts of 64 bits is too great.
+    /// Adds up the counts of the nodes. A list has fewer than 2^64 of them, so no sum of 64-bit
+    /// counts overflows.
     pub(crate) fn of(results: &[NodeResult]) -> NodeSums
         ensures { result ≡ sums_of (results_view results.now) }
     {
@@ -92,14 +92,14 @@ impl NodeSums {
     }
 }
 
-/// How many of the results are of tests.
+/// Counts the results of tests.
 fn tests(results: &[NodeResult]) -> usize
     ensures { result ≡ count_by (λ r. r.is_test) (results_view results.now) }
 {
     results.iter().filter(|r| r.is_test).count()
 }
 
-/// How many tests ended with this status.
+/// Counts the tests that ended with this status.
 fn tests_with(status: Status, results: &[NodeResult]) -> usize
     ensures { result ≡ tests_with status (results_view results.now) }
 {

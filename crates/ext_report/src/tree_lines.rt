@@ -13,11 +13,13 @@ use ext_model::ContextNo;
 use ext_tree::Tree;
 use std::alloc::{AllocError, Global};
 
-/// The report of results as a tree: one line for each context of the tree, depth first, each two spaces further to the right than that of its
-/// parent, with how the node ended whose result stands at the context's place in the list; and two lines of totals. Of the id it shows the last
-/// segment.
+/// Returns the report of results as a tree: one line for each context, depth first, and two lines
+/// of totals. Each line is indented by two spaces more than its parent's. It has the last segment
+/// of the context's id, and the outcome of the node whose result has the context's index in the
+/// list.
 ///
-/// Takes memory for the text and for the order of the contexts. `AllocError` comes only where that is refused.
+/// Takes memory for the text and for the order of the contexts, and fails with `AllocError` only if
+/// that is refused.
 pub fn tree_report(alloc: Global, tree: &Tree, results: &[NodeResult]) -> Result<String, AllocError>
     ensures { IfOk result
         (λ text. string_bytes text ≡ tree_of tree.now (results_view results.now)) }
@@ -32,9 +34,10 @@ pub fn tree_report(alloc: Global, tree: &Tree, results: &[NodeResult]) -> Result
     Ok(text)
 }
 
-/// The contexts of the tree, depth first: each before those below it, and these in the order of the tree.
+/// Lists the contexts of the tree depth first: each before those below it, and siblings in the
+/// order of the tree.
 ///
-/// Takes memory for the list. `AllocError` comes only where that is refused.
+/// Takes memory for the list, and fails with `AllocError` only if that is refused.
 pub fn depth_first(alloc: Global, tree: &Tree) -> Result<Vec<ContextNo>, AllocError>
     ensures order { IfOk result (λ order. order.items ≡ depth_first tree.now) }
     ensures in_tree { IfOk result (λ order. All (λ context. context < length tree.now) order.items) }
@@ -44,7 +47,7 @@ pub fn depth_first(alloc: Global, tree: &Tree) -> Result<Vec<ContextNo>, AllocEr
     Ok(order)
 }
 
-/// Adds a context and those below it, so many levels deep.
+/// Adds a context and those below it, `levels` levels in all.
 fn push_from(
     tree: &Tree,
     levels: usize,
@@ -82,9 +85,11 @@ fn write_tree_line(
     }
 }
 
-/// Writes what the line of a context begins with at the end of a text: two spaces for each context above it, and the last segment of its id, decoded, as `class:A`.
+/// Writes the beginning of a context's line at the end of a text: the indentation and the last
+/// segment of the id. The indentation is two spaces for each context above. The segment is decoded,
+/// such as `class:A`.
 ///
-/// Takes memory where the text has no room. `AllocError` comes only where that is refused.
+/// Takes memory if the text has no room, and fails with `AllocError` only if that is refused.
 pub fn write_head(text: &mut String, id: &UniqueId) -> Result<(), AllocError>
     ensures { OnOk result (string_bytes text.new ≡ string_bytes text.old ++ tree_head id.now) }
 {

@@ -4,7 +4,7 @@ use Rattle.std.specs.Prelude.{IfSome}
 use Rattle.std.specs.Result.{IsErrAnd}
 use Rattle.std.specs.Io.KnownBytes.{Consumes, IsAtEnd, Keeps}
 use Rattle.ext_run.specs.declared.fault.RunFault.{RunFault}
-use Rattle.ext_run.specs.InnerHelpers.{Reads, StopsReading}
+use Rattle.ext_run.specs.InnerOutputs.{Reads, StopsReading}
 
 pub Consumes-more : (a b c : Option (List ℕ)) (xs ys : List ℕ) → Consumes a b xs → Consumes b c ys → Consumes a c (xs ++ ys)
 Consumes-more None b c xs ys p q = tt

@@ -18,7 +18,7 @@ use Rattle.ext_run.specs.declared.fault.RunFault.TheVariants as faults
 use Rattle.ext_run.specs.declared.options.Options.{Options}
 use Rattle.ext_run.specs.declared.runs.Output.{Output}
 use Rattle.ext_run.specs.Reports.{IsReportOf, Reports, RunReport, input_limit, plan_of_bytes, plan_of_input, plan_or_fault, RefusedAs}
-use Rattle.ext_run.specs.InnerHelpers.{output_view, ReportsAs, IsPlanFault}
+use Rattle.ext_run.specs.InnerOutputs.{output_view, ReportsAs, IsPlanFault}
 
 pub plan_of_utf8 : (input : List ℕ) → IsUtf8 input → plan_of_bytes input ≡ plan_or_fault (plan_of_text input)
 unfolding plan_of_bytes

@@ -4,4 +4,4 @@ pub mod Drawings
 pub mod Failures
 pub mod IdText
 pub mod Requests
-pub mod InnerHelpers
+pub mod InnerOutputs

@@ -5,7 +5,7 @@ ghost use Rattle.ext_plan_reading.specs.Plans.{nodes_view, plan_view};
 ghost use Rattle.ext_run.specs.Reports.{input_limit, plan_of_bytes, plan_of_input};
 ghost use Rattle.ext_plan_reading.specs.ReadPlans.{IsRunnablePlan};
 ghost use Rattle.ext_run.specs.Checks.{counts_line, IsCountsOf, IsRacesOf, RefusedUnrun, TellsRaces, is_free, test_count};
-ghost use Rattle.ext_run.specs.InnerHelpers.{ChecksAs};
+ghost use Rattle.ext_run.specs.InnerOutputs.{ChecksAs};
 
 use crate::fault::RunFault;
 use crate::input::read_input;
@@ -16,15 +16,18 @@ use ext_races::{Found, races, races_text};
 use std::alloc::{AllocError, Global};
 use std::io::{Read, Write};
 
-/// How many races are looked for: one more than are told in lines.
+/// How many races are looked for: one more than the text lists.
 const RACES: usize = 21;
 
-/// Reads a plan and writes, in one line, how many nodes, tests and `[[key]]` tables it has, as `ok, 7 nodes, 3 tests, 2 keys`; it is not run. Two labels of one key
-/// are two of its `[[key]]` tables.
+/// Reads a plan and writes how many nodes, tests and `[[key]]` tables it has, without running it.
+/// The line is `ok, 7 nodes, 3 tests, 2 keys`. Two labels of one key are two of its `[[key]]`
+/// tables.
 ///
-/// It reads as `run` does, and is refused as a plain run of the plan is: with `Read`, `TooLong`, `Plan` or `Memory`, with nothing written, or with `Write`.
+/// It reads like `run`, and is refused like a plain run of the plan: as `Read`, `TooLong`, `Plan`
+/// or `Memory`, with nothing written, or as `Write`.
 ///
-/// Takes memory for the input, the plan and the line, and gives all of it back. It waits where the reader and the writer do.
+/// Takes memory for the input, the plan and the line, and gives all of it back. It waits only for
+/// the reader and the writer.
 #[tactic(auto, unfolding(crate::specs::Reports::plan_of_input))]
 pub fn check<I: Read, W: Write>(
     alloc: Global,
@@ -45,13 +48,16 @@ pub fn check<I: Read, W: Write>(
     write_whole(writer, line.as_bytes())
 }
 
-/// Reads a plan, looks for its races and does not run it. Writes one line for each of the first 20, and `and more` where there are others; `no races` where there is
-/// none; and a line that names the limit where the steps name more than 64 keys or may draw more than 65,535 numbers (`ext_races::races_text`). The summary says whether
-/// there is a race, or a limit is passed, as `failed`.
+/// Reads a plan and writes its races, without running it. Each of the first 20 races has a line,
+/// and `and more` follows if there are others. `no races` stands alone if there are none, and so
+/// does a line that names the limit if the steps name more than 64 keys or may draw more than
+/// 65,535 numbers (`ext_races::races_text`). In the summary, `failed` tells whether there is a race
+/// or a limit is exceeded.
 ///
-/// It reads as `run` does, and is refused as `check` is.
+/// It reads like `run`, and is refused like `check`.
 ///
-/// Takes memory for the input, the plan, its steps, what they touch and the lines, and gives all of it back. It waits where the reader and the writer do.
+/// Takes memory for the input, the plan, its steps, what they touch and the lines, and gives all of
+/// it back. It waits only for the reader and the writer.
 #[tactic(auto, unfolding(crate::specs::Reports::plan_of_input))]
 pub fn check_races<I: Read, W: Write>(
     alloc: Global,
@@ -77,7 +83,8 @@ pub fn check_races<I: Read, W: Write>(
     })
 }
 
-/// What is found of the races of the plan that the bytes write, in lines, and whether there is one or a limit is passed.
+/// The text of the races of the plan in these bytes, and whether there is one or a limit is
+/// exceeded.
 #[tactic(auto, unfolding(crate::specs::Reports::plan_of_bytes))]
 fn races_of(alloc: Global, input: &[u8]) -> Result<(String, bool), RunFault>
     ensures told { IfOk result (λ told. IsRacesOf (plan_of_bytes input.now) (string_bytes told.0) told.1) }
@@ -94,7 +101,7 @@ fn races_of(alloc: Global, input: &[u8]) -> Result<(String, bool), RunFault>
     Ok(races_in(alloc, &plan)?)
 }
 
-/// What is found of the races of a plan, in lines, and whether there is one or a limit is passed.
+/// The text of a plan's races, and whether there is one or a limit is exceeded.
 fn races_in(alloc: Global, plan: &Plan) -> Result<(String, bool), AllocError>
     requires { IsRunnablePlan (plan_view plan.now) }
     ensures { IfOk result (λ told. TellsRaces (plan_view plan.now) (string_bytes told.0) told.1) }
@@ -103,7 +110,7 @@ fn races_in(alloc: Global, plan: &Plan) -> Result<(String, bool), AllocError>
     Ok((races_text(alloc, plan, &found)?, !is_free(&found)))
 }
 
-/// Whether no race was found.
+/// Tests whether the plan has no race and exceeds no limit.
 fn is_free(found: &Found<'_>) -> bool
     ensures { result ≡ is_free found.now }
 {
@@ -113,7 +120,7 @@ fn is_free(found: &Found<'_>) -> bool
     }
 }
 
-/// The line of the plan that the bytes write.
+/// The line of the plan in these bytes.
 #[tactic(auto, unfolding(crate::specs::Reports::plan_of_bytes))]
 fn line_of(alloc: Global, input: &[u8]) -> Result<String, RunFault>
     ensures { ChecksAs string_bytes result (plan_of_bytes input.now) }
@@ -127,7 +134,6 @@ fn line_of(alloc: Global, input: &[u8]) -> Result<String, RunFault>
     }
 }
 
-/// The line of a plan.
 #[tactic(auto, unfolding(crate::specs::Checks::counts_line))]
 fn counts_line(alloc: Global, plan: &Plan) -> Result<String, AllocError>
     ensures { IfOk result (λ line. string_bytes line ≡ counts_line (plan_view plan.now)) }
@@ -138,7 +144,7 @@ fn counts_line(alloc: Global, plan: &Plan) -> Result<String, AllocError>
     format!(in alloc; "ok, {nodes} nodes, {tests} tests, {keys} keys\n")
 }
 
-/// How many of the nodes are tests.
+/// Counts the nodes that are tests.
 fn test_count(nodes: &[PlanNode]) -> usize
     ensures { result ≡ test_count (nodes_view nodes.now) }
 {

@@ -16,10 +16,11 @@ use ext_report::{depth_first, write_head};
 use std::alloc::{AllocError, Global};
 use std::io::{Read, Write};
 
-/// Reads a plan and draws its nodes as a tree, one line each, depth first, as `  class:A, concurrent, READ db`; it is not run.
+/// Reads a plan and draws its nodes as a tree, one line each, depth first, without running it. A
+/// line is, for example, `  class:A, concurrent, READ db`.
 ///
-/// It reads as `check` does, and is refused as it is. Takes memory for the input, the plan and the drawing, and gives all of it back. It waits where the reader and the
-/// writer do.
+/// It reads like `run`, and is refused like `check`. Takes memory for the input, the plan and the
+/// drawing, and gives all of it back. It waits only for the reader and the writer.
 #[tactic(auto, unfolding(crate::specs::Reports::plan_of_input))]
 pub fn draw<I: Read, W: Write>(
     alloc: Global,
@@ -40,7 +41,7 @@ pub fn draw<I: Read, W: Write>(
     write_whole(writer, text.as_bytes())
 }
 
-/// The drawing of the plan that the bytes write.
+/// The drawing of the plan in these bytes.
 #[tactic(auto, unfolding(crate::specs::Reports::plan_of_bytes))]
 fn text_of(alloc: Global, input: &[u8]) -> Result<String, RunFault>
     ensures { TextAs string_bytes drawing_of result (plan_of_bytes input.now) }
@@ -54,7 +55,6 @@ fn text_of(alloc: Global, input: &[u8]) -> Result<String, RunFault>
     }
 }
 
-/// The drawing of a plan.
 fn drawing_of(alloc: Global, plan: &Plan) -> Result<String, AllocError>
     requires { IsRunnablePlan (plan_view plan.now) }
     ensures { IfOk result (λ text. string_bytes text ≡ drawing_of (plan_view plan.now)) }
@@ -64,7 +64,7 @@ fn drawing_of(alloc: Global, plan: &Plan) -> Result<String, AllocError>
     drawing_in(alloc, plan.nodes.as_slice(), order.as_slice())
 }
 
-/// The lines of the nodes at these places.
+/// The lines of the nodes with these indexes.
 fn drawing_in(alloc: Global, nodes: &[PlanNode], order: &[usize]) -> Result<String, AllocError>
     ensures { IfOk result (λ text. string_bytes text ≡ flat_map (λ context. node_line (slice_get (nodes_view nodes.now) context)) order.now) }
 {
@@ -75,7 +75,7 @@ fn drawing_in(alloc: Global, nodes: &[PlanNode], order: &[usize]) -> Result<Stri
     Ok(text)
 }
 
-/// Writes the line of the node at this place at the end of a text, if there is one.
+/// Writes the line of the node with this index at the end of a text, if there is one.
 fn write_line_at(text: &mut String, nodes: &[PlanNode], place: usize) -> Result<(), AllocError>
     ensures { OnOk result (string_bytes text.new ≡ string_bytes text.old ++ node_line (slice_get (nodes_view nodes.now) place)) }
 {
@@ -94,7 +94,7 @@ fn write_line(text: &mut String, node: &PlanNode) -> Result<(), AllocError>
     text.push('\n')
 }
 
-/// Writes what is drawn of a node behind its head at the end of a text.
+/// Writes the rest of a node's line, after its head, at the end of a text.
 fn write_words(text: &mut String, node: &PlanNode) -> Result<(), AllocError>
     ensures { OnOk result (string_bytes text.new ≡ string_bytes text.old ++ node_words (node_view node.now)) }
 {
@@ -105,7 +105,7 @@ fn write_words(text: &mut String, node: &PlanNode) -> Result<(), AllocError>
     Ok(())
 }
 
-/// Writes a word at the end of a text, where it applies.
+/// Writes a word at the end of a text, if it applies.
 fn write_word(text: &mut String, applies: bool, word: &str) -> Result<(), AllocError>
     ensures { OnOk result (string_bytes text.new ≡ string_bytes text.old ++ word_if applies word.now) }
 {
@@ -143,7 +143,7 @@ fn write_two(text: &mut String, first: &str, second: &str) -> Result<(), AllocEr
     text.push_str(second)
 }
 
-/// Writes how many steps a test has at the end of a text.
+/// Writes the number of a test's steps at the end of a text, if the node is a test.
 fn write_test(text: &mut String, test: &Option<Vec<Step>>) -> Result<(), AllocError>
     ensures { OnOk result (string_bytes text.new ≡ string_bytes text.old ++ test_words (option_map steps_view test.now)) }
 {

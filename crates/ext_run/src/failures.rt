@@ -1,4 +1,4 @@
-//! What failed and what was aborted in a run, told once more at its end.
+//! The failures and aborts of a run, repeated at its end.
 ghost use Rattle.std.specs.Prelude.{◌≡◌, ◌++◌, [], false, string_bytes, IfOk, OnOk, OnErr};
 ghost use Rattle.ext_lifecycle.specs.FaultTexts.{fault_text};
 ghost use Rattle.ext_plan_reading.specs.Plans.{plan_view};
@@ -16,26 +16,26 @@ use ext_tree::Tree;
 use std::alloc::{AllocError, Global};
 use std::sync::{Mutex, Wait};
 
-/// A fault of a node that a listener was told.
+/// A fault of a node that was reported to a listener.
 #[derive(Debug, Drop)]
 pub struct NodeFault {
-    /// The node, by its place in the plan from 0.
+    /// The index of the node in the plan.
     pub node: ContextNo,
-    /// The fault's text.
+    /// The fault's text, `no memory` for `Fault::Memory`.
     pub text: String,
 }
 
-/// The faults that were told so far, in the order in which they were.
+/// The faults that were reported so far, in that order.
 #[derive(Debug, Drop)]
 pub struct ToldFaults {
-    /// Those for which there was memory.
+    /// The faults for which there was memory.
     pub faults: Vec<NodeFault>,
-    /// Whether there was none for a fault.
+    /// Whether a fault was lost for want of memory.
     pub lost: bool,
 }
 
 impl ToldFaults {
-    /// No fault. Takes no memory.
+    /// Makes an empty list of faults, with none lost.
     pub fn new(alloc: Global) -> ToldFaults
         ensures none { result.faults.items ≡ [] }
         ensures lost { result.lost ≡ false }
@@ -46,7 +46,8 @@ impl ToldFaults {
         }
     }
 
-    /// Adds a fault of a node behind the others. Takes memory for its text; where that is refused the fault is lost, which is noted.
+    /// Adds a fault of a node after the others. Takes memory for its text. If that is refused, the
+    /// fault is lost and `lost` is set.
     pub fn note(&mut self, alloc: Global, node: ContextNo, fault: &Fault)
         ensures { NotesFault self.old self.new node (fault_text fault.now) }
     {
@@ -55,7 +56,7 @@ impl ToldFaults {
         }
     }
 
-    /// Adds a fault of a node behind the others, if there is memory.
+    /// Adds a fault of a node after the others, if there is memory.
     fn push(&mut self, alloc: Global, node: ContextNo, fault: &Fault) -> Result<(), AllocError>
         ensures lost { self.new.lost ≡ self.old.lost }
         ensures added { OnOk result (IsAdded self.old.faults.items self.new.faults.items node (fault_text fault.now)) }
@@ -67,7 +68,6 @@ impl ToldFaults {
     }
 }
 
-/// A copy of a fault's text.
 fn text_of(alloc: Global, fault: &Fault) -> Result<String, AllocError>
     ensures { IfOk result (λ text. string_bytes text ≡ fault_text fault.now) }
 {
@@ -77,9 +77,10 @@ fn text_of(alloc: Global, fault: &Fault) -> Result<String, AllocError>
     }
 }
 
-/// Keeps the faults of all nodes of a run, and passes on all that it is told to another listener. Tests say so, and no contract: none can say what a lock guards.
+/// A listener that keeps the faults of all nodes of a run and forwards each event to `listener`.
+/// Tests show this and no contract does: a contract cannot say what a lock guards.
 ///
-/// Its lock is held for as long as a fault is added, and while nothing else is waited for.
+/// Its lock is held only while a fault is added, and nothing is waited for meanwhile.
 #[derive(Drop)]
 pub struct Failures<'a, R, L> {
     rt: &'a R,
@@ -89,7 +90,7 @@ pub struct Failures<'a, R, L> {
 }
 
 impl<'a, R: Wait, L: RunListener> Failures<'a, R, L> {
-    /// Of a run that was not begun, with the listener to which it passes on what it is told. Takes no memory.
+    /// Makes a listener that has kept no fault and forwards each event to `listener`.
     pub fn new(rt: &'a R, alloc: Global, listener: &'a L) -> Failures<'a, R, L> {
         Failures {
             rt,
@@ -99,34 +100,35 @@ impl<'a, R: Wait, L: RunListener> Failures<'a, R, L> {
         }
     }
 
-    /// What was told.
+    /// Returns the faults that were reported to it.
     pub fn into_told(self) -> ToldFaults {
         self.told.into_inner()
     }
 }
 
 impl<R: Wait, L: RunListener> RunListener for Failures<'_, R, L> {
-    /// Passes it on.
     fn started(&self, node: ContextNo, lane: usize) {
         self.listener.started(node, lane);
     }
 
-    /// Keeps the fault, and passes it on. It may wait for other threads that add one.
+    /// Keeps the fault and forwards it. It may wait for other threads that add one.
     fn faulted(&self, node: ContextNo, fault: &Fault) {
         self.told.lock(self.rt).note(self.alloc, node, fault);
         self.listener.faulted(node, fault);
     }
 
-    /// Passes it on.
     fn ended(&self, node: ContextNo, nodes: usize) {
         self.listener.ended(node, nodes);
     }
 }
 
-/// What was told of the nodes of a plan, in lines `ID: FAULT`: the faults of each node one after the other, in the order in which they were told, and the nodes
-/// in the order of the plan; and a last line where faults were lost. The bytes are the plan's, as a run reads them.
+/// Returns the faults that were reported of a plan's nodes, as lines `ID: FAULT`. The nodes are in
+/// the order of the plan, and the faults of each node in the order in which they were reported. A
+/// last line says that faults were lost, if some were. The bytes are the plan's, as a run reads
+/// them.
 ///
-/// Refused as `Plan` where the plan is refused, and as `Memory` where memory is for the plan's tree or for the text. It waits for nobody.
+/// Refused as `Plan` if the plan is refused, and as `Memory` if memory for the plan's tree or for
+/// the text is. Takes memory for these and for the plan.
 pub fn failures_text(alloc: Global, input: &[u8], told: &ToldFaults) -> Result<String, RunFault>
     ensures { TextAs string_bytes (told_in told.now) result (plan_of_bytes input.now) }
 {
@@ -135,7 +137,7 @@ pub fn failures_text(alloc: Global, input: &[u8], told: &ToldFaults) -> Result<S
     Ok(text)
 }
 
-/// Writes the line that faults were lost at the end of a text, if they were.
+/// Writes the line that faults were lost at the end of a text, if some were.
 fn write_lost(text: &mut String, lost: bool) -> Result<(), AllocError>
     ensures { OnOk result (string_bytes text.new ≡ string_bytes text.old ++ lost_line lost) }
 {
@@ -159,7 +161,7 @@ fn failure_lines(alloc: Global, input: &[u8], faults: &[NodeFault]) -> Result<St
     }
 }
 
-/// The same of a plan that was read.
+/// The same for a plan that was read.
 fn failures_of_plan(alloc: Global, plan: &Plan, faults: &[NodeFault]) -> Result<String, AllocError>
     requires { IsRunnablePlan (plan_view plan.now) }
     ensures { IfOk result (λ text. string_bytes text ≡ failures_in faults.now (plan_view plan.now)) }
@@ -168,7 +170,7 @@ fn failures_of_plan(alloc: Global, plan: &Plan, faults: &[NodeFault]) -> Result<
     failures_of_tree(alloc, &tree, faults)
 }
 
-/// The same by the tree of the plan's nodes.
+/// The same for the tree of the plan's nodes.
 fn failures_of_tree(alloc: Global, tree: &Tree, faults: &[NodeFault]) -> Result<String, AllocError>
     ensures { IfOk result (λ text. string_bytes text ≡ failures_of tree.now faults.now) }
 {
@@ -194,7 +196,7 @@ fn write_failures(
     Ok(())
 }
 
-/// Writes a fault at the end of a text, if it is the node's.
+/// Writes a fault at the end of a text, if it is of this node.
 fn write_if_of(
     text: &mut String,
     id: &UniqueId,
@@ -209,7 +211,7 @@ fn write_if_of(
     Ok(())
 }
 
-/// Writes a fault of the node of this id at the end of a text.
+/// Writes a fault of the node with this id at the end of a text.
 fn write_failure(text: &mut String, id: &UniqueId, fault: &NodeFault) -> Result<(), AllocError>
     ensures { OnOk result (string_bytes text.new ≡ string_bytes text.old ++ failure_line id.now (string_bytes fault.now.text)) }
 {

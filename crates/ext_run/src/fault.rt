@@ -9,13 +9,13 @@ use std::alloc::AllocError;
 use std::fmt;
 use thiserror::Error;
 
-/// Why a run gave no report. The text of a fault is its line on standard error.
+/// Why a run gave no report. A fault is printed as its line on standard error.
 ///
-/// After `Write` some of the report may have been written, and nothing tells how much. After each other
-/// fault nothing was written.
+/// After `Write`, some of the report may have been written, and nothing tells how much. After each
+/// other fault, nothing was written.
 #[derive(Clone, Copy, Debug, PartialEq, Eq, Error)]
 pub enum RunFault {
-    /// Z1, printed as `read failed`: a read of the plan failed, in whatever way.
+    /// Z1, printed as `read failed`: a read of the plan failed in any way.
     Read,
     /// Z2, printed as `write failed`: a write of the report failed, or took no byte.
     Write,
@@ -23,12 +23,14 @@ pub enum RunFault {
     TooLong,
     /// Z4, printed as the line of the plan's fault, such as `plan: P5 key 1`: the plan is refused.
     Plan(PlanFault),
-    /// Z5, printed as `run: E1` or `run: E3`: the run of the plan on several lanes was not ended, as memory was refused (E1), also
-    /// for the store and the locks of the run, or a context could not be closed (E3). `run: E2` would say that a thread was
-    /// refused (`EngineFault::NoThread`), which no call answers.
+    /// Z5, printed as `run: E1` or `run: E3`: the run on several lanes did not finish. Memory was
+    /// refused (E1), which may have been for the store or the locks of the run, or a context could
+    /// not be closed (E3). `run: E2` would say that a thread was refused (`EngineFault::NoThread`),
+    /// which no call answers.
     Engine(EngineFault),
-    /// Z6, printed as `run: no memory`: memory was wanted and refused, though neither by `read_plan`, where that is `Plan` with
-    /// `PlanFault::Memory`, nor in a run on several lanes, where it is `Engine` with `EngineFault::Memory`.
+    /// Z6, printed as `run: no memory`: memory was refused outside `read_plan`, where it is `Plan`
+    /// with `PlanFault::Memory`, and outside a run on several lanes, where it is `Engine` with
+    /// `EngineFault::Memory`.
     Memory,
 }
 

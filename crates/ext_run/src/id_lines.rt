@@ -1,4 +1,4 @@
-//! An id, printed.
+//! The lines of an id.
 ghost use Rattle.std.specs.Io.KnownBytes.{Appends};
 ghost use Rattle.std.specs.Prelude.{◌≡◌, ◌≢◌, ◌++◌, false, List, IfOk, IfErr, IsErrOf, OnOk, MatchResult, string_bytes};
 ghost use Rattle.ext_ids.specs.declared.fault.IdFault.{IdFault};
@@ -16,10 +16,11 @@ use ext_ids::{IdFault, UniqueId};
 use std::alloc::{AllocError, Global};
 use std::io::Write;
 
-/// The id that a text spells, in lines: `TYPE VALUE` for each segment, decoded, and then the id as it is written.
+/// Reads the id in a text and returns its lines: `TYPE VALUE` for each segment, decoded, and then
+/// the id itself.
 ///
-/// Refused for the text's first fault, I1 to I8; `Memory` (I9) comes only where the text is an id. Takes memory for
-/// the id and the lines.
+/// Refused for the text's first fault, I1 to I8; as `Memory` (I9) only if the text is an id. Takes
+/// memory for the id and the lines.
 pub fn id_text(alloc: Global, text: &str) -> Result<String, IdFault>
     ensures found { IfOk result (λ lines. (pairs : List Pair) × IsIdText text.now pairs × (string_bytes lines ≡ id_lines pairs)) }
     ensures only { (pairs : List Pair) → IsIdText text.now pairs → MatchResult result (λ lines. string_bytes lines ≡ id_lines pairs) (λ e. e ≡ Memory) }
@@ -30,10 +31,11 @@ pub fn id_text(alloc: Global, text: &str) -> Result<String, IdFault>
     Ok(lines_of(alloc, &id)?)
 }
 
-/// Writes the segments of the id that a text spells, and the id again, as `id_text` gives them: the request to read an id.
+/// Reads the id in a text and writes its lines, as `id_text` returns them.
 ///
-/// Refused as `Id` where the text is none, for its first fault, or memory was refused, with nothing written, and as `Run` with
-/// `Write` where the writer failed. Takes memory, all of which it gives back, and waits where the writer does.
+/// Refused as `Id`, with nothing written, for the first fault of a text that is no id, or if memory
+/// is refused; as `Run` with `Write` if the writer fails. Takes memory and gives all of it back. It
+/// waits only for the writer.
 pub fn read_id<W: Write>(alloc: Global, writer: &mut W, text: &str) -> Result<Summary, RequestFault>
     ensures done { IfOk result (λ summary. summary.failed ≡ false) }
     ensures written { OnOk result ((pairs : List Pair)
@@ -53,7 +55,6 @@ pub fn read_id<W: Write>(alloc: Global, writer: &mut W, text: &str) -> Result<Su
     Ok(Summary::done())
 }
 
-/// The lines of an id.
 fn lines_of(alloc: Global, id: &UniqueId) -> Result<String, AllocError>
     ensures { IfOk result (λ lines. string_bytes lines ≡ id_lines id.now) }
 {

@@ -1,14 +1,17 @@
-//! Runs of plans: from the bytes of a plan to those of its report.
+//! Runs plans: from the bytes of a plan to the bytes of its report.
 //!
-//! `run` reads a plan, runs it on several lanes over a store for several threads (`ext_parallel`), or on one thread over the one-thread store
-//! (`ext_plain`), and writes the report of this run. A plan that is refused, or a device that fails, is a `RunFault`. What a run answers to its
-//! input stands in `specs/Reports.antt`. `check` reads a plan and does not run it, and `draw` draws it; `Failures` keeps what a run's listener is told of
-//! faults, and `failures_text` tells it once more; `read_input` and `explain` are for those who tell more of a plan
-//! that was refused. `read_id` writes the lines of an id, and `status_of` is the exit status of a program that is asked for any of this. The names
-//! of `ext_plan_reading`, `ext_plain`, `ext_lifecycle` and `ext_report` that callers need stand here too.
+//! `run` reads a plan, runs it and writes the report. It runs on several lanes over a store for
+//! several threads (`ext_parallel`), or on one thread over the one-thread store (`ext_plain`). If a
+//! plan is refused or a device fails, that is a `RunFault`. `specs/Reports.antt` defines what a run
+//! answers to its input.
 //!
-//! Unless its comment says otherwise, a public call takes no memory and waits for nobody. JUnit has
-//! no plans: what is said here is an own rule.
+//! `check` reads a plan without running it, and `draw` draws it. `Failures` keeps the faults that a
+//! run reports, and `failures_text` repeats them. `read_input` and `explain` serve callers that
+//! explain why a plan was refused. `read_id` writes the lines of an id, and `status_of` is the exit
+//! status of a program for any of these requests. This crate also exports the names of
+//! `ext_plan_reading`, `ext_plain`, `ext_lifecycle` and `ext_report` that its callers need.
+//!
+//! JUnit has no plans.
 #![tactic(auto)]
 
 mod checks;

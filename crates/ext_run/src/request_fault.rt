@@ -1,4 +1,4 @@
-//! Why a request was not done, and the exit status of a program that was asked it.
+//! Why a request was not done, and the exit status of a program.
 ghost use Rattle.std.specs.Prelude.{◌≡◌};
 ghost use Rattle.ext_run.specs.Requests.{status_of, status_of_fault, status_of_run_fault};
 
@@ -9,18 +9,19 @@ use ext_ids::IdFault;
 /// Why a request was not done.
 #[derive(Clone, Copy, Debug, PartialEq, Eq)]
 pub enum RequestFault {
-    /// The command line is refused. What is wrong with it has been printed.
+    /// The command line was refused, and what is wrong with it was printed.
     CommandLine,
-    /// The text of an id is refused, or memory was wanted for it and refused.
+    /// The text of an id was refused, or memory for it was.
     Id(IdFault),
-    /// A run gave no report, or a write failed, or memory was wanted and refused.
+    /// A run gave no report, a write failed, or memory was refused.
     Run(RunFault),
 }
 
-/// The exit status of a request: 0 where it was done and no node failed, 1 where one did, 2 where the command line, the plan
-/// or the id is refused, and 3 where reading, writing or memory failed, or a context could not be closed.
+/// Returns the exit status of a program for a request. It is 0 if the request was done, but 1 if a
+/// node failed or a race was found (`Summary::failed`). It is 2 if the command line, the plan or
+/// the id is refused, and 3 if reading, writing or memory failed, or a context could not be closed.
 ///
-/// That memory was refused while an id or a plan was read is status 2, as all their faults.
+/// If memory was refused while an id or a plan was read, the status is 2, as for all their faults.
 pub fn status_of(outcome: &Result<Summary, RequestFault>) -> u8
     ensures { result ≡ status_of outcome.now }
 {

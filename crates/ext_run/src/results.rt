@@ -1,11 +1,11 @@
-//! What a run of a plan tells of its nodes.
+//! The results of a run of a plan.
 ghost use Rattle.std.specs.Prelude.{◌≡◌, ◌≤◌, ◌<◌, false, length, IfOk, IfErr, All};
 ghost use Rattle.ext_plan_reading.specs.ReadPlans.{IsRunnablePlan, ids_of_nodes};
 ghost use Rattle.ext_plan_reading.specs.Plans.{plan_view};
 ghost use Rattle.ext_lifecycle.specs.FaultTexts.{results_view};
 ghost use Rattle.ext_plain.specs.PlainRun.{ArePlain};
 ghost use Rattle.ext_run.specs.Reports.{IsRunAs};
-ghost use Rattle.ext_run.specs.InnerHelpers.{IsPlanFault};
+ghost use Rattle.ext_run.specs.InnerOutputs.{IsPlanFault};
 
 use crate::fault::RunFault;
 use crate::options::Options;
@@ -18,14 +18,15 @@ use std::alloc::{AllocError, Global};
 use std::sync::Wait;
 use std::thread::Threads;
 
-/// What is told of the nodes of a plan: a result for each, and whether a step may have lacked memory, on several lanes also anything else.
+/// A result for each node of a plan, and whether a step may have lacked memory, or on several lanes
+/// anything else.
 #[derive(Drop)]
 pub(crate) struct PlanResults {
     pub(crate) results: Vec<NodeResult>,
     pub(crate) lacked: bool,
 }
 
-/// One result for each node of a plan, by its plain run or by a run on several lanes, whose results tell whether a step may have lacked something.
+/// The results of a plan's run, plain or on several lanes as `options` asks for.
 pub(crate) fn results_of<R: Threads + Wait + Sync, L: RunListener + Sync>(
     rt: &R,
     alloc: Global,
@@ -53,7 +54,7 @@ pub(crate) fn results_of<R: Threads + Wait + Sync, L: RunListener + Sync>(
     }
 }
 
-/// One result for each node of a plan, by its plain run, and whether a step of it lacked memory.
+/// The results of a plan's plain run, and whether a step lacked memory.
 fn plain_results<L: RunListener>(
     alloc: Global,
     plan: &Plan,

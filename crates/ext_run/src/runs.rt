@@ -6,7 +6,7 @@ ghost use Rattle.ext_plan_reading.specs.ReadPlans.{IsRunnablePlan};
 ghost use Rattle.ext_lifecycle.specs.FaultTexts.{results_view};
 ghost use Rattle.ext_report.specs.Report.{report_of};
 ghost use Rattle.ext_run.specs.Reports.{input_limit, IsReportOf, plan_of_bytes, plan_of_input, RefusedAs, Reports};
-ghost use Rattle.ext_run.specs.InnerHelpers.{output_view, IsPlanFault, ReportsAs};
+ghost use Rattle.ext_run.specs.InnerOutputs.{output_view, IsPlanFault, ReportsAs};
 
 use crate::fault::RunFault;
 use crate::input::read_input;
@@ -29,35 +29,43 @@ struct Output {
     lacked: bool,
 }
 
-/// Reads a plan, runs it and writes the report of its run in the form that is asked for, and nothing else.
+/// Reads a plan, runs it, and writes the report of the run in the form that `options` asks for.
+/// Nothing else is written.
 ///
-/// With `plain` the plan is run on this thread over the one-thread store: its plain run, which has one report where memory suffices. Else it is run on so
-/// many lanes, 1 to 16, each at most by one thread, over a store for several threads (`ext_parallel::parallel_results`). In either run a step for which memory
-/// is refused fails with `no memory`, and one that names a key beside 64 others that were named before with `directory full`. A plain run tells whether there was a step
-/// for which memory was refused, and a run on several lanes whether a step may have lacked anything (`Summary::lacked`): where there was none, the report of a plain run is that
-/// of the one plain run that the plan has.
+/// With `plain` the plan runs on this thread over the one-thread store. This is its plain run,
+/// which has one report if memory suffices. Otherwise it runs on `lanes` lanes (1 to 16), each on
+/// at most one thread, over a store for several threads (`ext_parallel::parallel_results`). In
+/// either run a step for which memory is refused fails with `no memory`, and a step that names a
+/// key after 64 others with `directory full`. `Summary::lacked` tells whether there was a step of a
+/// plain run for which memory was refused, or whether a step of a run on several lanes may have
+/// lacked anything. If there was none, the report of a plain run is that of the only plain run that
+/// the plan has.
 ///
-/// Of a plan whose nodes don't get into each other's way a run on several lanes that lacks nothing tells of each node what the plain run does, but for the counts of
-/// computed and found values where nodes compute the same beside one another: `ext_same_report::report_laws` has the sentences, and what they ask of the plan, and
-/// `told_lack_laws` that such a run is told as one.
+/// If the nodes of a plan do not interfere, a run on several lanes that lacks nothing reports of
+/// each node what the plain run does. Only the counts of computed and found values may differ, if
+/// nodes that run beside one another compute the same value. `ext_one_report::report_laws` says
+/// this exactly, with its conditions on the plan, and `told_lack_laws` that `Summary::lacked`
+/// identifies such a run.
 ///
-/// The input is read to its end, but at most 1,048,577 bytes of it, and the first read that fails ends the
-/// run. The whole report stands before its first byte is written; at last the writer is flushed.
+/// It reads the input to its end, at most 1,048,577 bytes, and the first read that fails ends the
+/// run. The report is complete before its first byte is written, and at last the writer is flushed.
 ///
 /// Refused, with nothing written:
-/// - `Read` where a read failed.
-/// - `TooLong` where the input has more than 1,048,576 bytes.
-/// - `Plan` where the plan is refused: with `NotUtf8`, or else with the fault of `read_plan`, `Memory`
-///   among them.
-/// - `Engine` where the run on several lanes was refused: with `Memory`, or with `Unjoined` where a context could not be closed, which is
-///   known for no plan.
-/// - `Memory` where memory was refused for the input, for a plain run outside its steps, or for the report.
+/// - `Read` if a read failed.
+/// - `TooLong` if the input has more than 1,048,576 bytes.
+/// - `Plan` if the plan is refused: with `NotUtf8`, or else with the fault of `read_plan`, which
+///   may be `Memory`.
+/// - `Engine` if the run on several lanes was refused: with `Memory`, or with `Unjoined` if a
+///   context could not be closed, for which no plan is known.
+/// - `Memory` if memory was refused for the input, for a plain run outside its steps, or for the
+///   report.
 ///
-/// `Write` where a write or the flush failed, or a write took no byte: it doesn't tell how much was
+/// `Write` if a write or the flush failed, or a write took no byte. It does not tell how much was
 /// written.
 ///
-/// Takes memory for the input, the plan, the values, the results and the report, and gives all of it back. It waits where the reader and
-/// the writer do, and on several lanes for its threads and for steps of theirs: it promises its clauses if it returns.
+/// Takes memory for the input, the plan, the values, the results and the report, and gives all of
+/// it back. It waits for the reader and the writer, and on several lanes for its threads and for
+/// their steps.
 pub fn run<R: Threads + Wait + Sync, I: Read, W: Write>(
     rt: &R,
     alloc: Global,
@@ -78,9 +86,10 @@ pub fn run<R: Threads + Wait + Sync, I: Read, W: Write>(
     run_with_listener(rt, alloc, reader, writer, options, &NoListener)
 }
 
-/// Does what `run` does, by the same contract, and tells the listener when a node starts, of each of its faults, and that it has ended.
+/// Reads and runs a plan like `run`, and notifies the listener when a node starts, of each of its
+/// faults, and when it has ended.
 ///
-/// The listener is told from the threads that run the nodes, and has no effect on what is written.
+/// The listener is called on the threads that run the nodes, and has no effect on what is written.
 #[tactic(auto, unfolding(crate::specs::Reports::plan_of_input))]
 pub fn run_with_listener<R: Threads + Wait + Sync, I: Read, W: Write, L: RunListener + Sync>(
     rt: &R,
@@ -109,9 +118,10 @@ pub fn run_with_listener<R: Threads + Wait + Sync, I: Read, W: Write, L: RunList
     })
 }
 
-/// The report of results, each of a context of the tree, as `ext_report::report_text` gives it.
+/// Returns the report of results as text, like `ext_report::report_text`. Each result is of a
+/// context of the tree.
 ///
-/// Takes memory for the text. Refused as `Memory` alone, where that is refused.
+/// Takes memory for the text, and is refused only as `Memory`.
 pub fn report_text(alloc: Global, tree: &Tree, results: &[NodeResult]) -> Result<String, RunFault>
     requires in_tree { All (λ r. r.node < length tree.now) results.now }
     ensures text { IfOk result (λ text. string_bytes text ≡ report_of tree.now (results_view results.now)) }
@@ -120,7 +130,7 @@ pub fn report_text(alloc: Global, tree: &Tree, results: &[NodeResult]) -> Result
     Ok(ext_report::report_text(alloc, tree, results)?)
 }
 
-/// Writes all of the bytes, and what the writer still holds back.
+/// Writes all of the bytes, and flushes the writer.
 pub(crate) fn write_whole<W: Write>(writer: &mut W, bytes: &[u8]) -> Result<(), RunFault>
     ensures written { OnOk result (Appends (W.contents writer.old) (W.contents writer.new) bytes.now) }
     ensures fault { IfErr result (λ e. e ≡ RunFault.Write) }
@@ -131,7 +141,7 @@ pub(crate) fn write_whole<W: Write>(writer: &mut W, bytes: &[u8]) -> Result<(), 
     Ok(())
 }
 
-/// The report of what the bytes of a plan write.
+/// The report of the plan in these bytes.
 #[tactic(auto, unfolding(crate::specs::Reports::plan_of_bytes))]
 fn output_for<R: Threads + Wait + Sync, L: RunListener + Sync>(
     rt: &R,

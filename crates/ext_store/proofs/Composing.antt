@@ -12,21 +12,21 @@ use Rattle.ext_history.proofs.Crowded.{crowded_by_second}
 use Rattle.ext_model.proofs.Composed.{calls_compose, point_of_second}
 use Rattle.ext_store.specs.declared.fault.KeepFault.{KeepFault}
 use Rattle.ext_store.specs.declared.fault.KeepFault.TheVariants as fault
-use Rattle.ext_store_cells.specs.declared.claim.Unused.{Unused}
-use Rattle.ext_store_cells.specs.declared.claim.Unused.TheVariants.{Found, FaultStands, Refused}
+use Rattle.ext_store_core.specs.declared.claim.Unused.{Unused}
+use Rattle.ext_store_core.specs.declared.claim.Unused.TheVariants.{Found, FaultStands, Refused}
 use Rattle.ext_store.specs.declared.computed.Compute.{Compute}
 use Rattle.ext_store.specs.declared.computed.Compute.TheVariants as compute
 use Rattle.ext_store.specs.declared.computed.Compute.TheVariants.{Computed, Failed, FaultKept, FaultUnkept, Unkept}
 use Rattle.ext_model.specs.declared.look.Fault.{Fault}
 use Rattle.ext_tree.specs.Trees.{IsPathOf}
 use Rattle.ext_cells.specs.Lanes.{CellsId, Lane}
-use Rattle.ext_store_cells.specs.ContextCalls.{ContextCells}
+use Rattle.ext_store_core.specs.ContextCalls.{ContextCells}
 use Rattle.ext_store.specs.Stores.{StoreId, StoreView, StoreLane, IsKeptBy, IsLaneOf, IsOnCells, cell_in, context_cells}
 use Rattle.ext_store.specs.LaneCalls.{Frame}
 use Rattle.ext_store.specs.Computing.{ClaimsAndLooks, given_up_events, Fills, Fails, IsUnkept, EndsFailed, HandsBack, IfComputed, IsFaultless, Uses, ComputesFrom, Computes, without_factory, with_factory}
-use Rattle.ext_store_cells.specs.Claiming.{ClaimsFrom, ClaimsMissing}
-use Rattle.ext_store_cells.proofs.Parts.{happens_second, claims_first}
-use Rattle.ext_store_cells.proofs.Claimed.{StoresNone, claim_acts}
+use Rattle.ext_store_core.specs.Claiming.{ClaimsFrom, ClaimsMissing}
+use Rattle.ext_store_core.proofs.Parts.{happens_second, claims_first}
+use Rattle.ext_store_core.proofs.Claimed.{StoresNone, claim_acts}
 use Rattle.ext_store.proofs.Outdrawn.{outdrawn_second}
 use Rattle.ext_store.proofs.Filling.{storing_none, filled_keeps, failed_keeps}
 use Rattle.ext_store.proofs.Frames.{frame_of, but_frame, frame_spares, frame_lane, frames_compose}

@@ -20,12 +20,12 @@ use Rattle.ext_values.specs.Known.{Known, KeepsKnown, LearnsOne, known_at, place
 use Rattle.ext_cells.specs.declared.refusal.CellRefusal.{CellRefusal}
 use Rattle.ext_cells.specs.Lanes.{Lane}
 use Rattle.ext_cells.specs.CellCalls as cells
-use Rattle.ext_store_cells.specs.declared.claim.Unused.{Unused}
-use Rattle.ext_store_cells.specs.declared.claim.Unused.TheVariants.{Found, FaultStands, Refused}
-use Rattle.ext_store_cells.specs.ContextCalls.{ContextCells, cell_in}
-use Rattle.ext_store_cells.specs.Claiming.{ClaimsFrom, Meets}
-use Rattle.ext_store_cells.proofs.Events.{drew_quiet}
-use Rattle.ext_store_cells.proofs.Faultless.{none_met}
+use Rattle.ext_store_core.specs.declared.claim.Unused.{Unused}
+use Rattle.ext_store_core.specs.declared.claim.Unused.TheVariants.{Found, FaultStands, Refused}
+use Rattle.ext_store_core.specs.ContextCalls.{ContextCells, cell_in}
+use Rattle.ext_store_core.specs.Claiming.{ClaimsFrom, Meets}
+use Rattle.ext_store_core.proofs.Events.{drew_quiet}
+use Rattle.ext_store_core.proofs.Faultless.{none_met}
 use Rattle.ext_store.specs.declared.fault.KeepFault.{KeepFault}
 use Rattle.ext_store.specs.declared.fault.KeepFault.TheVariants.{Memory, Unplaced}
 use Rattle.ext_store.specs.declared.computed.Compute.{Compute}

@@ -21,10 +21,10 @@ use Rattle.ext_store.specs.Stores.{StoreView, StoreLane, IsKeptBy, StillKeeps}
 use Rattle.ext_store.specs.LaneCalls as calls
 use Rattle.ext_store.specs.LaneCalls.{KeepFails}
 use Rattle.ext_store.specs.Computing.{Fills, Fails, IsUnkept}
-use Rattle.ext_store_cells.proofs.Claimed.{StoresNone}
+use Rattle.ext_store_core.proofs.Claimed.{StoresNone}
 use Rattle.ext_store.proofs.Keeping.{one_kept}
 use Rattle.ext_store.proofs.Outdrawn.{outdrawn, outdrawn_first}
-use Rattle.ext_store_cells.proofs.Parts.{happens_first, happens_alone}
+use Rattle.ext_store_core.proofs.Parts.{happens_first, happens_alone}
 
 -- what a lane keeps it keeps on, while its calls store nothing,
 module _ {V : Type 0} (limits : Limits) (before after : StoreLane V) where

@@ -16,8 +16,8 @@ use Rattle.ext_tree.specs.Keys.{KeepsKeys, key_places_of}
 use Rattle.ext_tree.proofs.KeyPlacing.{keeps_all, keeps_both}
 use Rattle.ext_values.specs.Known.{KeepsKnown, Learns, known_at, places_of}
 use Rattle.ext_cells.specs.Lanes.{CellsId, Lane}
-use Rattle.ext_store_cells.specs.declared.fault.Refusal.{Refusal}
-use Rattle.ext_store_cells.specs.ContextCalls.{ContextCells, cell_in}
+use Rattle.ext_store_core.specs.declared.fault.Refusal.{Refusal}
+use Rattle.ext_store_core.specs.ContextCalls.{ContextCells, cell_in}
 use Rattle.ext_store.specs.Stores.{StoreId, StoreLane, IsKeptBy, IsLaneOf, IsOnCells, StillKeeps, StillKeepsBut}
 use Rattle.ext_store.specs.LaneCalls.{put_acts, remove_acts, Frame, Grows, KeepsAllBut, Makes, Stays, stored_by}
 use Rattle.ext_store.proofs.Keeping.{quiet_keeps, stored_keeps, remove_keeps, unplaced_keeps, learnt_keeps}

@@ -15,8 +15,8 @@ use Rattle.ext_cells.specs.declared.refusal.CellRefusal.TheVariants as cell
 use Rattle.ext_cells.specs.Lanes.{Lane}
 use Rattle.ext_cells.specs.CellCalls as cells
 use Rattle.ext_cells.proofs.Storable.{stays_storable}
-use Rattle.ext_store_cells.specs.declared.fault.Refusal.{Refusal}
-use Rattle.ext_store_cells.specs.ContextCalls.{ContextCells, cell_in}
+use Rattle.ext_store_core.specs.declared.fault.Refusal.{Refusal}
+use Rattle.ext_store_core.specs.ContextCalls.{ContextCells, cell_in}
 use Rattle.ext_store.specs.Stores.{StoreView, StoreLane, IsKeptBy, StillKeeps, StillKeepsBut}
 use Rattle.ext_store.specs.InnerKeeping.{keep_fault}
 use Rattle.ext_store.specs.LaneCalls.{HoldsAtPoint, reply_to, steps_of, with_kept, put_acts, remove_acts, KeepFails}

@@ -8,7 +8,7 @@ use Rattle.ext_tree.specs.declared.key_fault.KeyFault.TheVariants as fault
 use Rattle.ext_tree.proofs.KeyPlacing.{number_stays}
 use Rattle.ext_values.specs.Known.{Learns}
 use Rattle.ext_cells.specs.Lanes.{Lane}
-use Rattle.ext_store_cells.specs.declared.fault.Refusal.{Refusal}
+use Rattle.ext_store_core.specs.declared.fault.Refusal.{Refusal}
 use Rattle.ext_store.specs.declared.computed.Compute.{Compute}
 use Rattle.ext_store.specs.declared.computed.Compute.TheVariants.{Computed, Found, Failed, FaultKept, FaultUnkept, FaultStands, Unkept, Refused}
 use Rattle.ext_store.specs.Stores.{StoreId, StoreLane, IsKeptBy, StillKeeps, StillKeepsBut}

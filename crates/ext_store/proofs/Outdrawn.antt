@@ -15,7 +15,7 @@ use Rattle.ext_history.proofs.Composed.{same_number, seen_goes_on}
 use Rattle.ext_model.proofs.Versions.{after-append}
 use Rattle.ext_cells.specs.Lanes.{Lane}
 use Rattle.ext_cells.specs.CellCalls.{IsOvertakenAt}
-use Rattle.ext_store_cells.proofs.Rises.{rises_first, rises_second}
+use Rattle.ext_store_core.proofs.Rises.{rises_first, rises_second}
 use Rattle.ext_store.specs.Computing.{IsOutdrawn}
 
 -- ---- the count of numbers drawn never falls

@@ -19,7 +19,7 @@ use Rattle.ext_store.specs.Waiting.{IsDecidedFault}
 use Rattle.ext_store.specs.InnerKeeping.{IsOfCount, keep_fault, IsPlaced, PlacesDrawn}
 use Rattle.ext_store.proofs.Keeping.{quiet_keeps, found_keeps, learnt_keeps, drew, drew_number, drew_none, not_both}
 use Rattle.ext_store.proofs.NewDraws.{drawn_apart, draws_new, knows_undrawn}
-use Rattle.ext_store_cells.proofs.Events.{drew_quiet}
+use Rattle.ext_store_core.proofs.Events.{drew_quiet}
 use Rattle.ext_store.proofs.Frames.{framed, no_frame}
 use Rattle.ext_store.proofs.Refused.{draw_refusal}
 

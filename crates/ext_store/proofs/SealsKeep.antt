@@ -6,9 +6,9 @@ use Rattle.ext_model.specs.declared.event.Act.TheVariants.{Seal}
 use Rattle.ext_model.specs.CallActs.{Calls}
 use Rattle.ext_values.specs.Known.{known_at}
 use Rattle.ext_cells.specs.Lanes.{Lane}
-use Rattle.ext_store_cells.specs.declared.fault.Refusal.{Refusal}
-use Rattle.ext_store_cells.specs.declared.fault.Refusal.TheVariants as refusal
-use Rattle.ext_store_cells.specs.ContextCalls.{ContextCells, SealsKey, cell_in}
+use Rattle.ext_store_core.specs.declared.fault.Refusal.{Refusal}
+use Rattle.ext_store_core.specs.declared.fault.Refusal.TheVariants as refusal
+use Rattle.ext_store_core.specs.ContextCalls.{ContextCells, SealsKey, cell_in}
 use Rattle.ext_store.specs.Stores.{StoreId, StoreLane, IsLaneOf, IsOnCells}
 use Rattle.ext_store.specs.LaneCalls.{Frame}
 use Rattle.ext_store.proofs.Keeping.{StoresNot, one_kept}

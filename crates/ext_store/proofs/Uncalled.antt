@@ -2,8 +2,8 @@
 use Rattle.std.proofs.Common.{◌≡◌, ℕ, refl, sym, subst}
 use Rattle.std.specs.Prelude.{Result}
 use Rattle.ext_model.specs.declared.look.Fault.{Fault}
-use Rattle.ext_store_cells.specs.declared.claim.Unused.{Unused}
-use Rattle.ext_store_cells.specs.declared.claim.Unused.TheVariants.{Found, FaultStands, Refused}
+use Rattle.ext_store_core.specs.declared.claim.Unused.{Unused}
+use Rattle.ext_store_core.specs.declared.claim.Unused.TheVariants.{Found, FaultStands, Refused}
 use Rattle.ext_store.specs.declared.computed.Compute.{Compute}
 use Rattle.ext_store.specs.Stores.{StoreLane}
 use Rattle.ext_store.specs.Computing.{HandsBack, IfComputed, Uses, without_factory, with_factory}

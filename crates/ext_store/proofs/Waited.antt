@@ -6,13 +6,13 @@ use Rattle.ext_model.specs.declared.event.Act.TheVariants.{Claim, Abandon}
 use Rattle.ext_model.specs.CallActs.{LaneView}
 use Rattle.ext_model.proofs.Composed.{calls_compose}
 use Rattle.ext_cells.specs.Lanes.{Lane}
-use Rattle.ext_store_cells.specs.declared.claim.Unused.{Unused}
-use Rattle.ext_store_cells.proofs.Claimed.{StoresNone, none_stored, nor_this, claim_acts}
-use Rattle.ext_store_cells.proofs.Waited.{claims_given_up, begun_legal, gave_up}
+use Rattle.ext_store_core.specs.declared.claim.Unused.{Unused}
+use Rattle.ext_store_core.proofs.Claimed.{StoresNone, none_stored, nor_this, claim_acts}
+use Rattle.ext_store_core.proofs.Waited.{claims_given_up, begun_legal, gave_up}
 use Rattle.ext_store.specs.declared.computed.Compute.{Compute}
-use Rattle.ext_store_cells.specs.ContextCalls.{ContextCells, cell_in}
-use Rattle.ext_store_cells.specs.Claiming.{given_up_events}
-use Rattle.ext_store_cells.specs.Waiting as cells
+use Rattle.ext_store_core.specs.ContextCalls.{ContextCells, cell_in}
+use Rattle.ext_store_core.specs.Claiming.{given_up_events}
+use Rattle.ext_store_core.specs.Waiting as cells
 use Rattle.ext_store.specs.Stores.{StoreId, StoreView, StoreLane, IsLaneOf, IsOnCells}
 use Rattle.ext_store.specs.LaneCalls.{Frame}
 use Rattle.ext_store.specs.Computing.{ComputesFrom}

@@ -1,6 +1,6 @@
 -- What `compute` says of its result.
 -- Javadoc `ExtensionContext.Store`, `getOrComputeIfAbsent`: a value is computed where the context and its ancestors have none, and is stored in the context. That the
--- context's cell is claimed first and the ancestors are looked at again, and what is refused, are own rules. `Claiming` of ext_store_cells has the words for that.
+-- context's cell is claimed first and the ancestors are looked at again, and what is refused, are own rules. `Claiming` of ext_store_core has the words for that.
 -- `before` and `after` are the lane before and after the call; `first` are the events that the call made before the part that a definition speaks of. `Computes` and
 -- `Uses` are for a result without its factory, so that they can be said where the factory's type is not known.
 use Rattle.std.specs.Prelude.{ℕ, ◌≡◌, ◌+◌, ◌≤◌, Option, IsFalse, IsTrue, List, [], ◌∷◌, ◌++◌, Some, Result, Ok, Err}
@@ -15,8 +15,8 @@ use Rattle.ext_model.specs.CallActs.{LaneView, IsPointAfter, Calls, IsCrowded}
 use Rattle.ext_tree.specs.Trees.{IsPathOf}
 use Rattle.ext_values.specs.Known.{Learns}
 use Rattle.ext_cells.specs.Lanes.{Lane}
-use Rattle.ext_store_cells.specs.declared.claim.Unused.{Unused}
-use Rattle.ext_store_cells.specs.declared.claim.Unused.TheVariants as unused
+use Rattle.ext_store_core.specs.declared.claim.Unused.{Unused}
+use Rattle.ext_store_core.specs.declared.claim.Unused.TheVariants as unused
 use Rattle.ext_store.specs.declared.fault.KeepFault.{KeepFault}
 use Rattle.ext_store.specs.declared.fault.KeepFault.TheVariants as fault
 use Rattle.ext_store.specs.declared.computed.Compute.{Compute}
@@ -24,11 +24,11 @@ use Rattle.ext_store.specs.declared.computed.Compute.TheVariants.{Computed, Foun
 use Rattle.ext_store.specs.Stores.{StoreView, StoreLane, cell_in, context_cells}
 use Rattle.ext_store.specs.LaneCalls.{KnowsUnkept}
 use Rattle.ext_model.specs.declared.look.Look.{Look}
-use Rattle.ext_store_cells.specs.declared.fault.Refusal.{Refusal}
-use Rattle.ext_store_cells.specs.Claiming as claiming
-pub use Rattle.ext_store_cells.specs.Claiming.{HappensAfter, LooksFirst}
+use Rattle.ext_store_core.specs.declared.fault.Refusal.{Refusal}
+use Rattle.ext_store_core.specs.Claiming as claiming
+pub use Rattle.ext_store_core.specs.Claiming.{HappensAfter, LooksFirst}
 
--- ---- what a claim of a missing value says, as ext_store_cells says it
+-- ---- what a claim of a missing value says, as ext_store_core says it
 
 -- the look-up from the context is absent at a point of the call, after that the lane claims the cell of the context, and at a point after that and before its next
 -- event the look-up along the ancestors is this

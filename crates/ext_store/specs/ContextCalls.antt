@@ -1,10 +1,10 @@
--- What the calls of ext_store_cells say of a context and a key, said of the whole store: the same definitions, which see its contexts, keys and cells alone.
+-- What the calls of ext_store_core say of a context and a key, said of the whole store: the same definitions, which see its contexts, keys and cells alone.
 -- Javadoc `ExtensionContext.Store`: `get`, `put` and `remove`; seals are an own rule.
 use Rattle.std.specs.Prelude.{ℕ, Option, Result}
 use Rattle.ext_model.specs.declared.look.Look.{Look}
 use Rattle.ext_cells.specs.Lanes.{Lane}
-use Rattle.ext_store_cells.specs.declared.fault.Refusal.{Refusal}
-use Rattle.ext_store_cells.specs.ContextCalls as cells
+use Rattle.ext_store_core.specs.declared.fault.Refusal.{Refusal}
+use Rattle.ext_store_core.specs.ContextCalls as cells
 use Rattle.ext_store.specs.Stores.{StoreView, context_cells}
 
 -- the result is the look-up from the context through its ancestors, the nearest first, at ONE point of the call

@@ -1,13 +1,13 @@
 -- What the contract of each call of the store says: of its key, of its result, and, whatever the call answers, of its lane.
--- Javadoc `ExtensionContext.Store`: `get`, `put` and `remove`, of which `ContextCalls` of ext_store_cells has what happens in the cells. JUnit keeps values in maps, under their
+-- Javadoc `ExtensionContext.Store`: `get`, `put` and `remove`, of which `ContextCalls` of ext_store_core has what happens in the cells. JUnit keeps values in maps, under their
 -- keys; here a key has a number, from the first call on that names it. Numbers and frames are own rules. Calls that follow one another have a frame too, as `FrameLaws`
 -- says: so a caller that makes calls it can't name can still say what became of its lane.
 use Rattle.std.specs.Prelude.{ℕ, ◌≡◌, ◌⊎◌, List, [], ◌∷◌, Contains, Result, Ok, Err, Some}
 use Rattle.ext_tree.specs.Keys.{KeyValue, IsKeyFault, IsKeyNumber, KeepsKeys}
 use Rattle.ext_tree.specs.declared.key_fault.KeyFault.{KeyFault}
 use Rattle.ext_tree.specs.declared.key_fault.KeyFault.TheVariants as key_fault
-use Rattle.ext_store_cells.specs.declared.fault.Refusal.{Refusal}
-use Rattle.ext_store_cells.specs.declared.fault.Refusal.TheVariants as refusal
+use Rattle.ext_store_core.specs.declared.fault.Refusal.{Refusal}
+use Rattle.ext_store_core.specs.declared.fault.Refusal.TheVariants as refusal
 use Rattle.ext_store.specs.Stores.{StoreLane, StoreId, IsLaneOf, IsKeptBy, StillKeeps, StillKeepsBut, StoreView}
 use Rattle.ext_model.specs.declared.event.Act.{Act}
 use Rattle.ext_model.specs.History.{Limits, by}
@@ -21,7 +21,7 @@ use Rattle.ext_model.specs.Events as events
 use Rattle.ext_model.specs.CallActs as model
 use Rattle.ext_store.specs.declared.fault.KeepFault.{KeepFault}
 use Rattle.ext_store.specs.declared.fault.KeepFault.TheVariants as fault
-pub use Rattle.ext_store_cells.specs.ContextCalls.{HoldsAtPoint, IsFaultlessLook, reply_to, steps_of, result_at, with_kept, put_acts, remove_acts}
+pub use Rattle.ext_store_core.specs.ContextCalls.{HoldsAtPoint, IsFaultlessLook, reply_to, steps_of, result_at, with_kept, put_acts, remove_acts}
 pub use Rattle.ext_store.specs.ContextCalls.{Gets, Puts, Removes}
 
 -- ---- the key of a call

@@ -8,8 +8,8 @@ use Rattle.ext_values.specs.Known.{Known, AreNotesOf, known_at, nothing_known}
 use Rattle.ext_cells.specs.Lanes.{CellsId, Lane, AreLimits}
 use Rattle.ext_tree.specs.Trees.{Id}
 use Rattle.ext_model.specs.History.{Limits}
-use Rattle.ext_store_cells.specs.ContextCalls as cells
-use Rattle.ext_store_cells.specs.ContextCalls.{ContextCells}
+use Rattle.ext_store_core.specs.ContextCalls as cells
+use Rattle.ext_store_core.specs.ContextCalls.{ContextCells}
 
 -- Which store it is: its cells, and the names of the places of its values, of its kept faults and of its 64 keys, each in the order of their numbers
 pub record StoreId : Type 0 where
@@ -24,7 +24,7 @@ pub record StoreView : Type 0 where
   pub tree : List Id
   pub tries : ℕ
 
--- all of it but its values and its kept faults: what ext_store_cells sees of a store
+-- all of it but its values and its kept faults: what ext_store_core sees of a store
 abbrev pub context_cells : StoreView → ContextCells
 context_cells store = record { cells = store.id.cells; keys = store.id.keys; tree = store.tree; tries = store.tries }
 

@@ -7,13 +7,13 @@ use Rattle.ext_store.specs.declared.fault.KeepFault.TheVariants as fault
 use Rattle.ext_store.specs.declared.computed.Compute.{Compute}
 use Rattle.ext_store.specs.declared.computed.Compute.TheVariants.{Computed, Found, Failed, FaultKept, FaultUnkept, FaultStands, Unkept, Refused}
 use Rattle.ext_model.specs.CallActs.{LaneView}
-use Rattle.ext_store_cells.specs.declared.claim.Unused.{Unused}
+use Rattle.ext_store_core.specs.declared.claim.Unused.{Unused}
 use Rattle.ext_store.specs.Stores.{StoreView, context_cells}
 use Rattle.ext_store.specs.Computing.{Computes}
-use Rattle.ext_store_cells.specs.Waiting as waiting
-pub use Rattle.ext_store_cells.specs.Waiting.{IsDecidedLook, IsDecided, IsDecidedUnused}
+use Rattle.ext_store_core.specs.Waiting as waiting
+pub use Rattle.ext_store_core.specs.Waiting.{IsDecidedLook, IsDecided, IsDecidedUnused}
 
--- ---- what may come before the answer of a claim that waits, as ext_store_cells says it
+-- ---- what may come before the answer of a claim that waits, as ext_store_core says it
 
 -- first the call made some attempts in vain, and then what follows is said from there
 abbrev pub Waits : StoreView → ℕ → ℕ → LaneView → (LaneView → Type 0) → Type 0

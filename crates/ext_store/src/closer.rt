@@ -6,9 +6,9 @@ use ext_model::ContextNo;
 use std::marker::Model;
 use std::snapshot::Snapshot;
 
-/// The right to close a context, once. `Store::open` gives out one for each context, and there is no other way to
-/// one. It may go to another thread, and where it is dropped its context stays open. In contracts it is the cells of
-/// its store and its context.
+/// The right to close a context, once. `Store::open` gives out one for each context, and there is
+/// no other way to get one. It may go to another thread. If it is dropped, its context stays open.
+/// In contracts it is its store's cells and its context.
 #[derive(Drop)]
 pub struct Closer {
     pub(crate) context: ContextNo,
@@ -24,7 +24,7 @@ impl Model for Closer {
 }
 
 impl Closer {
-    /// The context, from 0.
+    /// Answers the context that it may close, from 0.
     pub fn context(&self) -> ContextNo
         ensures { result ≡ self.now.context }
     {

@@ -1,4 +1,4 @@
-//! What comes of a call that computes a missing value.
+//! What a compute answers.
 ghost use Rattle.std.specs.Prelude.{◌≡◌};
 ghost use Rattle.std.specs.Fn.{FnOnceReturnsAt};
 ghost use Rattle.ext_model.specs.CallActs.{IsHeld};
@@ -7,55 +7,57 @@ ghost use Rattle.ext_store.specs.Computing.{with_factory};
 use crate::{KeepFault, Lane, Refusal};
 use ext_cells::Claim;
 use ext_model::{ContextNo, Fault};
-use ext_store_cells::Unused;
+use ext_store_core::Unused;
 use ext_tree::Key;
 
-/// What `Store::compute` answers. A factory that was not called is handed back as it was, and can be called later.
+/// What `Store::compute` answers. A factory that was not called is handed back as it was, and can
+/// be called later.
 #[derive(Drop)]
 pub enum Compute<V, F> {
-    /// The factory's value was kept under this number, which stands in the context now.
+    /// The factory's value was kept under this number, which now stands in the context.
     Computed {
         number: u32,
     },
-    /// The context `at`, itself or the nearest of its ancestors where anything stands, has the value of this number.
+    /// The value of this number stands in `at`: the context itself, or its nearest ancestor where
+    /// anything stands.
     Found {
         at: ContextNo,
         number: u32,
         unused: F,
     },
-    /// The factory failed, and nothing is stored. Only a store that keeps no faults answers it.
+    /// The factory failed, and nothing is stored. Only a store that keeps no faults answers this.
     Failed(Fault),
-    /// The factory failed, and its fault was kept under this number, which stands in the context now. This and the next two
-    /// are answered only by a store that keeps faults.
+    /// The factory failed, and its fault was kept under this number, which now stands in the
+    /// context. Only a store that keeps faults answers this and the next two.
     FaultKept {
         number: u32,
     },
-    /// The factory failed, and its fault was not kept, and comes back. Nothing is stored.
+    /// The factory failed, and its fault was not kept and is handed back. Nothing is stored.
     FaultUnkept {
         fault: Fault,
         cause: KeepFault,
     },
-    /// A factory failed for the context `at`, itself or the nearest of its ancestors where anything stands, and its fault is
-    /// kept there under this number.
+    /// The kept fault of this number stands in `at`, for which a factory failed: the context
+    /// itself, or its nearest ancestor where anything stands.
     FaultStands {
         at: ContextNo,
         number: u32,
         unused: F,
     },
-    /// The factory's value was not kept, and comes back. Nothing is stored.
+    /// The factory's value was not kept and is handed back. Nothing is stored.
     Unkept {
         value: V,
         cause: KeepFault,
     },
-    /// The call was refused.
+    /// The call was refused, for this reason.
     Refused {
         refusal: Refusal,
         unused: F,
     },
 }
 
-// Calls the factory with the key, for a lane that holds its claim, which it borrows: so it can't be called before the claim
-// is won, nor once it is filled or given up. That no factory is called but here is read off the source.
+// Calls the factory with the key. It borrows the lane's claim, so it can't be called before the
+// claim is won, nor after it has ended. That no factory is called elsewhere is read off the source.
 pub(crate) fn run_factory<V, F: FnOnce(&Key) -> Result<V, Fault>>(
     lane: &Lane<V>,
     claim: &Claim,
@@ -69,7 +71,7 @@ pub(crate) fn run_factory<V, F: FnOnce(&Key) -> Result<V, Fault>>(
     factory(key)
 }
 
-// The result that hands the factory back, which was not called.
+// Hands back the factory, which was not called.
 pub(crate) fn hand_back<V, F>(why: Unused, factory: F) -> Compute<V, F>
     ensures { result ≡ with_factory factory why }
 {

@@ -5,27 +5,27 @@ ghost use Rattle.ext_store.specs.InnerKeeping.{IsOfCount, keep_fault};
 use ext_cells::CellRefusal;
 use thiserror::Error;
 
-/// Why a value is not kept, by `keep`, by `fill` or by a `compute` whose factory gave it; and why a fault is not, by `fail` or
-/// by a `compute` whose factory failed.
+/// Why a value is not kept, by `keep`, by `fill` or by a `compute` whose factory gave it; or why a
+/// fault is not, by `fail` or by a `compute` whose factory failed.
 #[derive(Clone, Copy, Debug, PartialEq, Eq, Error)]
 pub enum KeepFault {
-    /// There is no memory for it.
+    /// There is no memory for the value or the fault.
     #[error("no memory")]
     Memory,
-    /// All numbers were drawn.
+    /// All numbers of the store were drawn.
     #[error("numbers full")]
     NumbersFull,
     /// Other lanes were in the way: they drew at least as many numbers as a call has tries.
     #[error("contended")]
     Contended,
-    /// Another one stands in the number's place, which the lane knows from then on, and the number is lost. Tests show that
-    /// it never comes.
+    /// Another one stands in the number's place: the lane knows it from then on, and the number is
+    /// lost. Tests never meet it.
     #[error("unplaced")]
     Unplaced,
 }
 
 impl KeepFault {
-    // What a refusal to draw a number says.
+    // The fault for a refusal to draw a number.
     pub(crate) fn of(why: CellRefusal) -> KeepFault
         requires { IsOfCount why }
         ensures { result ≡ keep_fault why }

@@ -1,12 +1,12 @@
-//! A number whose value is kept, and which can be stored.
+//! The number of a kept value, which can be stored.
 ghost use Rattle.std.specs.Prelude.{◌≡◌, ◌≤◌};
 ghost use Rattle.ext_store.specs.LaneCalls.{with_kept};
 
 use crate::Refusal;
 use std::marker::Model;
 
-/// The number of a value that a lane has kept: it is stored by one `put` of this lane, and by no other. Where it is
-/// dropped, its value is found by its number alone. In contracts it is the number.
+/// The number of a value that a lane has kept: one `put` of this lane stores it, and no other call.
+/// If it is dropped, its value can be found by its number alone. In contracts it is the number.
 #[derive(Debug, Drop)]
 pub struct Kept {
     pub(crate) number: u32,
@@ -23,7 +23,7 @@ impl Model for Kept {
 }
 
 impl Kept {
-    /// The number, from 1.
+    /// Answers the number, from 1.
     pub fn number(&self) -> u32
         ensures number { result ≡ self.now }
         ensures from_one { 1 ≤ result }
@@ -31,7 +31,7 @@ impl Kept {
         self.number
     }
 
-    // What a put answers of which the cells say this: a refused one hands the kept number back.
+    // What a put answers after this answer of the cells: a refused one hands the kept number back.
     pub(crate) fn unless_stored(
         self,
         stored: Result<Option<u32>, Refusal>,

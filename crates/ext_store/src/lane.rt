@@ -12,9 +12,10 @@ use std::marker::Model;
 
 /// A lane of a store, which one thread at a time owns. It may go to another thread, and be dropped.
 ///
-/// In contracts it is its lane of the cells, what it knows of the value and of the fault of each number, and what it knows
-/// of the places of keys. A value or a fault is known where the lane kept it or was shown it. A key is known where the
-/// lane named it, was shown it while it named another, or was told it by `Store::meet`.
+/// In contracts it is its lane of the cells, what it knows of the value and of the fault of each
+/// number, and what it knows of the places of keys. It knows a value or a fault that it kept or was
+/// shown. It knows a key that it named, was shown while it named another, or was told by
+/// `Store::meet`.
 #[derive(Drop)]
 pub struct Lane<V> {
     pub(crate) cells: CellLane,
@@ -32,7 +33,8 @@ impl<V> Model for Lane<V> {
 }
 
 impl<V> Lane<V> {
-    /// The lane's number, from 0 in the order in which `Store::open` gave the lanes out, and so below their count.
+    /// Answers the lane's number, from 0 in the order in which `Store::open` gave the lanes out,
+    /// and so below their count.
     pub fn number(&self) -> LaneNo
         ensures number { result ≡ self.now.cells.view.number }
         ensures below { result < self.now.cells.cells.limits.lanes }
@@ -40,17 +42,17 @@ impl<V> Lane<V> {
         self.cells.number()
     }
 
-    /// Whether this lane knows the key of this number: whether it named the key, was shown it or was told it. False for a
-    /// number from 64 on.
+    /// Whether this lane knows the key of this number: whether it named it, was shown it or was
+    /// told it. False for a number from 64 on.
     pub fn knows_key(&self, number: KeyNo) -> bool
         ensures { result ≡ is_some (key_at self.now.keys number) }
     {
         self.keys.knows(number)
     }
 
-    /// Tells a proof what is true of every lane in hand: what it has seen is a legal history, and each of its fronts
-    /// goes on from the one before it. So where lanes met one after the other, all their fronts are parts of one legal
-    /// history, as `frame_laws` says. It does nothing when it runs.
+    /// Tells a proof what holds of every lane in hand. It has seen a legal history, and each of its
+    /// fronts goes on from the one before it. So where lanes met one after the other, all their
+    /// fronts are parts of one legal history, as `frame_laws` says. It does nothing when it runs.
     pub fn recall(&self)
         ensures legal { IsLegal self.now.cells.cells.limits (seen_by self.now.cells.view) }
         ensures follow { Follow [] self.now.cells.view.fronts }

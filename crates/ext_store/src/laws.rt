@@ -1,8 +1,7 @@
-//! What is true of every lane and of all calls on it, as the contract of a function that does nothing.
+//! What is true of every lane and of all calls on it.
 ghost use Rattle.ext_store.specs.FrameLaws.{FramesAreCalls, FramesCompose, FramesKeep, FrontsAreSeen, MetLanesShareHistory, NoCallHasFrame, NoCallIsCall};
 
-/// Proves the laws of frames, which say what calls one after the other do to a lane, and of what lanes have seen. It
-/// does nothing when it runs.
+/// Proves the laws of frames: what a sequence of calls does to a lane, and what lanes have seen.
 pub fn frame_laws<V>()
     ensures none { NoCallHasFrame V }
     ensures compose { FramesCompose V }

@@ -1,26 +1,26 @@
 //! The limits of a store, and why it is not opened.
 use thiserror::Error;
 
-/// The limits of a store that is opened.
+/// The limits that a store is opened with.
 #[derive(Clone, Copy, Debug, PartialEq, Eq)]
 pub struct Limits {
     /// How many lanes there are, for as many threads: 1 to 16.
     pub lanes: usize,
-    /// How many exchanges a change makes at most, and how many passes after its first a look-up, before the answer is
-    /// `Contended`: 1 to 64.
+    /// The most exchanges of a change, and the most passes of a look-up after its first, before the
+    /// answer is `Contended`: 1 to 64.
     pub tries: u32,
     /// How many values and faults can be kept while the store lives: 1 to 65,535.
     pub numbers: u32,
-    /// Whether the fault of a factory that fails is kept, under a number of its own, until it is removed or replaced, so that
-    /// the next compute meets it. Where it is false a factory that fails leaves its place empty, and its fault goes to its
-    /// caller.
+    /// Whether the fault of a factory that fails is kept, under a number of its own, until it is
+    /// removed or replaced, so that the next compute meets it. If not, a factory that fails leaves
+    /// its place empty, and its fault goes to its caller.
     pub keep_faults: bool,
 }
 
 /// Why a store is not opened.
 #[derive(Clone, Copy, Debug, PartialEq, Eq, Error)]
 pub enum StoreFault {
-    /// There were to be too few or too many lanes, tries or numbers.
+    /// The count of lanes, of tries or of numbers is out of its range.
     #[error("a limit is out of its range")]
     BadLimit,
     /// An allocation failed.

@@ -1,4 +1,4 @@
-//! What a store is made of that is opened: its cells and values, its lanes and its closers.
+//! The parts of a store that is opened: its cells and values, its lanes and its closers.
 ghost use Rattle.std.specs.Prelude.{◌≡◌, ◌≤◌, IfOk, MatchResult, map};
 ghost use Rattle.ext_cells.specs.Lanes.{AreLimits};
 ghost use Rattle.ext_store.specs.Stores.{closers_below, fresh_store_lane};
@@ -12,15 +12,16 @@ use ext_values::{Notes, SilentNotes, Values};
 use std::alloc::{AllocError, Global};
 use std::snapshot::Snapshot;
 
-// How many places there are for faults: one for each number where faults are kept, and else none.
+// How many places there are for faults: one for each number if faults are kept, and otherwise none.
 fn fault_capacity(numbers: u32, keep_faults: bool) -> u32
     ensures { result ≡ fault_count keep_faults numbers }
 {
     if keep_faults { numbers } else { 0 }
 }
 
-// What a store of so many cells and contexts is made of: the cells, the places of the values, of the kept faults and of
-// the keys, a lane for each lane of the limits, and a closer for each context. Or why it is not opened.
+// The parts of a store with `count` cells: the cells, the places of values, of kept faults and of
+// keys, a lane for each lane of the limits, and a closer for each of the contexts. Or why it is not
+// opened.
 pub(crate) fn open_parts<V: Drop>(
     alloc: Global,
     count: usize,
@@ -95,7 +96,8 @@ fn parts_of<V: Drop>(
     Ok((cells, values, faults, keys, lanes, closers))
 }
 
-// A lane for each lane of the cells, in order. Each has room to know the value and the fault of every number, and every key.
+// A lane for each lane of the cells, in order. It has room to know the value and the fault of every
+// number, and every key.
 fn lanes_of<V: Drop>(
     alloc: Global,
     values: &Values<V>,
@@ -123,7 +125,7 @@ fn lanes_of<V: Drop>(
     Ok(lanes)
 }
 
-// A closer for each of so many contexts, in order.
+// A closer for each of the contexts, in order.
 fn closers_of(alloc: Global, cells: &Cells, contexts: ContextNo) -> Result<Vec<Closer>, AllocError>
     ensures { IfOk result (λ closers. closers.items ≡ closers_below cells.now.id contexts) }
 {

@@ -1,41 +1,42 @@
-//! The store and its calls.
-ghost use Rattle.std.specs.Prelude.{ℕ, ◌≡◌, ◌≢◌, ◌↔◌, ◌+◌, ◌*◌, ◌<◌, ◌≤◌, [], All, Contains, IfErr, IfNone, IfOk, IfSome, IsFalse, IsNone, IsTrue, MatchResult, Ok, Err, length, map};
+//! The store: what it is, how it is opened, how keys get numbers, and how its lanes meet.
+ghost use Rattle.std.specs.Prelude.{ℕ, ◌≡◌, ◌↔◌, ◌+◌, ◌*◌, ◌<◌, ◌≤◌, [], All, IfErr, IfOk, IsFalse, IsTrue, Ok, Err, length, map};
 ghost use mathlib.Core.List.{IsPrefix};
 ghost use Rattle.ext_model.specs.CallActs.{Calls};
-ghost use Rattle.ext_model.specs.declared.event.Act.TheVariants as act_is;
 ghost use Rattle.ext_history.specs.Histories.{seen_by};
 ghost use Rattle.ext_tree.specs.Keys.{IsKeyNumber, KeepsKeys, OneKey, OneNumber, PlacesNone, PlacesOnly};
-ghost use Rattle.ext_values.specs.Known.{AllAgree, KeepsKnown, Learns, known_at};
-ghost use Rattle.ext_cells.specs.CellCalls.{ComesLast};
-ghost use Rattle.ext_cells.specs.Lanes.{AreLimits, fresh_lanes};
+ghost use Rattle.ext_values.specs.Known.{AllAgree};
+ghost use Rattle.ext_cells.specs.Lanes.{fresh_lanes};
 ghost use Rattle.ext_store.specs.declared.limits.StoreFault.TheVariants as store_fault;
-ghost use Rattle.ext_store.specs.Stores.{AreStoreLimits, IsCloserOf, IsKeptBy, IsLaneOf, StillKeeps, StillKeepsBut, cell_in, closers_below, fresh_store_lane};
+ghost use Rattle.ext_store.specs.Stores.{AreStoreLimits, IsCloserOf, IsLaneOf, StillKeeps, closers_below, fresh_store_lane};
 ghost use Rattle.ext_store.specs.Opening.{fault_count};
-ghost use Rattle.ext_store.specs.LaneCalls.{Frame, stored_by, IsKeyRefused, OfKey, key_refusal, Gets, IsFaultlessLook, KeepsAs, KeepsNothing, Puts, Removes, steps_of, Stays};
+ghost use Rattle.ext_store.specs.LaneCalls.{Frame, IsKeyRefused, key_refusal, Stays};
+ghost use Rattle.ext_store.specs.declared.computed.Compute.TheVariants.{Refused};
 
 use crate::opening::open_parts;
-use crate::{Closer, KeepFault, Kept, Lane, Limits, Refusal, StoreFault, StoreValue};
-use ext_model::{ContextNo, Fault, KeyNo, Look};
-use ext_store_cells::StoreCells;
+use crate::{Closer, Lane, Limits, Refusal, StoreFault, StoreValue};
+use ext_model::{Fault, KeyNo};
+use ext_store_core::StoreCore;
 use ext_tree::{Key, KeyFault, Tree};
 use ext_values::Values;
 use std::alloc::Global;
 use std::marker::Model;
 
-/// Values under keys in the contexts of a test run, shared by reference between the threads that own its lanes.
+/// Values under keys in the contexts of a test run, shared by reference between the threads that
+/// own its lanes.
 ///
-/// A value is kept, which gives it a number; the number is stored under a key in a context, and is found from there
-/// and from all contexts below. A lane and a closer are used with the store that gave them out. A refused call changes
-/// nothing unless it says so.
+/// A value is kept, which gives it a number. The number is stored under a key in a context, and is
+/// found from there and from all contexts below. A lane and a closer are used with the store that
+/// gave them out. A refused call changes nothing unless it says so.
 ///
-/// A key has one of 64 numbers from the first call on that names it, for as long as the store lives: a look-up too gives
-/// it one, and so does a call that is then refused for another reason than the key.
+/// A key has one of 64 numbers from the first call on that names it, for as long as the store
+/// lives. A look-up gives it one too, and so does a call that is then refused for another reason
+/// than the key.
 ///
-/// Javadoc `ExtensionContext.Store`; JUnit 5 User Guide, section "Keeping State in Extensions". Numbers, lanes,
-/// claims, closers and refusals are own rules.
+/// Javadoc `ExtensionContext.Store`; JUnit 5 User Guide, section "Keeping State in Extensions".
+/// Numbers, lanes, claims, closers and refusals are own rules.
 #[derive(Drop)]
 pub struct Store<V> {
-    pub(crate) shared: StoreCells,
+    pub(crate) shared: StoreCore,
     pub(crate) values: Values<V>,
     pub(crate) faults: Values<Fault>,
     pub(crate) alloc: Global,
@@ -52,14 +53,15 @@ impl<V> Model for Store<V> {
 }
 
 impl<V> Store<V> {
-    /// The contexts.
+    /// Answers the tree of the contexts.
     pub fn tree(&self) -> &Tree
         ensures { result.now ≡ self.now.tree }
     {
         self.shared.tree()
     }
 
-    /// How many keys can have a number: 64. Each context has a cell for each of these numbers, whether a key has it or not.
+    /// How many keys can have a number: 64. Each context has a cell for each of these numbers,
+    /// whether a key has it or not.
     pub fn key_count(&self) -> KeyNo
         ensures count { result ≡ length self.now.id.keys }
         ensures all { result ≡ 64 }
@@ -75,7 +77,8 @@ impl<V> Store<V> {
         self.shared.keeps_faults()
     }
 
-    // Tells a proof that there is a place for each number; and where faults are kept one for its fault too, and else none.
+    // Tells a proof that there is a place for each number and, if faults are kept, one for its
+    // fault too; otherwise none.
     pub(crate) fn recall(&self)
         ensures numbers { self.now.id.cells.limits.numbers ≡ length self.now.id.places }
         ensures faults { IsTrue self.now.id.cells.limits.keep_faults → self.now.id.cells.limits.numbers ≡ length self.now.id.fault_places }
@@ -84,8 +87,8 @@ impl<V> Store<V> {
         let _tries = self.shared.tries();
     }
 
-    /// How many exchanges a change makes at most, and how many passes after its first a look-up, from 1 to 64, before the
-    /// answer is `Contended`: the clause `steps` of each call counts by it.
+    /// Answers the most exchanges of a change, and the most passes of a look-up after its first,
+    /// before the answer is `Contended`: 1 to 64. The clause `steps` of each call counts by it.
     pub fn tries(&self) -> u32
         ensures tries { result ≡ self.now.tries }
         ensures within { (1 ≤ self.now.tries) × (self.now.tries ≤ 64) }
@@ -95,13 +98,15 @@ impl<V> Store<V> {
 }
 
 impl<V: StoreValue + Drop> Store<V> {
-    /// Opens a store in which nothing stands and no key has a number, with its lanes, which are numbered from 0 in the
-    /// order of the list, and with one closer for each context, in order. Takes all memory that the store needs but for the
-    /// values, the faults and the keys themselves; a store that keeps no faults takes none for them. Nobody but these lanes
-    /// makes an event: where none of them has made one, the history is empty (`no_lane` of `history_laws` in ext_model).
+    /// Opens a store in which nothing stands and no key has a number, with its lanes and a closer
+    /// for each context. The lanes are numbered from 0 in the order of the list, and the closers
+    /// stand in the order of the contexts. Takes all memory that the store needs, except for the
+    /// values, the faults and the keys themselves; a store that keeps no faults takes none for
+    /// them. Nobody but these lanes makes an event: where none of them has made one, the history is
+    /// empty (`no_lane` of `history_laws` in ext_model).
     ///
-    /// Refused, in this order, as `BadLimit` unless there are 1 to 16 lanes, 1 to 64 tries and 1 to 65,535 numbers, and
-    /// as `Memory`. A refused call drops the tree.
+    /// Refused, in this order, as `BadLimit` unless there are 1 to 16 lanes, 1 to 64 tries and 1 to
+    /// 65,535 numbers, and as `Memory`. A refused call drops the tree.
     pub fn open(
         alloc: Global,
         tree: Tree,
@@ -130,7 +135,7 @@ impl<V: StoreValue + Drop> Store<V> {
         let (cells, values, faults, keys, lanes, closers) = open_parts(
             alloc, count, contexts, limits,
         )?;
-        let shared = StoreCells::new(tree, keys, cells);
+        let shared = StoreCore::new(tree, keys, cells);
         let store = Store {
             shared,
             values,
@@ -140,43 +145,15 @@ impl<V: StoreValue + Drop> Store<V> {
         Ok((store, lanes, closers))
     }
 
-    /// Keeps a value: draws the next number for it, which the value has from then on. The first number is 1, each is
-    /// the last plus one, and the order of the numbers is the order of addition. Takes memory for the value.
+    /// Answers the key's number, 0 to 63, which the key has from then on, the same in all lanes, as
+    /// `meet` shows. It is the first place that holds the key. A key that the lane knows is found
+    /// by its stored hash, takes no memory and is never refused. For any other key it takes memory
+    /// for a copy at each place that it finds free. It makes no step on the cells.
     ///
-    /// Refused, in this order and with the value handed back, as `Memory`, as `NumbersFull` where all numbers were drawn,
-    /// as `Contended`, where other lanes have drawn at least as many as there are tries and a number is left, and as
-    /// `Unplaced`, where another value stands in the number's place: the lane knows that one then, and the number is lost.
-    /// JUnit numbers values as they are stored.
-    #[tactic(auto, unfolding(crate::specs::LaneCalls::KeepFails, crate::specs::LaneCalls::Frame))]
-    pub fn keep(&self, lane: &mut Lane<V>, value: V) -> Result<Kept, (V, KeepFault)>
-        requires lane { IsLaneOf self.now.id lane.old }
-        ensures answer { MatchResult result (KeepsAs value lane.old lane.new) (λ e. KeepsNothing self.now value lane.old lane.new e.0 e.1) }
-        ensures contended { ComesLast (value, KeepFault.Contended) self.now.tries lane.old.cells lane.new.cells (act_is.Keep 0) result }
-        ensures lane { IsLaneOf self.now.id lane.new }
-        ensures known { KeepsKnown lane.old.known lane.new.known }
-        ensures faults { lane.new.faults ≡ lane.old.faults }
-        ensures keys { lane.new.keys ≡ lane.old.keys }
-        ensures kept { StillKeeps lane.old lane.new }
-        ensures apart { IfOk result (λ number. (m : ℕ) → IsKeptBy lane.old m → m ≢ number) }
-        ensures frame { Frame self.now.id [] lane.old lane.new }
-        ensures steps { steps_of lane.old.cells lane.new.cells ≤ self.now.tries + 1 }
-    {
-        self.recall();
-        let boxed = match Box::new(self.alloc, value) {
-            Ok(boxed) => boxed,
-            Err(failed) => return Err((failed.value, KeepFault::Memory)),
-        };
-        let drawn = self.shared.draw_number(&mut lane.cells);
-        self.place_drawn(&mut lane.notes, drawn, boxed)
-    }
-
-    /// The number of the key, 0 to 63, from now on: the same in all lanes, as `meet` shows. It is the first place that holds
-    /// the key. A key that the lane knows is found by one hash, takes no memory and is never refused; for another one it
-    /// takes memory for a copy of the key at each place that it finds free. No step on the cells. Never waits.
-    ///
-    /// Refused as `Memory` where there is none for the copy, at the first place that is not known to hold a key, and as
-    /// `DirectoryFull` where all 64 places are known to hold other keys; `Unplaced` does not come. A refused call placed no
-    /// key, and the lane may know further keys then. JUnit 5 keeps values in maps, under the keys themselves.
+    /// Refused as `Memory` where there is none for the copy, at the first place that is not known
+    /// to hold a key, and as `DirectoryFull` where all 64 places are known to hold other keys.
+    /// `Unplaced` does not come. A refused call placed no key, though the lane may know further
+    /// keys then. JUnit 5 keeps values in maps, under the keys themselves.
     #[tactic(auto, unfolding(crate::specs::LaneCalls::Frame))]
     pub fn number(&self, lane: &mut Lane<V>, key: &Key) -> Result<KeyNo, Refusal>
         requires lane { IsLaneOf self.now.id lane.old }
@@ -196,213 +173,12 @@ impl<V: StoreValue + Drop> Store<V> {
         }
     }
 
-    /// Looks for the key in the context and then in its ancestors, the nearest first, at one point of the call: the
-    /// first of them where anything stands under the key decides. May take memory for a key that is new to the lane.
-    ///
-    /// Refused, in this order, for the key as `number` is, as `DirectoryFull` or `Memory`, which is no step on the cells, and
-    /// as `Contended`. That a context has a kept fault, computes a value or is closed is an answer: `Look::Fault`, `Look::Busy` or
-    /// `Look::Closed`. In a store that keeps no faults none is met.
-    ///
-    /// Javadoc `ExtensionContext.Store`, `get`. It answers the context and the number, which `show` makes a value.
-    #[tactic(auto, unfolding(crate::specs::LaneCalls::Frame))]
-    pub fn get(&self, lane: &mut Lane<V>, context: ContextNo, key: &Key) -> Result<Look, Refusal>
-        requires lane { IsLaneOf self.now.id lane.old }
-        requires context { context < length self.now.tree }
-        ensures answer { OfKey lane.old lane.new key.now (λ why. result ≡ Err why) (λ number. Gets self.now context number lane.old.cells lane.new.cells result) }
-        ensures no_faults { IsFalse self.now.id.cells.limits.keep_faults → IfOk result IsFaultlessLook }
-        ensures stays { Stays self.now.id [] lane.old lane.new }
-        ensures steps { steps_of lane.old.cells lane.new.cells ≤ 16 * (self.now.tries + 1) }
-        ensures placed { PlacesOnly key.now lane.old.keys lane.new.keys }
-    {
-        match self.number(lane, key) {
-            Ok(key) => self.get_numbered(lane, context, key),
-            Err(why) => Err(why),
-        }
-    }
-
-    /// As `get`, for the key of this number, as `number` gives it: so a key that is looked up often is hashed once. A place
-    /// without a key is absent. It is a condition that the number is below 64; refused as `Contended` alone.
-    #[tactic(auto, unfolding(crate::specs::LaneCalls::Frame))]
-    pub fn get_numbered(
-        &self,
-        lane: &mut Lane<V>,
-        context: ContextNo,
-        key: KeyNo,
-    ) -> Result<Look, Refusal>
-        requires lane { IsLaneOf self.now.id lane.old }
-        requires context { context < length self.now.tree }
-        requires key { key < 64 }
-        ensures answer { Gets self.now context key lane.old.cells lane.new.cells result }
-        ensures no_faults { IsFalse self.now.id.cells.limits.keep_faults → IfOk result IsFaultlessLook }
-        ensures stays { Stays self.now.id [] lane.old lane.new }
-        ensures keys { lane.new.keys ≡ lane.old.keys }
-        ensures steps { steps_of lane.old.cells lane.new.cells ≤ 16 * (self.now.tries + 1) }
-    {
-        self.shared.recall();
-        self.shared.look_up(&mut lane.cells, context, key)
-    }
-
-    /// Stores the kept number under the key in the context itself, over one that stands there, and answers the number
-    /// that stood. Contexts below find it unless something stands nearer to them. A replaced value is not closed.
-    /// May take memory for a key that is new to the lane.
-    ///
-    /// Refused, in this order, for the key as `number` is, as `DirectoryFull` or `Memory`, which is no step on the cells, as
-    /// `Busy` where a lane computes a value for the context, as `Closed`, as `Exhausted` where there were more than
-    /// 2^40 - 3 events there, and as `Contended`, of events in this context under this key alone. The kept number is then
-    /// handed back, and can still be put.
-    ///
-    /// Javadoc `ExtensionContext.Store`, `put`. JUnit 5 answers nothing; the answer and the refusals are own rules.
-    #[tactic(auto, unfolding(crate::specs::LaneCalls::Frame))]
-    pub fn put(
-        &self,
-        lane: &mut Lane<V>,
-        context: ContextNo,
-        key: &Key,
-        kept: Kept,
-    ) -> Result<Option<u32>, (Kept, Refusal)>
-        requires lane { IsLaneOf self.now.id lane.old }
-        requires context { context < length self.now.tree }
-        requires kept { IsKeptBy lane.old kept }
-        ensures answer { OfKey lane.old lane.new key.now (λ why. result ≡ Err (kept, why)) (λ number. Puts self.now context number kept lane.old.cells lane.new.cells result) }
-        ensures contended { OfKey lane.old lane.new key.now (λ why. result ≡ Err (kept, why)) (λ number. ComesLast (kept, Refusal.Contended) self.now.tries lane.old.cells lane.new.cells (act_is.Put (cell_in self.now number context) kept) result) }
-        ensures handed_back { IfErr result (λ e. e.0 ≡ kept) }
-        ensures stays { Stays self.now.id (stored_by kept result) lane.old lane.new }
-        ensures steps { steps_of lane.old.cells lane.new.cells ≤ self.now.tries + 1 }
-        ensures placed { PlacesOnly key.now lane.old.keys lane.new.keys }
-    {
-        match self.number(lane, key) {
-            Ok(key) => self.put_numbered(lane, context, key, kept),
-            Err(why) => Err((kept, why)),
-        }
-    }
-
-    /// As `put`, for the key of this number, as `number` gives it: nothing is hashed. It is a condition that the number is
-    /// below 64; refused as `put` is, save for the key.
-    #[tactic(auto, unfolding(crate::specs::LaneCalls::Frame))]
-    pub fn put_numbered(
-        &self,
-        lane: &mut Lane<V>,
-        context: ContextNo,
-        key: KeyNo,
-        kept: Kept,
-    ) -> Result<Option<u32>, (Kept, Refusal)>
-        requires lane { IsLaneOf self.now.id lane.old }
-        requires context { context < length self.now.tree }
-        requires key { key < 64 }
-        requires kept { IsKeptBy lane.old kept }
-        ensures answer { Puts self.now context key kept lane.old.cells lane.new.cells result }
-        ensures contended { ComesLast (kept, Refusal.Contended) self.now.tries lane.old.cells lane.new.cells (act_is.Put (cell_in self.now key context) kept) result }
-        ensures handed_back { IfErr result (λ e. e.0 ≡ kept) }
-        ensures stays { Stays self.now.id (stored_by kept result) lane.old lane.new }
-        ensures keys { lane.new.keys ≡ lane.old.keys }
-        ensures steps { steps_of lane.old.cells lane.new.cells ≤ self.now.tries + 1 }
-    {
-        self.shared.recall();
-        let stored = self
-            .shared
-            .put_at(&mut lane.cells, context, key, kept.number);
-        kept.unless_stored(stored)
-    }
-
-    /// Takes what stands under the key in the context itself, and in no other, and answers its number; where nothing
-    /// stands the answer is `None`, and nothing happens. The value is not closed. May take memory for a key that is new to
-    /// the lane.
-    ///
-    /// Refused, in this order, for the key as `number` is, as `DirectoryFull` or `Memory`, which is no step on the cells, as
-    /// `Busy` where a lane computes a value for the context, as `Closed`, as `Exhausted` where a number stands and there
-    /// were more than 2^40 - 3 events there, and as `Contended`, of events in this context under this key alone.
-    ///
-    /// Javadoc `ExtensionContext.Store`, `remove`, which answers the value; the refusals are own rules.
-    #[tactic(auto, unfolding(crate::specs::LaneCalls::Frame))]
-    pub fn remove(
-        &self,
-        lane: &mut Lane<V>,
-        context: ContextNo,
-        key: &Key,
-    ) -> Result<Option<u32>, Refusal>
-        requires lane { IsLaneOf self.now.id lane.old }
-        requires context { context < length self.now.tree }
-        ensures answer { OfKey lane.old lane.new key.now (λ why. result ≡ Err why) (λ number. Removes self.now context number lane.old.cells lane.new.cells result) }
-        ensures contended { OfKey lane.old lane.new key.now (λ why. result ≡ Err why) (λ number. ComesLast Refusal.Contended self.now.tries lane.old.cells lane.new.cells (act_is.Remove (cell_in self.now number context)) result) }
-        ensures stays { Stays self.now.id [] lane.old lane.new }
-        ensures steps { steps_of lane.old.cells lane.new.cells ≤ self.now.tries + 1 }
-        ensures placed { PlacesOnly key.now lane.old.keys lane.new.keys }
-    {
-        match self.number(lane, key) {
-            Ok(key) => self.remove_numbered(lane, context, key),
-            Err(why) => Err(why),
-        }
-    }
-
-    /// As `remove`, for the key of this number, as `number` gives it: nothing is hashed. A place without a key has nothing to
-    /// take. It is a condition that the number is below 64; refused as `remove` is, save for the key.
-    #[tactic(auto, unfolding(crate::specs::LaneCalls::Frame))]
-    pub fn remove_numbered(
-        &self,
-        lane: &mut Lane<V>,
-        context: ContextNo,
-        key: KeyNo,
-    ) -> Result<Option<u32>, Refusal>
-        requires lane { IsLaneOf self.now.id lane.old }
-        requires context { context < length self.now.tree }
-        requires key { key < 64 }
-        ensures answer { Removes self.now context key lane.old.cells lane.new.cells result }
-        ensures contended { ComesLast Refusal.Contended self.now.tries lane.old.cells lane.new.cells (act_is.Remove (cell_in self.now key context)) result }
-        ensures stays { Stays self.now.id [] lane.old lane.new }
-        ensures keys { lane.new.keys ≡ lane.old.keys }
-        ensures steps { steps_of lane.old.cells lane.new.cells ≤ self.now.tries + 1 }
-    {
-        self.shared.recall();
-        self.shared.remove_at(&mut lane.cells, context, key)
-    }
-
-    /// The value that the number has, which this lane knows from now on: always where the lane kept it or was shown
-    /// it, and else where this thread finds it; never the value of another number.
-    ///
-    /// `None`, with nothing changed, for a number that has no place, and where the thread finds no value.
-    #[tactic(auto, unfolding(crate::specs::LaneCalls::Frame))]
-    pub fn show<'a>(&'a self, lane: &mut Lane<V>, number: u32) -> Option<&'a V>
-        requires lane { IsLaneOf self.now.id lane.old }
-        ensures found { IfSome result (λ value. Learns lane.old.known lane.new.known number value.now) }
-        ensures known { KeepsKnown lane.old.known lane.new.known }
-        ensures faults { lane.new.faults ≡ lane.old.faults }
-        ensures none { IfNone result ((known_at lane.old.known number ≡ None) × (lane.new ≡ lane.old)) }
-        ensures keys { lane.new.keys ≡ lane.old.keys }
-        ensures steps { lane.new.cells ≡ lane.old.cells }
-        ensures lane { IsLaneOf self.now.id lane.new }
-        ensures kept { StillKeeps lane.old lane.new }
-        ensures frame { Frame self.now.id [] lane.old lane.new }
-    {
-        lane.notes.get(&self.values, number)
-    }
-
-    /// The fault that the number has, which this lane knows from now on: always where the lane kept it or was shown it, and
-    /// else where this thread finds it; never the fault of another number.
-    ///
-    /// `None`, with nothing changed, for a number that has no place, and where the thread finds no fault; in a store that
-    /// keeps no faults always.
-    #[tactic(auto, unfolding(crate::specs::LaneCalls::Frame))]
-    pub fn show_fault<'a>(&'a self, lane: &mut Lane<V>, number: u32) -> Option<&'a Fault>
-        requires lane { IsLaneOf self.now.id lane.old }
-        ensures found { IfSome result (λ fault. Learns lane.old.faults lane.new.faults number fault.now) }
-        ensures known { lane.new.known ≡ lane.old.known }
-        ensures faults { KeepsKnown lane.old.faults lane.new.faults }
-        ensures keys { lane.new.keys ≡ lane.old.keys }
-        ensures none { IfNone result ((known_at lane.old.faults number ≡ None) × (lane.new ≡ lane.old)) }
-        ensures none_kept { IsFalse self.now.id.cells.limits.keep_faults → IsNone result }
-        ensures steps { lane.new.cells ≡ lane.old.cells }
-        ensures lane { IsLaneOf self.now.id lane.new }
-        ensures kept { StillKeeps lane.old lane.new }
-        ensures frame { Frame self.now.id [] lane.old lane.new }
-    {
-        self.recall();
-        lane.faults.get(&self.faults, number)
-    }
-
-    /// Afterwards what the first lane has seen is a prefix of what the second has seen: so both speak of one history. A
-    /// number that both know has one value in both, or one fault. A key that both know has one number in both, and a key's
-    /// number that both know has one key in both. The second knows afterwards all keys that the first knows, too: so of
-    /// lanes that meet one after the other the last knows all keys, and all have numbered alike. Neither makes an event.
+    /// Makes both lanes speak of one history: afterwards what the first has seen is a prefix of
+    /// what the second has seen. A number that both know has one value in both, or one fault. A key
+    /// that both know has one number in both, and a key's number that both know has one key in
+    /// both. Afterwards the second also knows all keys that the first knows. So of lanes that meet
+    /// one after the other the last knows all keys, and all have numbered alike. Neither makes an
+    /// event.
     #[tactic(auto, unfolding(crate::specs::LaneCalls::Frame))]
     pub fn meet(&self, first: &mut Lane<V>, second: &mut Lane<V>)
         requires first { IsLaneOf self.now.id first.old }
@@ -433,7 +209,7 @@ impl<V: StoreValue + Drop> Store<V> {
     }
 }
 
-/// What a call says whose key got no number.
+/// The refusal of a call whose key got no number.
 pub(crate) fn refusal_of(why: KeyFault) -> Refusal
     ensures { result ≡ key_refusal why }
 {

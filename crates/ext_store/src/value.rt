@@ -1,12 +1,13 @@
-//! What a value of a store has to say of itself.
+//! What a value of a store says of itself.
 ghost use Rattle.std.specs.Prelude.{◌≡◌, Bool};
 
 /// A value that a store keeps.
 ///
-/// JUnit 5 closes values that are `CloseableResource`s, when the store of their context is closed: User Guide,
-/// section "Keeping State in Extensions". That a value says itself whether it is closeable is an own rule.
+/// JUnit 5 closes values that are `CloseableResource`s when the store of their context is closed:
+/// User Guide, section "Keeping State in Extensions". Here a value says itself whether it is
+/// closeable.
 pub trait StoreValue {
-    /// Whether it is closeable.
+    /// Whether the value is closeable, in contracts.
     ghost is_closeable: { Self → Bool };
 
     /// Whether the value is to be closed with its context.

@@ -8,7 +8,7 @@ use Rattle.ext_tree.specs.declared.fault.TreeFault.{TreeFault}
 use Rattle.ext_tree.specs.declared.fault.TreeFault.TheVariants as faults
 use Rattle.ext_tree.specs.Trees.{Id, id_at, IsParent, MayFollow, IsWrong, twice, second_root, without_parent, FollowBelow, HasRoot, none_at_all, too_many, no_root, later}
 use Rattle.ext_tree.proofs.Children.{is_parent_Decides}
-use Rattle.ext_tree.specs.Laws.{IsTreeOrFaulty}
+use Rattle.ext_tree.specs.TreeLaws.{IsTreeOrFaulty}
 
 -- whether a number below n passes
 search_below : (P : ℕ → Type 0) → ((j : ℕ) → P j ⊎ (P j → ⊥)) → (n : ℕ) → ((j : ℕ) × (j < n) × P j) ⊎ (((j : ℕ) × (j < n) × P j) → ⊥)

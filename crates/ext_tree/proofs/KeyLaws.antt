@@ -2,7 +2,7 @@
 use Rattle.std.proofs.Common.{◌≡◌, ℕ, ◌+◌, ◌*◌, ◌<◌, ◌≤◌, inl, inr, arith, ap, sym, ◌∙◌, refl, true≢false, append_assoc, mul-le-mul_right, add-mul, one-mul}
 use Rattle.std.proofs.lemmas.Bool.{cases_order}
 use Rattle.std.proofs.lemmas.Option.{get_or_from_slice_get}
-use Rattle.ext_tree.specs.Laws.{NumbersTell, CellsTell, NamespacesTell}
+use Rattle.ext_tree.specs.TreeLaws.{NumbersTell, CellsTell, NamespacesTell}
 use Rattle.ext_tree.proofs.Numbers.{one_place}
 
 pub numbers_tell : NumbersTell

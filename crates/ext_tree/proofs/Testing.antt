@@ -10,7 +10,7 @@ use Rattle.ext_ids.specs.Ids.{pair_eq, is_parent}
 use Rattle.ext_ids.proofs.Pairs.{ids_Decides}
 use Rattle.ext_tree.specs.Trees.{Id, id_at, MayFollow, IsTree}
 use Rattle.ext_tree.specs.Decided.{may_follow, each_may_follow, is_tree}
-use Rattle.ext_tree.specs.Laws.{TestTells}
+use Rattle.ext_tree.specs.TreeLaws.{TestTells}
 use Rattle.ext_tree.proofs.Children.{is_parent_Decides}
 
 -- one of the ids before passes

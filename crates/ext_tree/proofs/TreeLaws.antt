@@ -6,7 +6,7 @@ use Rattle.std.proofs.lemmas.List.{get_or_default}
 use Rattle.std.proofs.lemmas.List.Quantifiers.{all_pairs_push}
 use Rattle.ext_ids.specs.Ids.{is_parent}
 use Rattle.ext_tree.specs.Trees.{Id, id_at, IsParent, children_below}
-use Rattle.ext_tree.specs.Laws.{FaultsTell, PathsAreUnique, ParentsListChildren}
+use Rattle.ext_tree.specs.TreeLaws.{FaultsTell, PathsAreUnique, ParentsListChildren}
 use Rattle.ext_tree.proofs.TreeFacts.{has_no_fault, one_fault, one_parent, parent_first}
 use Rattle.ext_tree.proofs.Deciding.{tree_or_faulty}
 use Rattle.ext_tree.proofs.Walks.{one_path}

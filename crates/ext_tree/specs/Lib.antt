@@ -3,6 +3,6 @@ pub mod InnerLearning
 pub mod Decided
 pub mod KeyPlaceLaws
 pub mod Keys
-pub mod Laws
+pub mod TreeLaws
 pub mod Trees
 pub mod Traits

@@ -1,4 +1,4 @@
-//! From a list of ids to the places of their parents, their children and their paths, or to what is wrong with the list.
+//! Works out the parents, children and paths of a list of ids, or what is wrong with the list.
 ghost use Rattle.std.specs.Prelude.{ℕ, ◌≡◌, ◌≢◌, ◌+◌, ◌<◌, ◌≤◌, ◌↔◌, IsTrue, IfOk, IfErr, OnOk, MatchResult, length, take, []};
 ghost use Rattle.ext_tree.specs.Trees.{StandsBefore, HasRoot, IsTree, HasFault, IsWrong, IsPathOf};
 ghost use Rattle.ext_tree.specs.InnerBuilding.{IsParentBefore, IsJudged, AreParents, AreChildren, ArePaths, Follows};
@@ -12,10 +12,10 @@ use ext_model::ContextNo;
 use indexmap::IndexSet;
 use std::alloc::{AllocError, Global};
 
-/// How many contexts a tree can have.
+/// The greatest number of contexts of a tree.
 const MAX_CONTEXTS: usize = 256;
 
-/// Whether the list begins as a tree's does.
+/// Checks that the list begins with a root, and that it is not too long.
 pub fn check_root(ids: &[UniqueId]) -> Result<(), TreeFault>
     ensures ok { OnOk result (HasRoot ids.now) }
     ensures err { IfErr result (HasFault ids.now) }
@@ -32,7 +32,8 @@ pub fn check_root(ids: &[UniqueId]) -> Result<(), TreeFault>
     Ok(())
 }
 
-/// The places of the parents. Each id and its parent are looked up in a table, and not among all other ids.
+/// The places of the parents. Each id and its parent are looked up in a table, not among all other
+/// ids.
 pub fn parents_of(alloc: Global, ids: &[UniqueId]) -> Result<Vec<ContextNo>, TreeFault>
     requires { HasRoot ids.now }
     ensures { MatchResult result (λ v. AreParents ids.now (length ids.now) v.items) (λ e. e ≢ Memory → HasFault ids.now e) }
@@ -43,7 +44,7 @@ pub fn parents_of(alloc: Global, ids: &[UniqueId]) -> Result<Vec<ContextNo>, Tre
     Ok(parents)
 }
 
-/// As `parents_of`, by a table and into a list that are empty before.
+/// Does the work of `parents_of`, with a table and a list that are empty before.
 fn parents_by(
     alloc: Global,
     table: &mut IndexSet<Trail>,
@@ -63,7 +64,7 @@ fn parents_by(
     Ok(())
 }
 
-/// Puts the first id into the table, which is empty before.
+/// Puts the first id into the empty table.
 fn enter_root(
     alloc: Global,
     table: &mut IndexSet<Trail>,
@@ -99,7 +100,7 @@ fn enter(
     Ok(parent)
 }
 
-/// The place of the parent of an id that may stand where it does, or what is wrong with it.
+/// The place of the parent of an id, or what is wrong with the id.
 fn judge(
     ids: &[UniqueId],
     at: usize,
@@ -123,7 +124,7 @@ fn judge(
     }
 }
 
-/// What `parents_of` decides, for when there is no memory for a table. Takes none.
+/// Decides the same as `parents_of`, but without memory for a table.
 fn check(ids: &[UniqueId]) -> Result<(), TreeFault>
     requires { HasRoot ids.now }
     ensures ok { OnOk result (IsTree ids.now) }
@@ -135,7 +136,8 @@ fn check(ids: &[UniqueId]) -> Result<(), TreeFault>
     Ok(())
 }
 
-/// What is wrong with the ids that `parents_of` refused: nothing but memory only where they are a tree. Takes none.
+/// What is wrong with the ids that `parents_of` refused: `Memory` only if they are a tree. Takes no
+/// memory.
 pub fn refusal(ids: &[UniqueId], fault: TreeFault) -> TreeFault
     requires root { HasRoot ids.now }
     requires fault { fault ≢ Memory → HasFault ids.now fault }
@@ -151,7 +153,7 @@ pub fn refusal(ids: &[UniqueId], fault: TreeFault) -> TreeFault
     }
 }
 
-/// Whether the id stands at an earlier place too.
+/// Whether the id also stands at an earlier place.
 fn stands_before(ids: &[UniqueId], at: usize) -> bool
     requires { at < length ids.now }
     ensures { IsTrue result ↔ StandsBefore ids.now at }
@@ -159,7 +161,7 @@ fn stands_before(ids: &[UniqueId], at: usize) -> bool
     ids[..at].contains(&ids[at])
 }
 
-/// The earlier place of the id's parent.
+/// The place of the id's parent, if it stands before the id.
 fn parent_before(ids: &[UniqueId], at: usize) -> Option<ContextNo>
     requires { at < length ids.now }
     ensures { IsParentBefore ids.now at result }
@@ -219,7 +221,7 @@ pub fn paths_of(
     Ok(paths)
 }
 
-/// The path of a context. Takes no memory.
+/// The path of a context.
 fn path_of(ids: &[UniqueId], parents: &[ContextNo], context: ContextNo) -> Path
     requires tree { IsTree ids.now }
     requires parents { AreParents ids.now (length ids.now) parents.now }

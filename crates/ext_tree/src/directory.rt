@@ -9,12 +9,13 @@ use indexmap::IndexSet;
 use std::alloc::Global;
 use std::marker::Model;
 
-/// How many keys can be declared.
+/// The greatest number of declared keys.
 const MAX_KEYS: usize = 64;
 
-/// The declared keys, in the order of their numbers, which begin at 0. There are at most 64.
+/// The declared keys, at most 64, in the order of their numbers, which begin at 0.
 ///
-/// A directory has one owner: `declare` wants it alone. Where several threads give numbers to keys, take `KeyPlaces`.
+/// A directory has one owner: `declare` borrows it mutably. If several threads number keys, use
+/// `KeyPlaces`.
 #[derive(Drop)]
 pub struct Directory {
     keys: IndexSet<Key>,
@@ -32,7 +33,7 @@ impl Model for Directory {
 }
 
 impl Directory {
-    /// A directory without keys. Takes no memory: the allocator is for later calls.
+    /// A directory without keys. The allocator is for later calls.
     pub fn new(alloc: Global) -> Directory
         ensures { result ≡ [] }
     {
@@ -41,11 +42,11 @@ impl Directory {
         }
     }
 
-    /// The number of the key, 0 to 63, from now on: its own if it was declared before, else the next one.
-    /// May take memory, for a new key only.
+    /// Declares the key and answers its number, 0 to 63: the one that it had before, else the next
+    /// one. May take memory, for a new key only.
     ///
-    /// Refused, in this order, as `TooMany` where 64 other keys are declared, and as `Memory`. A refused call
-    /// drops the key, and changes nothing.
+    /// Refused, in this order, as `TooMany` if 64 other keys are declared, and as `Memory`. A
+    /// refused call drops the key and changes nothing.
     pub fn declare(&mut self, key: Key) -> Result<KeyNo, TreeFault>
         ensures number { IfOk result (HasNumber self.new key) }
         ensures again { (number : ℕ) → HasNumber self.old key number → (result ≡ Ok number) × (self.new ≡ self.old) }
@@ -67,7 +68,7 @@ impl Directory {
         Ok(number)
     }
 
-    /// The number of the key, 0 to 63, or `None` where it was not declared.
+    /// The number of the key, 0 to 63, or `None` if it was not declared.
     pub fn number_of(&self, key: &Key) -> Option<KeyNo>
         ensures number { IfSome result (HasNumber self.now key.now) }
         ensures found { (number : ℕ) → HasNumber self.now key.now number → result ≡ Some number }
@@ -76,7 +77,7 @@ impl Directory {
         self.keys.get_index_of(key)
     }
 
-    /// The declared key of this number. It is a condition that the number is a declared key's.
+    /// The declared key of this number, which must be a declared key's.
     pub fn key(&self, number: KeyNo) -> &Key
         requires number { number < length self.now }
         ensures key { HasNumber self.now result.now number }
@@ -100,8 +101,9 @@ impl Directory {
         self.keys.is_empty()
     }
 
-    /// The cell of a context, 0 to 255, and a declared key: the context times the number of keys, plus the key.
-    /// Different pairs have different cells; once a further key is declared, the cells are others.
+    /// The cell of a context, 0 to 255, and a declared key: the context times the number of keys,
+    /// plus the key. Different pairs have different cells. Declaring a further key changes the
+    /// cells.
     pub fn cell(&self, context: ContextNo, key: KeyNo) -> CellNo
         requires context { context < 256 }
         requires key { key < length self.now }

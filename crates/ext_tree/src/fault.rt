@@ -1,13 +1,13 @@
-//! Why a list of ids is no tree, or a key was not declared.
+//! Why a list of ids is not a tree, or a key was not declared.
 ghost use Rattle.std.specs.Prelude.{◌≡◌};
 ghost use Rattle.ext_tree.specs.declared.fault.TreeFault.TheVariants.{Memory};
 
 use std::alloc::{AllocError, AllocFailed};
 use thiserror::Error;
 
-/// What is wrong with a list of ids, a key too many, or want of memory.
+/// What is wrong with a list of ids, a key too many, or a failed allocation.
 ///
-/// The numbers are places in the list of ids, from 0. Prints as a sentence without its first capital and point.
+/// The numbers are places in the list of ids, from 0. Prints in lower case, without a full stop.
 #[derive(Clone, Copy, Debug, PartialEq, Eq, Error)]
 pub enum TreeFault {
     /// There is no id, or the first one has more than one segment.
@@ -19,7 +19,7 @@ pub enum TreeFault {
     /// The parent of this id does not stand before it.
     #[error("the parent of id {0} does not stand before it")]
     NoParent(usize),
-    /// This id stands before already.
+    /// This id also stands earlier in the list.
     #[error("id {0} stands twice")]
     Twice(usize),
     /// More than 256 ids, or more than 64 keys.

@@ -19,7 +19,7 @@ use std::marker::Model;
 pub struct Key {
     namespace: Namespace,
     name: Text,
-    // Where the notes of a lane look for it first.
+    // Where the notes of a lane look for the key first.
     hint: u8,
 }
 
@@ -35,7 +35,7 @@ impl Model for Key {
 }
 
 impl Key {
-    /// The key of a namespace and a name, which may be empty; takes memory.
+    /// The key of a namespace and a name, which may be empty. Takes memory.
     ///
     /// `Memory` is its only fault; the namespace is then dropped.
     pub fn new(alloc: Global, namespace: Namespace, name: &str) -> Result<Key, TreeFault>
@@ -51,8 +51,9 @@ impl Key {
         })
     }
 
-    // Where the notes of a lane look for a hint of the key first: by a hash of its name and of the last part of its namespace, which
-    // was taken when the key was made. Equal keys have one such place; other keys may have it, too.
+    // Where the notes of a lane look for a hint of the key first: a hash of its name and of the
+    // last part of its namespace, taken when the key was made. Equal keys have the same place;
+    // other keys may share it.
     pub(crate) fn first_hint(&self) -> usize
         ensures { result < 128 }
     {
@@ -80,7 +81,7 @@ impl PartialEq for Key {
 
     ghost laws = { partial_equiv_from_equiv key_eq_equiv };
 
-    /// Tests whether the namespaces are equal and the names are.
+    /// Tests whether both the namespaces and the names are equal.
     fn eq(&self, other: &Key) -> bool
         ensures exact { result ≡ key_eq self.now other.now }
         ensures same { IsTrue result ↔ (self.now ≡ other.now) }

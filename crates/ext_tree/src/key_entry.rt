@@ -12,14 +12,14 @@ use std::alloc::Global;
 use std::marker::Model;
 use std::mem::size_of;
 
-/// What a lane knows of one place for a key: one byte, since what tells the key takes none.
+/// What a lane knows of one place for a key. Takes one byte: the note of the key has no size.
 #[derive(Drop)]
 pub struct KeyEntry {
     learnt: Learnt,
     seen: race::Note<Key>,
 }
 
-// One byte a place, however long the keys are.
+// One byte per place, however long the keys are.
 const _: () = prove!(size_of::<KeyEntry>() == 1);
 
 impl Model for KeyEntry {
@@ -86,8 +86,8 @@ impl KeyEntry {
         }
     }
 
-    // Puts the key at the place, where that is free. Gives the key that the place holds then: this one, or one that another lane put
-    // there before; what was handed in is then dropped.
+    // Puts the key at the place if that is free. Gives the key that the place then holds: this one,
+    // or one that another lane put there before, in which case this one is dropped.
     fn offer<'a>(&mut self, place: &'a OnceBox<Key>, key: Box<Key>) -> &'a Key
         requires { self.old.place ≡ cell_name place.now }
         ensures place { self.new.place ≡ self.old.place }
@@ -95,7 +95,7 @@ impl KeyEntry {
         ensures same { Agrees self.old.key result.now }
         ensures placed { (self.new.placed ≡ self.old.placed) ⊎ (self.new.key ≡ Some key.value) }
     {
-        // A refused set also tells which key the place holds.
+        // A refused set also shows which key the place holds.
         match place.set_as(key, &mut self.seen) {
             Ok(()) => self.learnt = Learnt::Placed,
             Err(back) => {
@@ -109,7 +109,8 @@ impl KeyEntry {
         }
     }
 
-    /// Whether the place holds the key. A place that is found free is offered a copy of it first, which takes memory.
+    /// Whether the place holds the key. A free place is first offered a copy of the key, which
+    /// takes memory.
     pub fn ask(&mut self, alloc: Global, place: &OnceBox<Key>, key: &Key) -> Result<bool, KeyFault>
         requires { self.old.place ≡ cell_name place.now }
         ensures place { self.new.place ≡ self.old.place }
@@ -138,7 +139,8 @@ impl KeyEntry {
         }
     }
 
-    /// Shows that two entries of one place know one key, where both know one. Afterwards the second knows the key, if the first does.
+    /// Shows that two entries of one place know the same key, if both know one. Afterwards the
+    /// second knows the key, if the first does.
     pub fn agree(&mut self, other: &mut KeyEntry)
         requires { self.old.place ≡ other.old.place }
         ensures key { IfSome other.old.key (Agrees self.old.key) }

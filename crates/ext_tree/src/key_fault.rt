@@ -5,16 +5,17 @@ ghost use Rattle.ext_tree.specs.declared.key_fault.KeyFault.TheVariants.{Memory}
 use std::alloc::{AllocError, AllocFailed};
 use thiserror::Error;
 
-/// Why `KeyPlaces::number` gave a key no number. Prints as a sentence without its first capital and point.
+/// Why `KeyPlaces::number` gave a key no number. Prints in lower case, without a full stop.
 #[derive(Clone, Copy, Debug, PartialEq, Eq, Error)]
 pub enum KeyFault {
-    /// All 64 places hold other keys, and keep them: this key gets no number from now on.
+    /// All 64 places hold other keys for good: this key gets no number from now on.
     #[error("the directory is full")]
     DirectoryFull,
-    /// A place neither took a copy of the key nor showed a key. It is proved of `KeyPlaces::number` that this does not come.
+    /// A place neither took a copy of the key nor showed a key. `KeyPlaces::number` is proved never
+    /// to answer this.
     #[error("the key was not placed")]
     Unplaced,
-    /// An allocation failed: the copy of the key was not made. A later call may give the key a number.
+    /// An allocation failed, so the key was not copied. A later call may number the key.
     #[error("no memory")]
     Memory,
 }

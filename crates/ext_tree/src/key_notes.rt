@@ -8,16 +8,17 @@ use ext_model::KeyNo;
 use std::marker::Model;
 use std::mem::size_of;
 
-/// What one lane knows of the keys of a `KeyPlaces`: those that it numbered, and those that it was shown meanwhile. A known key stays
-/// known. `KeyPlaces::notes` makes them. They are 192 bytes, and hold no copy of a key.
+/// What one lane knows of the keys of a `KeyPlaces`: those that it numbered, and those that it was
+/// shown. A known key stays known. `KeyPlaces::notes` makes them. They take 192 bytes, and hold no
+/// copy of a key.
 #[derive(Drop)]
 pub struct KeyNotes {
     pub(crate) entries: [KeyEntry; 64],
-    // Where a known key is looked for first, by its hash: one more than its number, or 0.
+    // Hints by the hash of a key: one more than the number of a known key, or 0.
     pub(crate) hints: [u8; HINTS],
 }
 
-// One byte a place, and one a hint.
+// One byte per place, and one per hint.
 const _: () = prove!(size_of::<KeyNotes>() == 192);
 
 impl Model for KeyNotes {
@@ -32,14 +33,16 @@ impl Model for KeyNotes {
 }
 
 impl KeyNotes {
-    /// Whether the key of this number is known: whether this lane numbered it, or was shown it. False for a number from 64 on.
+    /// Whether the key of this number is known: this lane numbered it, or was shown it. False for a
+    /// number above 63.
     pub fn knows(&self, number: KeyNo) -> bool
         ensures { result ≡ is_some (key_at self.now number) }
     {
         number < self.entries.len() && self.entries[number].is_known()
     }
 
-    /// Whether this lane put the key of this number at its place. False where another did, and for a number from 64 on.
+    /// Whether this lane put the key of this number at its place. False if another did, and for a
+    /// number above 63.
     pub fn has_placed(&self, number: KeyNo) -> bool
         ensures { result ≡ placed_at self.now number }
     {

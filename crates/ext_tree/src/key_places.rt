@@ -11,15 +11,15 @@ use once_cell::race::OnceBox;
 use std::alloc::Global;
 use std::marker::Model;
 
-// How many keys get a number.
+// How many places there are.
 const PLACES: usize = 64;
 
-/// The directory of keys that are made during a run: 64 places, each of which is set at most once and holds its key until all are
-/// dropped. The number of a key is that of its place, 0 to 63.
+/// The directory of keys that are numbered during a run: 64 places, each set at most once, which
+/// hold their keys until all are dropped. The number of a key is that of its place, 0 to 63.
 ///
-/// Several threads share it, and each asks with notes of its own, `KeyNotes`. Any of them may number any key at any time, without a
-/// lock, and all get the same number for the same key. Where one owner declares all keys, a `Directory` does. In contracts it is
-/// the list of the names of its places.
+/// Several threads share it, each with `KeyNotes` of its own. Any of them may number any key at any
+/// time, without a lock, and all get the same number for the same key. If one owner declares all
+/// keys, a `Directory` suffices. Contracts see the list of the names of its places.
 #[derive(Drop)]
 pub struct KeyPlaces {
     places: Vec<OnceBox<Key>>,
@@ -38,9 +38,10 @@ impl Model for KeyPlaces {
 }
 
 impl KeyPlaces {
-    /// 64 free places. Takes memory for them at once: one pointer a place. The allocator stays with them, for the keys.
+    /// Makes 64 free places. Takes memory for all of them, one pointer each; the allocator is kept,
+    /// for the keys.
     ///
-    /// Refused as `Memory`, and only where that one allocation fails.
+    /// Refused as `Memory`, only if that one allocation fails.
     pub fn new(alloc: Global) -> Result<KeyPlaces, TreeFault>
         ensures places { IfOk result (λ p. length p ≡ 64) }
         ensures memory { IfErr result (λ e. e ≡ fault.Memory) }
@@ -52,7 +53,7 @@ impl KeyPlaces {
         Ok(KeyPlaces { places, alloc })
     }
 
-    /// Notes of these places for one lane, which know no key yet, whatever the places hold.
+    /// Makes notes of these places for one lane, which know no key yet, whatever the places hold.
     pub fn notes(&self) -> KeyNotes
         ensures nothing { result ≡ no_key_known self.now }
         ensures of { AreKeyNotesOf self.now result }
@@ -60,17 +61,20 @@ impl KeyPlaces {
         KeyNotes::of(entries_of(self.places.as_slice()))
     }
 
-    /// The number of the key, 0 to 63, from now on: the first place that holds it. It is a condition that the notes are of these
-    /// places.
+    /// Answers the number of the key, 0 to 63, from now on: that of the first place that holds it.
+    /// The notes must be of these places.
     ///
-    /// The places are asked from the first on: one that holds another key is passed, and one that is found free is offered a copy of
-    /// the key. A key that was numbered by these notes before is looked for by its hash first: that is one load and one comparison,
-    /// and few more where keys have one hash. Memory is taken for copies alone: none where a place holds the key already, else one
-    /// copy, and one more for each place that another thread sets in between. Never waits.
+    /// The places are tried in order: one that holds another key is passed, and a free one is
+    /// offered a copy of the key. A key that these notes numbered before is looked up by its hash
+    /// first: one load and one comparison, and a few more if hashes collide. Memory is taken for
+    /// copies only: none if a place already holds the key, else one copy, and one more for each
+    /// place that another thread sets in between.
     ///
-    /// A key that has a number in the notes is never refused. Any other is refused as `Memory` where there is none for a copy, at the
-    /// first place that is not known to hold a key, and as `DirectoryFull` where all 64 places are known to hold other keys; `Unplaced`
-    /// does not come. These notes set no place but that of the key's number, so a refused call set none. They know then what they knew, and may know the keys of further places, too.
+    /// A key that has a number in the notes is never refused. Any other is refused as `Memory` if
+    /// it cannot be copied, at the first place that is not known to hold a key, and as
+    /// `DirectoryFull` if all 64 places are known to hold other keys; `Unplaced` does not come.
+    /// These notes set no place but that of the key's number, so a refused call sets none. They
+    /// still know what they knew, and may know the keys of further places.
     pub fn number(&self, notes: &mut KeyNotes, key: &Key) -> Result<KeyNo, KeyFault>
         requires { AreKeyNotesOf self.now notes.old }
         ensures number { IfOk result (IsKeyNumber notes.new key.now) }
@@ -97,8 +101,8 @@ impl KeyPlaces {
         Ok(number)
     }
 
-    /// The key of this number. The notes stay as they were. It is a condition that the notes are of these places, and that they know
-    /// the key of this number, which `KeyNotes::knows` tests.
+    /// The key of this number, which the notes must know (`KeyNotes::knows`). The notes must be of
+    /// these places, and stay as they were.
     pub fn key<'a>(&'a self, notes: &mut KeyNotes, number: KeyNo) -> &'a Key
         requires of { AreKeyNotesOf self.now notes.old }
         requires known { IsSome (key_at notes.old number) }
@@ -108,9 +112,10 @@ impl KeyPlaces {
         known_key(self.places.as_slice(), &mut notes.entries, number)
     }
 
-    /// Shows that a key that both notes know has one number in both, and that a number that both know has one key in both. Afterwards
-    /// the second notes know what the first know, too, and the first know what they knew: so of lanes that meet one after the other
-    /// the last knows all keys. It is a condition that both are of these places.
+    /// Shows that a key that both notes know has the same number in both, and a number the same
+    /// key. Afterwards the second notes also know what the first know, and the first are unchanged:
+    /// of lanes that agree one after another, the last knows all keys. Both must be of these
+    /// places.
     pub fn agree(&self, notes: &mut KeyNotes, others: &mut KeyNotes)
         requires notes { AreKeyNotesOf self.now notes.old }
         requires others { AreKeyNotesOf self.now others.old }
@@ -125,8 +130,8 @@ impl KeyPlaces {
         agree_all(&mut notes.entries, &mut others.entries);
     }
 
-    /// The cell of a context, 0 to 255, and a key's number, 0 to 63: the context times 64, plus the key. Different pairs have
-    /// different cells.
+    /// The cell of a context, 0 to 255, and a key's number, 0 to 63: the context times 64, plus the
+    /// key. Different pairs have different cells.
     pub fn cell(&self, context: ContextNo, key: KeyNo) -> CellNo
         requires context { context < 256 }
         requires key { key < 64 }

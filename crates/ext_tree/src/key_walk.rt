@@ -10,11 +10,11 @@ use once_cell::race::OnceBox;
 use std::alloc::Global;
 use std::array;
 
-/// How many hints there are: twice as many as places, so that few keys stand in each other's way.
+/// How many hints there are: twice as many as places, so that few keys collide.
 pub const HINTS: usize = 128;
 
-/// Goes over the places from the first on, until one holds the key: one that is known to hold another is passed, and a free one is
-/// offered a copy of the key, which takes memory.
+/// Tries the places in order until one holds the key: one that is known to hold another is passed,
+/// and a free one is offered a copy of the key, which takes memory.
 pub fn walk(
     alloc: Global,
     places: &[OnceBox<Key>],
@@ -35,7 +35,7 @@ pub fn walk(
     Err(KeyFault::DirectoryFull)
 }
 
-/// The number of the key, where a hint tells it: hints are looked at from this one on, until there is none.
+/// The number of the key, if a hint gives it: hints are tried from `first` on, until there is none.
 pub fn hinted(
     places: &[OnceBox<Key>],
     entries: &mut [KeyEntry],
@@ -62,7 +62,7 @@ pub fn hinted(
     None
 }
 
-/// The key of the place with this number, which is known.
+/// The key of the place with this number; it is known.
 pub fn known_key<'a>(places: &'a [OnceBox<Key>], entries: &mut [KeyEntry], number: KeyNo) -> &'a Key
     requires places { AreKeyNotesOf (map cell_name places.now) entries.old }
     requires known { IsSome (key_at entries.old number) }
@@ -72,7 +72,7 @@ pub fn known_key<'a>(places: &'a [OnceBox<Key>], entries: &mut [KeyEntry], numbe
     entries[number].known(&places[number])
 }
 
-/// Puts a hint of the number where the first is free from this one on.
+/// Puts a hint of the number at the first free slot from `first` on.
 pub fn hint_at(hints: &mut [u8; HINTS], first: usize, number: KeyNo)
     requires first { first < 128 }
     requires number { number < 64 }
@@ -87,8 +87,8 @@ pub fn hint_at(hints: &mut [u8; HINTS], first: usize, number: KeyNo)
     }
 }
 
-/// Shows that entries of the same places know one key of each, where both know one. Afterwards the second ones know what the first
-/// ones know.
+/// Shows that entries of the same places know the same key of each, if both know one. Afterwards
+/// the second ones know what the first ones know.
 pub fn agree_all(entries: &mut [KeyEntry], others: &mut [KeyEntry])
     requires { key_places_of entries.old ≡ key_places_of others.old }
     ensures agree { AgreeBelow entries.old others.old (length entries.old) }
@@ -102,7 +102,7 @@ pub fn agree_all(entries: &mut [KeyEntry], others: &mut [KeyEntry])
     }
 }
 
-/// An entry for each of the places, which knows nothing of it.
+/// An entry for each of the places, with nothing known of it.
 pub fn entries_of(places: &[OnceBox<Key>]) -> [KeyEntry; 64]
     requires { length places.now ≡ 64 }
     ensures { result ≡ no_key_known (map cell_name places.now) }

@@ -34,7 +34,8 @@ impl Learnt {
         }
     }
 
-    /// What is learnt once the key of the place was shown. Who put it there stays known.
+    /// What is learnt once the key of the place was shown. Whether the lane put it there stays
+    /// known.
     pub fn shown(self) -> Learnt
         ensures known { knows_key result ≡ true }
         ensures placed { put_key result ≡ put_key self }

@@ -1,14 +1,11 @@
 //! Contexts in a tree by their unique ids, and keys with numbers by their namespaces and names.
 //!
-//! `Tree` is seen as the list of its contexts' ids, and `Key` as its namespace and name.
+//! Contracts see a `Tree` as the list of its contexts' ids, and a `Key` as its namespace and name.
 //!
-//! Two types give each key a number, 0 to 63. A `Directory` belongs to one owner, who declares the keys one after the other: it is
-//! seen as the list of its keys. `KeyPlaces` are shared by several lanes, each of which may name a key at any time, without a lock:
-//! they are seen as the list of the names of their 64 places. What one lane knows of those is its `KeyNotes`, seen as a list of what is
-//! known of each place.
-//!
-//! Unless its comment says otherwise, a public call takes no memory and waits for nobody. What
-//! names no source in JUnit is an own rule.
+//! Two types give each key a number, 0 to 63. A `Directory` has one owner, which declares the keys
+//! one after another; contracts see the list of its keys. `KeyPlaces` are shared by several lanes,
+//! each of which may number a key at any time, without a lock; contracts see the list of the names
+//! of their 64 places. `KeyNotes` are what one lane knows of each place.
 #![tactic(auto)]
 
 mod building;

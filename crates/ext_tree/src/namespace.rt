@@ -20,7 +20,7 @@ use std::marker::Model;
 #[derive(Debug, Drop)]
 pub struct Namespace {
     created: bool,
-    // None as long as no part was given, which takes no allocator.
+    // None while no part was given, which needs no allocator.
     parts: Option<Vec<Text>>,
 }
 
@@ -33,7 +33,7 @@ impl Model for Namespace {
 }
 
 impl Namespace {
-    /// The global namespace. `ExtensionContext.Namespace.GLOBAL`.
+    /// The global namespace, without parts. `ExtensionContext.Namespace.GLOBAL`.
     pub fn global() -> Namespace
         ensures { result ≡ global_namespace }
     {
@@ -43,7 +43,7 @@ impl Namespace {
         }
     }
 
-    /// The created namespace with these parts, of which there is at least one; takes memory.
+    /// The created namespace with these parts, at least one. Takes memory.
     ///
     /// `Memory` is its only fault. `ExtensionContext.Namespace.create`.
     pub fn create(alloc: Global, parts: &[&str]) -> Result<Namespace, TreeFault>
@@ -59,10 +59,11 @@ impl Namespace {
         })
     }
 
-    /// This namespace with further parts behind its own; with no parts, an equal one. Takes memory.
+    /// This namespace with further parts after its own; with no further parts, an equal one. Takes
+    /// memory.
     ///
-    /// `Memory` is its only fault, and this namespace stays as it is. The global namespace with parts is equal to
-    /// no created one (own rule). `ExtensionContext.Namespace.append`.
+    /// `Memory` is its only fault, and this namespace stays as it is. The global namespace with
+    /// parts equals no created one (own rule). `ExtensionContext.Namespace.append`.
     pub fn append(&self, alloc: Global, parts: &[&str]) -> Result<Namespace, TreeFault>
         ensures value { IfOk result (λ n. n ≡ appended self.now (texts_of parts.now)) }
         ensures memory { IfErr result (λ e. e ≡ Memory) }
@@ -81,7 +82,6 @@ impl Namespace {
         self.parts().last()
     }
 
-    // The parts, in order.
     fn parts(&self) -> &[Text]
         ensures { result.now ≡ self.now.parts }
     {
@@ -95,7 +95,7 @@ impl Namespace {
 impl Clone for Namespace {
     ghost is_clone = { λ namespace copy. copy ≡ namespace };
 
-    /// An equal namespace. Takes memory, but for the global namespace that was given no parts.
+    /// An equal namespace. Takes memory, except for the global namespace without parts.
     fn clone(&self) -> Result<Namespace, AllocError> {
         let parts = match &self.parts {
             None => None,
@@ -137,7 +137,7 @@ impl Hash for Namespace {
     }
 }
 
-/// Puts a copy of each part at the end of a list, which takes memory.
+/// Appends a copy of each part to a list. Takes memory.
 fn push_all(alloc: Global, list: &mut Vec<Text>, parts: &[&str]) -> Result<(), AllocError>
     ensures { IfOk result (λ _. list.new.items ≡ list.old.items ++ texts_of parts.now) }
 {
@@ -147,7 +147,8 @@ fn push_all(alloc: Global, list: &mut Vec<Text>, parts: &[&str]) -> Result<(), A
     Ok(())
 }
 
-// Whether these are the same parts, in order. Most often there are none or one, which an index finds sooner than an iterator.
+// Whether these are the same parts, in order. Usually there are none or one, for which an index is
+// faster than an iterator.
 fn same_parts(parts: &[Text], others: &[Text]) -> bool
     ensures { result ≡ pointwise bytes_eq parts.now others.now }
 {

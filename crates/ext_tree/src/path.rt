@@ -7,9 +7,9 @@ use std::marker::Model;
 /// The greatest depth of a tree: an id has at most 16 segments.
 pub(crate) const MAX_DEPTH: usize = 16;
 
-/// A context, its parent, and so on to the root: at most 16 contexts, held without memory of its own.
+/// A context, its parent, and so on to the root: at most 16 contexts, stored inline.
 ///
-/// The order in which JUnit's store asks: User Guide, section "Keeping State in Extensions".
+/// The order in which JUnit's store looks up: User Guide, section "Keeping State in Extensions".
 #[derive(Debug, Drop)]
 pub struct Path {
     contexts: [ContextNo; MAX_DEPTH],
@@ -27,7 +27,7 @@ impl Model for Path {
 }
 
 impl Path {
-    /// The path of the first `depth` of these contexts, 16 at most.
+    /// The path of the first `depth` of these contexts, at most 16.
     pub(crate) fn of(contexts: [ContextNo; MAX_DEPTH], depth: usize) -> Path
         requires { depth ≤ 16 }
         ensures { result ≡ take depth contexts }

@@ -25,14 +25,13 @@ impl Model for Text {
 }
 
 impl Text {
-    /// Its bytes.
     pub fn as_bytes(&self) -> &[u8]
         ensures { result.now ≡ self.now }
     {
         self.text.as_bytes()
     }
 
-    /// A copy of a text; takes memory.
+    /// A copy of a text. Takes memory.
     pub fn copied(alloc: Global, text: &str) -> Result<Text, AllocError>
         ensures { IfOk result (λ t. t ≡ text.now) }
     {
@@ -44,7 +43,7 @@ impl Text {
 impl Clone for Text {
     ghost is_clone = { λ text copy. copy ≡ text };
 
-    /// An equal text; takes memory.
+    /// An equal text. Takes memory.
     fn clone(&self) -> Result<Text, AllocError> {
         let text = self.text.clone()?;
         Ok(Text { text })

@@ -27,7 +27,7 @@ impl Model for Trail {
 }
 
 impl Trail {
-    /// The first `count` segments of an id; takes memory.
+    /// The first `count` segments of an id. Takes memory.
     pub fn of(alloc: Global, id: &UniqueId, count: usize) -> Result<Trail, AllocError>
         requires { count ≤ length id.now }
         ensures { IfOk result (λ t. t ≡ take count id.now) }
@@ -39,7 +39,7 @@ impl Trail {
         Ok(Trail { segments })
     }
 
-    /// Puts the id's segment `i` at the end; takes memory.
+    /// Appends the id's segment `i`. Takes memory.
     pub fn push(&mut self, alloc: Global, id: &UniqueId, i: usize) -> Result<(), AllocError>
         requires within { i < length id.now }
         requires next { self.old ≡ take i id.now }
@@ -49,7 +49,7 @@ impl Trail {
     }
 }
 
-/// Puts a copy of the id's segment `i` behind those before it.
+/// Appends a copy of the id's segment `i` to those before it.
 fn push_copied(
     alloc: Global,
     segments: &mut Vec<(Text, Text)>,

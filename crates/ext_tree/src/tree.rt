@@ -36,19 +36,20 @@ impl Model for Tree {
 }
 
 impl Tree {
-    /// The tree of contexts with these ids, numbered as listed; takes memory.
+    /// Builds the tree of contexts with these ids, numbered as listed. Takes memory.
     ///
-    /// Refused for the first fault: `NoRoot` for no id at all, `TooMany` for more than 256, `NoRoot` for a first id
-    /// that has not one segment; then for each later id in order `Twice`, `TwoRoots` where it has one segment, and
-    /// `NoParent` where its parent does not stand before it. `Memory` comes only where nothing is wrong with the
-    /// ids. The ids handed in stay as they are: the tree holds copies.
+    /// Refused for the first fault: `NoRoot` if there is no id, `TooMany` for more than 256,
+    /// `NoRoot` if the first id does not have exactly one segment; then for each later id in order
+    /// `Twice`, `TwoRoots` if it has one segment, and `NoParent` if its parent does not stand
+    /// before it. `Memory` comes only if nothing is wrong with the ids. The tree holds copies of
+    /// the ids.
     pub fn build(alloc: Global, ids: &[UniqueId]) -> Result<Tree, TreeFault>
-        // What is accepted is a tree of these ids, and such ids are accepted while there is memory.
+        // Accepted ids are a tree, and the ids of a tree are accepted while there is memory.
         ensures found { OnOk result (IsTree ids.now) }
         ensures ids { IfOk result (λ t. t ≡ ids.now) }
         ensures only { IsTree ids.now → MatchResult result (λ t. t ≡ ids.now) (λ e. e ≡ Memory) }
 
-        // What they are refused for is their first fault, and ids with a fault are refused for it.
+        // A refusal names the first fault, and ids with a fault are refused for it.
         ensures fault { IfErr result (λ e. e ≢ Memory → HasFault ids.now e) }
         ensures first { (e : TreeFault) → HasFault ids.now e → IsErrOf result e }
         ensures memory { result ≡ Err Memory → IsTree ids.now }
@@ -60,7 +61,7 @@ impl Tree {
         }
     }
 
-    /// The context, its parent, and so on to the root.
+    /// The path of the context: itself, its parent, and so on to the root.
     ///
     /// JUnit 5 User Guide, section "Keeping State in Extensions".
     pub fn path(&self, context: ContextNo) -> &Path
@@ -83,7 +84,7 @@ impl Tree {
         self.lists[context].as_slice()
     }
 
-    /// The context's id.
+    /// The unique id of the context.
     pub fn id(&self, context: ContextNo) -> &UniqueId
         requires { context < length self.now }
         ensures { result.now ≡ id_at self.now context }

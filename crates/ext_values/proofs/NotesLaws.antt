@@ -2,7 +2,7 @@
 use Rattle.std.proofs.Common.{ℕ, zero, suc, ◌≡◌, ◌∙◌, List, [], ◌∷◌, Some, None, sym, ap, arith, refl}
 use Rattle.ext_values.specs.Places.{IsNumber}
 use Rattle.ext_values.specs.Known.{Known, AreNotesOf, Learns, known_at, nothing_known, places_of}
-use Rattle.ext_values.specs.Laws.{NothingIsKnown}
+use Rattle.ext_values.specs.KnownLaws.{NothingIsKnown}
 
 -- ---- nothing known
 

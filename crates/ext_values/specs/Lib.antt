@@ -1,4 +1,4 @@
 pub mod InnerFlags
 pub mod Known
-pub mod Laws
+pub mod KnownLaws
 pub mod Places

@@ -8,13 +8,13 @@ use once_cell::race::OnceBox;
 use std::marker::Model;
 use std::mem::size_of;
 
-/// What a lane knows of one place: no byte, since what tells the value takes none.
+/// What a lane knows of one place. Takes no bytes: the note of the value has no size.
 #[derive(Drop)]
 pub struct Entry<V> {
     seen: race::Note<V>,
 }
 
-// No byte a number, however large the values are.
+// No bytes per number, however large the values are.
 const _: () = prove!(size_of::<Entry<[u64; 4]>>() == 0);
 
 impl<V> Model for Entry<V> {
@@ -44,7 +44,7 @@ impl<V> Entry<V> {
         place.get_as(&mut self.seen)
     }
 
-    /// Shows that two entries of one place know one value, where both know one.
+    /// Shows that two entries of one place know the same value, if both know one.
     pub fn agree(&mut self, other: &mut Entry<V>)
         requires { self.old.place ≡ other.old.place }
         ensures value { IfSome other.old.value (Agrees self.old.value) }
@@ -55,7 +55,8 @@ impl<V> Entry<V> {
 }
 
 impl<V: Drop> Entry<V> {
-    /// Puts the value at the place. Where the place is taken the box comes back, and the entry knows the value that stands there.
+    /// Puts the value at the place. If the place is taken, the box is handed back, and the entry
+    /// knows the value that stands there.
     pub fn place(&mut self, place: &OnceBox<V>, value: Box<V>) -> Result<(), Box<V>>
         requires { self.old.place ≡ cell_name place.now }
         ensures place { self.new.place ≡ self.old.place }

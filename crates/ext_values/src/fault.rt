@@ -5,7 +5,7 @@ ghost use Rattle.ext_values.specs.declared.fault.ValuesFault.TheVariants.{Memory
 use std::alloc::AllocError;
 use thiserror::Error;
 
-/// Want of memory, the one fault of the makers. Prints as a sentence without its first capital and point.
+/// A failed allocation, the only fault of the makers. Prints in lower case, without a full stop.
 #[derive(Clone, Copy, Debug, PartialEq, Eq, Error)]
 pub enum ValuesFault {
     /// An allocation failed.

@@ -8,10 +8,10 @@ use std::mem::size_of;
 // How many flags a word has.
 const WORD_FLAGS: usize = 64;
 
-// One bit a flag.
 const _: () = prove!(size_of::<u64>() * 8 == WORD_FLAGS);
 
-/// A fixed number of flags, in order, with indices from 0. Takes one bit a flag, rounded up to 8 bytes.
+/// A fixed number of flags, in order, with indices from 0. Takes one bit per flag, rounded up to 8
+/// bytes.
 #[derive(Drop)]
 pub struct FlagBits {
     words: Vec<u64>,
@@ -27,14 +27,14 @@ impl Model for FlagBits {
 
     ghost view = { λ f. flags_of f.count f.words.items };
 
-    // No word more than the flags need.
+    // No more words than the flags need.
     ghost invariant = { λ f. length f.words.items ≡ div_ceil f.count 64 };
 }
 
 impl FlagBits {
-    /// So many flags, none of which is set; takes memory, but none for no flags.
+    /// `count` flags, none of which is set. Takes memory, unless `count` is 0.
     ///
-    /// Refused only where its one allocation fails.
+    /// Refused only if its one allocation fails.
     pub fn new(alloc: Global, count: usize) -> Result<FlagBits, AllocError>
         ensures { IfOk result (λ f. f ≡ replicate count false) }
     {
@@ -57,7 +57,7 @@ impl FlagBits {
         (self.words[index / WORD_FLAGS] >> (index % WORD_FLAGS)) & 1 == 1
     }
 
-    /// Sets the flag; every other flag stays as it was.
+    /// Sets the flag, and no other.
     pub fn set(&mut self, index: usize)
         requires { index < length self.old }
         ensures { self.new ≡ slice_set self.old index true }

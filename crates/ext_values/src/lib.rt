@@ -1,13 +1,15 @@
-//! Places for values, each of which is set once and is found by its number, from any thread, without a lock.
+//! Places for values, each set at most once and found by its number, from any thread, without a
+//! lock.
 //!
-//! `Values` is seen as the list of its places' names, in the order of their numbers. A `Note` tells of one number which
-//! value it has, `Notes` tell it of each number that one lane knows. All notes of one number tell one value.
+//! Contracts see `Values` as the list of its places' names, in the order of their numbers. A `Note`
+//! shows which value one number has, and `Notes` those of all numbers that one lane knows. All
+//! notes of one number show the same value.
 //!
-//! Memory is taken by the two makers alone, `Values::new` and `Notes::new`: one pointer a number for the places, and
-//! one bit a number, rounded up to 8 bytes, for each lane's notes. `SilentNotes`, which nobody can ask whether they know a
-//! number, take none. The values themselves stand in boxes that the caller hands in. No call takes a runtime or waits.
+//! Only `Values::new` and `Notes::new` take memory: one pointer per number for the places, and one
+//! bit per number, rounded up to 8 bytes, for each lane's notes. `SilentNotes`, which cannot be
+//! asked what they know, take none. The values stand in boxes that the caller hands in.
 //!
-//! Everything here is an own rule: JUnit keeps a value under its key, and has no number for it.
+//! JUnit keeps a value under its key, and has no number for it.
 #![tactic(auto)]
 
 mod entry;

@@ -1,11 +1,11 @@
-//! What tells the value of one number.
+//! A note of the value of one number.
 ghost use Rattle.std.specs.Prelude.{◌≡◌};
 
 use once_cell::race;
 use std::marker::Model;
 
-/// What tells that a number has a value, and which one. It is made by the calls of `Values` that place a value or
-/// show one, and holds no copy of the value.
+/// Shows that a number has a value, and which one. The calls of `Values` that place or show a value
+/// make it. It holds no copy of the value.
 #[derive(Drop)]
 pub struct Note<V> {
     pub(crate) number: u32,
@@ -24,7 +24,7 @@ impl<V> Model for Note<V> {
 }
 
 impl<V> Note<V> {
-    /// The number that the note is of, from 1.
+    /// The number whose value the note shows, from 1.
     pub fn number(&self) -> u32
         ensures { result ≡ self.now.number }
     {

@@ -1,4 +1,4 @@
-//! What one lane knows of the values of all numbers, and can be asked whether it does.
+//! What one lane knows of the values of all numbers, and whether it knows one.
 ghost use Rattle.std.specs.Prelude.{◌≡◌, IfErr, IfNone, IfOk, IfSome, OnErr, OnOk, OnSome, None, is_some};
 ghost use Rattle.ext_values.specs.Places.{IsNumber};
 ghost use Rattle.ext_values.specs.Known.{AllAgree, AreNotesOf, KeepsKnown, Learns, LearnsOne, known_at, nothing_known, places_of};
@@ -8,12 +8,13 @@ use crate::{SilentNotes, Values, ValuesFault};
 use std::alloc::Global;
 use std::marker::Model;
 
-/// What one lane knows of the values of all numbers of a `Values`: those that it placed, and those that it was shown.
-/// A known value stays known. Takes one bit a number, rounded up to 8 bytes, however large the values are.
+/// What one lane knows of the values of all numbers of a `Values`: those that it placed, and those
+/// that it was shown. A known value stays known. Takes one bit per number, rounded up to 8 bytes,
+/// however large the values are.
 #[derive(Drop)]
 pub struct Notes<V> {
     notes: SilentNotes<V>,
-    // Whether the value is known, of each number in order.
+    // For each number in order, whether its value is known.
     flags: FlagBits,
 }
 
@@ -29,9 +30,9 @@ impl<V> Model for Notes<V> {
 }
 
 impl<V> Notes<V> {
-    /// Notes of these places that know nothing yet; takes memory.
+    /// Makes notes of these places that know no value yet. Takes memory.
     ///
-    /// Refused as `Memory`, and only where its one allocation fails.
+    /// Refused as `Memory`, only if its one allocation fails.
     pub fn new(alloc: Global, values: &Values<V>) -> Result<Notes<V>, ValuesFault>
         ensures nothing { IfOk result (λ n. n ≡ nothing_known values.now) }
         ensures of { IfOk result (λ n. AreNotesOf values.now n) }
@@ -41,18 +42,19 @@ impl<V> Notes<V> {
         Ok(Notes { notes, flags })
     }
 
-    /// Whether the number's value is known: whether these notes placed it or were shown it. False for a number outside
-    /// 1 to the capacity.
+    /// Whether the number's value is known: these notes placed it or were shown it. False for a
+    /// number outside 1 to the capacity.
     pub fn knows(&self, number: u32) -> bool
         ensures { result ≡ is_some (known_at self.now number) }
     {
         number > 0 && number as usize <= self.flags.len() && self.flags.get(number as usize - 1)
     }
 
-    /// The number's value, which is known from now on: always where it was known, and else where this thread finds it.
-    /// What was known stays known. It is a condition that the notes are of these places.
+    /// The number's value, if it is known or this thread finds it; it is known from now on. What
+    /// was known stays known. The notes must be of these places.
     ///
-    /// `None`, with nothing changed, for a number outside 1 to the capacity, and where the thread finds the place free.
+    /// `None`, with nothing changed, for a number outside 1 to the capacity, and if the thread
+    /// finds the place free.
     pub fn get<'a>(&mut self, values: &'a Values<V>, number: u32) -> Option<&'a V>
         requires { AreNotesOf values.now self.old }
         ensures within { OnSome result (IsNumber values.now number) }
@@ -67,8 +69,8 @@ impl<V> Notes<V> {
         Some(value)
     }
 
-    /// Shows that a number that both notes know has one value in both; it does nothing else. The notes stay as they
-    /// were. It is a condition that both are of the same places.
+    /// Shows that a number that both notes know has the same value in both. The notes must be of
+    /// the same places, and stay as they were.
     pub fn meet(&mut self, other: &mut Notes<V>)
         requires { places_of self.old ≡ places_of other.old }
         ensures agree { AllAgree self.old other.old }
@@ -79,11 +81,12 @@ impl<V> Notes<V> {
 }
 
 impl<V: Drop> Notes<V> {
-    /// Puts the value at this number, so that its value is known from now on. It is a condition that the notes are of
-    /// these places, and that the number is 1 to the capacity.
+    /// Puts the value at this number; it is known from now on. The notes must be of these places,
+    /// and the number 1 to the capacity.
     ///
-    /// Refused where the place is taken, so always where the number's value is known: the box that was handed in comes
-    /// back with its value, and the value that stands there is known from now on. Nothing else changes.
+    /// Refused if the place is taken, so always if the number's value is known: the box is handed
+    /// back with its value, and the value that stands there is known from now on. Nothing else
+    /// changes.
     pub fn place(&mut self, values: &Values<V>, number: u32, value: Box<V>) -> Result<(), Box<V>>
         requires of { AreNotesOf values.now self.old }
         requires number { IsNumber values.now number }

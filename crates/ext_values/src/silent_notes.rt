@@ -1,4 +1,4 @@
-//! What one lane knows of the values of all numbers, where nobody asks whether it does.
+//! What one lane knows of the values of all numbers, if nobody asks whether it does.
 ghost use Rattle.std.specs.Prelude.{◌≡◌, IfErr, IfNone, IfOk, IfSome, OnErr, OnOk, OnSome, None};
 ghost use Rattle.ext_values.specs.Places.{IsNumber};
 ghost use Rattle.ext_values.specs.Known.{AllAgree, AreNotesOf, KeepsKnown, Learns, LearnsOne, known_at, nothing_known, places_of};
@@ -8,8 +8,8 @@ use crate::{Values, ValuesFault};
 use std::alloc::Global;
 use std::marker::Model;
 
-/// What one lane knows of the values of all numbers of a `Values`, as `Notes`, save that nobody can ask whether it knows one.
-/// So it takes no byte a number: the notes stand in proofs alone.
+/// What one lane knows of the values of all numbers of a `Values`. Unlike `Notes`, it cannot be
+/// asked whether it knows one, so it takes no bytes per number: the notes exist in proofs only.
 #[derive(Drop)]
 pub struct SilentNotes<V> {
     entries: Vec<Entry<V>>,
@@ -25,9 +25,10 @@ impl<V> Model for SilentNotes<V> {
 }
 
 impl<V> SilentNotes<V> {
-    /// Notes of these places that know nothing yet. Takes no memory, since no entry has a size.
+    /// Makes notes of these places that know no value yet. Takes no memory, since no entry has a
+    /// size.
     ///
-    /// Refused as `Memory`, as the making of any list may be, and only where an allocation fails.
+    /// Refused as `Memory`, as making any list may be, only if an allocation fails.
     pub fn new(alloc: Global, values: &Values<V>) -> Result<SilentNotes<V>, ValuesFault>
         ensures nothing { IfOk result (λ n. n ≡ nothing_known values.now) }
         ensures of { IfOk result (λ n. AreNotesOf values.now n) }
@@ -40,10 +41,11 @@ impl<V> SilentNotes<V> {
         Ok(SilentNotes { entries })
     }
 
-    /// The number's value, which is known from now on: always where it was known, and else where this thread finds it.
-    /// What was known stays known. It is a condition that the notes are of these places.
+    /// The number's value, if it is known or this thread finds it; it is known from now on. What
+    /// was known stays known. The notes must be of these places.
     ///
-    /// `None`, with nothing changed, for a number outside 1 to the capacity, and where the thread finds the place free.
+    /// `None`, with nothing changed, for a number outside 1 to the capacity, and if the thread
+    /// finds the place free.
     pub fn get<'a>(&mut self, values: &'a Values<V>, number: u32) -> Option<&'a V>
         requires { AreNotesOf values.now self.old }
         ensures within { OnSome result (IsNumber values.now number) }
@@ -59,8 +61,8 @@ impl<V> SilentNotes<V> {
         self.entries[number as usize - 1].get(values.place_at(number))
     }
 
-    /// Shows that a number that both notes know has one value in both; it does nothing else. The notes stay as they
-    /// were. It is a condition that both are of the same places.
+    /// Shows that a number that both notes know has the same value in both. The notes must be of
+    /// the same places, and stay as they were.
     pub fn meet(&mut self, other: &mut SilentNotes<V>)
         requires { places_of self.old ≡ places_of other.old }
         ensures agree { AllAgree self.old other.old }
@@ -73,11 +75,12 @@ impl<V> SilentNotes<V> {
 }
 
 impl<V: Drop> SilentNotes<V> {
-    /// Puts the value at this number, so that its value is known from now on. It is a condition that the notes are of
-    /// these places, and that the number is 1 to the capacity.
+    /// Puts the value at this number; it is known from now on. The notes must be of these places,
+    /// and the number 1 to the capacity.
     ///
-    /// Refused where the place is taken, so always where the number's value is known: the box that was handed in comes
-    /// back with its value, and the value that stands there is known from now on. Nothing else changes.
+    /// Refused if the place is taken, so always if the number's value is known: the box is handed
+    /// back with its value, and the value that stands there is known from now on. Nothing else
+    /// changes.
     pub fn place(&mut self, values: &Values<V>, number: u32, value: Box<V>) -> Result<(), Box<V>>
         requires of { AreNotesOf values.now self.old }
         requires number { IsNumber values.now number }

@@ -9,14 +9,14 @@ use std::alloc::Global;
 use std::marker::Model;
 use std::mem::size_of;
 
-/// A fixed number of places for values, numbered from 1. Each is set at most once and keeps its value until all are
-/// dropped; any thread may set one, and find it. Takes one pointer a number.
+/// A fixed number of places for values, numbered from 1. Each is set at most once and keeps its
+/// value until all are dropped; any thread may set or read one. Takes one pointer per number.
 #[derive(Drop)]
 pub struct Values<V> {
     places: Vec<OnceBox<V>>,
 }
 
-// One pointer a number, however large the values are.
+// One pointer per number, however large the values are.
 const _: () = prove!(size_of::<OnceBox<[u64; 4]>>() == size_of::<usize>());
 
 impl<V> Model for Values<V> {
@@ -32,10 +32,9 @@ impl<V> Model for Values<V> {
 }
 
 impl<V> Values<V> {
-    /// So many free places; takes memory, but none for a capacity of 0. It is a condition that the capacity is at most
-    /// 65,535: a call with 65,536 is not proved.
+    /// Makes `capacity` free places, at most 65,535. Takes memory, unless the capacity is 0.
     ///
-    /// Refused as `Memory`, and only where its one allocation fails.
+    /// Refused as `Memory`, only if its one allocation fails.
     pub fn new(alloc: Global, capacity: u32) -> Result<Values<V>, ValuesFault>
         requires { IsCapacity capacity }
         ensures { IfOk result (λ v. length v ≡ capacity) }
@@ -47,7 +46,7 @@ impl<V> Values<V> {
         Ok(Values { places })
     }
 
-    /// How many places there are, which is the last number: at most 65,535.
+    /// The number of places, which is the last number: at most 65,535.
     pub fn capacity(&self) -> u32
         ensures count { result ≡ length self.now }
         ensures within { IsCapacity result }
@@ -64,10 +63,10 @@ impl<V> Values<V> {
 }
 
 impl<V: Drop> Values<V> {
-    /// Puts the value at this number, and gives a note of it. It is a condition that the number is 1 to the capacity.
+    /// Puts the value at this number, 1 to the capacity, and gives a note of it.
     ///
-    /// Refused where the place is taken: the box that was handed in comes back with its value, beside a note of the value
-    /// that stands there, which the place keeps.
+    /// Refused if the place is taken: the box is handed back with its value, beside a note of the
+    /// value that stands there, which the place keeps.
     pub fn place(&self, number: u32, value: Box<V>) -> Result<Note<V>, (Box<V>, Note<V>)>
         requires { IsNumber self.now number }
         ensures note { IfOk result (λ n. IsNoteOf self.now n) }
@@ -86,10 +85,11 @@ impl<V: Drop> Values<V> {
 }
 
 impl<V> Values<V> {
-    /// The value of a number and a note of it, where this thread finds one.
+    /// The value of a number and a note of it, if this thread finds one.
     ///
-    /// `None` for a number outside 1 to the capacity, and where the thread finds the place free. That a value which
-    /// another thread placed is found once that thread was joined is shown by a test, not by a clause.
+    /// `None` for a number outside 1 to the capacity, and if the thread finds the place free. A
+    /// test, not a clause, shows that a value which another thread placed is found once that thread
+    /// was joined.
     pub fn show(&self, number: u32) -> Option<(&V, Note<V>)>
         ensures within { OnSome result (IsNumber self.now number) }
         ensures note { IfSome result (λ r. IsNoteOf self.now r.1) }
@@ -105,7 +105,7 @@ impl<V> Values<V> {
         Some((value, Note { number, seen }))
     }
 
-    /// The value that the note tells. The note stays as it was. It is a condition that the note is of these places.
+    /// The value that the note shows. The note must be of these places, and stays as it was.
     pub fn show_known<'a>(&'a self, note: &mut Note<V>) -> &'a V
         requires { IsNoteOf self.now note.old }
         ensures value { note.old.value ≡ Some result.now }
@@ -117,8 +117,8 @@ impl<V> Values<V> {
         }
     }
 
-    /// Shows that two notes of one number tell one value; it does nothing else. The notes stay as they were. It is a
-    /// condition that both are of these places, and of one number.
+    /// Shows that two notes of one number have the same value. The notes must be of these places
+    /// and of one number, and stay as they were.
     pub fn agree(&self, note: &mut Note<V>, second: &mut Note<V>)
         requires note { IsNoteOf self.now note.old }
         requires second { IsNoteOf self.now second.old }

@@ -4,12 +4,12 @@ use std::sync::Wait;
 use std::sync::atomic::{AtomicU64, Ordering};
 use std::thread::join;
 
-// How often one lane waits for another one, and how often a thread looks for another one at most.
+// How many rounds there are, and how often a thread looks for another one at most.
 const ROUNDS: u64 = 20_000;
 
 const TURNS: u64 = 10_000_000_000;
 
-// Whether the word came to be this number in time.
+// Whether the word becomes this number in time.
 fn reaches(word: &AtomicU64, number: u64) -> bool {
     for _ in 0..TURNS {
         if word.load(Ordering::SeqCst) == number {
@@ -19,8 +19,9 @@ fn reaches(word: &AtomicU64, number: u64) -> bool {
     false
 }
 
-// In each round ends the round once, some turns after the one before it was answered, and wakes once. Says whether each round
-// was answered. Where one is not, it ends them all and wakes once more, so that the other lane does not sleep for ever.
+// Ends each round once, some turns after the one before it was answered, and wakes once. Answers
+// whether each round was answered. If one is not, it ends them all and wakes once more, so that the
+// other lane does not sleep for ever.
 fn end_rounds(waiters: &Waiters, ended: &AtomicU64, answered: &AtomicU64) -> bool {
     for round in 1..=ROUNDS {
         for _ in 0..round % 128 {
@@ -37,7 +38,7 @@ fn end_rounds(waiters: &Waiters, ended: &AtomicU64, answered: &AtomicU64) -> boo
     true
 }
 
-// Waits until at least so many rounds have ended.
+// Waits until at least `round` rounds have ended.
 fn wait_for<R: Wait>(rt: &R, waiters: &Waiters, ended: &AtomicU64, round: u64) {
     let mut waiting = waiters.begin();
     for _ in rt.forever() {
@@ -56,8 +57,10 @@ fn answer_rounds<R: Wait>(rt: &R, waiters: &Waiters, ended: &AtomicU64, answered
     }
 }
 
-/// A round ends once while the other lane begins to wait for it, and the next does not end before that lane has answered: so a
-/// wake that was missed would be the last.
+/// A round ends once while the other lane begins to wait for it, and the next does not end before
+/// that lane has answered: so a missed wake would be the last.
+/// Tests `Waiters::begin`, `Waiting::announce`, `Waiting::is_announced`, `Waiting::sleep` and
+/// `Waiting::pause`.
 #[test]
 fn no_wake_is_missed(rt: HostRuntime) {
     let waiters = Waiters::new();

@@ -1,4 +1,4 @@
-//! Who waits, and a wait that has begun.
+//! The lanes that wait, and a wait that has begun.
 ghost use Rattle.std.specs.Prelude.{◌≡◌, false, not, true};
 
 use crossbeam_utils::sync::{EventCount, Key};
@@ -12,15 +12,16 @@ pub struct Waiters {
 }
 
 impl Waiters {
-    /// Nobody waits.
+    /// Makes waiters among which no lane waits yet.
     pub const fn new() -> Waiters {
         Waiters {
             ended: EventCount::new(),
         }
     }
 
-    /// Wakes all lanes that sleep, and keeps those that have announced themselves from falling asleep. To be called after
-    /// what they wait for has ended. Where nobody has announced himself it is one atomic load.
+    /// Wakes all sleeping lanes, and keeps those that have announced themselves from falling
+    /// asleep. Call it after what they wait for has ended. If no lane has announced itself, it is
+    /// one atomic load.
     pub fn wake_all(&self) {
         self.ended.notify_all();
     }
@@ -36,8 +37,9 @@ impl Waiters {
     }
 }
 
-/// A lane's wait, from its first try to its last. Where it is dropped the lane waits no longer. In contracts it is
-/// whether the lane has announced that it waits, and is to try once more before it sleeps.
+/// A lane's wait, from its first try to its last. Once it is dropped, the lane waits no longer.
+/// Contracts see whether the lane has announced that it waits, and is to try once more before it
+/// sleeps.
 #[derive(Drop)]
 pub struct Waiting<'a> {
     waiters: &'a Waiters,
@@ -60,19 +62,21 @@ impl<'a> Waiting<'a> {
         self.announced.is_some()
     }
 
-    /// Announces that the lane waits: it is to try once more before it sleeps. Takes no runtime, so it does not sleep.
+    /// Announces that the lane waits; the lane has to try once more before it sleeps. It takes no
+    /// runtime, so it does not sleep.
     pub fn announce(&mut self)
         ensures { self.new ≡ true }
     {
         self.announced = Some(self.waiters.ended.prepare_wait());
     }
 
-    /// Sleeps until somebody calls `wake_all`, if nobody has since the lane announced itself, which it has to have done: the
-    /// lane is to have tried once more since then. It may wait: it promises its clause if it returns.
+    /// Sleeps until `wake_all` is called, unless it was called since the lane announced itself. It
+    /// may wait. The lane must have announced itself, and should have tried once more since then.
     ///
-    /// That second try is why no wake is missed. Who ends something ends it first, and then reads whether anybody has
-    /// announced himself. So either it finds this lane, and keeps it from sleeping or wakes it; or this lane announced
-    /// itself later than that, and its second try finds that the thing has ended.
+    /// That second try is why no wake is missed. A lane that ends something ends it first, and then
+    /// reads whether any lane has announced itself. Either it finds this lane, and keeps it from
+    /// sleeping or wakes it; or this lane announced itself later, and its second try finds that the
+    /// thing has ended.
     pub fn sleep<R: Wait>(&mut self, rt: &R)
         requires { self.old ≡ true }
         ensures { self.new ≡ false }
@@ -83,8 +87,9 @@ impl<'a> Waiting<'a> {
         }
     }
 
-    /// What a lane does between two of its tries: it announces that it waits; or, where it has announced that and has tried
-    /// once more since, it sleeps, and is to announce itself anew. It may wait: it promises its clause if it returns.
+    /// Pauses between two tries: announces that the lane waits, or sleeps if that is announced and
+    /// the lane has tried once more since. After a sleep the lane has to announce itself anew. It
+    /// may wait.
     pub fn pause<R: Wait>(&mut self, rt: &R)
         ensures { self.new ≡ not self.old }
     {

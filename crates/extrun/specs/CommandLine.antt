@@ -6,7 +6,7 @@ use Rattle.std.specs.Borrow.{Bor}
 use Rattle.clap.specs.declared.builder.action.ArgAction.TheVariants.{Set, SetTrue}
 use Rattle.clap.specs.declared.builder.value_parser.ValueParser.{ValueParser}
 use Rattle.clap.specs.declared.builder.value_parser.ValueParser.TheVariants as values
-use Rattle.extrun.specs.Words.{AsksFor}
+use Rattle.extrun.specs.CommandWords.{AsksFor}
 use Rattle.extrun.specs.declared.command.Request.{Request}
 use Rattle.extrun.specs.declared.command.Request.TheVariants as requests
 

@@ -1,4 +1,4 @@
-pub mod Words
+pub mod CommandWords
 pub mod CommandLine
 pub mod Tasks
 pub mod Lines

@@ -9,7 +9,7 @@ ghost use Rattle.clap.specs.Simple.{subcommand_rows_of};
 ghost use Rattle.clap.specs.Walk.{rows_of};
 ghost use Rattle.extrun.specs.CommandLine as line;
 ghost use Rattle.extrun.specs.CommandLine.{AsksBy, AsksNothing, IsCommandLine, IsOneOf, IsRun};
-ghost use Rattle.extrun.specs.Words.{AsksCheck, AsksCommand, AsksFor, AsksId, AsksOfPlan, AsksRun, IsFlag, IsLaneCount, check_as, form_of};
+ghost use Rattle.extrun.specs.CommandWords.{AsksCheck, AsksCommand, AsksFor, AsksId, AsksOfPlan, AsksRun, IsFlag, IsLaneCount, check_as, form_of};
 
 use crate::help::{AFTER_HELP, VERSION};
 use clap::error::ErrorKind;
@@ -19,53 +19,62 @@ use std::alloc::{AllocError, Global};
 use std::io;
 use std::rt::Env;
 
-/// How many lanes run a plan where the command line doesn't say.
+/// The number of lanes if the command line does not say.
 const LANES: u8 = 4;
 
 /// What a command line asks for.
 #[derive(Debug, Drop)]
 pub(crate) enum Request {
-    /// To do this with the plan from the file of this name, or from standard input, and to explain its fault where it is refused, if that is asked for.
+    /// A task for the plan in this file, or from standard input, and whether to explain its fault
+    /// if it is refused.
     Plan {
         task: Task,
         file: Option<String>,
         explain: bool,
     },
-    /// To read this id, and to explain its fault where it is none, if that is asked for.
+    /// Reading this id, and whether to explain its fault if it is none.
     Id {
         text: String,
         explain: bool,
     },
-    /// Nothing more: the help or the version was printed.
+    /// Nothing: the help or the version was printed.
     Help,
-    /// Nothing more: the command line is refused, and what is wrong with it was printed.
+    /// Nothing: the command line is refused, and what is wrong with it was printed.
     Refused,
-    /// Nothing more: the help could not be printed.
+    /// Nothing: the help could not be printed.
     Unwritten,
-    /// Nothing more: memory was wanted and refused.
+    /// Nothing: memory was refused.
     Memory,
 }
 
-/// What is done with a plan.
+/// A task for a plan.
 #[derive(Clone, Copy, Debug, PartialEq, Eq)]
 pub(crate) enum Task {
-    /// To run it, to write its report, to tell how far the run is or not, and its faults once more at the end or not.
+    /// Runs it and writes its report, with or without the progress of the run, and its faults
+    /// repeated at the end.
     Run {
         options: Options,
         progress: bool,
         failures: bool,
     },
-    /// To read it, and to write how many nodes, tests and keys it has.
+    /// Writes how many nodes, tests and keys it has.
     Check,
-    /// To read it, and to draw its nodes as a tree.
+    /// Draws its nodes as a tree.
     Draw,
-    /// To read it, and to write its races.
+    /// Writes its races.
     CheckRaces,
 }
 
-/// What the command line asks for: `run`, with `--lanes` of 1 to 16, `--store plain` or `cells`, `--report text` or `json` or else `--tree`, `--progress`
-/// and `--failures`, or no word at all, which is `run` on 4 lanes over the store for several threads; `check`, with `--races` or else `--tree`; either with a file and
-/// `--explain`; or `id`, with `--explain`. Prints the help and the version to standard output, and what is wrong with a command line to standard error. Takes memory for the words and what clap makes of them. Own rule.
+/// Parses the command line. The commands are
+///
+/// - `run`, with `--lanes` of 1 to 16, `--store plain` or `cells`, `--report text` or `json` or
+///   else `--tree`, `--progress` and `--failures`;
+/// - `check`, with `--races` or else `--tree`;
+/// - `id`, with `--explain`.
+///
+/// `run` and `check` take a file and `--explain`. No word at all is `run` on 4 lanes over the store
+/// for several threads. Prints the help and the version to standard output, and what is wrong with
+/// a command line to standard error. Takes memory for the words and for clap.
 pub(crate) fn request_of<R: Env + AllocGlobal + Print + Eprint>(rt: &R) -> Request {
     match parsed(rt) {
         Ok(request) => request,
@@ -73,7 +82,7 @@ pub(crate) fn request_of<R: Env + AllocGlobal + Print + Eprint>(rt: &R) -> Reque
     }
 }
 
-/// The same, with want of memory as an error.
+/// The request of the command line, or that memory was refused.
 fn parsed<R: Env + AllocGlobal + Print + Eprint>(rt: &R) -> Result<Request, AllocError> {
     let words = match std::env::args(rt) {
         Ok(words) => words,
@@ -84,7 +93,7 @@ fn parsed<R: Env + AllocGlobal + Print + Eprint>(rt: &R) -> Result<Request, Allo
     request_in(rt, words.as_slice())
 }
 
-/// What these words ask for, of which the first is the program's own name.
+/// The request of these words. The first is the program's own name.
 fn request_in<R: AllocGlobal + Print + Eprint>(
     rt: &R,
     words: &[String],
@@ -98,7 +107,7 @@ fn request_in<R: AllocGlobal + Print + Eprint>(
     }
 }
 
-/// What the words that clap took ask for.
+/// The request of the words that clap took.
 fn asked_for(alloc: Global, matches: &ArgMatches<'_>) -> Result<Request, AllocError>
     ensures { IfOk result (AsksFor (subcommand_rows_of matches.now)) }
 {
@@ -112,7 +121,7 @@ fn asked_for(alloc: Global, matches: &ArgMatches<'_>) -> Result<Request, AllocEr
     }
 }
 
-/// What the command of this name asks for.
+/// The request of the command with this name.
 fn asked_by(alloc: Global, name: &str, words: &ArgMatches<'_>) -> Result<Request, AllocError>
     ensures { IfOk result (AsksCommand name.now (rows_of (found_of words.now))) }
 {
@@ -125,7 +134,7 @@ fn asked_by(alloc: Global, name: &str, words: &ArgMatches<'_>) -> Result<Request
     plan_request(alloc, run_of(words), words)
 }
 
-/// To read the id that these words say.
+/// The request to read an id.
 fn id_request(alloc: Global, words: &ArgMatches<'_>) -> Result<Request, AllocError>
     ensures { IfOk result (AsksId (rows_of (found_of words.now))) }
 {
@@ -136,14 +145,15 @@ fn id_request(alloc: Global, words: &ArgMatches<'_>) -> Result<Request, AllocErr
     })
 }
 
-/// To tell the plan's races where the flag `--races` stands, or else to draw it where `--tree` does, or else to check it.
+/// The task of `check`: with `--races` to write the plan's races, else with `--tree` to draw it,
+/// else to count.
 fn check_of(words: &ArgMatches<'_>) -> Task
     ensures { AsksCheck (rows_of (found_of words.now)) result }
 {
     check_as(is_set(words, "races"), is_set(words, "tree"))
 }
 
-/// To tell the plan's races, or else to draw it, or else to check it.
+/// The task of `check` with these flags. `--races` precedes `--tree`.
 fn check_as(races: bool, tree: bool) -> Task
     ensures { result ≡ check_as races tree }
 {
@@ -153,7 +163,6 @@ fn check_as(races: bool, tree: bool) -> Task
     if tree { Task::Draw } else { Task::Check }
 }
 
-/// To run the plan as these words say.
 fn run_of(words: &ArgMatches<'_>) -> Task
     ensures { AsksRun (rows_of (found_of words.now)) result }
 {
@@ -166,28 +175,28 @@ fn run_of(words: &ArgMatches<'_>) -> Task
     )
 }
 
-/// How many lanes there are: as many as the value of `--lanes` says, and 4 where it has none.
+/// The value of `--lanes`, or 4.
 fn lanes_of(words: &ArgMatches<'_>) -> u8
     ensures { IsLaneCount (one_text (found_of words.now) (codes "lanes")) result }
 {
     words.get_one::<u8>("lanes").unwrap_or(LANES)
 }
 
-/// Whether the plan is run on one thread: where the value of `--store` is `plain`.
+/// Tests whether `--store` is `plain`, for a run on one thread.
 fn is_plain(words: &ArgMatches<'_>) -> bool
     ensures { IsTrue result ↔ (first_value (found_of words.now) (codes "store") ≡ Some (codes "plain")) }
 {
     words.get_str("store") == Some("plain")
 }
 
-/// Whether the report is written in JSON: where the value of `--report` is `json`.
+/// Tests whether `--report` is `json`.
 fn is_json(words: &ArgMatches<'_>) -> bool
     ensures { IsTrue result ↔ (first_value (found_of words.now) (codes "report") ≡ Some (codes "json")) }
 {
     words.get_str("report") == Some("json")
 }
 
-/// How a report is written: as a tree, in JSON, or else as a text.
+/// The form of a report: a tree, else JSON, else text.
 fn form_of(tree: bool, json: bool) -> ReportForm
     ensures { result ≡ form_of tree json }
 {
@@ -200,14 +209,14 @@ fn form_of(tree: bool, json: bool) -> ReportForm
     }
 }
 
-/// Whether the flag of this name stands.
+/// Tests whether the flag of this name is given.
 fn is_set(words: &ArgMatches<'_>, name: &str) -> bool
     ensures { IsFlag (one_text (found_of words.now) name.now) result }
 {
     words.get_flag(name)
 }
 
-/// To run the plan on so many lanes, or as a plain run, to write its report in this form, and to tell how far the run is or not, and its faults once more or not.
+/// The task to run the plan with these options.
 fn run_on(lanes: u8, plain: bool, form: ReportForm, progress: bool, failures: bool) -> Task
     ensures { result ≡ Task.Run (record { lanes = lanes; plain = plain; form = form }) progress failures }
 {
@@ -223,7 +232,7 @@ fn run_on(lanes: u8, plain: bool, form: ReportForm, progress: bool, failures: bo
     }
 }
 
-/// To do this with the plan of a file or from standard input, explained or not.
+/// The request of a task for the plan in a file or from standard input.
 fn plan_request(alloc: Global, task: Task, words: &ArgMatches<'_>) -> Result<Request, AllocError>
     ensures { IfOk result (AsksOfPlan (rows_of (found_of words.now)) (λ asked. asked ≡ task)) }
 {
@@ -234,7 +243,7 @@ fn plan_request(alloc: Global, task: Task, words: &ArgMatches<'_>) -> Result<Req
     })
 }
 
-/// The name of the file that the plan is read from, if one is given.
+/// The name of the plan's file, if it is given.
 fn file_of(alloc: Global, words: &ArgMatches<'_>) -> Result<Option<String>, AllocError>
     ensures { IfOk result (λ file. option_map string_bytes file ≡ first_value (found_of words.now) (codes "FILE")) }
 {
@@ -244,7 +253,7 @@ fn file_of(alloc: Global, words: &ArgMatches<'_>) -> Result<Option<String>, Allo
     }
 }
 
-/// Tells that a word of the command line is not UTF-8: clap takes texts alone.
+/// Reports that a word of the command line is not UTF-8: clap takes only text.
 fn no_text(rt: &impl Eprint) -> Request
     ensures { result ≡ Request.Refused }
 {
@@ -252,7 +261,8 @@ fn no_text(rt: &impl Eprint) -> Request
     Request::Refused
 }
 
-/// Prints the help, or what is wrong with the command line. Where what is wrong can't be printed, nothing is left to do about it.
+/// Prints the help, or what is wrong with the command line. If the latter cannot be printed,
+/// nothing more can be done.
 fn refused<R: Print + Eprint>(rt: &R, fault: &Error) -> Request
     ensures { AsksNothing result }
 {
@@ -264,7 +274,7 @@ fn refused<R: Print + Eprint>(rt: &R, fault: &Error) -> Request
     }
 }
 
-/// The program's command line: `run` may be left out.
+/// The program's command line. `run` may be left out.
 fn program<'a>(alloc: Global) -> Result<Command<'a>, AllocError>
     ensures { IfOk result (λ program. IsCommandLine (app_of program)) }
 {
@@ -279,7 +289,7 @@ fn program<'a>(alloc: Global) -> Result<Command<'a>, AllocError>
     with_command(program, id_command(alloc))
 }
 
-/// The program with a command more.
+/// Adds a command to the program.
 fn with_command<'a>(
     program: Command<'a>,
     command: Result<Command<'a>, AllocError>,
@@ -290,7 +300,6 @@ fn with_command<'a>(
     program.subcommand(command?)
 }
 
-/// The command `run`.
 fn run_command<'a>(alloc: Global) -> Result<Command<'a>, AllocError>
     ensures { IfOk result (λ command. IsRun (shape_of command) × ((out-Command command).has_globals ≡ false)) }
 {
@@ -306,7 +315,6 @@ fn run_command<'a>(alloc: Global) -> Result<Command<'a>, AllocError>
         .arg(explain_flag(alloc))
 }
 
-/// The command `check`.
 fn check_command<'a>(alloc: Global) -> Result<Command<'a>, AllocError>
     ensures shape { IfOk result (λ command. shape_of command ≡ line.check) }
     ensures local { IfOk result (λ command. (out-Command command).has_globals ≡ false) }
@@ -319,7 +327,6 @@ fn check_command<'a>(alloc: Global) -> Result<Command<'a>, AllocError>
         .arg(explain_flag(alloc))
 }
 
-/// The command `id`.
 fn id_command<'a>(alloc: Global) -> Result<Command<'a>, AllocError>
     ensures shape { IfOk result (λ command. shape_of command ≡ line.id) }
     ensures local { IfOk result (λ command. (out-Command command).has_globals ≡ false) }
@@ -330,7 +337,7 @@ fn id_command<'a>(alloc: Global) -> Result<Command<'a>, AllocError>
         .arg(explain_id_flag(alloc))
 }
 
-/// The file of the commands `run` and `check`.
+/// The file argument of `run` and `check`.
 fn plan_file<'a>(alloc: Global) -> Arg<'a>
     ensures rule { rule_of result ≡ line.plan_file }
     ensures local { result.global ≡ false }
@@ -340,7 +347,6 @@ fn plan_file<'a>(alloc: Global) -> Arg<'a>
         .action(ArgAction::Set)
 }
 
-/// The option `--lanes`.
 fn lanes_option<'a>(alloc: Global) -> Arg<'a>
     ensures rule { rule_of result ≡ line.lanes }
     ensures local { result.global ≡ false }
@@ -354,7 +360,6 @@ fn lanes_option<'a>(alloc: Global) -> Arg<'a>
         .default_value("4")
 }
 
-/// The option `--store`.
 fn store_option<'a>(alloc: Global) -> Arg<'a>
     ensures rule { (value : ValueParser) × IsOneOf value (codes "plain" ∷ codes "cells" ∷ [])
         × (rule_of result ≡ line.option (codes "store") value (codes "cells")) }
@@ -371,7 +376,6 @@ fn store_option<'a>(alloc: Global) -> Arg<'a>
         .default_value("cells")
 }
 
-/// The option `--report`.
 fn report_option<'a>(alloc: Global) -> Arg<'a>
     ensures rule { (value : ValueParser) × IsOneOf value (codes "text" ∷ codes "json" ∷ [])
         × (rule_of result ≡ line.option (codes "report") value (codes "text")) }
@@ -409,7 +413,6 @@ fn draw_flag<'a>(alloc: Global) -> Arg<'a>
         .action(ArgAction::SetTrue)
 }
 
-/// The flag `--failures`.
 fn failures_flag<'a>(alloc: Global) -> Arg<'a>
     ensures rule { rule_of result ≡ line.flag (codes "failures") }
     ensures local { result.global ≡ false }
@@ -422,7 +425,6 @@ fn failures_flag<'a>(alloc: Global) -> Arg<'a>
         .action(ArgAction::SetTrue)
 }
 
-/// The flag `--progress`.
 fn progress_flag<'a>(alloc: Global) -> Arg<'a>
     ensures rule { rule_of result ≡ line.flag (codes "progress") }
     ensures local { result.global ≡ false }
@@ -435,7 +437,6 @@ fn progress_flag<'a>(alloc: Global) -> Arg<'a>
         .action(ArgAction::SetTrue)
 }
 
-/// The flag `--races`.
 fn races_flag<'a>(alloc: Global) -> Arg<'a>
     ensures rule { rule_of result ≡ line.flag (codes "races") }
     ensures local { result.global ≡ false }
@@ -446,7 +447,6 @@ fn races_flag<'a>(alloc: Global) -> Arg<'a>
         .action(ArgAction::SetTrue)
 }
 
-/// The flag `--explain`.
 fn explain_flag<'a>(alloc: Global) -> Arg<'a>
     ensures rule { rule_of result ≡ line.flag (codes "explain") }
     ensures local { result.global ≡ false }
@@ -468,7 +468,7 @@ fn explain_id_flag<'a>(alloc: Global) -> Arg<'a>
         .action(ArgAction::SetTrue)
 }
 
-/// The text of the command `id`.
+/// The text argument of the command `id`.
 fn id_text<'a>(alloc: Global) -> Arg<'a>
     ensures rule { rule_of result ≡ record (line.word (codes "TEXT")) { required = true } }
     ensures local { result.global ≡ false }

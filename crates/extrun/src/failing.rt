@@ -1,4 +1,4 @@
-//! What failed and what was aborted in a run, told once more at its end on standard error.
+//! The failures and aborts of a run, repeated at its end on standard error.
 ghost use Rattle.std.specs.Prelude.{◌≡◌, ◌≤◌, false, IfErr, IfOk};
 ghost use Rattle.std.specs.Io.KnownBytes.{Appends};
 ghost use Rattle.extrun.specs.Tasks.{IsRefused, IsReported};
@@ -10,7 +10,7 @@ use std::io::Write;
 use std::sync::Wait;
 use std::thread::Threads;
 
-/// Runs the plan of these bytes, and tells its faults once more at the end or not.
+/// Runs the plan in these bytes and, if `failures` is set, repeats its faults at the end.
 pub(crate) fn run_plan<R, W: Write, L: RunListener + Sync>(
     rt: &R,
     input: &[u8],
@@ -32,7 +32,7 @@ where
     run_with_listener(rt, rt.alloc(), &mut reader, writer, options, listener)
 }
 
-/// Runs the plan of these bytes, and tells all faults of its nodes once more behind all else.
+/// Runs the plan in these bytes, and repeats all faults of its nodes after everything else.
 fn run_with_failures<'a, R, W: Write, L: RunListener + Sync>(
     rt: &'a R,
     input: &[u8],
@@ -55,7 +55,8 @@ where
     outcome
 }
 
-/// Tells the faults of the nodes of this plan, or that there is no memory for them. Where that fails, nothing is left to do about it.
+/// Prints the faults of the plan's nodes, or that there is no memory for them. If that fails,
+/// nothing more can be done.
 fn tell_failures<R: AllocGlobal + Eprint>(rt: &R, input: &[u8], told: &ToldFaults) {
     let _ = match failures_text(rt.alloc(), input, told) {
         Ok(text) => eprint!(rt; "{}", text.as_str()),

@@ -1,6 +1,6 @@
-//! What `--help` says beyond the commands.
+//! What `--help` prints besides the commands.
 
-/// What `--version` says behind the program's name.
+/// What `--version` prints after the program's name.
 pub(crate) const VERSION: &str = "1.0.0";
 
 /// A plan with its run, the steps, and the exit statuses.

@@ -1,9 +1,9 @@
-//! What is asked of an id: to read it, with its fault explained or not.
+//! Reading an id, with its fault explained or not.
 use crate::telling::tell;
 use ext_run::{RequestFault, Summary, explain_id, read_id};
 use std::io::Write;
 
-/// Reads the id that a text spells, and tells why where it spells none.
+/// Reads the id in a text, and prints why if there is none.
 pub(crate) fn outcome_of_id<R: AllocGlobal + Eprint, W: Write>(
     rt: &R,
     writer: &mut W,
@@ -20,7 +20,7 @@ pub(crate) fn outcome_of_id<R: AllocGlobal + Eprint, W: Write>(
     outcome
 }
 
-/// Tells what is meant by the fault of a text that is no id.
+/// Explains the fault of a text that is no id.
 fn tell_meaning<R: AllocGlobal + Eprint>(rt: &R, text: &str, fault: RequestFault) {
     if let RequestFault::Id(fault) = fault
         && let Ok(line) = explain_id(rt.alloc(), text, fault)

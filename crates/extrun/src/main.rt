@@ -1,8 +1,10 @@
-//! The program: words to a request, a request to `ext_run`, its result to an exit status. Own rule.
+//! The program: from a command line to a request of `ext_run`, and from its outcome to an exit
+//! status.
 //!
-//! The exit status is 0 where what was asked is done and no node failed, 1 where one did, 2 where the command line, the plan or
-//! the id is refused, and 3 where reading, writing or memory failed, or a context could not be closed. Reports go to standard output, faults to
-//! standard error as one line, and what is meant by a plan's fault in a second one where `--explain` asks for it.
+//! The exit status is 0 if the request was done, but 1 if a node failed or a race was found. It is
+//! 2 if the command line, the plan or the id is refused, and 3 if reading, writing or memory
+//! failed, or a context could not be closed. Reports go to standard output. A fault is one line on
+//! standard error, and `--explain` adds a second one that explains it.
 #![tactic(auto)]
 
 mod command;
@@ -27,12 +29,12 @@ use std::time::Clock;
 use telling::tell;
 
 fn main(rt: HostRuntime) -> ExitCode {
-    // An error out of `main` would be the status 1, which says that a node failed.
+    // An error out of `main` would be status 1, which says that a node failed.
     let outcome = outcome_of(&rt);
     ExitCode::from(status_of(&outcome))
 }
 
-/// Does what the command line asks, and tells why where it was not done.
+/// Does what the command line asks, and prints why if it was not done.
 fn outcome_of<R>(rt: &R) -> Result<Summary, RequestFault>
 where
     R: Threads + Wait + Sync + Clock + Env + Files + AllocGlobal + Input + Print + Eprint,

@@ -1,4 +1,4 @@
-//! What is asked of a plan: to run it, to check it or to draw it, with its fault explained or not.
+//! Running, checking or drawing a plan, with its fault explained or not.
 ghost use Rattle.std.specs.Prelude.{◌≡◌, ◌≤◌, IfErr, IfOk};
 ghost use Rattle.std.specs.Io.KnownBytes.{Appends};
 ghost use Rattle.extrun.specs.Tasks.{IsDone, IsUndone};
@@ -18,7 +18,8 @@ use std::sync::Wait;
 use std::thread::Threads;
 use std::time::Clock;
 
-/// Does this with the plan from the file of this name, or from standard input, and tells why where it was not done. The plan is read whole before.
+/// Reads the whole plan from this file, or from standard input, and then does the task. Prints why
+/// if it was not done.
 pub(crate) fn outcome_of_source<R, W>(
     rt: &R,
     writer: &mut W,
@@ -40,7 +41,7 @@ where
     }
 }
 
-/// The bytes of the file of this name. Tells why where they can't be had.
+/// The bytes of the file with this name. Prints why if they cannot be read.
 fn input_of_file<R: Files + AllocGlobal + Eprint>(
     rt: &R,
     name: &str,
@@ -54,7 +55,7 @@ fn input_of_file<R: Files + AllocGlobal + Eprint>(
     }
 }
 
-/// Does this with the plan of these bytes, and tells why where it was not done.
+/// Does the task with the plan in these bytes. Prints why if it was not done.
 fn outcome_of_plan<R, W>(
     rt: &R,
     input: &[u8],
@@ -76,7 +77,7 @@ where
     outcome
 }
 
-/// What became of a plan, told on standard error where it is a fault.
+/// The outcome, whose fault is printed on standard error.
 fn told<T: Drop>(rt: &impl Eprint, outcome: Result<T, RunFault>) -> Result<T, RequestFault> {
     match outcome {
         Ok(done) => Ok(done),
@@ -87,7 +88,7 @@ fn told<T: Drop>(rt: &impl Eprint, outcome: Result<T, RunFault>) -> Result<T, Re
     }
 }
 
-/// Does this with the plan of these bytes.
+/// Does the task with the plan in these bytes.
 fn outcome_of_task<R: Threads + Wait + Sync + Clock + AllocGlobal + Eprint, W: Write>(
     rt: &R,
     input: &[u8],
@@ -122,7 +123,8 @@ fn outcome_of_task<R: Threads + Wait + Sync + Clock + AllocGlobal + Eprint, W: W
     }
 }
 
-/// The same with 1 to 16 lanes: the command line is refused for other counts, which no contract of its parser says.
+/// The options with 1 to 16 lanes. The command line is refused for other counts, but no contract of
+/// its parser says so.
 fn in_range(options: Options) -> Options
     ensures some { 1 ≤ result.lanes }
     ensures few { result.lanes ≤ 16 }

@@ -1,4 +1,4 @@
-//! How far a run is, told on standard error by a thread of its own.
+//! The progress of a run, printed on standard error by a thread of its own.
 ghost use Rattle.std.specs.Prelude.{◌≡◌, ◌≤◌, false, IfErr, IfOk};
 ghost use Rattle.std.specs.Io.KnownBytes.{Appends};
 ghost use Rattle.extrun.specs.Tasks.{IsRefused, IsReported};
@@ -13,18 +13,20 @@ use std::sync::{Condvar, CondvarTimeouts, Mutex, Wait};
 use std::thread::{Threads, join_mut};
 use std::time::{Clock, Duration, Instant};
 
-/// How many milliseconds lie between two lines at least, and between the start and the first one.
+/// The least number of milliseconds between two lines, and between the start and the first one.
 const INTERVAL: u64 = 1_000;
 
-/// Runs the plan of these bytes, by the contract of `ext_run::run`, and tells on standard error how far the run is; and its faults once more at the end
-/// or not. Own rule.
+/// Runs the plan in these bytes, by the contract of `ext_run::run`, and prints the progress of the
+/// run on standard error. If `failures` is set, it repeats the plan's faults at the end.
 ///
-/// Once a second a thread of its own writes a line with the number of nodes that have ended and with those that run, if a node started or ended since
-/// the line before. So the last line of a run that hangs names what hangs, and a run of less than a second has no line. A container is named where no
-/// node below it runs, and a test also while it waits for its locks.
+/// Once a second, a thread of its own prints a line with the number of nodes that have ended and
+/// the nodes that run, if a node started or ended since the line before. So the last line of a run
+/// that hangs names what hangs, and a run of less than a second has no line. A container is named
+/// if no node below it runs, and a test also while it waits for its locks.
 ///
-/// The plan is read once more for the ids of its nodes. Refused as `run` is, and as `Memory` where it is refused for these ids. Where the clock can't be
-/// read or a thread can't be made, nothing is told, and a line for which there is no memory is left out.
+/// The plan is read once more for the ids of its nodes. Refused like `run`, and as `Memory` if
+/// memory for these ids is refused. If the clock cannot be read or a thread cannot be created,
+/// nothing is printed, and a line for which there is no memory is left out.
 pub(crate) fn run_told<R: Threads + Wait + Sync + Clock + AllocGlobal + Eprint, W: Write>(
     rt: &R,
     input: &[u8],
@@ -40,7 +42,7 @@ pub(crate) fn run_told<R: Threads + Wait + Sync + Clock + AllocGlobal + Eprint, 
     run_beside(rt, input, writer, options, &progress, failures)
 }
 
-/// The same beside a thread that tells of it.
+/// Runs the plan beside a thread that prints the progress.
 fn run_beside<R: Threads + Wait + Sync + Clock + AllocGlobal + Eprint, W: Write>(
     rt: &R,
     input: &[u8],
@@ -63,7 +65,7 @@ fn run_beside<R: Threads + Wait + Sync + Clock + AllocGlobal + Eprint, W: Write>
     outcome
 }
 
-/// Runs the plan, and then says that the run is over.
+/// Runs the plan, and then announces that the run is over.
 fn run_to_the_end<R: Threads + Wait + Sync + Clock + AllocGlobal + Eprint, W: Write>(
     rt: &R,
     input: &[u8],
@@ -81,16 +83,16 @@ fn run_to_the_end<R: Threads + Wait + Sync + Clock + AllocGlobal + Eprint, W: Wr
     outcome
 }
 
-/// How far a run is, for the threads that run its nodes and the one that tells of it.
+/// The progress of a run, shared by the threads that run its nodes and the one that prints.
 #[derive(Drop)]
 struct Progress<'a, R> {
     rt: &'a R,
     state: Mutex<State>,
-    /// Is notified when the run is over.
+    /// Notified when the run is over.
     over: Condvar,
 }
 
-/// What the threads of a run share.
+/// What the lock of a run's progress guards.
 #[derive(Drop)]
 struct State {
     running: Running,
@@ -100,7 +102,7 @@ struct State {
 }
 
 impl<'a, R: Wait + Clock + AllocGlobal + Eprint> Progress<'a, R> {
-    /// Of a run of the plan of these bytes, which has not begun.
+    /// The progress of a run of the plan in these bytes that has not begun.
     fn of(rt: &'a R, input: &[u8]) -> Result<Progress<'a, R>, AllocError> {
         let ids = ids_of(rt.alloc(), input)?;
         let state = State {
@@ -115,14 +117,14 @@ impl<'a, R: Wait + Clock + AllocGlobal + Eprint> Progress<'a, R> {
         })
     }
 
-    /// Says that the run is over.
+    /// Announces that the run is over.
     fn end(&self) {
         let mut state = self.state.lock(self.rt);
         state.is_over = true;
         self.over.notify_all();
     }
 
-    /// Writes a line once a second, where there is something new, until the run is over.
+    /// Prints a line once a second, if there is something new, until the run is over.
     fn tell_to_the_end(&self) {
         if Instant::now(self.rt).is_err() {
             return;
@@ -137,7 +139,7 @@ impl<'a, R: Wait + Clock + AllocGlobal + Eprint> Progress<'a, R> {
         }
     }
 
-    /// Waits for the time between two lines, and answers whether the run was over meanwhile.
+    /// Waits for the time between two lines, and tells whether the run was over by then.
     fn is_over_soon(&self) -> bool {
         let state = self.state.lock(self.rt);
         let interval = Duration::from_millis(INTERVAL);
@@ -147,7 +149,7 @@ impl<'a, R: Wait + Clock + AllocGlobal + Eprint> Progress<'a, R> {
         state.is_over
     }
 
-    /// The next line, where a node has started or ended since the one before.
+    /// The next line, if a node has started or ended since the one before.
     fn news(&self) -> Option<String> {
         let mut state = self.state.lock(self.rt);
         if !state.is_new {
@@ -172,7 +174,7 @@ impl<R: Wait> RunListener for Progress<'_, R> {
     }
 }
 
-/// The ids of the nodes of the plan that these bytes write. A plan that is refused has none.
+/// The ids of the nodes of the plan in these bytes. A plan that is refused has none.
 fn ids_of(alloc: Global, input: &[u8]) -> Result<Vec<String>, AllocError> {
     let mut ids = Vec::new(alloc);
     let Ok(text) = std::str::from_utf8(input) else {

@@ -1,4 +1,4 @@
-//! Which nodes of a run are running, and the line that tells of it.
+//! The nodes that are running, and the line that names them.
 ghost use Rattle.std.specs.Prelude.{◌≡◌, ◌++◌, string_bytes, IfOk, OnOk};
 ghost use Rattle.std.specs.List.{flat_map};
 ghost use Rattle.extrun.specs.Lines.{named_part, next_node_text, node_text, node_view, nodes_view, others_part, progress_line};
@@ -8,28 +8,26 @@ use std::alloc::{AllocError, Global};
 /// How many running nodes a line names at most.
 const NAMED: usize = 4;
 
-/// A node that runs.
 #[derive(Clone, Copy, Debug, PartialEq, Eq)]
 pub(crate) struct RunningNode<'a> {
-    /// Its id.
     pub(crate) id: &'a str,
     /// The number of the lane that runs it.
     pub(crate) lane: usize,
 }
 
-/// How far a run is: which of its nodes have started, and which of them have ended.
+/// The progress of a run: which of its nodes have started, and which have ended.
 #[derive(Drop)]
 pub(crate) struct Running {
     /// The ids of the nodes, in the order of the plan.
     ids: Vec<String>,
     /// The lane of each node that has started and has not ended.
     lanes: Vec<Option<usize>>,
-    /// How many have ended.
+    /// How many nodes have ended.
     ended: usize,
 }
 
 impl Running {
-    /// Of a run that has not begun, whose nodes have these ids. Takes memory.
+    /// The progress of a run that has not begun, whose nodes have these ids. Takes memory.
     pub(crate) fn new(alloc: Global, ids: Vec<String>) -> Result<Running, AllocError> {
         let mut lanes = Vec::new(alloc);
         for _ in ids.as_slice() {
@@ -42,31 +40,31 @@ impl Running {
         })
     }
 
-    /// A node starts on this lane.
+    /// Records that a node starts on this lane.
     pub(crate) fn start(&mut self, node: usize, lane: usize) {
         self.set(node, Some(lane));
     }
 
-    /// A node has ended.
+    /// Records that a node has ended.
     pub(crate) fn end(&mut self, node: usize) {
         self.set(node, None);
         self.ended = self.ended.saturating_add(1);
     }
 
-    /// Notes on which lane the node runs, if it does.
+    /// Records the lane of a node, or none if it does not run.
     fn set(&mut self, node: usize, lane: Option<usize>) {
         if let Some(place) = self.lanes.get_mut(node) {
             *place = lane;
         }
     }
 
-    /// The line that tells how far the run is. Takes memory.
+    /// The line of this progress. Takes memory.
     pub(crate) fn line(&self, alloc: Global) -> Result<String, AllocError> {
         let running = self.innermost(alloc)?;
         line_of(alloc, self.ended, self.ids.len(), running.as_slice())
     }
 
-    /// The nodes that run, in the order of the plan, but for those below which another one runs.
+    /// The nodes that run, in the order of the plan, except those below which another one runs.
     fn innermost(&self, alloc: Global) -> Result<Vec<RunningNode<'_>>, AllocError> {
         let mut running = Vec::new(alloc);
         for (id, lane) in self.ids.iter().zip(self.lanes.iter()) {
@@ -80,7 +78,7 @@ impl Running {
         Ok(running)
     }
 
-    /// Whether a node below the one with this id runs.
+    /// Tests whether a node below the one with this id runs.
     fn runs_below(&self, above: &str) -> bool {
         for (id, lane) in self.ids.iter().zip(self.lanes.iter()) {
             if lane.is_some() && is_below(id.as_str(), above) {
@@ -91,7 +89,7 @@ impl Running {
     }
 }
 
-/// Whether the one id is that of a node below the other's.
+/// Tests whether `id` is that of a node below the one with the id `above`.
 fn is_below(id: &str, above: &str) -> bool {
     match id.strip_prefix(above) {
         Some(rest) => rest.starts_with('/'),
@@ -99,7 +97,7 @@ fn is_below(id: &str, above: &str) -> bool {
     }
 }
 
-/// The line of a run of which so many of so many nodes have ended, and these are running. Takes memory.
+/// The line of a run of `nodes` nodes, of which `ended` have ended and `running` run. Takes memory.
 pub(crate) fn line_of(
     alloc: Global,
     ended: usize,
@@ -127,7 +125,7 @@ fn write_named(line: &mut String, nodes: &[RunningNode<'_>]) -> Result<(), Alloc
     write_next(line, others)
 }
 
-/// Writes the nodes that come after another one.
+/// Writes the nodes after another one.
 fn write_next(line: &mut String, nodes: &[RunningNode<'_>]) -> Result<(), AllocError>
     ensures { OnOk result (string_bytes line.new ≡ string_bytes line.old ++ flat_map next_node_text (nodes_view nodes.now)) }
 {
@@ -147,7 +145,7 @@ fn write_node(line: &mut String, node: &RunningNode<'_>) -> Result<(), AllocErro
     write!(line, " on lane {lane}")
 }
 
-/// Writes how many nodes run beside those that are named.
+/// Writes how many nodes run besides those that are named.
 fn write_others(line: &mut String, others: usize) -> Result<(), AllocError>
     ensures { OnOk result (string_bytes line.new ≡ string_bytes line.old ++ others_part others) }
 {

@@ -1,8 +1,8 @@
-//! What is told of a request that was not done.
+//! Reporting why a request was not done.
 use ext_run::RequestFault;
 
-/// Prints why a request was not done, in one line on standard error. Where that fails too, nothing is left to do about
-/// it.
+/// Prints why a request was not done, in one line on standard error. If that fails, nothing more
+/// can be done.
 pub(crate) fn tell(rt: &impl Eprint, fault: RequestFault) {
     let _ = match fault {
         RequestFault::CommandLine => Ok(()),

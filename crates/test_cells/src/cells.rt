@@ -1,4 +1,7 @@
 //! Cells whose answers were worked out by hand.
+//!
+//! `zero_words_at_open` and `claim_beside` show the calls of `ext_cells`: three cells are opened and read at one moment, and a claim
+//! keeps other lanes out until its lane fills, fails or abandons it.
 ghost use Rattle.std.specs.Prelude.{◌≡◌, ◌<◌, ◌≤◌, IsTrue};
 ghost use Rattle.ext_model.specs.CallActs.{IsHeld};
 
@@ -7,6 +10,8 @@ use crate::same::same;
 use ext_cells::{CellLane, CellRefusal, Cells, Claim, Claimed, Nearest, Standing};
 use std::process::Abort;
 
+/// Tests `Cells::open`, `Cells::open_for`, `Cells::tries`, `Cells::next_number`, `Cells::put`,
+/// `Cells::remove`, `Cells::seal`, `CellLane::number`, `Cells::collect` and `Cells::nearest`.
 #[test]
 fn sealed_cells_keep_their_numbers(rt: HostRuntime) {
     let closed = Err(CellRefusal::Closed);
@@ -27,6 +32,7 @@ fn sealed_cells_keep_their_numbers(rt: HostRuntime) {
     rows(&rt, rt.alloc(), &all);
 }
 
+/// Tests `Cells::fill`, `Cells::fail` and `Cells::abandon`.
 #[test]
 fn abandoned_cells_are_empty(rt: HostRuntime) {
     let all = [
@@ -40,6 +46,7 @@ fn abandoned_cells_are_empty(rt: HostRuntime) {
     rows(&rt, rt.alloc(), &all);
 }
 
+/// Tests `after` and `Cells::seal`.
 #[test]
 fn failed_cells_keep_their_numbers(rt: HostRuntime) {
     let all = [
@@ -116,12 +123,14 @@ fn fail_beside(rt: &impl Abort, cells: &Cells, first: &mut CellLane, second: &mu
     cells.meet(second, first);
 }
 
+/// Tests `Cells::fill`, `Cells::fail` and `Cells::abandon`.
 #[test]
 fn claims_that_fail_keep_others_out(rt: HostRuntime) {
     let (cells, mut first, mut second) = open(&rt, rt.alloc(), 1, 8);
     fail_beside(&rt, &cells, &mut first, &mut second);
 }
 
+/// Tests `Cells::open`, `Cells::open_for` and `Cells::keeps_faults`.
 #[test]
 fn cells_keep_faults_as_they_are_opened(rt: HostRuntime) {
     let Ok((cells, _lanes)) = Cells::open(rt.alloc(), 3, 1, 1, 8) else {
@@ -150,12 +159,14 @@ fn claim_beside(rt: &impl Abort, cells: &Cells, first: &mut CellLane, second: &m
     cells.meet(second, first);
 }
 
+/// Tests `Cells::claim`.
 #[test]
 fn claims_keep_others_out(rt: HostRuntime) {
     let (cells, mut first, mut second) = open(&rt, rt.alloc(), 1, 8);
     claim_beside(&rt, &cells, &mut first, &mut second);
 }
 
+/// Tests `Cells::open`, `Cells::open_for`, `Cells::tries`, `Cells::collect` and `Words::get`.
 #[test]
 fn zero_words_at_open(rt: HostRuntime) {
     let Ok((cells, mut lanes)) = Cells::open(rt.alloc(), 3, 1, 1, 8) else {
@@ -187,6 +198,7 @@ fn sixteen(cells: &Cells, lane: &mut CellLane) -> Option<[u64; 16]>
     Some(found)
 }
 
+/// Tests `Cells::collect` and `Words::get`.
 #[test]
 fn sixteen_cells_at_once(rt: HostRuntime) {
     let Ok((cells, mut lanes)) = Cells::open(rt.alloc(), 256, 1, 1, 8) else {
@@ -204,7 +216,7 @@ fn sixteen_cells_at_once(rt: HostRuntime) {
     same(&rt, found, Some(wanted), "the words");
 }
 
-/// The place of the nearest cell and what stands there, where one was found.
+/// The place of the nearest row and what stands there, where one was found.
 fn place_and_standing(
     found: Result<Option<Nearest>, CellRefusal>,
 ) -> Result<Option<(usize, Standing)>, CellRefusal> {
@@ -215,35 +227,41 @@ fn place_and_standing(
     }
 }
 
-/// Asserts what is the nearest of some cells, of which the cells 4 and 2 hold the number of a value each, cell 7 that of a fault, and cell 5 is sealed.
+/// Asserts what is nearest along some rows. In column 3 the rows 4 and 2 hold the number of a value each, row 7 that of a fault, and row
+/// 5 is sealed; row 8 holds the number of a value in the column before it.
 fn ask_for_nearest(rt: &impl Abort, cells: &Cells, lane: &mut CellLane)
     requires lane { lane.old.cells ≡ cells.now.id }
-    requires cells { 9 ≤ cells.now.id.limits.cells }
+    requires cells { 576 ≤ cells.now.id.limits.cells }
 {
-    let own = place_and_standing(cells.nearest(lane, &[4, 2, 0]));
-    same(rt, own, Ok(Some((0, Standing::Value(1)))), "the first cell");
-    let above = place_and_standing(cells.nearest(lane, &[8, 6, 2, 0]));
-    same(rt, above, Ok(Some((2, Standing::Value(2)))), "a later cell");
-    let none = place_and_standing(cells.nearest(lane, &[8, 6, 0]));
+    let own = place_and_standing(cells.nearest(lane, &[4, 2, 0], 3));
+    same(rt, own, Ok(Some((0, Standing::Value(1)))), "the first row");
+    let above = place_and_standing(cells.nearest(lane, &[8, 6, 2, 0], 3));
+    same(rt, above, Ok(Some((2, Standing::Value(2)))), "a later row");
+    let none = place_and_standing(cells.nearest(lane, &[8, 6, 0], 3));
     same(rt, none, Ok(None), "empty cells");
-    let failed = place_and_standing(cells.nearest(lane, &[8, 7, 2, 0]));
+    let failed = place_and_standing(cells.nearest(lane, &[8, 7, 2, 0], 3));
     let fault = Ok(Some((1, Standing::Fault(3))));
-    same(rt, failed, fault, "a cell with a fault");
-    let closed = place_and_standing(cells.nearest(lane, &[8, 5, 2]));
-    same(rt, closed, Ok(Some((1, Standing::Seal))), "a sealed cell");
+    same(rt, failed, fault, "a row with a fault");
+    let closed = place_and_standing(cells.nearest(lane, &[8, 5, 2], 3));
+    same(rt, closed, Ok(Some((1, Standing::Seal))), "a sealed row");
+    let beside = place_and_standing(cells.nearest(lane, &[4, 2, 8], 2));
+    let value = Ok(Some((2, Standing::Value(4))));
+    same(rt, beside, value, "another column");
 }
 
+/// Tests `Cells::nearest`.
 #[test]
-fn nearest_cell_decides(rt: HostRuntime) {
-    let Ok((cells, mut lanes)) = Cells::open(rt.alloc(), 9, 1, 1, 8) else {
+fn nearest_row_decides(rt: HostRuntime) {
+    let Ok((cells, mut lanes)) = Cells::open(rt.alloc(), 576, 1, 1, 8) else {
         panic!(rt; "no memory")
     };
     let Some(mut lane) = lanes.pop() else {
         panic!(rt; "no lane")
     };
-    go(&rt, &cells, &mut lane, 4, Call::Puts(1, Ok(None)));
-    go(&rt, &cells, &mut lane, 2, Call::Puts(2, Ok(None)));
-    go(&rt, &cells, &mut lane, 7, Call::Fails(3));
-    go(&rt, &cells, &mut lane, 5, Call::Seals(Ok(None)));
+    go(&rt, &cells, &mut lane, 259, Call::Puts(1, Ok(None)));
+    go(&rt, &cells, &mut lane, 131, Call::Puts(2, Ok(None)));
+    go(&rt, &cells, &mut lane, 451, Call::Fails(3));
+    go(&rt, &cells, &mut lane, 323, Call::Seals(Ok(None)));
+    go(&rt, &cells, &mut lane, 514, Call::Puts(4, Ok(None)));
     ask_for_nearest(&rt, &cells, &mut lane);
 }

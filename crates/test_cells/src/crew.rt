@@ -1,4 +1,8 @@
 //! The worked examples of the crew, and what no clause says: that workers run side by side.
+//!
+//! `squares` shows a call of `ext_crew::run_children`: a job for each item, on two workers. A job may call `run_children` again, with
+//! its own share: that is how a tree is run. `all_stay_small` shows a proof about the shares: what each job keeps of its share holds
+//! of the slices in the end (`run-keeps` of `proofs/Runs.antt` of `ext_crew`).
 ghost use Rattle.std.specs.Prelude.{◌≡◌, ◌<◌, ◌≤◌, length, All};
 
 use crate::gates::{LastGate, MeetingGate, OrderGate};
@@ -29,6 +33,7 @@ fn squares<R: Threads + Wait + Sync, G: Gate + Sync>(
     )
 }
 
+/// Tests `run_children`.
 #[test]
 fn squares_by_two_workers(rt: HostRuntime) -> Result<(), Fail> {
     let alloc: Global = rt.alloc();
@@ -40,6 +45,7 @@ fn squares_by_two_workers(rt: HostRuntime) -> Result<(), Fail> {
     Ok(())
 }
 
+/// Tests `run_children`.
 #[test]
 fn jobs_0_and_1_meet(rt: HostRuntime) -> Result<(), Fail> {
     let alloc: Global = rt.alloc();
@@ -52,6 +58,7 @@ fn jobs_0_and_1_meet(rt: HostRuntime) -> Result<(), Fail> {
 }
 
 // Two workers, one of which is held in job 0: the other one draws all that are left. With a fixed cut job 2 would wait for job 0.
+/// Tests `run_children`.
 #[test]
 fn job_0_waits_for_all_others(rt: HostRuntime) -> Result<(), Fail> {
     let alloc: Global = rt.alloc();
@@ -72,6 +79,7 @@ fn numbers() -> [u64; 256] {
     numbers
 }
 
+/// Tests `run_children`.
 #[test]
 fn jobs_0_and_1_meet_among_256(rt: HostRuntime) -> Result<(), Fail> {
     let items = Vec::from_array(rt.alloc(), numbers())?;
@@ -104,6 +112,7 @@ fn jobs_0_and_1_meet_among_256(rt: HostRuntime) -> Result<(), Fail> {
 
 // Five lanes for three workers, each of which has to run one job: a job gives the length of its share and leaves its index there.
 // Which worker runs which job isn't known.
+/// Tests `run_children`.
 #[test]
 fn longer_shares_first(rt: HostRuntime) -> Result<(), Fail> {
     let items = Vec::from_array(rt.alloc(), [7u64, 8, 9])?;
@@ -140,6 +149,7 @@ fn are_shares(left: [u8; 5], lengths: &[usize]) -> bool {
         && (told(a), told(b), told(c)) == (Some(2), Some(2), Some(1))
 }
 
+/// Tests `Gate::started` and `Gate::ended`.
 #[test]
 fn gate_is_told_round_each_job(rt: HostRuntime) -> Result<(), Fail> {
     let items = Vec::from_array(rt.alloc(), [0u64, 1, 2, 3])?;
@@ -181,6 +191,7 @@ fn all_stay_small<R: Threads + Wait + Sync>(
     Ok(made)
 }
 
+/// Tests `run_children`.
 #[test]
 fn an_invariant_of_the_shares_holds_at_the_end(rt: HostRuntime) -> Result<(), Fail> {
     let mut first = [1u8, 2, 3];

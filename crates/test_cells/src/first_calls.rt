@@ -7,16 +7,17 @@ use ext_cells::{CellLane, Cells};
 use std::alloc::Global;
 use std::process::Abort;
 
-/// Cells whose first lane has put number 1 into cell 0, and their other lane, which has made no call.
+/// Two rows of cells, whose first lane has put number 1 into cell 0, and their other lane, which has made no call.
 fn opened_and_put<R: Abort>(rt: &R, alloc: Global) -> (Cells, CellLane)
     ensures lane { result.1.cells ≡ result.0.id }
-    ensures cells { result.0.id.limits.cells ≡ 2 }
+    ensures cells { result.0.id.limits.cells ≡ 128 }
 {
-    let (cells, mut first, second) = open(rt, alloc, 2, 1);
+    let (cells, mut first, second) = open(rt, alloc, 128, 1);
     go(rt, &cells, &mut first, 0, Call::Puts(1, Ok(None)));
     (cells, second)
 }
 
+/// Tests `Cells::collect` and `Cells::put`.
 #[test]
 fn first_calls_see_another_lanes_put(rt: HostRuntime) {
     let calls = [
@@ -34,22 +35,23 @@ fn first_calls_see_another_lanes_put(rt: HostRuntime) {
     }
 }
 
-/// The place of the nearest of the two cells.
+/// The place of the nearest of the two rows.
 fn nearest_of_two(cells: &Cells, lane: &mut CellLane) -> Option<usize>
     requires lane { lane.old.cells ≡ cells.now.id }
-    requires cells { 2 ≤ cells.now.id.limits.cells }
+    requires cells { 128 ≤ cells.now.id.limits.cells }
 {
-    match cells.nearest(lane, &[1, 0]) {
+    match cells.nearest(lane, &[1, 0], 0) {
         Ok(Some(nearest)) => Some(nearest.place),
         Ok(None) | Err(_) => None,
     }
 }
 
+/// Tests `Cells::nearest`.
 #[test]
 fn first_look_sees_another_lanes_put(rt: HostRuntime) {
     let (cells, mut lane) = opened_and_put(&rt, rt.alloc());
     let found = nearest_of_two(&cells, &mut lane);
-    same(&rt, found, Some(1), "the nearest cell");
+    same(&rt, found, Some(1), "the nearest row");
 }
 
 /// What a put answers that stores the number which the lane drew before the first lane put its own.
@@ -60,6 +62,7 @@ fn put_after_another<R: Abort>(rt: &R, alloc: Global) -> Option<u32> {
     cells.put(&mut second, 0, number).ok()?
 }
 
+/// Tests `Cells::put`.
 #[test]
 fn first_put_sees_another_lanes_put(rt: HostRuntime) {
     let stood = put_after_another(&rt, rt.alloc());

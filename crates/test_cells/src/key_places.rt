@@ -69,6 +69,7 @@ fn number_64(
     Ok(())
 }
 
+/// Tests `KeyPlaces::number`.
 #[test]
 fn keys_are_64_at_most(rt: HostRuntime) -> Result<(), Fail> {
     let places = KeyPlaces::new(rt.alloc())?;
@@ -81,6 +82,7 @@ fn keys_are_64_at_most(rt: HostRuntime) -> Result<(), Fail> {
     Ok(())
 }
 
+/// Tests `KeyPlaces::number`, `KeyPlaces::agree` and `KeyNotes::has_placed`.
 #[test]
 fn a_lane_tells_which_places_it_set(rt: HostRuntime) -> Result<(), Fail> {
     let places = KeyPlaces::new(rt.alloc())?;
@@ -123,6 +125,7 @@ fn numbered_by_both(
     Some((one, other))
 }
 
+/// Tests `KeyPlaces::agree`.
 #[test]
 fn lanes_give_one_number(rt: HostRuntime) -> Result<(), Fail> {
     let places = KeyPlaces::new(rt.alloc())?;
@@ -175,6 +178,7 @@ fn tells_namespaces_apart(
     Ok(())
 }
 
+/// Tests `KeyPlaces::number`.
 #[test]
 fn namespaces_are_told_apart(rt: HostRuntime) -> Result<(), Fail> {
     let places = KeyPlaces::new(rt.alloc())?;
@@ -230,6 +234,7 @@ fn ask_keys_of_one_hash(
     Ok(())
 }
 
+/// Tests `KeyPlaces::number`.
 #[test]
 fn keys_of_one_hash_are_told_apart(rt: HostRuntime) -> Result<(), Fail> {
     let places = KeyPlaces::new(rt.alloc())?;
@@ -247,6 +252,8 @@ fn names(places: &KeyPlaces, notes: &mut KeyNotes, number: usize, key: &Key) -> 
     notes.knows(number) && places.key(notes, number) == key
 }
 
+/// Tests `KeyPlaces::new`, `KeyPlaces::notes`, `KeyPlaces::agree`, `KeyPlaces::key` and
+/// `KeyNotes::knows`.
 #[test]
 fn agreeing_teaches_the_second_lane(rt: HostRuntime) -> Result<(), Fail> {
     let places = KeyPlaces::new(rt.alloc())?;
@@ -267,6 +274,7 @@ fn agreeing_teaches_the_second_lane(rt: HostRuntime) -> Result<(), Fail> {
     Ok(())
 }
 
+/// Tests `KeyPlaces::cell`.
 #[test]
 fn cells_of_all_contexts_and_keys(rt: HostRuntime) -> Result<(), Fail> {
     let places = KeyPlaces::new(rt.alloc())?;

@@ -108,11 +108,13 @@ fn number_beside<R: Abort + Threads + Sync>(
     Ok(())
 }
 
+/// Tests `KeyPlaces::agree`.
 #[test]
 fn two_threads_number_the_same_keys(rt: HostRuntime) -> Result<(), Fail> {
     number_beside(&rt, rt.alloc(), 2)
 }
 
+/// Tests `KeyPlaces::agree`.
 #[test]
 fn sixteen_threads_number_the_same_keys(rt: HostRuntime) -> Result<(), Fail> {
     number_beside(&rt, rt.alloc(), 16)
@@ -167,6 +169,7 @@ fn agree_in_turn(rt: &impl Abort, places: &KeyPlaces, lanes: &mut [KeyNotes], ke
     same(rt, are_first(&wanted), true, "the numbers from 0 on");
 }
 
+/// Tests `KeyPlaces::agree`.
 #[test]
 fn sixteen_lanes_agree_after_the_join(rt: HostRuntime) -> Result<(), Fail> {
     let places = KeyPlaces::new(rt.alloc())?;

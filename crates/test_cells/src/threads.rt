@@ -118,6 +118,7 @@ fn draw_beside<R: Abort + Threads + Wait + Sync>(
     same(rt, full, Err(CellRefusal::NumbersFull), "a further one");
 }
 
+/// Tests `Cells::next_number`, `Cells::put`, `Cells::remove` and `Cells::seal`.
 #[test]
 fn two_threads_draw_and_put(rt: HostRuntime) {
     let (cells, mut first, mut second, mut third) = open(&rt, rt.alloc(), 64, 50);
@@ -186,6 +187,7 @@ fn fill_while_others_put<R: Threads + Wait + Sync>(
     )
 }
 
+/// Tests `Cells::fill`, `Cells::fail` and `Cells::abandon`.
 #[test]
 fn two_threads_fill_and_put(rt: HostRuntime) {
     let (cells, first, second, mut third) = open(&rt, rt.alloc(), 64, 30);
@@ -273,6 +275,8 @@ fn collect_while_another_claims<R: Threads + Wait + Sync>(
 }
 
 // Lane 1 is mid-way in a collect nearly always, so an event of lane 0 between its two passes comes soon.
+/// Tests `Cells::next_number`, `Cells::put`, `Cells::remove`, `Cells::seal`, `Cells::claim`,
+/// `Cells::collect` and `Cells::nearest`.
 #[test]
 fn collects_are_contended(rt: HostRuntime) {
     let (cells, first, second, mut third) = open(&rt, rt.alloc(), 1, 1);

@@ -1,4 +1,7 @@
 //! The worked examples of places and notes, and callers that go by the clauses alone.
+//!
+//! `placed_and_found` and `notes_know_what_was_placed_or_shown` show the calls of `ext_values`: a value that was placed is found by
+//! other lanes too, and a taken place hands the box back and shows which value stands there.
 ghost use Rattle.std.specs.Prelude.{◌≡◌, ◌<◌, IfErr, IfOk, IfSome};
 ghost use Rattle.ext_values.specs.Places.{IsCapacity, IsNoteOf, IsNumber};
 ghost use Rattle.ext_values.specs.Known.{AreNotesOf};
@@ -45,6 +48,8 @@ fn shown(values: &Values<u8>, number: u32) -> Option<u8> {
     Some(*found)
 }
 
+/// Tests `Values::place`, `Values::show`, `Values::has_number`, `Values::show_known`,
+/// `Values::agree` and `Note::number`.
 #[test]
 fn places_are_set_once(rt: HostRuntime) -> Result<(), Fail> {
     let values = Values::new(rt.alloc(), 3)?;
@@ -86,6 +91,7 @@ fn agreed(values: &Values<u8>, mut note: Note<u8>) -> Option<u8>
     Some(*found)
 }
 
+/// Tests `Values::place`, `Values::show` and `Values::has_number`.
 #[test]
 fn value_seen_after_the_thread_ended(rt: HostRuntime) -> Result<(), Fail> {
     let values = Values::new(rt.alloc(), 2)?;
@@ -162,6 +168,7 @@ fn placed_by_lane(
     (notes, placed)
 }
 
+/// Tests `Notes::meet`.
 #[test]
 fn lanes_of_two_threads_meet(rt: HostRuntime) -> Result<(), Fail> {
     let values = Values::new(rt.alloc(), 2)?;
@@ -185,6 +192,8 @@ fn lanes_of_two_threads_meet(rt: HostRuntime) -> Result<(), Fail> {
     Ok(())
 }
 
+/// Tests `Notes::get`, `Notes::knows`, `Notes::place`, `SilentNotes::place`, `Values::place`,
+/// `Values::new`, `Values::capacity` and `Notes::new`.
 #[test]
 fn notes_know_what_was_placed_or_shown(rt: HostRuntime) -> Result<(), Fail> {
     let values = Values::new(rt.alloc(), 2)?;
@@ -248,6 +257,7 @@ fn found_silently(
     Some((first, second))
 }
 
+/// Tests `Notes::get`, `Notes::knows`, `Notes::place`, `SilentNotes::place` and `Values::place`.
 #[test]
 fn silent_notes_find_what_was_placed(rt: HostRuntime) -> Result<(), Fail> {
     let values = Values::new(rt.alloc(), 2)?;
@@ -283,6 +293,7 @@ fn last_number(alloc: Global, capacity: u32) -> Result<(u32, bool, bool), Fail>
     ))
 }
 
+/// Tests `Values::new`, `Values::capacity` and `Notes::new`.
 #[test]
 fn capacities_from_1_to_65535(rt: HostRuntime) -> Result<(), Fail> {
     same(&rt, last_number(rt.alloc(), 1)?, (1, true, false), "1");
@@ -291,6 +302,7 @@ fn capacities_from_1_to_65535(rt: HostRuntime) -> Result<(), Fail> {
     Ok(())
 }
 
+/// Tests `Values::new`, `Values::capacity` and `Notes::new`.
 #[test]
 fn no_places_for_no_numbers(rt: HostRuntime) -> Result<(), Fail> {
     let values: Values<u8> = Values::new(rt.alloc(), 0)?;

@@ -14,6 +14,7 @@ fn next(rt: &impl Abort, answer: Result<u64, CellRefusal>, wanted: Result<u64, C
     same(rt, answer, wanted, "the next word");
 }
 
+/// Tests `word`, `parts` and `after`.
 #[test]
 fn words_and_versions(rt: HostRuntime) {
     let present = (CellState::Present, 5, 3);
@@ -25,6 +26,7 @@ fn words_and_versions(rt: HostRuntime) {
     next(&rt, after(50_331_730, Act::Put(0, 7)), Ok(67_108_978));
 }
 
+/// Tests `word`, `parts`, `after` and `Cells::seal`.
 #[test]
 fn failed_words(rt: HostRuntime) {
     let failed = (CellState::Failed, 5, 3);
@@ -41,6 +43,7 @@ fn failed_words(rt: HostRuntime) {
     );
 }
 
+/// Tests `word`, `parts` and `after`.
 #[test]
 fn versions_run_out(rt: HostRuntime) {
     let put = Ok(18_446_744_073_675_997_282);
@@ -63,6 +66,7 @@ fn versions_run_out(rt: HostRuntime) {
 }
 
 // The versions stand in the upper 40 bits of these words, a number in the 20 below them, and the state in the lowest four.
+/// Tests `word`, `parts` and `after`.
 #[test]
 fn versions_at_their_limits(rt: HostRuntime) {
     let empty = 0xffff_ffff_fc00_0000;
@@ -86,6 +90,7 @@ fn versions_at_their_limits(rt: HostRuntime) {
 }
 
 // The same of a word with a fault.
+/// Tests `word`, `parts` and `after`.
 #[test]
 fn failed_words_at_their_limits(rt: HostRuntime) {
     let computing = 0xffff_ffff_fd00_0001;
@@ -119,6 +124,7 @@ fn opened(
     }
 }
 
+/// Tests `Cells::open`, `Cells::open_for` and `Cells::tries`.
 #[test]
 fn open_within_limits(rt: HostRuntime) {
     let bad = Err(CellRefusal::BadLimit);

@@ -68,6 +68,7 @@ impl<R: Abort> Scenario<R> for Alone {
     }
 }
 
+/// Tests `Locks::open`, `Locks::try_take`, `Locks::give`, `Locks::recall` and `LockLane::recall`.
 #[test]
 fn lane_alone_is_never_refused(rt: HostRuntime) {
     with_locks(&rt, rt.alloc(), &["a"], 1, 1, Alone);

@@ -66,6 +66,7 @@ impl<R: Abort + Threads> Scenario<R> for TwoWriters {
     }
 }
 
+/// Tests `Locks::give`.
 #[test]
 fn two_writers_count_what_they_hold(rt: HostRuntime) {
     with_locks(&rt, rt.alloc(), &["a"], 2, 8, TwoWriters);

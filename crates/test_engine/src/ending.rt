@@ -89,6 +89,7 @@ fn make_and_end<R: Abort + Wait>(
     end(rt, store, closer, first, second);
 }
 
+/// Tests `CloseAction::close`, `close` and `take_closer`.
 #[test]
 fn server_is_stopped_once(rt: HostRuntime) {
     let key = server_key(rt.alloc()).expect(&rt, "a key");

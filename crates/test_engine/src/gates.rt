@@ -52,6 +52,7 @@ impl Gate for MeetingGate {
     fn ended(&self, _index: usize) {}
 }
 
+/// Tests `run_tree`.
 #[test]
 fn two_children_run_at_once(rt: HostRuntime) {
     let servers = Servers::new();

@@ -284,6 +284,7 @@ fn lock_is_held<R: Threads + Wait + Sync + Abort>(rt: &R, alloc: Global, key: &K
     same(rt, text.as_str(), wanted, "the report");
 }
 
+/// Tests `run_tree`.
 #[test]
 fn test_locks_are_held_until_its_context_is_closed(rt: HostRuntime) {
     let key = server_key(rt.alloc()).expect(&rt, "a key");

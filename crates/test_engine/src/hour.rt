@@ -105,6 +105,7 @@ pub(crate) fn two_lanes<R: Abort, V: StoreValue + Drop>(
     (first, second)
 }
 
+/// Tests `open_run` and `take_lane`.
 #[test]
 fn first_hour(rt: HostRuntime) {
     let key = server_key(rt.alloc()).expect(&rt, "a key");
@@ -181,6 +182,7 @@ fn ask_both<R: Abort + Sync + Threads + Wait>(
     assert!(rt; asked == (Some((1, 8080)), Some((1, 8080))));
 }
 
+/// Tests `Store::compute` and `Store::compute_numbered`.
 #[test]
 fn server_made_once(rt: HostRuntime) {
     let key = server_key(rt.alloc()).expect(&rt, "a key");

@@ -26,6 +26,7 @@ fn refuses_many(rt: &impl Abort, alloc: Global, many: &[&str; 64]) {
     refused(rt, alloc, &many[1..], 2, 8, LockFault::Twice(1));
 }
 
+/// Tests `Locks::open`.
 #[test]
 fn refused_openings(rt: HostRuntime) {
     let alloc = rt.alloc();
@@ -79,6 +80,7 @@ fn opens_widest(rt: &impl Abort, alloc: Global, texts: &[String]) {
     with_locks(rt, alloc, names.as_slice(), 16, 64, MostNames);
 }
 
+/// Tests `Locks::open`.
 #[test]
 fn opens_at_the_limits(rt: HostRuntime) {
     let mut texts = Vec::new(rt.alloc());

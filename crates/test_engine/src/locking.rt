@@ -32,6 +32,7 @@ fn run_test(locks: &Locks, lane: &mut LockLane, requests: &[LockRequest]) -> Res
     }
 }
 
+/// Tests `LockLane::number`, `Locks::open`, `Locks::try_take`, `Locks::take_wait` and `Held::set`.
 #[test]
 fn guide_to_locks(rt: HostRuntime) -> Result<(), Fail> {
     let (locks, mut lanes) = Locks::open(rt.alloc(), &["db", "files"], 2, 64)?;

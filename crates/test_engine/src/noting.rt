@@ -131,6 +131,7 @@ fn note_twice<R: Wait>(
     }
 }
 
+/// Tests `run_tree`.
 #[test]
 fn after_callback_sees_the_first_failure(rt: HostRuntime) -> Result<(), Fail> {
     let mut opened = open_for_two(rt.alloc())?;

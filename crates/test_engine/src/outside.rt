@@ -181,16 +181,19 @@ fn value_is_unknown<R: Threads + Wait + Sync + Abort>(rt: &R, alloc: Global, con
     same(rt, why, EngineFault::Unjoined(context, 1), "the refusal");
 }
 
+/// Tests `run_tree`.
 #[test]
 fn value_of_another_lane_in_the_root(rt: HostRuntime) {
     value_is_unknown(&rt, rt.alloc(), 0);
 }
 
+/// Tests `run_tree`.
 #[test]
 fn value_of_another_lane_in_a_container(rt: HostRuntime) {
     value_is_unknown(&rt, rt.alloc(), 1);
 }
 
+/// Tests `run_tree`.
 #[test]
 fn value_of_another_lane_in_a_test(rt: HostRuntime) {
     value_is_unknown(&rt, rt.alloc(), 2);

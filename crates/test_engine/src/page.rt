@@ -244,6 +244,7 @@ pub(crate) fn run_page<R: Threads + Wait + Sync, G: Gate + Sync>(
     Ok(report_text(alloc, store.tree(), results.as_slice())?)
 }
 
+/// Tests `run_tree`, `open_run` and `is_leaf`.
 #[test]
 fn engine_in_a_page(rt: HostRuntime) {
     let servers = Servers::new();

@@ -44,6 +44,7 @@ fn refused(
     );
 }
 
+/// Tests `open_run` and `read_ids`.
 #[test]
 fn refused_openings_of_runs(rt: HostRuntime) {
     let alloc = rt.alloc();

@@ -33,6 +33,7 @@ impl<R: Abort> Scenario<R> for StrongestModes {
     }
 }
 
+/// Tests `Locks::merge`, `LockSet::get` and `Locks::name`.
 #[test]
 fn merged_set(rt: HostRuntime) {
     with_locks(&rt, rt.alloc(), &["b", "a"], 1, 8, StrongestModes);
@@ -51,6 +52,7 @@ impl<R: Abort> Scenario<R> for OrderOfNames {
     }
 }
 
+/// Tests `Locks::open`.
 #[test]
 fn names_are_in_the_order_of_their_bytes(rt: HostRuntime) {
     with_locks(&rt, rt.alloc(), &["b", "ab", "a", "B"], 1, 1, OrderOfNames);
@@ -74,6 +76,7 @@ impl<R: Abort> Scenario<R> for UnknownNames {
     }
 }
 
+/// Tests `Locks::merge`, `LockSet::get` and `Locks::name`.
 #[test]
 fn refused_merges_and_the_empty_set(rt: HostRuntime) {
     with_locks(&rt, rt.alloc(), &["a", "b"], 1, 8, UnknownNames);

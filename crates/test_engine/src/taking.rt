@@ -104,6 +104,7 @@ impl<R: Abort> Scenario<R> for BesideReader {
     }
 }
 
+/// Tests `Locks::try_take` and `Held::set`.
 #[test]
 fn merge_and_shared_read(rt: HostRuntime) {
     with_locks(&rt, rt.alloc(), &["b", "a"], 3, 8, BesideReader);
@@ -154,6 +155,8 @@ impl<R: Abort> Scenario<R> for BesideGlobalLock {
     }
 }
 
+/// Tests `LockLane::number`, `Locks::open`, `Locks::try_take`, `Locks::recall` and
+/// `Locks::exclusive`.
 #[test]
 fn third_lane_takes_the_global_lock(rt: HostRuntime) {
     with_locks(&rt, rt.alloc(), &["a"], 3, 8, BesideGlobalLock);

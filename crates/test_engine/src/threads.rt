@@ -34,6 +34,7 @@ fn comes_to<R: AllocGlobal + Clock + Clone + Drop + Files>(rt: &R, count: Option
     false
 }
 
+/// Tests `run_children` and `run_tree`.
 #[test]
 fn no_thread_is_left_after_a_run(rt: HostRuntime) {
     let servers = Servers::new();

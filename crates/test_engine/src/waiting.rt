@@ -15,7 +15,7 @@ use std::time::{Clock, Duration};
 // How often a thread looks for another one, a thousandth of a second apart.
 const TURNS: u64 = 20_000;
 
-// How often a lane takes a set that it waits for, which `scripts/wait-stress` raises, and how often another one is refused a
+// How often a lane takes a set that it waits for, which `scripts/soak waits` raises, and how often another one is refused a
 // set meanwhile at most.
 const ROUNDS: u64 = 50_000;
 
@@ -117,6 +117,7 @@ fn read_behind_writer<R: Abort + Clock + Sync + Threads + Wait>(
     );
 }
 
+/// Tests `Waiting::sleep` and `Locks::take_wait`.
 #[test]
 fn reader_waits_for_a_writer(rt: HostRuntime) {
     let (locks, mut lanes) = open(&rt, rt.alloc(), &["a"], 2, 8);
@@ -185,6 +186,7 @@ fn count_by_turns<R: Abort + Clock + Sync + Threads + Wait>(
     same(rt, number.load(Ordering::SeqCst), 2 * ROUNDS, "the number");
 }
 
+/// Tests `Locks::take_wait`.
 #[test]
 fn two_lanes_count_and_wait(rt: HostRuntime) {
     let (locks, mut lanes) = open(&rt, rt.alloc(), &["a"], 2, 8);
@@ -256,6 +258,7 @@ fn refuse_beside_waiting<R: Abort + Clock + Sync + Threads + Wait>(
 }
 
 /// The second lane waits for a, which the first one takes and gives back, since it is refused b: nobody else gives a back.
+/// Tests `Locks::take_wait` and `Locks::try_take`.
 #[test]
 fn refused_take_wakes_who_waits(rt: HostRuntime) {
     let (locks, mut lanes) = open(&rt, rt.alloc(), &["a", "b"], 3, 8);

@@ -1,5 +1,5 @@
 //! What failed in a run, told once more.
-use crate::rows::same;
+use crate::same::same;
 use ext_model::{ContextNo, Fault};
 use ext_run::{Failures, NoListener, RunListener, ToldFaults, failures_text};
 use std::alloc::{AllocError, Global};
@@ -15,6 +15,7 @@ fn fault(alloc: Global, text: &str) -> Result<Fault, AllocError> {
     Ok(Fault::Text(String::from_str(alloc, text)?))
 }
 
+/// Tests `failures_text`, `ToldFaults::note` and `ToldFaults::new`.
 #[test]
 fn faults_are_told_once_more_by_node(rt: HostRuntime) -> Result<(), Fail> {
     let alloc = rt.alloc();
@@ -57,6 +58,7 @@ impl RunListener for Sum {
     }
 }
 
+/// Tests `Failures::new`.
 #[test]
 fn each_is_passed_on_once(rt: HostRuntime) -> Result<(), Fail> {
     let sum = Sum(AtomicU64::new(0));
@@ -70,6 +72,7 @@ fn each_is_passed_on_once(rt: HostRuntime) -> Result<(), Fail> {
     Ok(())
 }
 
+/// Tests `failures_text`.
 #[test]
 fn lost_faults_are_told(rt: HostRuntime) -> Result<(), Fail> {
     let alloc = rt.alloc();

@@ -1,6 +1,7 @@
 //! Devices that are slow or fail.
 use crate::devices::{SlowReader, SlowWriter, UnflushedWriter};
-use crate::rows::{CHAIN_PASSED, PLAIN, chain, same};
+use crate::rows::{CHAIN_PASSED, PLAIN, chain};
+use crate::same::same;
 use ext_engine::EngineFault;
 use ext_run::{PlanFault, RunFault, Summary, run};
 use std::alloc::Global;
@@ -35,6 +36,7 @@ fn reader(bytes: &[u8], good: Option<usize>) -> SlowReader<'_> {
     SlowReader { bytes, good }
 }
 
+/// Tests `run`.
 #[test]
 fn slow_devices_change_nothing(rt: HostRuntime) -> Result<(), Fail> {
     let plan = chain(rt.alloc(), STEPS)?;
@@ -50,6 +52,7 @@ fn slow_devices_change_nothing(rt: HostRuntime) -> Result<(), Fail> {
     Ok(())
 }
 
+/// Tests `run`.
 #[test]
 fn each_failing_read_is_told(rt: HostRuntime) -> Result<(), Fail> {
     let plan = chain(rt.alloc(), STEPS)?;
@@ -72,6 +75,7 @@ fn each_failing_read_is_told(rt: HostRuntime) -> Result<(), Fail> {
     Ok(())
 }
 
+/// Tests `run`.
 #[test]
 fn each_failing_write_is_told(rt: HostRuntime) -> Result<(), Fail> {
     let plan = chain(rt.alloc(), STEPS)?;
@@ -107,6 +111,7 @@ fn faults_print_their_lines(rt: HostRuntime) -> Result<(), Fail> {
     Ok(())
 }
 
+/// Tests `run`.
 #[test]
 fn failing_flush_is_told(rt: HostRuntime) -> Result<(), Fail> {
     let plan = chain(rt.alloc(), STEPS)?;

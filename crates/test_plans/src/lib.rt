@@ -1,13 +1,24 @@
-//! Tests that cross crates: runs from the bytes of a plan to those of its report, hostile devices, the calls of a node,
-//! the suite of a plan with its calls and closes, the listener, and failures told once more.
+//! Tests of plans, and of what they stand on, by public calls: ids, trees and keys, the one-thread store, plans and their
+//! races, plain runs, reports, and runs from the bytes of a plan to those of its report. Also hostile devices, the calls
+//! of a node, the suite of a plan, the listener, and failures told once more.
 #![tactic(auto)]
 
+#[cfg(test)]
+mod callbacks;
 #[cfg(test)]
 mod devices;
 #[cfg(test)]
 mod failures;
 #[cfg(test)]
+mod faults;
+#[cfg(test)]
+mod guide;
+#[cfg(test)]
 mod hostile;
+#[cfg(test)]
+mod ids;
+#[cfg(test)]
+mod keys;
 #[cfg(test)]
 mod lifecycle;
 #[cfg(test)]
@@ -15,10 +26,24 @@ mod listener;
 #[cfg(test)]
 mod locks;
 #[cfg(test)]
+mod plain_runs;
+#[cfg(test)]
+mod plain_store;
+#[cfg(test)]
+mod plans;
+#[cfg(test)]
 mod races;
 #[cfg(test)]
 mod reading;
 #[cfg(test)]
+mod reports;
+#[cfg(test)]
 mod rows;
 #[cfg(test)]
+mod same;
+#[cfg(test)]
+mod step_keys;
+#[cfg(test)]
 mod suites;
+#[cfg(test)]
+mod trees;

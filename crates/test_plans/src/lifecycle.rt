@@ -1,5 +1,5 @@
 //! The calls of a node, written down by a caller that does nothing else.
-use crate::rows::same;
+use crate::same::same;
 use ext_lifecycle::{
     Call, Callbacks, Caller, Kind, NodeResult, Outcome, Status, Verdict, afters_of, befores_of,
     run_befores, run_calls,
@@ -86,6 +86,8 @@ impl Callbacks for Thrice {
     }
 }
 
+/// Tests `run_body`, `Tally::is_successful`, `run_afters`, `befores_of`, `afters_of`,
+/// `calls_round`, `Tally::new`, `Tally::add` and `run_calls`.
 #[test]
 fn before_fault_skips_the_test(rt: HostRuntime) -> Result<(), Fail> {
     let alloc = rt.alloc();
@@ -110,6 +112,7 @@ fn before_fault_skips_the_test(rt: HostRuntime) -> Result<(), Fail> {
     Ok(())
 }
 
+/// Tests `run_calls`.
 #[test]
 fn test_runs_between_its_callbacks(rt: HostRuntime) -> Result<(), Fail> {
     let befores = [Call {
@@ -134,6 +137,7 @@ fn test_runs_between_its_callbacks(rt: HostRuntime) -> Result<(), Fail> {
     Ok(())
 }
 
+/// Tests `run_befores`, `Tally::result`, `Closed::add` and `NodeResult::skipped`.
 #[test]
 fn close_fault_is_told_before_an_abort(rt: HostRuntime) -> Result<(), Fail> {
     let befores = befores_of(rt.alloc(), &Thrice {}, false, 1, &PATH[1..])?;

@@ -1,7 +1,8 @@
 //! What the listener of a run is told.
 ghost use Rattle.std.specs.Prelude.{◌≡◌, ◌≤◌, false};
 
-use crate::rows::{FOUR_LANES, PLAIN, same};
+use crate::rows::{FOUR_LANES, PLAIN};
+use crate::same::same;
 use ext_model::Fault;
 use ext_run::{Options, ReportForm, RunListener, run_with_listener};
 use std::alloc::Global;
@@ -181,6 +182,7 @@ fn hears_each_node<R: Threads + Wait + Sync + Abort>(
     Ok(())
 }
 
+/// Tests `run_with_listener`.
 #[test]
 fn listener_is_told_once_of_each_node_that_ran(rt: HostRuntime) -> Result<(), Fail> {
     hears_each_node(&rt, rt.alloc(), PLAIN)?;
@@ -205,6 +207,7 @@ fn hears_three_faults<R: Threads + Wait + Sync + Abort>(
     Ok(())
 }
 
+/// Tests `run_with_listener`.
 #[test]
 fn listener_is_told_all_faults_of_a_test(rt: HostRuntime) -> Result<(), Fail> {
     hears_three_faults(&rt, rt.alloc(), PLAIN)?;
@@ -244,6 +247,7 @@ impl<C: Clock> RunListener for HoldsUp<'_, C> {
     fn ended(&self, _node: usize, _nodes: usize) {}
 }
 
+/// Tests `run_with_listener`.
 #[test]
 fn listener_is_told_of_a_test_that_waits_for_a_lock(rt: HostRuntime) -> Result<(), Fail> {
     let listener = HoldsUp {

@@ -1,5 +1,5 @@
 //! Isolation and resource locks, as a plan's reader gives them.
-use crate::rows::same;
+use crate::same::same;
 use ext_run::{PlanLock, read_plan};
 use std::test::Fail;
 
@@ -7,6 +7,7 @@ use std::test::Fail;
 const LOCKED: &str =
     "[[node]]\nid = \"[engine:x]\"\nisolated = true\n\n[[node]]\nid = \"[engine:x]/[class:A]\"\nlocks = [\"READ db\"]\n\n[[node]]\nid = \"[engine:x]/[class:A]/[method:m()]\"\nisolated = false\nlocks = [\"READ_WRITE db\", \"READ READ\"]\ntest = []\n";
 
+/// Tests `PlanLock::name` and `read_plan`.
 #[test]
 fn reads_isolation_and_locks(rt: HostRuntime) -> Result<(), Fail> {
     let plan = read_plan(rt.alloc(), LOCKED)?;

@@ -257,6 +257,7 @@ const PLANS: [([&str; 6], &str); 20] = [
     ),
 ];
 
+/// Tests `races`, `Word::text`, `races_text`, `Word::changes` and `Word::looks_along`.
 #[test]
 fn races_of_worked_plans(rt: HostRuntime) -> Result<(), AllocError> {
     for (fields, wanted) in PLANS {

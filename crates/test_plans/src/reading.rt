@@ -1,5 +1,6 @@
 //! A reader that goes on after a fault.
-use crate::rows::{FOUR_LANES, chain, same};
+use crate::rows::{FOUR_LANES, chain};
+use crate::same::same;
 use ext_run::{RunFault, run};
 use std::io::{Error, ErrorKind, Read, Result as IoResult};
 use std::test::Fail;
@@ -21,6 +22,7 @@ impl Read for RecoveringReader<'_> {
     }
 }
 
+/// Tests `read_input`.
 #[test]
 fn first_failing_read_ends_the_run(rt: HostRuntime) -> Result<(), Fail> {
     let plan = chain(rt.alloc(), "\"put a x\"")?;

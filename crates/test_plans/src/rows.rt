@@ -1,10 +1,10 @@
 //! A plan that is run, plans that are refused, and what other tests of whole runs need. Further worked rows are files: examples/rows has the plans with
-//! their reports, which the program is run on (scripts/worked-rows).
+//! their reports, which the program is run on (scripts/examples).
 ghost use Rattle.std.specs.Prelude.{◌≡◌, ◌≤◌, false};
 
+use crate::same::same;
 use ext_run::{Options, ReportForm, RunFault, Summary, run};
 use std::alloc::Global;
-use std::fmt::Debug;
 use std::process::Abort;
 use std::sync::Wait;
 use std::test::Fail;
@@ -38,11 +38,6 @@ const CHAIN_HEAD: &str =
 /// The report of the chain whose method passes.
 pub(crate) const CHAIN_PASSED: &str =
     "[engine:x] successful closed 0\n[engine:x]/[class:A] successful closed 0\n[engine:x]/[class:A]/[method:m()] successful closed 0\ntests 1 successful 1 aborted 0 failed 0 skipped 0\ncomputed 0 found 0 closed 0 close faults 0\n";
-
-/// Asserts that this was answered. Tests assert by it, since a call is cheaper to prove than what `assert_eq!` writes.
-pub(crate) fn same<T: Debug + Drop + PartialEq>(rt: &impl Abort, answer: T, wanted: T, what: &str) {
-    assert_eq!(rt; answer, wanted, "{what}");
-}
 
 /// What a run of these bytes answers, and what it writes.
 pub(crate) fn outcome<R: Threads + Wait + Sync>(
@@ -111,6 +106,7 @@ pub(crate) fn chain(alloc: Global, steps: &str) -> Result<String, Fail> {
     Ok(text)
 }
 
+/// Tests `run_plain`, `may_have_lacked` and `run`.
 #[test]
 fn chain_put_and_want(rt: HostRuntime) -> Result<(), Fail> {
     let plan = chain(rt.alloc(), "\"put a x\", \"want a x\"")?;
@@ -132,6 +128,7 @@ fn refuses<R: Threads + Wait + Sync + Abort>(
     Ok(())
 }
 
+/// Tests `read_plan` and `run`.
 #[test]
 fn refused_plans(rt: HostRuntime) -> Result<(), Fail> {
     refuses(&rt, rt.alloc(), b"", "plan: P7")?;

@@ -4,6 +4,7 @@ ghost use Rattle.ext_plan.specs.ReadPlans.{IsRunnablePlan};
 ghost use Rattle.ext_plan.specs.Plans.{plan_view};
 ghost use Rattle.ext_store.specs.Stores.{IsLaneOf};
 
+use crate::same::same;
 use ext_closing::CloseAction;
 use ext_engine::{Call, Callbacks, Kind, Mode, Outcome, Suite, Verdict};
 use ext_ids::UniqueId;
@@ -16,7 +17,6 @@ use ext_plan_reading::read_plan;
 use ext_store::{Lane, Limits, Store};
 use ext_tree::Tree;
 use std::alloc::Global;
-use std::fmt::Debug;
 use std::process::Abort;
 use std::sync::Wait;
 use std::test::Fail;
@@ -24,11 +24,6 @@ use std::test::Fail;
 /// The plan.
 const PLAN: &str =
     "[[key]]\nlabel = \"a\"\n\n[[node]]\nid = \"[engine:x]\"\nisolated = true\nbefore_all = [[\"put! a x\", \"compute a z\"], [\"want a y\"]]\n\n[[node]]\nid = \"[engine:x]/[method:m()]\"\nmode = \"concurrent\"\nlocks = [\"READ db\", \"READ_WRITE net\"]\ntest = []\n";
-
-/// Asserts that this was answered. Tests assert by it, since a call is cheaper to prove than what `assert_eq!` writes.
-fn same<T: Debug + Drop + PartialEq>(rt: &impl Abort, answer: T, wanted: T, what: &str) {
-    assert_eq!(rt; answer, wanted, "{what}");
-}
 
 /// The fault of this text.
 fn fault_of(rt: &impl Abort, alloc: Global, text: &str) -> Fault {
@@ -108,6 +103,7 @@ fn says<'a, S: Suite<StoredValue<'a>>>(rt: &impl Abort, suite: &S) {
     same(rt, locks, [Some(second), None], "the test's locks");
 }
 
+/// Tests `PlanSuite::new`.
 #[test]
 fn suite_says_what_its_plan_does(rt: HostRuntime) -> Result<(), Fail> {
     with_suite(&rt, rt.alloc(), &SaysWhatItsPlanDoes)
@@ -195,6 +191,7 @@ impl<R: Abort + Wait> Scenario<R> for CallsMakeTheirSteps {
     }
 }
 
+/// Tests `parallel_results` and `PlanSuite::new`.
 #[test]
 fn calls_of_a_suite_make_their_steps(rt: HostRuntime) -> Result<(), Fail> {
     with_suite(&rt, rt.alloc(), &CallsMakeTheirSteps)
@@ -226,6 +223,7 @@ impl<R: Abort> Scenario<R> for ActionsFailForBadTexts {
     }
 }
 
+/// Tests `parallel_results` and `PlanSuite::new`.
 #[test]
 fn actions_of_a_suite_fail_for_bad_texts(rt: HostRuntime) -> Result<(), Fail> {
     with_suite(&rt, rt.alloc(), &ActionsFailForBadTexts)

@@ -16,6 +16,7 @@ use std::process::Abort;
 use std::thread;
 use std::thread::Threads;
 
+/// Tests `Store::get`, `Store::get_numbered`, `Store::remove` and `Store::remove_numbered`.
 #[test]
 fn remove_own_context_only_in_two_lanes(rt: HostRuntime) {
     let found = Look::Found { at: 0, number: 1 };
@@ -28,6 +29,7 @@ fn remove_own_context_only_in_two_lanes(rt: HostRuntime) {
     rows(&rt, rt.alloc(), 8, &all);
 }
 
+/// Tests `Store::get`, `Store::put` and `Store::remove`.
 #[test]
 fn first_calls_see_what_another_lane_put(rt: HostRuntime) {
     let found = Look::Found { at: 0, number: 1 };
@@ -192,6 +194,7 @@ impl Scenario for SeenByAnother {
     }
 }
 
+/// Tests `Store::show` and `Store::meet`.
 #[test]
 fn value_seen_by_another_lane(rt: HostRuntime) {
     with_chain(&rt, rt.alloc(), 8, &SeenByAnother);
@@ -234,6 +237,7 @@ impl Scenario for TwoNumbers {
     }
 }
 
+/// Tests `Store::keep` and `Kept::number`.
 #[test]
 fn numbers_run_out(rt: HostRuntime) {
     with_chain(&rt, rt.alloc(), 2, &TwoNumbers);
@@ -277,6 +281,8 @@ impl Scenario for PutElsewhere {
     }
 }
 
+/// Tests `Store::put`, `Store::put_numbered`, `Store::get`, `Store::remove`, `Store::compute`,
+/// `Store::get_wait`, `Store::put_wait`, `Store::remove_wait` and `Store::compute_wait`.
 #[test]
 fn refused_values_are_put_elsewhere(rt: HostRuntime) {
     let late = PutElsewhere { alloc: rt.alloc() };
@@ -329,6 +335,7 @@ impl Scenario for AnyOrder {
     }
 }
 
+/// Tests `Store::keep` and `Store::put`.
 #[test]
 fn kept_values_are_stored_in_any_order(rt: HostRuntime) {
     with_chain(&rt, rt.alloc(), 8, &AnyOrder);
@@ -350,6 +357,7 @@ fn opened(
     Some(lanes_and_closers(alloc, contexts(alloc)?, limits))
 }
 
+/// Tests `Store::open`.
 #[test]
 fn open_within_the_limits_of_the_store(rt: HostRuntime) {
     let refused = Err(StoreFault::BadLimit);

@@ -333,9 +333,9 @@ fn end_failed(
 {
     if !store.keeps_faults() {
         if way == Way::TwoQuietCalls {
-            store.give_up_quietly(lane, claim);
+            store.abandon_quietly(lane, claim);
         } else {
-            store.give_up(lane, claim);
+            store.abandon(lane, claim);
         }
         return Compute::Failed(fault);
     }

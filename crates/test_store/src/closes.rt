@@ -47,6 +47,8 @@ impl CloseAction<Letter> for Recorder {
     }
 }
 
+/// Tests `FallingNumbers::put_in`, `FallingNumbers::put_in_kept`, `FallingNumbers::as_slice`,
+/// `Store::open`, `Store::seal`, `CloseAction::close` and `close`.
 #[test]
 fn closes_latest_first(rt: HostRuntime) {
     let value = closeable('x');
@@ -60,6 +62,7 @@ fn closes_latest_first(rt: HostRuntime) {
     rows(&rt, rt.alloc(), 8, &all);
 }
 
+/// Tests `CloseAction::close` and `close`.
 #[test]
 fn empty_context_is_closed(rt: HostRuntime) {
     let all = [
@@ -70,6 +73,7 @@ fn empty_context_is_closed(rt: HostRuntime) {
     rows(&rt, rt.alloc(), 8, &all);
 }
 
+/// Tests `Store::knows`, `CloseAction::close` and `close`.
 #[test]
 fn unjoined_lane_refuses_close(rt: HostRuntime) {
     let all = [
@@ -80,6 +84,7 @@ fn unjoined_lane_refuses_close(rt: HostRuntime) {
     rows(&rt, rt.alloc(), 8, &all);
 }
 
+/// Tests `Store::seal`, `CloseAction::close` and `close`.
 #[test]
 fn values_that_are_not_closeable_stay(rt: HostRuntime) {
     let all = [
@@ -91,6 +96,7 @@ fn values_that_are_not_closeable_stay(rt: HostRuntime) {
     rows(&rt, rt.alloc(), 8, &all);
 }
 
+/// Tests `CloseAction::close` and `close`.
 #[test]
 fn faults_do_not_stop_the_others(rt: HostRuntime) {
     let value = closeable('x');

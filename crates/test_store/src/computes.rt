@@ -12,6 +12,7 @@ use std::alloc::Global;
 use std::process::Abort;
 use std::thread::Threads;
 
+/// Tests `Store::compute` and `Store::compute_numbered`.
 #[test]
 fn failed_factory_leaves_cell_empty(rt: HostRuntime) {
     let found = Look::Found { at: 2, number: 1 };
@@ -24,6 +25,9 @@ fn failed_factory_leaves_cell_empty(rt: HostRuntime) {
     rows(&rt, rt.alloc(), 8, &all);
 }
 
+/// Tests `Store::begin`, `Store::begin_numbered`, `Store::begin_numbered_quietly`, `Store::fill`,
+/// `Store::fill_quietly`, `Store::fail`, `Store::fail_quietly`, `Store::abandon` and
+/// `Store::abandon_quietly`.
 #[test]
 fn two_calls_answer_as_one(rt: HostRuntime) {
     let found = Look::Found { at: 1, number: 1 };
@@ -50,6 +54,9 @@ fn two_calls_answer_as_one(rt: HostRuntime) {
     rows_with_faults(&rt, rt.alloc(), 8, &all);
 }
 
+/// Tests `Store::get`, `Store::get_numbered`, `Store::put`, `Store::remove`, `Store::compute`,
+/// `Store::get_wait`, `Store::put_wait`, `Store::remove_wait`, `Store::compute_wait` and
+/// `Store::compute_numbered`.
 #[test]
 fn value_at_root_leaves_factory_unused(rt: HostRuntime) {
     let found = Look::Found { at: 0, number: 1 };
@@ -63,6 +70,7 @@ fn value_at_root_leaves_factory_unused(rt: HostRuntime) {
     rows(&rt, rt.alloc(), 8, &all);
 }
 
+/// Tests `Store::compute` and `Store::compute_numbered`.
 #[test]
 fn computed_value_is_shown_and_found(rt: HostRuntime) {
     let all = [
@@ -77,6 +85,7 @@ fn computed_value_is_shown_and_found(rt: HostRuntime) {
     rows(&rt, rt.alloc(), 8, &all);
 }
 
+/// Tests `Store::compute`, `Store::compute_numbered`, `Store::fill` and `Store::fill_quietly`.
 #[test]
 fn compute_without_a_number_hands_its_value_back(rt: HostRuntime) {
     let all = [
@@ -163,6 +172,7 @@ impl Scenario for Boxed {
     }
 }
 
+/// Tests `Store::compute` and `Store::compute_numbered`.
 #[test]
 fn caller_gives_a_box(rt: HostRuntime) {
     let boxed = Boxed { alloc: rt.alloc() };

@@ -4,6 +4,10 @@ use crate::opening::{closeable, plain};
 use ext_model::Look;
 use ext_store::{KeepFault, Refusal};
 
+/// Tests `Store::open`, `Store::keeps_faults`, `Store::get`, `Store::get_numbered`,
+/// `Store::get_wait`, `Store::get_wait_numbered`, `Store::put`, `Store::remove`,
+/// `Store::show_fault`, `Store::compute`, `Store::compute_numbered`, `CloseAction::close` and
+/// `close`.
 #[test]
 fn kept_fault_stands_until_it_is_replaced(rt: HostRuntime) {
     let met = Look::Fault { at: 1, number: 1 };
@@ -22,6 +26,8 @@ fn kept_fault_stands_until_it_is_replaced(rt: HostRuntime) {
     rows_with_faults(&rt, rt.alloc(), 8, &all);
 }
 
+/// Tests `Store::put`, `Store::remove`, `Store::show_fault`, `Store::compute` and
+/// `Store::compute_numbered`.
 #[test]
 fn removed_fault_lets_a_factory_run(rt: HostRuntime) {
     let all = [
@@ -38,6 +44,7 @@ fn removed_fault_lets_a_factory_run(rt: HostRuntime) {
     rows_with_faults(&rt, rt.alloc(), 8, &all);
 }
 
+/// Tests `Store::show_fault`.
 #[test]
 fn fault_is_shown_to_each_lane_and_is_no_value(rt: HostRuntime) {
     let all = [
@@ -54,6 +61,7 @@ fn fault_is_shown_to_each_lane_and_is_no_value(rt: HostRuntime) {
     rows_with_faults(&rt, rt.alloc(), 8, &all);
 }
 
+/// Tests `Store::get`, `Store::get_numbered`, `Store::get_wait` and `Store::get_wait_numbered`.
 #[test]
 fn nearest_of_faults_and_values_decides(rt: HostRuntime) {
     let fault = |at, number| Ok(Look::Fault { at, number });
@@ -75,6 +83,7 @@ fn nearest_of_faults_and_values_decides(rt: HostRuntime) {
     rows_with_faults(&rt, rt.alloc(), 8, &all);
 }
 
+/// Tests `CloseAction::close` and `close`.
 #[test]
 fn closed_context_passes_over_its_faults(rt: HostRuntime) {
     let all = [
@@ -94,6 +103,7 @@ fn closed_context_passes_over_its_faults(rt: HostRuntime) {
     rows_with_faults(&rt, rt.alloc(), 8, &all);
 }
 
+/// Tests `Store::compute`, `Store::fail` and `Store::fail_quietly`.
 #[test]
 fn fault_without_a_number_comes_back(rt: HostRuntime) {
     let all = [
@@ -110,6 +120,9 @@ fn fault_without_a_number_comes_back(rt: HostRuntime) {
     rows_with_faults(&rt, rt.alloc(), 1, &all);
 }
 
+/// Tests `Store::open`, `Store::keeps_faults`, `Store::get`, `Store::get_numbered`,
+/// `Store::get_wait`, `Store::get_wait_numbered`, `Store::show_fault`, `Store::compute`,
+/// `Store::compute_numbered`, `Store::compute_wait` and `Store::compute_wait_numbered`.
 #[test]
 fn store_without_faults_keeps_none(rt: HostRuntime) {
     let all = [

@@ -36,6 +36,9 @@ pub(crate) fn name_from<R: Abort, V: StoreValue + Drop>(
     }
 }
 
+/// Tests `Kept::number`, `Lane::number`, `Store::number`, `Store::get`, `Store::put`,
+/// `Store::remove`, `Store::compute`, `Store::get_wait`, `Store::put_wait`, `Store::remove_wait`,
+/// `Store::compute_wait` and `Store::compute_numbered`.
 #[test]
 fn key_without_a_number_is_refused(rt: HostRuntime) {
     let full = Refusal::DirectoryFull;

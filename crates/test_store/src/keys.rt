@@ -13,6 +13,7 @@ use std::alloc::Global;
 use std::process::Abort;
 use std::thread::Threads;
 
+/// Tests `Kept::number`, `Lane::number`, `Store::number`, `Store::key_count` and `Lane::knows_key`.
 #[test]
 fn key_has_one_number_in_both_lanes(rt: HostRuntime) {
     let found = Look::Found { at: 1, number: 1 };
@@ -31,6 +32,7 @@ fn key_has_one_number_in_both_lanes(rt: HostRuntime) {
     rows(&rt, rt.alloc(), 8, &all);
 }
 
+/// Tests `Kept::number`, `Lane::number`, `Store::number`, `Store::key_count` and `Lane::knows_key`.
 #[test]
 fn look_up_and_remove_take_a_number(rt: HostRuntime) {
     let all = [
@@ -44,6 +46,7 @@ fn look_up_and_remove_take_a_number(rt: HostRuntime) {
     rows(&rt, rt.alloc(), 8, &all);
 }
 
+/// Tests `CloseAction::close` and `close`.
 #[test]
 fn closed_to_keys_named_later(rt: HostRuntime) {
     let closed = Refusal::Closed(2);
@@ -129,6 +132,9 @@ impl Scenario for NumberBeforeKey {
     }
 }
 
+/// Tests `Kept::number`, `Lane::number`, `Store::number`, `Store::key_count`, `Lane::knows_key`,
+/// `Store::get`, `Store::get_numbered`, `Store::put`, `Store::remove`, `Store::compute`,
+/// `Store::get_wait`, `Store::put_wait`, `Store::remove_wait` and `Store::compute_wait`.
 #[test]
 fn number_may_come_before_its_key(rt: HostRuntime) {
     let before = NumberBeforeKey { alloc: rt.alloc() };

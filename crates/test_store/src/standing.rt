@@ -155,11 +155,13 @@ fn claim_stands_in_all_cases<R: Abort + Wait>(rt: &R, alloc: Global, waits: bool
     claim_stands(rt, alloc, fault_unkept, End::FaultUnkept);
 }
 
+/// Tests `Store::compute`.
 #[test]
 fn claim_stands_while_a_factory_runs(rt: HostRuntime) {
     claim_stands_in_all_cases(&rt, rt.alloc(), false);
 }
 
+/// Tests `Store::compute_wait`.
 #[test]
 fn claim_stands_while_a_factory_of_a_waiting_form_runs(rt: HostRuntime) {
     claim_stands_in_all_cases(&rt, rt.alloc(), true);

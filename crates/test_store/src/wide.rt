@@ -48,6 +48,7 @@ const WIDEST: Limits = Limits {
     keep_faults: true,
 };
 
+/// Tests `Store::open`.
 #[test]
 fn widest_store_is_opened(rt: HostRuntime) -> Result<(), Fail> {
     let tree = contexts(rt.alloc())?;

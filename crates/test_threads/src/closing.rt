@@ -233,6 +233,7 @@ fn race_once<R: Abort + Threads + Sync>(
     settle(rt, alloc, store, first, second, key);
 }
 
+/// Tests `Store::put` and `close`.
 #[test]
 fn key_is_named_while_its_context_is_closed(rt: HostRuntime) {
     let alloc = rt.alloc();

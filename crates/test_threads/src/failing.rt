@@ -171,6 +171,7 @@ fn fail_once<R: Abort + Threads + Wait + Clock + Sync>(
     same(rt, signs.runs.load(Ordering::SeqCst), 1, "factories");
 }
 
+/// Tests `Store::compute` and `Store::compute_numbered`.
 #[test]
 fn failing_factory_runs_once_for_two_lanes(rt: HostRuntime) {
     let alloc = rt.alloc();

@@ -137,6 +137,8 @@ fn run_and_call_beside<R: Abort + Clock + Threads + Sync>(
     call_afterwards(rt, alloc, store, closer, &mut hand, kept, &keys[0]);
 }
 
+/// Tests `Store::get`, `Store::get_numbered`, `Store::put`, `Store::put_numbered`,
+/// `CloseAction::close` and `close`.
 #[test]
 fn busy_while_factory_runs(rt: HostRuntime) {
     let alloc = rt.alloc();
@@ -199,6 +201,7 @@ fn run_and_put_above<R: Abort + Clock + Threads + Sync>(
     look(rt, store, &mut first, 0, name, above);
 }
 
+/// Tests `Store::compute` and `Store::compute_numbered`.
 #[test]
 fn a_parent_value_after_the_second_look(rt: HostRuntime) {
     let alloc = rt.alloc();
@@ -320,6 +323,7 @@ fn run_and_close_beside<R: Abort + Clock + Threads + Sync>(
     close_twice(rt, alloc, store, closer, first, second);
 }
 
+/// Tests `CloseAction::close` and `close`.
 #[test]
 fn close_waits_for_the_factory_and_its_lane(rt: HostRuntime) {
     let alloc = rt.alloc();

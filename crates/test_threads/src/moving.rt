@@ -150,6 +150,7 @@ fn never_missed<R: Abort + Threads + Wait + Sync>(
     same(rt, shown, true, "each number's value is shown");
 }
 
+/// Tests `Store::get` and `Store::get_numbered`.
 #[test]
 fn value_that_moves_is_never_missed(rt: HostRuntime) {
     let alloc = rt.alloc();

@@ -278,11 +278,13 @@ fn name_often<R: Abort + Threads + Sync>(rt: &R, alloc: Global, lanes: usize) {
     }
 }
 
+/// Tests `Store::meet`.
 #[test]
 fn two_lanes_name_keys_in_opposite_orders(rt: HostRuntime) {
     name_often(&rt, rt.alloc(), 2);
 }
 
+/// Tests `Store::meet`.
 #[test]
 fn sixteen_lanes_name_keys_in_opposite_orders(rt: HostRuntime) {
     name_often(&rt, rt.alloc(), 16);

@@ -159,6 +159,7 @@ fn open_for_numbers(alloc: Global) -> Option<Opened<Letter>>
     open_store(alloc, limits)
 }
 
+/// Tests `Store::get` and `Store::get_numbered`.
 #[test]
 fn numbers_never_fall(rt: HostRuntime) {
     let alloc = rt.alloc();

@@ -195,6 +195,8 @@ fn call_by_number<R: Abort + Wait>(
     same(rt, computed, Some((3, 4)), "the computes");
 }
 
+/// Tests `Store::get`, `Store::get_numbered`, `Store::put`, `Store::remove`, `Store::compute`,
+/// `Store::get_wait`, `Store::put_wait`, `Store::remove_wait` and `Store::compute_wait`.
 #[test]
 fn calls_by_the_number_of_a_key(rt: HostRuntime) -> Result<(), Fail> {
     with_pair(&rt, rt.alloc(), false, call_by_number)
@@ -216,6 +218,8 @@ fn call_alone<R: Abort + Wait>(
     same(rt, compute(rt, store, lane, key), Some(2), "the compute");
 }
 
+/// Tests `Store::get_wait`, `Store::put_wait`, `Store::remove_wait`, `Store::keep_wait` and
+/// `Store::compute_wait`.
 #[test]
 fn waiting_forms_alone(rt: HostRuntime) -> Result<(), Fail> {
     with_pair(&rt, rt.alloc(), false, call_alone)
@@ -327,6 +331,7 @@ fn replace<R: Wait>(
     Some((stood, taken))
 }
 
+/// Tests `Store::put` and `Store::remove`.
 #[test]
 fn waiting_forms_keep_faults_alone(rt: HostRuntime) -> Result<(), Fail> {
     with_pair(&rt, rt.alloc(), true, keep_faults_alone)

@@ -136,12 +136,14 @@ fn beside<R: Abort + Clock + Threads + Wait + Sync>(
     )
 }
 
+/// Tests `Store::get_wait`, `Store::put_wait`, `Store::remove_wait` and `Store::keep_wait`.
 #[test]
 fn look_up_waits_for_a_factory(rt: HostRuntime) -> Result<(), Fail> {
     let found = Look::Found { at: 1, number: 1 };
     beside(&rt, rt.alloc(), false, Call::Get, Ended::Computed(1), found)
 }
 
+/// Tests `Store::compute_wait`.
 #[test]
 fn compute_waits_for_a_factory(rt: HostRuntime) -> Result<(), Fail> {
     let found = Look::Found { at: 1, number: 1 };
@@ -156,6 +158,7 @@ fn compute_waits_for_a_factory(rt: HostRuntime) -> Result<(), Fail> {
 }
 
 /// The factory fails: what was claimed is given up, which ends the wait too.
+/// Tests `Store::get_wait`, `Store::put_wait`, `Store::remove_wait` and `Store::keep_wait`.
 #[test]
 fn remove_waits_for_a_factory_that_fails(rt: HostRuntime) -> Result<(), Fail> {
     beside(
@@ -169,12 +172,14 @@ fn remove_waits_for_a_factory_that_fails(rt: HostRuntime) -> Result<(), Fail> {
 }
 
 /// The factory's fault is kept, which ends the wait as a value does.
+/// Tests `Store::get`, `Store::get_numbered`, `Store::get_wait` and `Store::get_wait_numbered`.
 #[test]
 fn look_up_waits_for_a_factory_whose_fault_is_kept(rt: HostRuntime) -> Result<(), Fail> {
     let met = Look::Fault { at: 1, number: 1 };
     beside(&rt, rt.alloc(), true, Call::Get, Ended::FaultKept(1), met)
 }
 
+/// Tests `Store::compute` and `Store::compute_numbered`.
 #[test]
 fn compute_waits_for_a_factory_whose_fault_is_kept(rt: HostRuntime) -> Result<(), Fail> {
     let met = Look::Fault { at: 1, number: 1 };
@@ -189,6 +194,7 @@ fn compute_waits_for_a_factory_whose_fault_is_kept(rt: HostRuntime) -> Result<()
 }
 
 /// The remove takes the number of the fault.
+/// Tests `Store::put` and `Store::remove`.
 #[test]
 fn remove_waits_for_a_factory_whose_fault_is_kept(rt: HostRuntime) -> Result<(), Fail> {
     let taken = Look::Found { at: 1, number: 1 };
@@ -203,6 +209,7 @@ fn remove_waits_for_a_factory_whose_fault_is_kept(rt: HostRuntime) -> Result<(),
 }
 
 /// In a store that keeps faults a value is found as ever.
+/// Tests `Store::compute` and `Store::compute_numbered`.
 #[test]
 fn compute_waits_for_a_factory_beside_kept_faults(rt: HostRuntime) -> Result<(), Fail> {
     let found = Look::Found { at: 1, number: 1 };

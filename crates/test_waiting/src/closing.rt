@@ -224,6 +224,7 @@ fn race_in_store<R: Abort + Clock + Threads + Wait + Sync>(
     )
 }
 
+/// Tests `Store::get_wait`, `Store::put_wait`, `Store::remove_wait` and `Store::keep_wait`.
 #[test]
 fn put_beside_a_context_that_closes(rt: HostRuntime) -> Result<(), Fail> {
     for number in 0..RACES {

@@ -15,7 +15,7 @@ use std::test::Fail;
 use std::thread::{Threads, for_each_mut, join};
 use std::time::Clock;
 
-// How many rounds each of the sixteen lanes makes in a store, and how many stores there are. `scripts/wait-stress` raises the
+// How many rounds each of the sixteen lanes makes in a store, and how many stores there are. `scripts/soak waits` raises the
 // latter.
 const ROUNDS: u64 = 1_000;
 
@@ -319,6 +319,7 @@ fn crowd_in_store<R: Abort + Clock + Threads + Wait + Sync>(
     )
 }
 
+/// Tests `Store::compute_wait`.
 #[test]
 fn sixteen_lanes_compute_and_remove(rt: HostRuntime) -> Result<(), Fail> {
     for _ in 0..STORES {
@@ -327,6 +328,7 @@ fn sixteen_lanes_compute_and_remove(rt: HostRuntime) -> Result<(), Fail> {
     Ok(())
 }
 
+/// Tests `Store::compute_wait`.
 #[test]
 fn sixteen_lanes_make_all_calls(rt: HostRuntime) -> Result<(), Fail> {
     for _ in 0..STORES {
@@ -335,6 +337,7 @@ fn sixteen_lanes_make_all_calls(rt: HostRuntime) -> Result<(), Fail> {
     Ok(())
 }
 
+/// Tests `Store::compute` and `Store::compute_numbered`.
 #[test]
 fn sixteen_lanes_make_all_calls_and_keep_faults(rt: HostRuntime) -> Result<(), Fail> {
     for _ in 0..STORES {

@@ -197,6 +197,7 @@ fn settle<R: Abort + Clock + Threads + Wait + Sync>(
     same(rt, unused > 0, true, "whether a factory did not run");
 }
 
+/// Tests `Store::remove_wait`.
 #[test]
 fn remove_waits_for_a_claim_that_is_given_up(rt: HostRuntime) -> Result<(), Fail> {
     with_store(

@@ -112,6 +112,7 @@ fn close_and_call<R: Abort + Wait>(
     call_closed(rt, store, &mut others[0], key);
 }
 
+/// Tests `CloseAction::close` and `close`.
 #[test]
 fn waiting_forms_are_closed_to_keys_named_later(rt: HostRuntime) -> Result<(), Fail> {
     with_store(
@@ -172,6 +173,8 @@ fn call_full<R: Abort + Wait>(
     same(rt, seen, Ok(found), "the look-up of a");
 }
 
+/// Tests `Store::get`, `Store::put`, `Store::remove`, `Store::compute`, `Store::get_wait`,
+/// `Store::put_wait`, `Store::remove_wait` and `Store::compute_wait`.
 #[test]
 fn waiting_forms_refuse_a_key_without_a_number(rt: HostRuntime) -> Result<(), Fail> {
     let late = key_of(rt.alloc(), "late")?;

@@ -1,6 +1,6 @@
 //! Tests of the store's waiting forms: alone, beside a factory that is held, beside a claim that is given up, by keys that come late, and of sixteen lanes at once.
 //!
-//! `scripts/wait-stress` runs them over many more rounds.
+//! `scripts/soak waits` runs them over many more rounds.
 #![tactic(auto)]
 
 #[cfg(test)]

@@ -87,6 +87,8 @@ fn rounds_of<R: Threads + Wait + Sync + Clock + CpuClock + AllocGlobal + Print>(
 
 /// Prints the line of a round.
 fn tell<R: Print>(rt: &R, case: Case, threads: usize, spent: Spent) -> Result<(), BenchFault> {
-    let (name, wall, processor) = (case.name(), spent.wall_each(), spent.processor_each());
-    println!(rt; "ext_store {name} {threads} {wall} {processor}").or(Err(BenchFault::Output))
+    let (wall, processor) = (spent.wall_each(), spent.processor_each());
+    let (name, operations) = (case.name(), spent.operations);
+    let told = println!(rt; "ext_store {name} {threads} {wall} {processor} {operations}");
+    told.or(Err(BenchFault::Output))
 }

@@ -83,7 +83,7 @@ impl Started {
 pub(crate) struct Spent {
     wall: Duration,
     processor: Duration,
-    operations: u64,
+    pub(crate) operations: u64,
 }
 
 impl Spent {

@@ -12,7 +12,7 @@ usage: tool_bench
 Without words a table of all cases, two seconds a case. Else a line for each of ROUNDS (1 to 1000)
 rounds, of MILLIS (1 to 600000) milliseconds each, on THREADS (1 to 14) threads:
 
-    ext_store CASE THREADS NANOSECONDS-OF-WALL-AN-OP NANOSECONDS-OF-PROCESSOR-AN-OP
+    ext_store CASE THREADS NANOSECONDS-OF-WALL-AN-OP NANOSECONDS-OF-PROCESSOR-AN-OP OPERATIONS
 
 compute-fresh-and-close, open-256x16, name-new and close-256 run on one thread: with them THREADS
 other than 1 is refused. In tree-1, tree-16, tree-255 and tree-255-busy an engine with so many tests

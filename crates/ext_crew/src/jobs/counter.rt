@@ -13,11 +13,11 @@ use std::alloc::{AllocError, Allocator};
 use std::snapshot::Snapshot;
 use std::sync::Wait;
 
-/// Opens a counter at 0 over a slot for each item, and gives it with the first hand, from which those of up to 16 workers can be
-/// split off (`split_seat::<Hires>` of the counter).
+/// Opens a counter at 0 over a slot for each item, and gives it with the first hand, from which
+/// those of up to 16 workers can be split off (`split_seat::<Hires>` of the counter).
 ///
-/// There are at most 256 items, possibly none. Takes memory for a slot for each item, and for the counter; where an allocation fails
-/// the items are dropped.
+/// There are at most 256 items, possibly none. Takes memory for a slot for each item, and for the
+/// counter; if an allocation fails, the items are dropped.
 pub(crate) fn open_counter<T: Drop, O: Drop, M: Allocator + Clone>(
     alloc: &M,
     items: Vec<T, M>,
@@ -47,11 +47,12 @@ fn full_slots<T: Drop, O: Drop, M: Allocator + Clone>(
     Ok(slots)
 }
 
-/// Draws the next job, and gives back the slot of the job before with its outcome. Answers `None` where all jobs were drawn, and then
-/// this hand draws nothing any more.
+/// Draws the next job, and gives back the slot of the job before with its outcome. Answers `None`
+/// if all jobs were drawn; this hand then draws no more.
 ///
-/// `count` is the number of items. The jobs come in the order of the items, each to one hand. An exchange that fails, since another hand
-/// drew at the same time, is tried again from the number that it found, so the call takes the runtime and may wait. Takes no memory.
+/// `count` is the number of items. The jobs come in the order of the items, each to one hand. An
+/// exchange that fails, since another hand drew at the same time, is tried again from the number
+/// that it found, so the call takes the runtime and may wait.
 pub(crate) fn draw<R: Wait, T: Drop, O: Drop, M: Allocator>(
     rt: &R,
     counter: &Counter<T, O, M>,
@@ -106,7 +107,8 @@ fn take_job<T: Drop, O: Drop, M: Allocator>(
     Some(Job { index, item })
 }
 
-/// Puts the outcome of the job that the hand drew last into its slot, which the hand's next draw gives back. Takes no memory, and does not wait.
+/// Puts the outcome of the job that the hand drew last into its slot, which the hand's next draw
+/// gives back.
 pub(crate) fn put_outcome<T: Drop, O: Drop, M: Allocator>(
     counter: &Counter<T, O, M>,
     hand: &mut Hand<T, O>,
@@ -122,12 +124,13 @@ pub(crate) fn put_outcome<T: Drop, O: Drop, M: Allocator>(
     counter.exchange(hand, job, Slot::Outcome(outcome));
 }
 
-/// Closes the counter after all workers have ended, and moves the outcomes out of their slots into `outcomes`, in the order of the
-/// jobs.
+/// Closes the counter after all workers have ended, and moves the outcomes out of their slots into
+/// `outcomes`, in the order of the jobs.
 ///
-/// Every hand was joined into the first one again (`join_seat::<Hires>` of the counter), so its draws are all that there were: each
-/// number below some number once. Each job that was given back has its outcome at its place; a job that was not drawn has none, and its
-/// item is dropped. `outcomes` is empty and has room for an outcome for each item. Takes no memory, and does not wait.
+/// Every hand was joined into the first one again (`join_seat::<Hires>` of the counter), so its
+/// draws are all that there were: each number below some number once. Each job that was given back
+/// has its outcome at its place; a job that was not drawn has none, and its item is dropped.
+/// `outcomes` is empty and has room for an outcome for each item, so no memory is taken.
 pub(crate) fn take_outcomes<T: Drop, O: Drop, M: Allocator>(
     table: CounterTable<T, O, M>,
     first: Hand<T, O>,
@@ -149,7 +152,7 @@ pub(crate) fn take_outcomes<T: Drop, O: Drop, M: Allocator>(
     closed.free();
 }
 
-/// Puts the outcome in the slot behind the others, where there is one.
+/// Appends the outcome in the slot to the others, if there is one.
 fn add_outcome<T: Drop, O: Drop, M: Allocator>(slot: Slot<T, O>, outcomes: &mut Vec<O, M>)
     requires room { vec_len outcomes.old < vec_capacity outcomes.old }
     ensures added { outcomes.new.items ≡ outcomes.old.items ++ outcomes_in (slot ∷ []) }

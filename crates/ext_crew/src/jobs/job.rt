@@ -5,6 +5,5 @@
 pub(crate) struct Job<T> {
     /// The place of the item, from 0, which is also the job's index.
     pub index: usize,
-    /// The item.
     pub item: T,
 }

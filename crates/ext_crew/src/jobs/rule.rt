@@ -1,5 +1,6 @@
-//! The rule of the counter from which workers draw jobs, what its steps tell, and how seats are split off and joined in.
-//! What stands here is for the proofs alone: it takes no bytes and runs no code.
+//! The rule of the counter from which workers draw jobs, what its steps show, and how seats are
+//! split off and joined in. Everything here exists in proofs only: it takes no bytes and runs no
+//! code.
 use crate::jobs::Done;
 use crate::jobs::slot::Slot;
 use atomic_table::{Join, Play, Seat, Shared, Split, Table, TableRule};
@@ -19,12 +20,13 @@ pub(crate) type CounterTable<T, O, M> = Table<
     M,
 >;
 
-/// What a worker has in hand: a seat at the counter, with which it draws jobs and gives back what they gave. It takes no bytes.
+/// A worker's hand: a seat at the counter, with which it draws jobs and gives back their outcomes.
 pub(crate) type Hand<T, O> = Seat<Slot<T, O>, Drawn<T, O>>;
 
-/// The view of a seat. No value of it is made.
+/// The view of a seat.
 pub(crate) struct Drawn<T, O> {
-    /// For how many of the seats that were split off at first this one stands. A seat that stands for none is spent.
+    /// How many of the seats that were split off at first this one stands for. A seat that stands
+    /// for none is spent.
     pub parts: u64,
     /// The numbers that it drew.
     pub draws: LinkedList<u64>,
@@ -34,8 +36,8 @@ pub(crate) struct Drawn<T, O> {
     pub items: LinkedList<T>,
 }
 
-/// The views hold each number below the counter once in all, each slot from the counter on has its item, and each slot that was
-/// given back has its job's outcome.
+/// The views together hold each number below the counter once, each slot from the counter on has
+/// its item, and each slot that was given back has its job's outcome.
 pub(crate) struct Drawing;
 
 impl<T, O, M: Allocator> TableRule<Slot<T, O>, Drawn<T, O>, Snapshot<Vec<T, M>>> for Drawing {
@@ -56,7 +58,7 @@ impl<T, O> Play<Slot<T, O>, Drawn<T, O>> for Loads {
     ghost then = { λ _ v found w. Loaded v found w };
 }
 
-/// A draw: the counter goes from the number that it is told of to the next one.
+/// A draw: the counter goes from the expected number to the next one.
 pub(crate) struct Draws;
 
 impl<T, O> Play<Slot<T, O>, Drawn<T, O>> for Draws {
@@ -66,7 +68,7 @@ impl<T, O> Play<Slot<T, O>, Drawn<T, O>> for Draws {
     ghost then = { λ s v found w. DrawsIf (found == s.first) v found w };
 }
 
-/// A worker's seat is split off the first one, and joined in again.
+/// Splits a worker's seat off the first one, and joins it in again.
 pub(crate) struct Hires;
 
 impl<T, O> Split<Drawn<T, O>> for Hires {

@@ -14,7 +14,7 @@ pub(crate) enum Slot<T, O> {
 }
 
 impl<T: Drop, O: Drop> Slot<T, O> {
-    /// The item, where there is one.
+    /// The item, if there is one.
     pub fn into_item(self) -> Option<T>
         ensures { result ≡ item_in self }
     {

@@ -1,4 +1,4 @@
-//! The closers of a subtree, and their split among the children of its node.
+//! The closers of a subtree, and how they are split among the children of its node.
 ghost use Rattle.std.specs.Prelude.{◌≡◌, ◌≢◌, ◌<◌, ◌≤◌, ℕ, [], Some, not, length, vec_len, map, filter, All, IfOk, IfNone, IfSome, slice_index_or, take};
 ghost use Rattle.ext_tree.specs.Trees.{children_of};
 ghost use Rattle.ext_store.specs.Stores.{IsCloserOf};
@@ -12,7 +12,6 @@ use std::alloc::{AllocError, Global};
 /// A node that is to be run, with the closers of its subtree.
 #[derive(Drop)]
 pub(crate) struct Item {
-    /// The node.
     pub node: ContextNo,
     /// The closers of its context and of those below it.
     pub closers: Vec<Closer>,
@@ -20,7 +19,7 @@ pub(crate) struct Item {
 
 /// Takes out the closer of the node itself, and leaves those of the nodes below it.
 ///
-/// The closers are of the store, and among them are those of the node and of all below it. Takes no memory.
+/// The closers are the store's, and among them are those of the node and of all below it.
 pub(crate) fn take_own<V>(store: &Store<V>, node: ContextNo, closers: &mut Vec<Closer>) -> Closer
     requires own { OfStore store.now closers.old.items }
     requires node { node < length store.now.tree }
@@ -36,7 +35,7 @@ pub(crate) fn take_own<V>(store: &Store<V>, node: ContextNo, closers: &mut Vec<C
     closers.remove(at)
 }
 
-/// The closer of the node of an item. Those of the nodes below it are dropped.
+/// The closer of an item's node. Those of the nodes below it are dropped.
 pub(crate) fn closer_of<V>(store: &Store<V>, item: Item) -> Closer
     requires node { item.node < length store.now.tree }
     requires own { OfStore store.now item.closers.items }
@@ -47,7 +46,7 @@ pub(crate) fn closer_of<V>(store: &Store<V>, item: Item) -> Closer
     take_own(store, node, &mut closers)
 }
 
-/// Where the node's closer stands, the first of them.
+/// The index of the first closer of the node, if there is one.
 pub(crate) fn place_of(closers: &[Closer], node: ContextNo) -> Option<usize>
     ensures within { IfSome result (λ at. at < length closers.now) }
     ensures at { IfSome result (λ at. (d : _) → (slice_index_or closers.now at d).context ≡ node) }
@@ -57,11 +56,12 @@ pub(crate) fn place_of(closers: &[Closer], node: ContextNo) -> Option<usize>
     closers.iter().position(|c| c.context() == node)
 }
 
-/// The children of a node, in order, with the closers of each: those that run beside one another, of which there are at most 256, and
-/// the others.
+/// The children of a node, in order, each with its closers: those that run beside one another, at
+/// most 256, and the others.
 ///
-/// The closers are of the store, and among them are those of all below the node. Refused where memory is: then the closers are dropped. Takes
-/// memory. JUnit 5 User Guide, section "Parallel Execution"; that closers are split among children is an own rule.
+/// The closers are the store's, and among them are those of all nodes below. Refused if there is no
+/// memory: then the closers are dropped. Takes memory. JUnit 5 User Guide, section "Parallel
+/// Execution"; that closers are split among children is an own rule.
 pub(crate) fn items_of_children<V: StoreValue + Drop, S: Suite<V>>(
     alloc: Global,
     suite: &S,
@@ -83,7 +83,7 @@ pub(crate) fn items_of_children<V: StoreValue + Drop, S: Suite<V>>(
     by_mode(alloc, suite, items)
 }
 
-/// An item for each of these nodes, in order, as yet without closers. Takes memory.
+/// An item for each of these nodes, in order, without closers yet. Takes memory.
 fn without_closers(alloc: Global, nodes: &[ContextNo]) -> Result<Vec<Item>, AllocError>
     ensures nodes { IfOk result (λ items. map (λ i. i.node) items.items ≡ nodes.now) }
     ensures closers { IfOk result (λ items. All (λ i. i.closers.items ≡ []) items.items) }
@@ -98,9 +98,11 @@ fn without_closers(alloc: Global, nodes: &[ContextNo]) -> Result<Vec<Item>, Allo
     Ok(items)
 }
 
-/// Hands each closer to the item of the child that its context is, or is below. Others are dropped.
+/// Hands each closer to the item of the child whose context is at or above its own. Others are
+/// dropped.
 ///
-/// The items are those of the node's children, as yet without closers. Refused where memory is. Takes memory.
+/// The items are those of the node's children, without closers yet. Refused if there is no memory.
+/// Takes memory.
 fn hand_out<V>(
     store: &Store<V>,
     node: ContextNo,
@@ -122,7 +124,7 @@ fn hand_out<V>(
     Ok(())
 }
 
-/// Where among the node's children the one stands that the context is, or is below, if there is one.
+/// The index, among the node's children, of the one at or above the context, if there is one.
 fn place_among_children<V>(store: &Store<V>, node: ContextNo, context: ContextNo) -> Option<usize>
     requires node { node < length store.now.tree }
     requires context { context < length store.now.tree }
@@ -140,7 +142,8 @@ fn place_among_children<V>(store: &Store<V>, node: ContextNo, context: ContextNo
     tree.children(node).binary_search(&child).ok()
 }
 
-/// The items that run beside one another, and the others, each in order. Refused where memory is. Takes memory.
+/// The items that run beside one another, and the others, each in order. Refused if there is no
+/// memory. Takes memory.
 fn by_mode<V: StoreValue + Drop, S: Suite<V>>(
     alloc: Global,
     suite: &S,

@@ -1,4 +1,4 @@
-//! The close of a node's context, asked again until nobody is in its way.
+//! The close of a node's context, asked again until nobody is in the way.
 ghost use Rattle.std.specs.Prelude.{◌≡◌, ◌≤◌, length, All, IfOk, IfErr, IfNone, IfSome};
 ghost use Rattle.ext_closing.specs.declared.fault.CloseFault.TheVariants as close_fault;
 ghost use Rattle.ext_closing.specs.Closes.{IsClosedBy};
@@ -11,7 +11,8 @@ use ext_store::{Closer, Lane, Store, StoreValue};
 use std::sync::Wait;
 use std::thread;
 
-/// Closes the context, and asks again where a lane computes a value for it or others are in the way.
+/// Closes the context, and asks again where a lane computes a value for it or other lanes are in
+/// the way.
 pub(crate) fn close_again<R: Wait, V: StoreValue + Drop, A: CloseAction<V>>(
     rt: &R,
     store: &Store<V>,
@@ -43,7 +44,7 @@ pub(crate) fn close_again<R: Wait, V: StoreValue + Drop, A: CloseAction<V>>(
     unreachable!()
 }
 
-/// The number of a close that was refused as unjoined.
+/// The number with which a close was refused as unjoined.
 fn unjoined(why: CloseFault) -> Option<u32>
     ensures key { IfNone result (IsOfKey why) }
     ensures number { IfSome result (λ number. why ≡ close_fault.Unjoined number) }

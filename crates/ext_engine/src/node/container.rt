@@ -1,11 +1,11 @@
-//! What is done for a container before its children and after them.
+//! What is done for a container before and after its children.
 ghost use Rattle.std.specs.Prelude.{◌≡◌, ℕ, ◌-◌, ◌<◌, ◌≤◌, List, length, All, IfOk, IfErr, false};
 ghost use Rattle.ext_lifecycle.specs.declared.outcome.Outcome.{Outcome};
 ghost use Rattle.ext_store.specs.Stores.{IsLaneOf};
 ghost use Rattle.ext_engine.specs.declared.node.fault.EngineFault.TheVariants as engine_fault;
 ghost use Rattle.ext_engine.specs.InnerClosers.{IsNode};
 ghost use Rattle.ext_engine.specs.NodeRun.{EndsContainer, setting_of};
-ghost use Rattle.ext_engine.specs.InnerHelpers.{ran_view};
+ghost use Rattle.ext_engine.specs.InnerResults.{ran_view};
 ghost use Rattle.ext_engine.specs.InnerContainers.{AreChildren, IsOpen, IsOpenBy, Opens};
 ghost use Rattle.ext_engine.specs.NodeFailing.{IsLeftUnclosed};
 
@@ -23,20 +23,23 @@ use std::sync::Wait;
 pub(crate) struct OpenContainer {
     /// The closer of its context.
     pub closer: Closer,
-    /// Its after-callbacks, in the order in which they are called.
+    /// Its after-callbacks, in the order of their calls.
     pub afters: Vec<Call>,
-    /// What its calls came to so far.
+    /// The tally of its calls so far.
     pub tally: Tally,
     /// Whether all before-callbacks were successful, so that its children are run.
     pub went_on: bool,
 }
 
-/// Makes what a container is run with, tells the suite that it starts, calls its before-callbacks on the first lane, in order, up to the first that isn't
-/// successful, and gives what is left to be done after its children, and these.
+/// Opens a container: tells the suite that it starts, and calls its before-callbacks on the first
+/// lane, in order, up to the first that isn't successful. Answers what is left to be done after its
+/// children, and these.
 ///
-/// The item is a container with the closers of its subtree, and `depth` is 17 less the levels from the root to it. There is at least one lane, all are of
-/// the store, and the store is one that the suite may be run over. Refused as `Memory` where memory for its lists is refused: then nothing was called, the lanes are as they were,
-/// and the closers are dropped, so that its context stays open. Takes memory, and what more a call takes, and for whom it waits, is its own matter.
+/// The item is a container with the closers of its subtree, and `depth` is 17 less the levels from
+/// the root to it. There is at least one lane, all are the store's, and the suite may be run over
+/// the store. Refused as `Memory` where there is none for its lists: then nothing was called, the
+/// lanes are as they were, and the closers are dropped, so that its context stays open. Takes
+/// memory. What more a call takes, and for whom it waits, is its own matter.
 ///
 /// JUnit 5 User Guide, section "Relative Execution Order of User Code and Extensions".
 pub(crate) fn open_container<'a, R: Wait, V: StoreValue + Drop, S: Suite<V>>(
@@ -86,14 +89,16 @@ pub(crate) fn open_container<'a, R: Wait, V: StoreValue + Drop, S: Suite<V>>(
     Ok((begun, children))
 }
 
-/// Calls the after-callbacks of a container on the first lane, in order, however each ends, closes its context with all lanes, and gives what is told of
-/// it.
+/// Closes a container: calls its after-callbacks on the first lane, in order, however each ends,
+/// closes its context with all lanes, and answers its result.
 ///
-/// The container is one that `open_container` gave. There is at least one lane, all are of the store, and the store is one that the suite may be run over.
-/// Refused as `Unjoined` where its context can't be closed, as no lane in hand knows a value that remains in it: its calls were made then, and its context
-/// stays open. What memory a call takes is its own matter. May wait: it promises its clauses if it returns.
+/// The container is one that `open_container` gave. There is at least one lane, all are the
+/// store's, and the suite may be run over the store. Refused as `Unjoined` where its context can't
+/// be closed, as no lane in hand knows a value that remains in it: its calls were made then, and
+/// its context stays open. What memory a call takes is its own matter. May wait.
 ///
-/// JUnit 5 User Guide, sections "Relative Execution Order of User Code and Extensions" and "Keeping State in Extensions".
+/// JUnit 5 User Guide, sections "Relative Execution Order of User Code and Extensions" and "Keeping
+/// State in Extensions".
 pub(crate) fn close_container<'a, R: Wait, V: StoreValue + Drop, S: Suite<V>>(
     nodes: &NodeRunner<'a, R, V, S>,
     node: ContextNo,

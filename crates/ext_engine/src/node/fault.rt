@@ -6,17 +6,18 @@ use thiserror::Error;
 
 /// Why a tree was not run to its end. Contexts that were not closed yet stay open.
 ///
-/// Prints as a sentence without its first capital and point.
+/// Prints as a sentence without capital or full stop.
 #[derive(Clone, Copy, Debug, PartialEq, Eq, Error)]
 pub enum EngineFault {
     /// An allocation failed.
     #[error("no memory")]
     Memory,
-    /// No thread could be made. Kept for callers that match on it: no call answers this, since what a worker without a thread
-    /// would have done is done by the others.
+    /// No thread could be made. Kept for callers that match on it: no call answers this, since the
+    /// other workers do what a worker without a thread would have done.
     #[error("no thread")]
     NoThread,
-    /// When this context was to be closed, no lane in hand knew the value of this number, which remained in it.
+    /// When this context was to be closed, no lane in hand knew the value of this number, which
+    /// remained in it.
     #[error("the value of number {1} in context {0} is not known")]
     Unjoined(ContextNo, u32),
 }

@@ -39,7 +39,8 @@ impl<'a, 'l, R: Wait, V: StoreValue + Drop, S: Suite<V>> Caller for NodeCaller<'
 }
 
 impl<'a, 'l, R: Wait, V: StoreValue + Drop, S: Suite<V>> NodeCaller<'a, 'l, R, V, S> {
-    // `run_calls` on this lane: where a `&mut` is in a type argument, a caller of `run_calls` itself learns nothing of it.
+    // `run_calls` on this lane. Where a `&mut` is in a type argument, a caller of `run_calls`
+    // itself learns nothing of it.
     fn calls(&mut self, befores: &[Call], body: Call, afters: &[Call]) -> Tally
         requires lane { IsLaneOf self.old.store.now.id self.old.lane.now }
         requires node { self.old.node < length self.old.store.now.tree }
@@ -58,7 +59,6 @@ impl<'a, 'l, R: Wait, V: StoreValue + Drop, S: Suite<V>> NodeCaller<'a, 'l, R, V
         run_calls(befores, body, afters, self)
     }
 
-    // `run_befores` on this lane.
     fn befores(&mut self, calls: &[Call]) -> Tally
         requires lane { IsLaneOf self.old.store.now.id self.old.lane.now }
         requires node { self.old.node < length self.old.store.now.tree }
@@ -76,7 +76,6 @@ impl<'a, 'l, R: Wait, V: StoreValue + Drop, S: Suite<V>> NodeCaller<'a, 'l, R, V
         run_befores(calls, self)
     }
 
-    // `run_afters` on this lane.
     fn afters(&mut self, calls: &[Call], tally: &mut Tally)
         requires lane { IsLaneOf self.old.store.now.id self.old.lane.now }
         requires node { self.old.node < length self.old.store.now.tree }
@@ -95,7 +94,7 @@ impl<'a, 'l, R: Wait, V: StoreValue + Drop, S: Suite<V>> NodeCaller<'a, 'l, R, V
     }
 }
 
-/// The calls of a test: its before-callbacks, itself, and its after-callbacks.
+/// Makes the calls of a test: its before-callbacks, itself, and its after-callbacks.
 pub(crate) fn call_test<'a, R: Wait, V: StoreValue + Drop, S: Suite<V>>(
     rt: &'a R,
     suite: &'a S,
@@ -139,10 +138,12 @@ pub(crate) fn call_test<'a, R: Wait, V: StoreValue + Drop, S: Suite<V>>(
     tally
 }
 
-/// Makes the before-callbacks of a container on a lane, in order, up to the first that isn't successful, and gives their tally.
+/// Makes the before-callbacks of a container on a lane, in order, up to the first that isn't
+/// successful, and answers their tally.
 ///
-/// The lane is one of the store, over which the suite may be run, the node is a container, and there are at most 2^30 calls. What memory a call
-/// takes, and for whom it waits, is its own matter. JUnit 5 User Guide, section "Relative Execution Order of User Code and Extensions".
+/// The lane is the store's, the suite may be run over the store, the node is a container, and there
+/// are at most 2^30 calls. What memory a call takes, and for whom it waits, is its own matter.
+/// JUnit 5 User Guide, section "Relative Execution Order of User Code and Extensions".
 pub(crate) fn call_befores<'a, R: Wait, V: StoreValue + Drop, S: Suite<V>>(
     rt: &'a R,
     suite: &'a S,
@@ -182,11 +183,13 @@ pub(crate) fn call_befores<'a, R: Wait, V: StoreValue + Drop, S: Suite<V>>(
     tally
 }
 
-/// Makes all after-callbacks of a container on a lane, in order, however each ends, and counts them in the tally.
+/// Makes all after-callbacks of a container on a lane, in order, however each ends, and counts them
+/// in the tally.
 ///
-/// The lane is one of the store, over which the suite may be run, the node is a container, there are at most 2^30 calls, and the tally has room
-/// for as many as its counts hold. What memory a call takes, and for whom it waits, is its own matter. JUnit 5 User Guide, section "Relative
-/// Execution Order of User Code and Extensions".
+/// The lane is the store's, the suite may be run over the store, the node is a container, there are
+/// at most 2^30 calls, and the tally has room for as many as its counts hold. What memory a call
+/// takes, and for whom it waits, is its own matter. JUnit 5 User Guide, section "Relative Execution
+/// Order of User Code and Extensions".
 pub(crate) fn call_afters<'a, R: Wait, V: StoreValue + Drop, S: Suite<V>>(
     rt: &'a R,
     suite: &'a S,

@@ -5,7 +5,7 @@ ghost use Rattle.ext_tree.specs.Trees.{IsPathOf};
 ghost use Rattle.ext_closing.specs.Closed.{closed_of};
 ghost use Rattle.ext_store.specs.Stores.{IsCloserOf, IsLaneOf};
 ghost use Rattle.ext_engine.specs.InnerClosers.{IsNode};
-ghost use Rattle.ext_engine.specs.InnerHelpers.{ran_view, of_test, ArePartsOf, TestEnds};
+ghost use Rattle.ext_engine.specs.InnerResults.{ran_view, of_test, ArePartsOf, TestEnds};
 ghost use Rattle.ext_engine.specs.declared.node.fault.EngineFault.TheVariants as engine_fault;
 ghost use Rattle.ext_engine.specs.NodeFailing.{IsNotBegun, LeavesOpen, TestEndsEarly};
 ghost use Rattle.ext_engine.specs.NodeRun.{setting_of, ClosesNode, IsUsable, IsRunnable, TestRun};
@@ -23,10 +23,9 @@ use ext_store::{Closer, Lane, Store, StoreValue};
 use std::alloc::{AllocError, Global};
 use std::sync::Wait;
 
-/// What runs a node: the runtime, the suite of the nodes, the store and the locks.
+/// Runs single nodes, with the runtime, the suite of the nodes, the store and the locks.
 #[derive(Drop)]
 pub(crate) struct NodeRunner<'a, R, V: StoreValue + Drop, S: Suite<V>> {
-    /// What waits.
     pub rt: &'a R,
     /// What the nodes are, and what their calls do.
     pub suite: &'a S,
@@ -36,7 +35,8 @@ pub(crate) struct NodeRunner<'a, R, V: StoreValue + Drop, S: Suite<V>> {
     pub locks: &'a Locks,
 }
 
-/// What a test is run with: its callbacks in the order in which they are called, its locks, and a list with room for its result.
+/// What a test is run with: its callbacks in the order of their calls, its locks, and a list with
+/// room for its result.
 #[derive(Drop)]
 struct TestParts {
     befores: Vec<Call>,
@@ -46,20 +46,24 @@ struct TestParts {
 }
 
 impl<'a, R: Wait, V: StoreValue + Drop, S: Suite<V>> NodeRunner<'a, R, V, S> {
-    /// Runs a test: takes its locks on the first lock lane, makes its calls on the first lane, each of which is lent the locks, closes its
-    /// context with all lanes, and gives the locks back. What ran is this node alone.
+    /// Runs a test: takes its locks on the first lock lane, makes its calls on the first lane, each
+    /// with the locks lent to it, closes its context with all lanes, and gives the locks back. It
+    /// runs this node alone.
     ///
-    /// The item is a test with the closer of its context, and no node is below it. There are 1 to 16 lanes of the store and as many of the
-    /// locks, which hold nothing. The locks have every name that the test and the nodes above it ask for, and the store is one that the suite
-    /// may be run over. `depth` is 17 less the levels from the root to the test.
+    /// The item is a test with the closer of its context, and no node is below it. There are 1 to
+    /// 16 lanes of the store and as many of the locks, which hold nothing. The locks have every
+    /// name that the test and the nodes above it ask for, and the suite may be run over the store.
+    /// `depth` is 17 less the levels from the root to the test.
     ///
-    /// Refused as `Memory` where memory for its lists or for its locks is refused, and then nothing was called, and all lanes are as they were; and as
-    /// `Unjoined`, with its context, where that can't be closed, as no lane in hand knows a value that remains in it: its calls were made then, its locks are
-    /// given back, and its context stays open. Takes memory, all of it before the locks, so that these are given back whatever happens. May wait: it promises its clauses if it
-    /// returns.
+    /// Refused as `Memory` where there is none for its lists or its locks: then nothing was called,
+    /// and all lanes are as they were. Refused as `Unjoined`, with its context, where that can't be
+    /// closed, as no lane in hand knows a value that remains in it: its calls were made then, its
+    /// locks are given back, and its context stays open. Takes memory, all of it before the locks,
+    /// so that these are given back whatever happens. May wait.
     ///
-    /// JUnit 5 User Guide, sections "Relative Execution Order of User Code and Extensions", "Synchronization" and "Keeping State in Extensions"; lanes
-    /// and locks of ancestors are own rules.
+    /// JUnit 5 User Guide, sections "Relative Execution Order of User Code and Extensions",
+    /// "Synchronization" and "Keeping State in Extensions"; lanes and locks of ancestors are own
+    /// rules.
     pub fn run_test(
         &self,
         alloc: Global,
@@ -89,7 +93,8 @@ impl<'a, R: Wait, V: StoreValue + Drop, S: Suite<V>> NodeRunner<'a, R, V, S> {
         self.run_parts(node, closer, parts, lanes, lock_lanes)
     }
 
-    /// What the test is run with: its callbacks, its locks, and a list for its result. Takes memory for them.
+    /// What the test is run with: its callbacks, its locks, and a list for its result. Takes memory
+    /// for them.
     fn test_parts(&self, alloc: Global, node: ContextNo) -> Result<TestParts, AllocError>
         requires node { node < length self.now.store.now.tree }
         requires runnable { IsRunnable self.now.store.now self.now.locks.now (S.suite_view self.now.suite.now) }
@@ -108,7 +113,7 @@ impl<'a, R: Wait, V: StoreValue + Drop, S: Suite<V>> NodeRunner<'a, R, V, S> {
         })
     }
 
-    /// Runs the test with its parts. Takes no memory but what its calls take.
+    /// Runs the test with its parts. Takes no memory except what its calls take.
     fn run_parts(
         &self,
         node: ContextNo,
@@ -137,7 +142,8 @@ impl<'a, R: Wait, V: StoreValue + Drop, S: Suite<V>> NodeRunner<'a, R, V, S> {
         Ok(ran)
     }
 
-    /// Tells the suite that the test starts, takes its locks, makes its calls, closes its context, and gives the locks back.
+    /// Tells the suite that the test starts, takes its locks, makes its calls, closes its context,
+    /// and gives the locks back.
     fn run_locked(
         &self,
         node: ContextNo,
@@ -182,14 +188,17 @@ impl<'a, R: Wait, V: StoreValue + Drop, S: Suite<V>> NodeRunner<'a, R, V, S> {
         }
     }
 
-    /// Closes the context of a node with the lanes in hand, by an action of the suite, and asks again where a lane computes a value for it or others are in
-    /// the way. Then tells the suite that the node has ended.
+    /// Closes the context of a node with the lanes in hand, by an action of the suite, and asks
+    /// again where a lane computes a value for it or other lanes are in the way. Then tells the
+    /// suite that the node has ended.
     ///
-    /// There is at least one lane, all are of the store, and the closer is that of the node's context. Refused with the number of a remaining value that no lane
-    /// in hand knows: then the action was not called, and the closer is dropped, so that the context stays open. Takes no memory but what the action takes. May
-    /// wait: it promises its clauses if it returns.
+    /// There is at least one lane, all are the store's, and the closer is that of the node's
+    /// context. Refused with the number of a remaining value that no lane in hand knows: then the
+    /// action was not called, and the closer is dropped, so that the context stays open. Takes no
+    /// memory except what the action takes. May wait.
     ///
-    /// JUnit 5 User Guide, section "Keeping State in Extensions"; that a close is asked again is an own rule.
+    /// JUnit 5 User Guide, section "Keeping State in Extensions"; that a close is asked again is an
+    /// own rule.
     pub fn close_node(
         &self,
         node: ContextNo,

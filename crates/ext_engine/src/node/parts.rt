@@ -20,7 +20,7 @@ pub(crate) struct Children {
     pub beside: Vec<Item>,
     /// Those that run one after another.
     pub in_turn: Vec<Item>,
-    /// A list with room for what each of the latter gives.
+    /// A list with room for what each child that runs in turn gives.
     pub outcomes: Vec<Result<Vec<RanNode>, EngineFault>>,
 }
 
@@ -28,13 +28,14 @@ pub(crate) struct Children {
 #[derive(Drop)]
 pub(crate) struct Parts {
     pub(crate) closer: Closer,
-    /// Its before-callbacks and its after-callbacks, in the order in which they are called.
+    /// Its before-callbacks and its after-callbacks, in the order of their calls.
     pub(crate) befores: Vec<Call>,
     pub(crate) afters: Vec<Call>,
     pub(crate) children: Children,
 }
 
-/// What the container is run with: its closer, its callbacks, its children, and a list for what these give. Takes memory for them.
+/// What the container is run with: its closer, its callbacks, its children, and a list for what
+/// these give. Takes memory for them.
 pub(crate) fn container_parts<'a, R, V: StoreValue + Drop, S: Suite<V>>(
     nodes: &NodeRunner<'a, R, V, S>,
     alloc: Global,

@@ -3,7 +3,7 @@ ghost use Rattle.std.specs.Prelude.{◌≡◌, ◌<◌, ◌≤◌, ◌+◌, ◌+
 ghost use Rattle.std.specs.List.{flat_map};
 ghost use Rattle.ext_lifecycle.specs.Results.{told};
 ghost use Rattle.ext_engine.specs.NodeRun.{all_skipped, placed};
-ghost use Rattle.ext_engine.specs.InnerHelpers.{ran_view, ran_in, rans_below};
+ghost use Rattle.ext_engine.specs.InnerResults.{ran_view, ran_in, rans_below};
 ghost use Rattle.ext_engine.specs.NodeFailing.{IsFirstRefusal};
 
 use crate::Suite;
@@ -15,13 +15,14 @@ use std::alloc::{AllocError, Global};
 /// A node that ran.
 #[derive(Drop)]
 pub(crate) struct RanNode {
-    /// What is told of it.
+    /// What is reported of it.
     pub result: NodeResult,
-    /// Whether the nodes below it were run: of a test, which has none, true. Proofs alone ask for it.
+    /// Whether the nodes below it were run; true of a test, which has none. Only proofs ask for it.
     pub went_on: bool,
 }
 
-/// A result for each of so many nodes before any has run, in order: each is skipped. Refused where memory is. Takes memory.
+/// A result for each of `count` nodes before any has run, in order: each is skipped. Refused if
+/// there is no memory. Takes memory.
 pub(crate) fn all_skipped<V: StoreValue + Drop, S: Suite<V>>(
     alloc: Global,
     suite: &S,
@@ -36,7 +37,7 @@ pub(crate) fn all_skipped<V: StoreValue + Drop, S: Suite<V>>(
     Ok(results)
 }
 
-/// Puts each result at the place of its node. Each node has a place. Takes no memory.
+/// Puts each result at the place of its node. Each node has a place.
 pub(crate) fn place(results: &mut Vec<NodeResult>, ran: Vec<RanNode>)
     requires { All (λ r. r.result.node < vec_len results.old) ran.items }
     ensures { map told results.new.items ≡ placed (map told results.old.items) (map ran_view ran.items) }
@@ -50,13 +51,13 @@ pub(crate) fn place(results: &mut Vec<NodeResult>, ran: Vec<RanNode>)
 /// What ran below a container: what each of its children gave.
 #[derive(Drop)]
 pub(crate) struct Below {
-    /// Of those that ran beside one another, in their order.
+    /// Those that ran beside one another, in order.
     pub beside: Vec<Result<Vec<RanNode>, EngineFault>>,
-    /// Of the others, in their order.
+    /// The others, in order.
     pub in_turn: Vec<Result<Vec<RanNode>, EngineFault>>,
 }
 
-/// Refused with the first refusal among what children gave, in their order. Takes no memory.
+/// The first refusal among what children gave, in their order, if there is one.
 pub(crate) fn first_refusal(
     outcomes: &[Result<Vec<RanNode>, EngineFault>],
 ) -> Result<(), EngineFault>
@@ -71,7 +72,8 @@ pub(crate) fn first_refusal(
     Ok(())
 }
 
-/// A container, and behind it what ran below it. The list is empty, and has room for all of that. Takes no memory.
+/// The container's own result, and behind it those of what ran below it. The list is empty, and has
+/// room for all of them.
 pub(crate) fn gathered(mut ran: Vec<RanNode>, own: RanNode, below: Below) -> Vec<RanNode>
     requires empty { ran.items ≡ [] }
     requires room { length (rans_below below) + 1 ≤ vec_capacity ran }
@@ -84,7 +86,7 @@ pub(crate) fn gathered(mut ran: Vec<RanNode>, own: RanNode, below: Below) -> Vec
     ran
 }
 
-/// Puts what ran of children behind what ran, in their order. There is room for all of it. Takes no memory.
+/// Appends what ran of the children, in their order. There is room for all of it.
 fn append_all(ran: &mut Vec<RanNode>, outcomes: Vec<Result<Vec<RanNode>, EngineFault>>)
     requires room { vec_len ran.old + length (flat_map ran_in outcomes.items) ≤ vec_capacity ran.old }
     ensures ran { map ran_view ran.new.items ≡ map ran_view ran.old.items ++ flat_map ran_in outcomes.items }

@@ -1,4 +1,4 @@
-//! The steps that call the store, each with its key, which is made first where it is no label's.
+//! The steps that call the store. Each makes its key first, unless a label declares it.
 ghost use Rattle.std.specs.Prelude.{◌≡◌, ◌⊎◌, ◌<◌, ◌≤◌, All, codes, length, string_bytes};
 ghost use Rattle.ext_tree.specs.Keys.{PlacesOnly};
 ghost use Rattle.ext_plan.specs.Plans.{step_key_view};
@@ -22,7 +22,7 @@ use std::sync::Wait;
 impl<'b> StoreSteps<'b> {
     ghost use Rattle.ext_parallel.specs.InnerKeys.{plan_keys};
 
-    /// The steps `put` and `put!`.
+    /// Runs a step `put` or `put!`.
     pub(crate) fn put<'a, R: Wait>(
         &self,
         rt: &R,
@@ -53,7 +53,6 @@ impl<'b> StoreSteps<'b> {
         }
     }
 
-    /// The step `want`.
     pub(crate) fn want<'a, R: Wait>(
         &self,
         rt: &R,
@@ -83,7 +82,6 @@ impl<'b> StoreSteps<'b> {
         }
     }
 
-    /// The step `none`.
     pub(crate) fn none<'a, R: Wait>(
         &self,
         rt: &R,
@@ -112,7 +110,6 @@ impl<'b> StoreSteps<'b> {
         }
     }
 
-    /// The step `remove`.
     pub(crate) fn remove<'a, R: Wait>(
         &self,
         rt: &R,
@@ -141,7 +138,7 @@ impl<'b> StoreSteps<'b> {
         }
     }
 
-    /// The steps `compute` and `compute!`.
+    /// Runs a step `compute` or `compute!`.
     pub(crate) fn compute<'a, R: Wait>(
         &self,
         rt: &R,
@@ -172,7 +169,6 @@ impl<'b> StoreSteps<'b> {
         }
     }
 
-    /// The step `computefail`.
     pub(crate) fn compute_fail<'a, R: Wait>(
         &self,
         rt: &R,

@@ -14,7 +14,8 @@ use ext_store::{Lane, Store};
 use std::alloc::Global;
 use std::sync::Wait;
 
-/// The steps `put` and `put!`: keeps the value, and then stores it in the context, where its key gets a number.
+/// Runs a step `put` or `put!`: keeps the value, and then stores it in the context, which numbers
+/// the key.
 pub(crate) fn put_value<'a, R: Wait>(
     alloc: Global,
     rt: &R,
@@ -43,7 +44,7 @@ pub(crate) fn put_value<'a, R: Wait>(
     }
 }
 
-/// The step `remove`: takes out what stands in the context itself, if anything does.
+/// Runs a step `remove`: takes out what stands in the context itself, if anything does.
 pub(crate) fn remove_value<'a, R: Wait>(
     alloc: Global,
     rt: &R,

@@ -1,4 +1,4 @@
-//! The steps that compute a value where none is found: `compute`, `compute!` and `computefail`.
+//! The steps that compute unless something is found: `compute`, `compute!` and `computefail`.
 ghost use Rattle.std.specs.Prelude.{◌≡◌, ◌<◌, ◌≤◌, ◌⊎◌, ℕ, [], length, string_bytes};
 ghost use Rattle.ext_tree.specs.Keys.{PlacesOnly};
 ghost use Rattle.ext_store.specs.Stores.{IsLaneOf};
@@ -23,7 +23,7 @@ use ext_tree::Key;
 use std::alloc::Global;
 use std::sync::Wait;
 
-/// The steps `compute` and `compute!`: computes the value for the context, unless one is found.
+/// Runs a step `compute` or `compute!`: computes the value for the context, unless one is found.
 pub(crate) fn compute<'a, R: Wait>(
     alloc: Global,
     rt: &R,
@@ -62,8 +62,8 @@ pub(crate) fn compute<'a, R: Wait>(
     }
 }
 
-/// The step `computefail`: computes with a factory that fails with this text. Where memory for its fault is refused, it
-/// makes no call.
+/// Runs a step `computefail`: computes by a factory that fails with this text. If memory for its
+/// fault is refused, the step makes no call.
 pub(crate) fn compute_fail<'a, R: Wait>(
     alloc: Global,
     rt: &R,
@@ -87,7 +87,7 @@ pub(crate) fn compute_fail<'a, R: Wait>(
     }
 }
 
-/// A compute whose factory fails with this text, which stands in the plan too.
+/// Computes by a factory that fails with this text; `copy` is the text for its fault.
 fn compute_fault<'a, R: Wait>(
     alloc: Global,
     rt: &R,
@@ -132,7 +132,7 @@ fn compute_fault<'a, R: Wait>(
     }
 }
 
-/// How a step ends that computes a value, and meets the kept fault of this number.
+/// The outcome of a step that should compute a value, and met the kept fault with this number.
 fn end_met<'a>(
     alloc: Global,
     store: &Store<StoredValue<'a>>,
@@ -152,7 +152,8 @@ fn end_met<'a>(
     counted(or_no_memory(none_verdict(alloc, call, seen)), 0, 0)
 }
 
-/// How a step ends whose factory is to fail with this text, and that meets the kept fault of this number.
+/// The outcome of a step whose factory should fail with this text, and that met the kept fault with
+/// this number.
 fn end_met_failing<'a>(
     alloc: Global,
     store: &Store<StoredValue<'a>>,
@@ -173,7 +174,7 @@ fn end_met_failing<'a>(
     counted(or_no_memory(fail_verdict(alloc, call, text, seen)), 0, 0)
 }
 
-/// What a compute answers whose factory answers this.
+/// The answer of a compute whose factory returns `made`.
 fn compute_made<R: Wait, V: StoreValue + Drop>(
     rt: &R,
     store: &Store<V>,
@@ -225,7 +226,7 @@ fn compute_made<R: Wait, V: StoreValue + Drop>(
     }
 }
 
-/// The outcome of a step that computed and found so many values.
+/// The outcome with these counts of values computed and found.
 fn counted(verdict: Verdict, computed: u32, found: u32) -> Outcome
     ensures verdict { result.verdict ≡ verdict }
     ensures computed { result.computed ≡ computed }

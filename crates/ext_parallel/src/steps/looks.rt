@@ -18,7 +18,7 @@ use ext_tree::Key;
 use std::alloc::Global;
 use std::sync::Wait;
 
-/// The step `want`: looks up, and wants a value of this text.
+/// Runs a step `want`: looks up, and expects a value with this text.
 pub(crate) fn want<'a, R: Wait>(
     alloc: Global,
     rt: &R,
@@ -42,7 +42,7 @@ pub(crate) fn want<'a, R: Wait>(
     }
 }
 
-/// The step `none`: looks up, and is to find nothing.
+/// Runs a step `none`: looks up, and expects to find nothing.
 pub(crate) fn none<'a, R: Wait>(
     alloc: Global,
     rt: &R,
@@ -65,7 +65,7 @@ pub(crate) fn none<'a, R: Wait>(
     }
 }
 
-/// What a look-up from the context shows; or why it was refused for its key.
+/// What a look-up from the context shows, or why it was refused for its key.
 fn see<'s, 'a, R: Wait>(
     rt: &R,
     store: &'s Store<StoredValue<'a>>,
@@ -86,13 +86,13 @@ fn see<'s, 'a, R: Wait>(
         Ok(Look::Fault { at: _, number }) => Ok(show_fault(store, lane, number)),
         Ok(Look::Absent) => Ok(Seen::Nothing),
         Ok(Look::Closed(_)) => Ok(Seen::Refused(Reason::Closed)),
-        // The waiting form waits for a running factory.
+        // A waiting look-up waits until the factory has ended.
         Ok(Look::Busy(_)) => unreachable!(),
         Err(why) => Err(why),
     }
 }
 
-/// The value of a number that was found, as it is shown to a step.
+/// What a step is shown of the value with the number that it found.
 pub(crate) fn show<'a>(
     store: &Store<StoredValue<'a>>,
     lane: &mut Lane<StoredValue<'a>>,
@@ -112,7 +112,7 @@ pub(crate) fn show<'a>(
     }
 }
 
-/// The kept fault of a number that was met, as it is shown to a step.
+/// What a step is shown of the kept fault with the number that it met.
 pub(crate) fn show_fault<'s, 'a>(
     store: &'s Store<StoredValue<'a>>,
     lane: &mut Lane<StoredValue<'a>>,

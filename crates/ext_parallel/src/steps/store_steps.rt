@@ -15,7 +15,8 @@ use ext_store::{Lane, Store};
 use std::alloc::Global;
 use std::sync::Wait;
 
-/// The keys of a plan, by the labels that steps name, for any store. It may be shared by all lanes of the store.
+/// Runs steps over any store, with the keys that a plan declares. All lanes of the store may share
+/// it.
 #[derive(Drop)]
 pub(crate) struct StoreSteps<'b> {
     pub(crate) alloc: Global,
@@ -27,25 +28,27 @@ impl<'b> StoreSteps<'b> {
     ghost use Rattle.ext_parallel.specs.StoreCalls.{HasFrame};
     ghost use Rattle.ext_parallel.specs.StoreSteps.{PlacesItsKey, StepRun, StepsRun};
 
-    /// The steps of a plan with these keys.
+    /// Takes the declared keys of a plan.
     pub fn of(alloc: Global, names: StepKeys<'b>) -> StoreSteps<'b>
         ensures { plan_keys result ≡ keys_in names.entry }
     {
         StoreSteps { alloc, names }
     }
 
-    /// Makes these steps, in order, up to the first that isn't successful, with it, on a lane of the store, in the context
-    /// that the path begins with: the path is that context, its parent, and so on up to the root. A step that goes up past
-    /// the root acts on the root.
+    /// Runs steps in order, up to and including the first that is not successful, on a lane of the
+    /// store. They run in the first context of `path`, which continues with the context's parent
+    /// and so on up to the root. A step that goes up past the root acts on the root.
     ///
-    /// There are at most 2^32 - 1 steps. The outcome is that of the last step that was made, with the counts of all: a value
-    /// that a step computed, or found where it would have computed one, counts one, also where the step or a later one fails.
+    /// There are at most 2^32 - 1 steps. The outcome is that of the last step that ran, with the
+    /// counts of all. Each value that a step computed, or found in place of computing one, counts
+    /// as one, even if the step or a later one fails.
     ///
-    /// The calls are made by the store's waiting forms, so that no step is refused because a factory runs or other lanes
-    /// are in the way. A refused call fails its step with `NAME KEY: REASON`. A key that no lane named before gets its number
-    /// then, and where the store has 64 other keys the step fails with `NAME KEY: directory full`, having done nothing; a
-    /// `put` keeps its value first. Takes memory for keys, for values and for what steps say; where it is refused the step
-    /// fails with `Fault::Memory`. It may wait: it promises its clauses if it returns.
+    /// Steps make the store's waiting calls, so that none is refused because of a running factory
+    /// or of other lanes. A refused call fails its step with `NAME KEY: REASON`. A key that no lane
+    /// has named before gets its number then. If the store has 64 other keys, the step fails with
+    /// `NAME KEY: directory full` and has no effect, except that a `put` has kept its value. Takes
+    /// memory for keys, values and the texts of steps; a step for which it is refused fails with
+    /// `Fault::Memory`. It may wait.
     ///
     /// Source: Javadoc type `ExtensionContext.Store`; the steps are an own rule.
     pub fn run<'a, R: Wait>(
@@ -85,7 +88,6 @@ impl<'b> StoreSteps<'b> {
         }
     }
 
-    /// One step.
     fn run_step<'a, R: Wait>(
         &self,
         rt: &R,
@@ -135,7 +137,6 @@ impl<'b> StoreSteps<'b> {
     }
 }
 
-/// The step `fail`.
 fn fail(text: &String) -> Outcome
     ensures { Ends (failed (string_bytes text.now)) 0 0 result }
 {
@@ -145,7 +146,6 @@ fn fail(text: &String) -> Outcome
     }
 }
 
-/// The step `abort`.
 fn abort(text: &String) -> Outcome
     ensures { Ends (aborted (string_bytes text.now)) 0 0 result }
 {

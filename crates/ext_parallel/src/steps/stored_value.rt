@@ -7,14 +7,13 @@ use ext_store::StoreValue;
 /// A value of a plan, as a store keeps it: its text, and whether it is closed with its context.
 #[derive(Clone, Copy, Debug, PartialEq, Eq)]
 pub struct StoredValue<'a> {
-    /// The value.
+    /// The value, as the plan has it.
     pub value: PlanValue<'a>,
 }
 
 impl StoreValue for StoredValue<'_> {
     ghost is_closeable = { λ v. v.value.closeable };
 
-    /// As the value says of itself.
     fn closeable(&self) -> bool {
         self.value.closeable
     }
@@ -23,7 +22,6 @@ impl StoreValue for StoredValue<'_> {
 impl<'a> StoredValue<'a> {
     ghost use Rattle.ext_parallel.specs.StoreCalls.{stored_view};
 
-    // A value of this text that isn't closeable.
     pub(crate) fn not_closeable(text: &'a str) -> StoredValue<'a>
         ensures { stored_view result ≡ record { text = text.now; closeable = false } }
     {
@@ -32,7 +30,6 @@ impl<'a> StoredValue<'a> {
         }
     }
 
-    // A closeable value of this text.
     pub(crate) fn closeable_of(text: &'a str) -> StoredValue<'a>
         ensures { stored_view result ≡ record { text = text.now; closeable = true } }
     {

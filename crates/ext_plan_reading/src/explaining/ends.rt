@@ -1,4 +1,4 @@
-//! What an explanation ends with: the id of the node, and the line of the plan where its table begins.
+//! The end of an explanation: the node's id, and the line of the plan where its table begins.
 use crate::explaining::fields::table_of;
 use crate::explaining::line_at;
 use crate::fault::{Place, PlanFault};
@@ -6,8 +6,9 @@ use crate::fields::{tables_at, text_at};
 use std::alloc::Global;
 use toml::Table;
 
-/// An explanation with its end: the id of its node, as the plan has it, and the line where the table of its key or its node begins, if these are known. What is
-/// said of a bad id has it already.
+/// Appends the end of an explanation: the node's id as the plan spells it, and the line where the
+/// table of the key or the node begins, each if it is known. The explanation of a bad id contains
+/// the id already.
 pub(crate) fn with_end(
     alloc: Global,
     text: &str,
@@ -25,7 +26,7 @@ pub(crate) fn with_end(
     })
 }
 
-/// The id of the node with a fault, as the plan has it, unless it is the fault.
+/// The id of the node with a fault, as the plan spells it, unless the id is the fault.
 fn id_of<'a>(
     alloc: Global,
     top: &'a Table,
@@ -42,7 +43,8 @@ fn id_of<'a>(
     Ok(table.and_then(|table| text_at(table, "id")))
 }
 
-/// The line of the plan where the table of a place begins, from 1: where it has a header of its own, as `[[node]]`.
+/// The line of the plan, from 1, where the table of a place begins, if it has a header of its own
+/// such as `[[node]]`.
 fn line_of(alloc: Global, text: &str, place: Place) -> Result<Option<usize>, PlanFault> {
     let (header, name, number) = match place {
         Place::Whole => return Ok(None),
@@ -58,7 +60,7 @@ fn line_of(alloc: Global, text: &str, place: Place) -> Result<Option<usize>, Pla
     Ok(None)
 }
 
-/// Where the line of the header of this number ends.
+/// The byte at which the line of the header with this number ends.
 fn end_of_header(text: &str, header: &str, number: usize) -> Option<usize> {
     let mut end: usize = 0;
     let mut before: usize = 0;
@@ -75,7 +77,7 @@ fn end_of_header(text: &str, header: &str, number: usize) -> Option<usize> {
     None
 }
 
-/// Tests whether the text up to this place is a document with so many tables of this name.
+/// Tests whether the text up to this byte is a document with `count` tables of this name.
 fn has_tables(
     alloc: Global,
     text: &str,

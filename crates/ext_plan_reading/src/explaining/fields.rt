@@ -1,4 +1,4 @@
-//! What is meant by a fault of fields.
+//! Explanations of faults in fields.
 use crate::explaining::words::{quoted, said};
 use crate::fault::{Place, PlanFault};
 use crate::fields::{
@@ -9,7 +9,7 @@ use crate::nodes::NODE_FIELDS;
 use std::alloc::Global;
 use toml::Table;
 
-/// What a field has to be.
+/// The type that a field has to have.
 #[derive(Clone, Copy)]
 enum FieldType {
     Text,
@@ -20,21 +20,21 @@ enum FieldType {
     TablesIfGiven,
 }
 
-/// The top fields, in the order in which they are read.
+/// The top fields, in reading order.
 const TOP_TYPES: [(&str, FieldType); 3] = [
     ("keep_faults", FieldType::TruthIfGiven),
     ("key", FieldType::TablesIfGiven),
     ("node", FieldType::TablesIfGiven),
 ];
 
-/// The fields of a key, in the order in which they are read.
+/// The fields of a key, in reading order.
 const KEY_TYPES: [(&str, FieldType); 3] = [
     ("label", FieldType::Text),
     ("name", FieldType::TextIfGiven),
     ("namespace", FieldType::TextsIfGiven),
 ];
 
-/// The fields of a node, in the order in which they are read.
+/// The fields of a node, in reading order.
 const NODE_TYPES: [(&str, FieldType); 9] = [
     ("id", FieldType::Text),
     ("mode", FieldType::TextIfGiven),
@@ -62,7 +62,7 @@ pub(crate) fn table_of<'a>(
     Ok(tables.get(number).copied())
 }
 
-/// The first field of a place that it may not have.
+/// Names the first field that the place may not have.
 pub(crate) fn unknown_field(
     alloc: Global,
     top: &Table,
@@ -82,7 +82,7 @@ pub(crate) fn unknown_field(
     }
 }
 
-/// The first field of a place that is missing, or has another type.
+/// Names the first field of the place that is missing or has another type.
 pub(crate) fn bad_field(
     alloc: Global,
     top: &Table,
@@ -98,7 +98,7 @@ pub(crate) fn bad_field(
     }
 }
 
-/// The first of these fields that is missing in the table, or has another type.
+/// Names the first of these fields that the table lacks, or that has another type there.
 fn first_bad(
     alloc: Global,
     table: &Table,
@@ -112,7 +112,7 @@ fn first_bad(
     Ok(None)
 }
 
-/// Tests whether a field is what it has to be, by the reader's own functions.
+/// Tests whether a field has its type, by the functions that read it.
 fn is_right(alloc: Global, table: &Table, name: &str, kind: FieldType) -> Result<bool, PlanFault> {
     let fault = PlanFault::BadField(Place::Whole);
     match kind {
@@ -125,7 +125,7 @@ fn is_right(alloc: Global, table: &Table, name: &str, kind: FieldType) -> Result
     }
 }
 
-/// Whether a field was read; want of memory tells nothing of it.
+/// Tests whether a field was read. A refusal of memory does not decide that.
 fn was_read<T: Drop>(read: Result<T, PlanFault>) -> Result<bool, PlanFault> {
     match read {
         Ok(_) => Ok(true),
@@ -134,7 +134,6 @@ fn was_read<T: Drop>(read: Result<T, PlanFault>) -> Result<bool, PlanFault> {
     }
 }
 
-/// What a field of another type is.
 fn what_is_wrong(kind: FieldType) -> &'static str {
     match kind {
         FieldType::Text => " is missing, or no text",
@@ -146,7 +145,7 @@ fn what_is_wrong(kind: FieldType) -> &'static str {
     }
 }
 
-/// What is wrong with the label of a key, or with its namespace.
+/// Explains what is wrong with a key's label or namespace.
 pub(crate) fn bad_label(
     alloc: Global,
     top: &Table,
@@ -156,7 +155,7 @@ pub(crate) fn bad_label(
     bad_label_among(alloc, tables.as_slice(), key)
 }
 
-/// The same, among the tables of all keys.
+/// Explains what is wrong with the label or namespace of one of these tables of keys.
 fn bad_label_among(
     alloc: Global,
     tables: &[&Table],
@@ -177,7 +176,6 @@ fn bad_label_among(
     same_label(alloc, tables, key, label)
 }
 
-/// Why a label is no word.
 fn no_word(alloc: Global, label: &str) -> Result<Option<String>, PlanFault> {
     if label.is_empty() {
         return said(alloc, "its label is empty");
@@ -185,14 +183,14 @@ fn no_word(alloc: Global, label: &str) -> Result<Option<String>, PlanFault> {
     quoted(alloc, "its label ", label, " has a space")
 }
 
-/// Tests whether the namespace of a key has a part, if one is given.
+/// Tests whether a key's namespace has a part, if it is given.
 fn has_own_parts(alloc: Global, table: &Table) -> Result<bool, PlanFault> {
     let fault = PlanFault::BadField(Place::Whole);
     let namespace = texts_at(alloc, table, "namespace", fault)?;
     Ok(has_parts(&namespace))
 }
 
-/// The key before this one that has its label.
+/// Names the key before this one that has the same label.
 fn same_label(
     alloc: Global,
     tables: &[&Table],

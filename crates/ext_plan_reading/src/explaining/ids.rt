@@ -1,4 +1,4 @@
-//! What is meant by the fault of an id.
+//! Explanations of faults in ids.
 ghost use Rattle.std.specs.Prelude.{◌≡◌, string_bytes, IfOk, Some};
 ghost use Rattle.ext_ids.specs.Grammar.{spelled};
 ghost use Rattle.ext_plan_reading.specs.ExplainingIds.{ExplainsId, IsMark, SaysOf, SaysRaw, is_behind, within, words_of};
@@ -6,9 +6,11 @@ ghost use Rattle.ext_plan_reading.specs.ExplainingIds.{ExplainsId, IsMark, SaysO
 use ext_ids::IdFault;
 use std::alloc::{AllocError, Global};
 
-/// What is meant by the fault for which a text is refused as a unique id, in a line without its line feed, as ``the id: `+` has to be written `%2B` ``.
+/// Explains in one line why a text was refused as a unique id, such as ``the id: `+` has to be
+/// written `%2B` ``.
 ///
-/// The fault is the one that `UniqueId::parse` answered to this text. Takes memory for the line; `AllocError` comes only where that is refused. It waits for nobody.
+/// The line has no line feed. The fault is the answer of `UniqueId::parse` to this text. Takes
+/// memory for the line, and fails with `AllocError` only if that is refused.
 pub fn explain_id(alloc: Global, text: &str, fault: IdFault) -> Result<String, AllocError>
     ensures { IfOk result (λ line. ExplainsId text.now fault (string_bytes line)) }
 {
@@ -16,7 +18,7 @@ pub fn explain_id(alloc: Global, text: &str, fault: IdFault) -> Result<String, A
     format!(in alloc; "the id: {}", words.as_str())
 }
 
-/// The same, without the place.
+/// The explanation without `the id: `.
 pub(crate) fn words_of_id(alloc: Global, text: &str, fault: IdFault) -> Result<String, AllocError>
     ensures { IfOk result (λ words. SaysOf text.now fault (string_bytes words)) }
 {
@@ -26,7 +28,7 @@ pub(crate) fn words_of_id(alloc: Global, text: &str, fault: IdFault) -> Result<S
     }
 }
 
-/// What is meant by a fault that is no raw character.
+/// Explains a fault other than a raw character.
 fn words_of(fault: IdFault) -> &'static str
     ensures { result.now ≡ words_of fault }
 {
@@ -43,7 +45,7 @@ fn words_of(fault: IdFault) -> &'static str
     }
 }
 
-/// What is meant by a mark that stands as it is, or by what follows a segment.
+/// Explains a mark that has to be escaped, or a character that may not follow a segment.
 fn raw_character(alloc: Global, text: &[u8], at: usize) -> Result<String, AllocError>
     ensures { IfOk result (λ words. SaysRaw (within text.now at) (string_bytes words)) }
 {
@@ -53,7 +55,8 @@ fn raw_character(alloc: Global, text: &[u8], at: usize) -> Result<String, AllocE
     }
 }
 
-/// What stands at this place, unless a segment ends before it: no other `]` stands as it is.
+/// The byte at this place, unless a segment ends before it: a `]` that is not escaped ends a
+/// segment.
 fn within(text: &[u8], at: usize) -> Option<u8>
     ensures { result ≡ within text.now at }
 {
@@ -63,7 +66,7 @@ fn within(text: &[u8], at: usize) -> Option<u8>
     text.get(at).copied()
 }
 
-/// Tests whether a `]` stands before this place.
+/// Tests whether there is a `]` before this place.
 fn is_behind(text: &[u8], at: usize) -> bool
     ensures { result ≡ is_behind text.now at }
 {
@@ -73,7 +76,7 @@ fn is_behind(text: &[u8], at: usize) -> bool
     }
 }
 
-/// What is said of a mark that has to be written otherwise.
+/// Says how a mark has to be written.
 fn has_to_be_written(alloc: Global, mark: u8) -> Result<String, AllocError>
     ensures { IfOk result (λ words. SaysRaw (Some mark) (string_bytes words)) }
 {
@@ -82,7 +85,7 @@ fn has_to_be_written(alloc: Global, mark: u8) -> Result<String, AllocError>
     format!(in alloc; "`{mark}` has to be written `{escape}`")
 }
 
-/// How a mark is written in a type or a value.
+/// The escape of a mark in a type or a value.
 fn escape_of(mark: u8) -> &'static str
     ensures { IsMark mark → result.now ≡ spelled mark }
 {

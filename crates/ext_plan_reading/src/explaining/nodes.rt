@@ -1,4 +1,4 @@
-//! What is meant by a fault of a node that is no step, or of all nodes.
+//! Explanations of faults in nodes, apart from their steps, and of trees and limits.
 ghost use Rattle.std.specs.Prelude.{All, IfOk};
 ghost use Rattle.ext_plan.specs.Plans.{key_view, keys_view};
 ghost use Rattle.ext_plan.specs.StoreKeys.{HasParts};
@@ -35,7 +35,6 @@ pub(crate) fn sketches_in<'a>(
     sketches_of(alloc, tables.as_slice())
 }
 
-/// The fault of a node's id.
 pub(crate) fn bad_id(alloc: Global, top: &Table, node: usize) -> Result<Option<String>, PlanFault> {
     let Some(table) = table_of(alloc, top, Place::Node(node))? else {
         return Ok(None);
@@ -46,7 +45,6 @@ pub(crate) fn bad_id(alloc: Global, top: &Table, node: usize) -> Result<Option<S
     }
 }
 
-/// Why a text is no id.
 fn no_id(alloc: Global, text: &str) -> Result<Option<String>, PlanFault> {
     match UniqueId::parse(alloc, text) {
         Ok(_) => Ok(None),
@@ -55,13 +53,14 @@ fn no_id(alloc: Global, text: &str) -> Result<Option<String>, PlanFault> {
     }
 }
 
-/// What is meant by the fault of a text that is no id.
+/// Explains the fault of a text that is no id.
 fn bad_id_text(alloc: Global, text: &str, fault: IdFault) -> Result<Option<String>, PlanFault> {
     let words = words_of_id(alloc, text, fault)?;
     Ok(Some(format!(in alloc; "{fault} in {text:?}: {}", words.as_str())?))
 }
 
-/// What is meant by a fault of the nodes after the first pass: of their ids, or of a node's mode, locks or test.
+/// Explains a fault that follows the first pass: of the nodes' ids as a tree, or of a node's mode,
+/// locks or test.
 pub(crate) fn bad_nodes(
     alloc: Global,
     top: &Table,
@@ -74,7 +73,7 @@ pub(crate) fn bad_nodes(
     }
 }
 
-/// The same, of a node's mode, locks or test.
+/// Explains the fault of a node's mode, locks or test.
 fn bad_node(
     alloc: Global,
     sketches: &[NodeSketch<'_>],
@@ -90,7 +89,7 @@ fn bad_node(
     }
 }
 
-/// The first node that is in the way of a tree, and why.
+/// Names the first node whose id does not fit into a tree, and why.
 fn bad_tree(alloc: Global, sketches: &[NodeSketch<'_>]) -> Result<Option<String>, PlanFault> {
     match tree_fault(alloc, sketches)? {
         None => Ok(None),
@@ -98,13 +97,12 @@ fn bad_tree(alloc: Global, sketches: &[NodeSketch<'_>]) -> Result<Option<String>
     }
 }
 
-/// Why the ids of the nodes are those of no tree.
 fn tree_fault(alloc: Global, sketches: &[NodeSketch<'_>]) -> Result<Option<TreeFault>, PlanFault> {
     let ids = ids_of(alloc, sketches)?;
     Ok(Tree::build(alloc, ids.as_slice()).err())
 }
 
-/// The node that a fault of the ids names, and why it is in the way of a tree.
+/// Names the node of the tree's fault, and why its id does not fit.
 fn in_the_way(
     alloc: Global,
     sketches: &[NodeSketch<'_>],
@@ -123,12 +121,11 @@ fn in_the_way(
     }
 }
 
-/// What is said of more nodes than there may be.
 fn too_many_nodes(alloc: Global, nodes: usize) -> Result<Option<String>, PlanFault> {
     Ok(Some(format!(in alloc; "it has {nodes} nodes, more than 256")?))
 }
 
-/// What is said of a node, behind its id.
+/// Says something of a node, after the node's index and id.
 fn named(
     alloc: Global,
     sketches: &[NodeSketch<'_>],
@@ -141,7 +138,7 @@ fn named(
     }
 }
 
-/// What is said of the node of this id.
+/// Says something of the node with this id.
 fn named_by(
     alloc: Global,
     id: &UniqueId,
@@ -153,7 +150,7 @@ fn named_by(
     Ok(Some(format!(in alloc; "the id of node {node}, {:?}, {why}", text.as_str())?))
 }
 
-/// What a node has that no test may have.
+/// Explains why a node is no valid test.
 fn unfit_for_test(sketch: &NodeSketch<'_>) -> &'static str {
     if sketch.callbacks.are_of_container() {
         "it is a test, and has before_all or after_all"
@@ -162,7 +159,7 @@ fn unfit_for_test(sketch: &NodeSketch<'_>) -> &'static str {
     }
 }
 
-/// The mode of a node that is none, or its first lock that is none.
+/// Explains that the node's mode is none, or else which lock is none.
 fn bad_lock(
     alloc: Global,
     sketch: &NodeSketch<'_>,
@@ -184,7 +181,7 @@ fn bad_lock(
     }
 }
 
-/// The first of a node's texts that is no lock.
+/// Explains the first of a node's texts that is no lock.
 fn first_bad_lock(alloc: Global, node: usize, texts: &[&str]) -> Result<Option<String>, PlanFault> {
     for (i, text) in texts.iter().enumerate() {
         if !is_lock(alloc, node, text)? {
@@ -194,7 +191,6 @@ fn first_bad_lock(alloc: Global, node: usize, texts: &[&str]) -> Result<Option<S
     Ok(None)
 }
 
-/// What a text is that is no lock.
 fn no_lock(alloc: Global, i: usize, text: &str) -> Result<Option<String>, PlanFault> {
     Ok(Some(format!(in alloc; "its lock {i}, {text:?}, is neither READ NAME nor READ_WRITE NAME")?))
 }
@@ -208,7 +204,7 @@ fn is_lock(alloc: Global, node: usize, text: &str) -> Result<bool, PlanFault> {
     }
 }
 
-/// What there are too many of.
+/// Names what there is too much of.
 pub(crate) fn too_many(alloc: Global, top: &Table) -> Result<Option<String>, PlanFault> {
     let keys = keys_in(alloc, top)?;
     let first = first_too_many(alloc, keys.keys.as_slice())?;
@@ -218,12 +214,11 @@ pub(crate) fn too_many(alloc: Global, top: &Table) -> Result<Option<String>, Pla
     }
 }
 
-/// What is said of more keys than may be declared, of which this is the first.
 fn too_many_keys(alloc: Global, key: usize) -> Result<Option<String>, PlanFault> {
     Ok(Some(format!(in alloc; "it declares more than 64 different keys: key {key} is the 65th")?))
 }
 
-/// The first of these keys before which 64 other ones stand.
+/// The index of the first key that is preceded by 64 other ones.
 fn first_too_many(alloc: Global, keys: &[PlanKey]) -> Result<Option<usize>, PlanFault>
     requires { All HasParts (keys_view keys.now) }
 {
@@ -239,7 +234,6 @@ fn first_too_many(alloc: Global, keys: &[PlanKey]) -> Result<Option<usize>, Plan
     Ok(None)
 }
 
-/// Declares the key of a label.
 fn declare(alloc: Global, directory: &mut Directory, key: &PlanKey) -> Result<(), TreeFault>
     requires { HasParts (key_view key.now) }
 {

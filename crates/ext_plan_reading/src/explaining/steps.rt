@@ -1,4 +1,4 @@
-//! Which step of a node is none, and why.
+//! Explanations of faults in steps.
 ghost use Rattle.std.specs.Prelude.{◌<◌, HoldsAt, IfOk, IfSome, IsErr, length};
 ghost use Rattle.ext_plan_reading.specs.StepReading.{step_at};
 
@@ -6,12 +6,12 @@ use crate::depths::least_test_depth;
 use crate::explaining::nodes::{keys_in, sketches_in};
 use crate::fault::PlanFault;
 use crate::labels::Labels;
-use crate::nodes::NodeSketch;
-use crate::steps::{has_empty, step_at, step_of, words_of};
+use crate::nodes::{NodeSketch, tree_of};
+use crate::steps::{step_at, step_of, words_of};
 use std::alloc::Global;
 use toml::Table;
 
-/// The first text of a node's callbacks and test that is no step there. They are gone over in the order in which they are read.
+/// Explains the first text of a node's callbacks and test that is no step there, in reading order.
 pub(crate) fn bad_step(
     alloc: Global,
     top: &Table,
@@ -22,7 +22,7 @@ pub(crate) fn bad_step(
     bad_step_among(alloc, &keys.labels, sketches.as_slice(), node)
 }
 
-/// The same, among the nodes after the first pass.
+/// Explains the same, given the labels and the nodes after the first pass.
 fn bad_step_among(
     alloc: Global,
     labels: &Labels<'_>,
@@ -33,7 +33,8 @@ fn bad_step_among(
         return Ok(None);
     };
     let own = sketch.id.len();
-    let least = least_test_depth(sketches, &sketch.id);
+    let tree = tree_of(alloc, sketches)?;
+    let least = least_test_depth(&tree, sketches, node);
     let lists = sketch.callbacks.in_order(own, least);
     match bad_in_kinds(alloc, labels, node, &lists)? {
         Some(found) => Ok(Some(found)),
@@ -41,7 +42,8 @@ fn bad_step_among(
     }
 }
 
-/// The first text of a node's callbacks that is no step there. The kinds are as `CallbackSketch::in_order` has them.
+/// Explains the first text of a node's callbacks that is no step there. The kinds are those of
+/// `CallbackSketch::in_order`.
 fn bad_in_kinds(
     alloc: Global,
     labels: &Labels<'_>,
@@ -57,7 +59,8 @@ fn bad_in_kinds(
     Ok(None)
 }
 
-/// The first text of a kind's callbacks that is no step there. `name` is the kind's field.
+/// Explains the first text of one kind's callbacks that is no step there. `name` is the kind's
+/// field.
 fn bad_in_callbacks(
     alloc: Global,
     labels: &Labels<'_>,
@@ -74,7 +77,7 @@ fn bad_in_callbacks(
     Ok(None)
 }
 
-/// What is said of a text of the callback `i` of a kind that is no step.
+/// Explains a text of callback `i` of a kind that is no step.
 fn bad_in_callback(
     alloc: Global,
     labels: &Labels<'_>,
@@ -87,7 +90,7 @@ fn bad_in_callback(
     no_step(alloc, labels, list.as_str(), step, text)
 }
 
-/// The first of a test's texts that is no step there.
+/// Explains the first of a test's texts that is no step there.
 fn bad_in_test(
     alloc: Global,
     labels: &Labels<'_>,
@@ -104,7 +107,7 @@ fn bad_in_test(
     }
 }
 
-/// What is said of a text that is no step. `list` says of which test or callback it is.
+/// Explains a text that is no step. `list` names its test or callback.
 fn no_step(
     alloc: Global,
     labels: &Labels<'_>,
@@ -116,7 +119,7 @@ fn no_step(
     Ok(Some(format!(in alloc; "step {step} of its {list}, {text:?}, {why}")?))
 }
 
-/// The place of the first text that the reader refuses as a step of the node.
+/// The index of the first text that the reader refuses as a step of the node.
 fn first_bad(
     alloc: Global,
     labels: &Labels<'_>,
@@ -137,12 +140,15 @@ fn first_bad(
     Ok(None)
 }
 
-/// Why a text that the reader refuses is no step.
+/// Why the reader refuses a text as a step.
 fn reason(alloc: Global, labels: &Labels<'_>, text: &str) -> Result<&'static str, PlanFault> {
     if is_step(alloc, labels, text)? {
         return Ok("goes up past the root");
     }
-    let words = words_of(alloc, text)?;
+    if text.split(' ').any(|word| word.is_empty()) {
+        return Ok("has a space too many");
+    }
+    let words = words_of(text);
     Ok(reason_among(words.as_slice()))
 }
 
@@ -151,24 +157,18 @@ fn is_step(alloc: Global, labels: &Labels<'_>, text: &str) -> Result<bool, PlanF
     Ok(step_of(alloc, labels, text)?.is_some())
 }
 
-/// Why the words of a text are no step.
 fn reason_among(words: &[&str]) -> &'static str {
-    if has_empty(words) {
-        return "has a space too many";
-    }
     match words {
         [name, rest @ ..] => reason_of(name, rest),
         [] => NO_STEP,
     }
 }
 
-/// What is said of a text that begins with no step's name.
 const NO_STEP: &str = "is none of the steps";
 
-/// What is said of a step whose `up` is followed by another word.
 const NO_HEIGHT: &str = "has an up that is no number from 1 to 15";
 
-/// Why a text that begins with this word is no step, by the words behind it.
+/// Why a text is no step, by its first word and the words after it.
 fn reason_of(name: &str, rest: &[&str]) -> &'static str {
     match name {
         "fail" | "abort" => "takes one text and no up",
@@ -178,7 +178,7 @@ fn reason_of(name: &str, rest: &[&str]) -> &'static str {
     }
 }
 
-/// Why the words behind the name of a step with a key alone are none.
+/// Why these words do not follow the name of a step with a key.
 fn reason_of_key(rest: &[&str]) -> &'static str {
     match rest {
         [_, up, _] if *up == "up" => NO_HEIGHT,
@@ -186,7 +186,7 @@ fn reason_of_key(rest: &[&str]) -> &'static str {
     }
 }
 
-/// Why the words behind the name of a step with a key and a text are none.
+/// Why these words do not follow the name of a step with a key and a text.
 fn reason_of_text(rest: &[&str]) -> &'static str {
     match rest {
         [_, _, up, _] if *up == "up" => NO_HEIGHT,

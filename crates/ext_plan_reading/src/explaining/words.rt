@@ -1,13 +1,12 @@
-//! The words that say what is meant.
+//! The texts of explanations.
 use crate::fault::PlanFault;
 use std::alloc::Global;
 
-/// These words.
 pub(crate) fn said(alloc: Global, words: &str) -> Result<Option<String>, PlanFault> {
     Ok(Some(String::from_str(alloc, words)?))
 }
 
-/// These words with a text of the plan between, in quotes.
+/// These words, with a text of the plan between them in quotes.
 pub(crate) fn quoted(
     alloc: Global,
     before: &str,

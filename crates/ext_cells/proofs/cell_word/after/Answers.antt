@@ -1,5 +1,5 @@
 use Rattle.std.proofs.Common.{◌≡◌, sym, None}
-use Rattle.ext_cells.specs.Words.{refusal_in}
+use Rattle.ext_cells.specs.WordChanges.{refusal_in}
 use Rattle.ext_cells.proofs.Packing.{version_left}
 use Rattle.ext_cells.proofs.cell_word.after.Goals as goal
 

@@ -14,7 +14,7 @@ use Rattle.ext_engine.specs.declared.node.fault.EngineFault.{EngineFault}
 use Rattle.ext_engine.specs.declared.node.fault.EngineFault.TheVariants as faults
 use Rattle.ext_engine.specs.declared.node.results.RanNode.{RanNode}
 use Rattle.ext_engine.specs.InnerClosers.{IsNode}
-use Rattle.ext_engine.specs.InnerHelpers.{ran_view, ran_in, rans_below, answer_of}
+use Rattle.ext_engine.specs.InnerResults.{ran_view, ran_in, rans_below, answer_of}
 use Rattle.ext_engine.specs.TreeRun.{Lanes, Ran, setting_of, IsUsable, IsIdle, TreeRun, TestRun, BodyMade, with_lanes}
 use Rattle.ext_engine.specs.Failing.{BodyEndsEarly, EndsAs, EndsEarly, EndsInTurn, IsFirstRefusal}
 use Rattle.ext_engine.proofs.Early.{no_value, the_fault, if_err, ends_as, ends_ok, turn_early, body_unmanned, body_beside, body_behind, not_begun, test_early, container_early, container_ran, with_lock_lanes}

@@ -2,7 +2,7 @@ use Rattle.std.proofs.Common.{◌≡◌, ◌+◌, ◌*◌, ◌≤◌, ◌++◌, 
 use Rattle.std.specs.Prelude.{vec_capacity}
 use Rattle.std.specs.List.{flat_map}
 use Rattle.ext_engine.specs.TreeRun.{setting_of, IsUsable, TreeRun, RanInTurn}
-use Rattle.ext_engine.specs.InnerHelpers.{ran_in}
+use Rattle.ext_engine.specs.InnerResults.{ran_in}
 use Rattle.ext_engine.proofs.runner.+tree.Given as goal
 
 abbrev pub decreases-TreeRunner::run_beside-run : goal.decreases-TreeRunner::run_beside-run

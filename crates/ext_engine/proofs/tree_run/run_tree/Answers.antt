@@ -1,6 +1,6 @@
 use Rattle.std.proofs.Common.{rules, ◌≡◌, ◌∙◌, length, map, vec_len, arith, refl, subst, ap}
 use Rattle.ext_tree.specs.Trees.{IsTree}
-use Rattle.ext_engine.specs.InnerHelpers.{ran_view}
+use Rattle.ext_engine.specs.InnerResults.{ran_view}
 use Rattle.ext_lifecycle.specs.Results.{told}
 use Rattle.ext_engine.specs.TreeRun.{setting_of, all_results, all_skipped, placed}
 use Rattle.ext_engine.proofs.InTree.{results_within}

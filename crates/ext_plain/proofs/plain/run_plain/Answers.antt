@@ -5,7 +5,7 @@ use Rattle.ext_tree.specs.Trees.{IsTree}
 use Rattle.ext_plan.specs.ReadPlans.{ids_of_nodes}
 use Rattle.ext_plan.specs.Plans.{node_view, nodes_view, plan_view}
 use Rattle.ext_plan.proofs.NodeIds.{ids-map}
-use Rattle.ext_plain.specs.InnerHelpers.{NodeSpared, state_view}
+use Rattle.ext_plain.specs.InnerSteps.{NodeSpared, state_view}
 use Rattle.ext_plain.specs.PlainRun.{RunState, node_run, plain_run_by, run_opening, skipped_from, ArePlain, HasNoFailed}
 use Rattle.ext_plain.specs.ValueStates.{with_memory}
 use Rattle.ext_plain.proofs.Unfailed.{results_count, runs_as_planned, told_by_nodes}

@@ -2,7 +2,7 @@ use Rattle.std.proofs.Common.{◌∙◌, arith, refl}
 use Rattle.std.proofs.lemmas.List.{drop_all}
 use Rattle.std.proofs.lemmas.Result.{err_from_is_err_and}
 use Rattle.ext_plan.proofs.Lists.{map-push, map-drop}
-use Rattle.ext_plan_reading.specs.InnerHelpers.{words_view}
+use Rattle.ext_plan_reading.specs.InnerSketches.{words_view}
 use Rattle.ext_plan_reading.proofs.Turns.{callbacks_go, callbacks_stop, callbacks_end, Fails-whole}
 use Rattle.ext_plan_reading.proofs.callbacks.callbacks_in_order.Goals as goal
 

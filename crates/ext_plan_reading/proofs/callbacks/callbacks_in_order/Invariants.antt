@@ -1,7 +1,7 @@
 use Rattle.std.proofs.Common.{◌≡◌, drop, map, []}
 use Rattle.ext_plan.specs.Plans.{callbacks_view}
 use Rattle.ext_plan_reading.specs.CallbackReading.{callbacks_after}
-use Rattle.ext_plan_reading.specs.InnerHelpers.{words_view}
+use Rattle.ext_plan_reading.specs.InnerSketches.{words_view}
 use Rattle.ext_plan_reading.proofs.callbacks.callbacks_in_order.Given as goal
 
 abbrev pub invariant-loop-texts : goal.invariant-loop-texts

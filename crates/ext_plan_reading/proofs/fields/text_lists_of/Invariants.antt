@@ -1,7 +1,7 @@
 use Rattle.std.proofs.Common.{◌≡◌, drop, []}
 use Rattle.toml.specs.View.{items_view}
 use Rattle.ext_plan_reading.specs.Fields.{text_lists_after}
-use Rattle.ext_plan_reading.specs.InnerHelpers.{lists_view}
+use Rattle.ext_plan_reading.specs.InnerSketches.{lists_view}
 use Rattle.ext_plan_reading.proofs.fields.text_lists_of.Given as goal
 
 abbrev pub invariant-loop-item : goal.invariant-loop-item

@@ -1,5 +1,5 @@
 use Rattle.std.proofs.Common.{◌≡◌, map, take}
-use Rattle.ext_plan_reading.specs.InnerHelpers.{sketch_view}
+use Rattle.ext_plan_reading.specs.InnerSketches.{sketch_view}
 use Rattle.ext_plan_reading.specs.NodeReading.{ids_of}
 use Rattle.ext_plan_reading.proofs.nodes.ids_of.Given as goal
 

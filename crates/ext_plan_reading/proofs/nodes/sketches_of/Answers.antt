@@ -3,7 +3,7 @@ use Rattle.std.proofs.lemmas.List.{drop_all, length-map}
 use Rattle.std.proofs.lemmas.Result.{err_from_is_err_and}
 use Rattle.toml.specs.View.{table_view}
 use Rattle.ext_plan.proofs.Lists.{map-push, map-drop}
-use Rattle.ext_plan_reading.specs.InnerHelpers.{sketch_view}
+use Rattle.ext_plan_reading.specs.InnerSketches.{sketch_view}
 use Rattle.ext_plan_reading.proofs.Turns.{sketches_go, sketches_stop, sketches_end, Fails-whole}
 use Rattle.ext_plan_reading.proofs.nodes.sketches_of.Goals as goal
 

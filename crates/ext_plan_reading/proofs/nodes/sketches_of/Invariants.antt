@@ -1,6 +1,6 @@
 use Rattle.std.proofs.Common.{◌≡◌, drop, map, []}
 use Rattle.toml.specs.View.{table_view}
-use Rattle.ext_plan_reading.specs.InnerHelpers.{sketch_view}
+use Rattle.ext_plan_reading.specs.InnerSketches.{sketch_view}
 use Rattle.ext_plan_reading.specs.NodeReading.{sketches_after}
 use Rattle.ext_plan_reading.proofs.nodes.sketches_of.Given as goal
 

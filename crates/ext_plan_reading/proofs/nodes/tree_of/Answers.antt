@@ -1,6 +1,6 @@
 use Rattle.std.proofs.Common.{arith, ap, map, length}
 use Rattle.std.proofs.lemmas.List.{length-map}
-use Rattle.ext_plan_reading.specs.InnerHelpers.{sketch_view}
+use Rattle.ext_plan_reading.specs.InnerSketches.{sketch_view}
 use Rattle.ext_plan_reading.proofs.TreeTests.{is_a_tree, is_no_tree}
 use Rattle.ext_plan_reading.proofs.nodes.tree_of.Goals as goal
 

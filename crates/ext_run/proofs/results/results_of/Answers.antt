@@ -5,7 +5,7 @@ use Rattle.ext_parallel.specs.Lacking.{may_have_lacked}
 use Rattle.ext_plan_reading.specs.Plans.{plan_view}
 use Rattle.ext_run.specs.declared.fault.RunFault.TheVariants as faults
 use Rattle.ext_run.specs.Reports.{IsRunBy}
-use Rattle.ext_run.specs.InnerHelpers.{IsPlanFault}
+use Rattle.ext_run.specs.InnerOutputs.{IsPlanFault}
 use Rattle.ext_run.proofs.ReadBytes.{fault_is, not_ok}
 use Rattle.ext_run.proofs.RunReports.{with_texts}
 use Rattle.ext_run.proofs.results.results_of.Goals as goal

@@ -1,4 +1,4 @@
-use Rattle.ext_run.specs.InnerHelpers.{output_view}
+use Rattle.ext_run.specs.InnerOutputs.{output_view}
 use Rattle.ext_run.proofs.RunReports.{unwritten, written}
 use Rattle.ext_run.proofs.runs.run_with_listener.Goals as goal
 

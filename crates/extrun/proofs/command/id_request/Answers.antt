@@ -3,7 +3,7 @@ use Rattle.std.specs.Borrow.{Bor}
 use Rattle.std.specs.Prelude.{option_map, unwrap_or}
 use Rattle.clap.specs.Matches.{found_of}
 use Rattle.clap.proofs.WalkLemmas.{first_value-rows, one_text-rows}
-use Rattle.extrun.specs.Words.{IsFlag}
+use Rattle.extrun.specs.CommandWords.{IsFlag}
 use Rattle.extrun.proofs.command.id_request.Goals as goal
 
 now-unwrap : (text : Option (Bor (List ℕ))) (other : Bor (List ℕ)) → (unwrap_or text other).now ≡ unwrap_or (option_map (λ s. s.now) text) other.now

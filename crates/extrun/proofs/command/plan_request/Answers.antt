@@ -1,7 +1,7 @@
 use Rattle.std.proofs.Common.{codes, refl, subst, ◌∙◌}
 use Rattle.clap.specs.Matches.{found_of}
 use Rattle.clap.proofs.WalkLemmas.{first_value-rows, one_text-rows}
-use Rattle.extrun.specs.Words.{IsFlag}
+use Rattle.extrun.specs.CommandWords.{IsFlag}
 use Rattle.extrun.proofs.command.plan_request.Goals as goal
 
 pub returns : goal.returns

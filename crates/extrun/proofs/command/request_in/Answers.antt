@@ -1,7 +1,7 @@
 use Rattle.std.proofs.Common.{inl, inr, rules, subst}
 use Rattle.std.proofs.lemmas.Result.{IfOk-weaker}
 use Rattle.clap.specs.Words.{app_of}
-use Rattle.extrun.specs.Words.{AsksFor}
+use Rattle.extrun.specs.CommandWords.{AsksFor}
 use Rattle.extrun.proofs.Commands.{line_is_simple}
 use Rattle.extrun.proofs.command.request_in.Goals as goal
 

@@ -2,7 +2,7 @@ use Rattle.std.proofs.Common.{◌≡◌, ◌↔◌, codes, Some, IsTrue, subst, 
 use Rattle.clap.specs.Matches.{found_of}
 use Rattle.clap.specs.Walk.{rows_of}
 use Rattle.clap.proofs.WalkLemmas.{first_value-rows, one_text-rows}
-use Rattle.extrun.specs.Words.{AsksRun, IsFlag, IsLaneCount}
+use Rattle.extrun.specs.CommandWords.{AsksRun, IsFlag, IsLaneCount}
 use Rattle.extrun.proofs.command.run_of.Goals as goal
 
 pub returns : goal.returns

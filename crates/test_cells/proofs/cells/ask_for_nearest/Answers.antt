@@ -21,3 +21,7 @@ nearest-requires-4-clause-different g c = ((refl, (refl, (refl, tt))), ((refl, (
 pub nearest-requires-5-clause-different : goal.nearest-requires-5-clause-different
 unfolding IsDistinct
 nearest-requires-5-clause-different g c = ((refl, (refl, tt)), ((refl, tt), (tt, tt)))
+
+pub nearest-requires-6-clause-different : goal.nearest-requires-6-clause-different
+unfolding IsDistinct
+nearest-requires-6-clause-different g c = ((refl, (refl, tt)), ((refl, tt), (tt, tt)))

@@ -9,7 +9,7 @@ use Rattle.ext_locks.specs.declared.refusal.LockRefusal.TheVariants.{Taken, Cont
 use Rattle.ext_locks.specs.History.{LockHistory, lane_of, IsLegal}
 use Rattle.ext_locks.specs.Views.{Lane}
 use Rattle.ext_locks.specs.Refusals.{IsRefused}
-use Rattle.ext_locks.specs.Laws.{BeginningsAreLegal, OnlyLanesHold}
+use Rattle.ext_locks.specs.LockLaws.{BeginningsAreLegal, OnlyLanesHold}
 use Rattle.test_engine.proofs.alone.take_alone.Goals as goal
 
 -- where there is one lane, no other makes an event

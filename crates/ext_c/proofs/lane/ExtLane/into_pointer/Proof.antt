@@ -27,7 +27,7 @@ use Rattle.std.specs.contracts.alloc.Global as heap
 use Rattle.std.proofs.alloc.Global.TheLaws as heap_laws
 use Rattle.std.specs.contracts.impls.GlobalAllocator.TheImpl.{ghosts}
 use mir.Syntax.{Fn, impl, tnil, dnil}
-use Rattle.ext_pointer.proofs.Values.{both, pointer_good, pointer_in}
+use Rattle.ext_c.proofs.Pointers.{both, pointer_good, pointer_in}
 use Rattle.ext_c.proofs.Steps.{lane_val, lane_told, some_of}
 use Rattle.ext_c.specs.Held.{held}
 use Rattle.ext_c.specs.contracts.seat.Seat as seat

@@ -22,7 +22,7 @@ use Rattle.std.proofs.raw_atomic.Walks.{proved_at, leaves}
 use Rattle.std.specs.contracts.alloc.Global as heap
 use Rattle.std.proofs.alloc.Global.TheLaws as heap_laws
 use Rattle.std.specs.contracts.impls.GlobalAllocator.TheImpl.{ghosts}
-use Rattle.ext_pointer.proofs.Values.{both, BoxPointer, pointer_good, pointer_out}
+use Rattle.ext_c.proofs.Pointers.{both, BoxPointer, pointer_good, pointer_out}
 use Rattle.ext_c.proofs.Steps.{lane_val, lane_own, lane_made}
 use Rattle.ext_c.specs.contracts.seat.Seat as seat
 use Rattle.ext_c.specs.contracts.lane.ExtLane as lane

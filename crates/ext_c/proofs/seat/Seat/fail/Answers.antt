@@ -8,12 +8,12 @@ pub returns-then-not-keeps_faults-clause-says : goal.returns-then-not-keeps_faul
 returns-then-not-keeps_faults-clause-says c =
     FailSays.given_up c.in-Some.claim (sym c.replace.ensures.value ∙ c.in-Some.is)
     (subst (λ (s : StoreView). s.id.cells.limits.keep_faults ≡ false) c.deref-shared.ensures (sym c.keeps_faults.ensures ∙ c.if-not-keeps_faults.true))
-    c.give_up_quietly.ensures.abandoned refl refl
+    c.abandon_quietly.ensures.abandoned refl refl
 
 pub returns-in_default-fault_of-clause-says : goal.returns-in_default-fault_of-clause-says
 returns-in_default-fault_of-clause-says c =
     fail_without_memory c.args.handle c.args.self.now _ c.args.number.now c.in-Some.claim c.of_keep.result (sym c.replace.ensures.value ∙ c.in-Some.is) (subst (λ (s : StoreView). s.id.cells.limits.keep_faults ≡ true) c.deref-shared.ensures (sym c.keeps_faults.ensures ∙ c.if-not-keeps_faults.false)) c.args.self.now.fits.cells
-    c.give_up_quietly-in_default-fault_of.ensures.abandoned c.of_keep.ensures
+    c.abandon_quietly-in_default-fault_of.ensures.abandoned c.of_keep.ensures
 
 pub returns-in-Ok-fail_claim-clause-says : goal.returns-in-Ok-fail_claim-clause-says
 returns-in-Ok-fail_claim-clause-says c =

@@ -1,6 +1,6 @@
 use Rattle.std.proofs.Common.{◌≡◌, ◌+◌, ◌^◌, ◌<◌, sym, ap, ◌∙◌, subst, arith}
 use Rattle.ext_cells.specs.declared.cell_state.CellState.TheVariants.{Computing}
-use Rattle.ext_cells.specs.Words.{next_word, Suits}
+use Rattle.ext_cells.specs.WordChanges.{next_word, Suits}
 use Rattle.ext_cells.specs.Lanes.{Lane}
 use Rattle.ext_cells.proofs.Tries.{TriesOn, first_on, steps_next}
 use Rattle.ext_cells.proofs.Changing.{place_in_is}

@@ -1,5 +1,5 @@
 use Rattle.std.proofs.Common.{◌≡◌, ◌<◌, ap, sym, subst, ◌∙◌, arith}
-use Rattle.ext_cells.specs.Words.{HasState}
+use Rattle.ext_cells.specs.WordChanges.{HasState}
 use Rattle.ext_cells.proofs.Lanes.{stays_lane, found_lane}
 use Rattle.ext_cells.proofs.Readings.{word_has_state}
 use Rattle.ext_cells.proofs.cells.Cells.read.Goals as goal

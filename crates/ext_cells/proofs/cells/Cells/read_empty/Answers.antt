@@ -1,44 +1,41 @@
-use Rattle.std.proofs.Common.{◌<◌, ◌++◌, [], ◌∷◌, get_or, sym, refl, ap, ◌∙◌, subst, arith, rules}
-use Rattle.std.proofs.lemmas.List.Elements.{All-nil, All-push}
+use Rattle.std.proofs.Common.{◌<◌, ◌++◌, [], ◌∷◌, get_or, sym, ap, ◌∙◌, subst, arith, rules}
+use Rattle.std.specs.Prelude.{All}
+use Rattle.std.proofs.lemmas.List.Elements.{All-push}
+use Rattle.std.proofs.lemmas.List.Sums.{sum_by-append, sum_by-cons}
 use Rattle.ext_cells.specs.Lanes.{Lane}
-use Rattle.ext_cells.specs.InnerPasses.{ReadPass}
-use Rattle.ext_cells.specs.Words.{IsEmptyWord}
+use Rattle.ext_cells.specs.CellCalls.{cell_at, cells_in}
 use Rattle.ext_cells.specs.InnerSteps.{Finds}
-use Rattle.ext_cells.proofs.Collecting.{known_at, take_next, pass_none, pass_more}
+use Rattle.ext_cells.specs.WordChanges.{IsEmptyWord, version_in}
+use Rattle.ext_cells.proofs.Rows.{row_known, row_more}
 use Rattle.ext_cells.proofs.cells.Cells.read_empty.Goals as goal
 
-pub loop-cell-init : goal.loop-cell-init
-loop-cell-init c =
-    let empty = c.new-empty.ensures.empty in record {
-      cells = refl;
-      count = empty.0;
-      versions = let v = empty.1 in omega (arith, v);
-      read = ([], c.new-empty.ensures.reading, All-nil IsEmptyWord, pass_none c.args.lane.now.cells.limits c.args.lane.now.view c.recall.ensures.legal);
-    }
+pub read_at-word-requires-clause-cell : goal.read_at-word-requires-clause-cell
+read_at-word-requires-clause-cell c = row_known _ c.args.rows.now c.args.column c.loop-count.count c.requires.known c.loop-count-test.true
 
-pub read-word-requires-clause-place : goal.read-word-requires-clause-place
-read-word-requires-clause-place c = let i = known_at _ _ c.loop-cell.cell-index c.requires.known c.loop-cell-test.true in omega (arith, i)
-
-pub loop-cell-preserved : goal.loop-cell-preserved
-loop-cell-preserved c =
-    let f = c.read-word.ensures.found in
-    let i = c.loop-cell.cell-index in
-    let old = c.loop-cell.invariant in
-    let counted = old.count in
-    let once = c.with-empty.ensures.count in
-    let word = c.read-word.result in
-    let none : IsEmptyWord c.read-word.result = search rules in
-    let below : get_or c.args.cells.now i 0 < c.args.lane.now.cells.limits.cells = subst (λ z. get_or c.args.cells.now i 0 < z.limits.cells) (sym c.requires.lane) (known_at _ _ i c.requires.known c.loop-cell-test.true) in
-    let found : Finds c.args.lane.now.cells.limits c.loop-cell.lane.view (get_or c.args.cells.now i 0) c.read-word.result f.0 = subst (λ z. Finds z.limits c.loop-cell.lane.view (get_or c.args.cells.now i 0) c.read-word.result f.0) old.cells f.1 in
+pub loop-count-preserved : goal.loop-count-preserved
+loop-count-preserved c =
+    let f = c.read_at-word.ensures.found in
+    let i = c.loop-count.count in
+    let old = c.loop-count.invariant in
+    let words = old.read.0 in
+    let word = c.read_at-word.result in
+    let least = old.versions in
+    let within = c.version-versions.ensures.within in
+    let sum = sum_by-append version_in words (word ∷ []) in
+    let last = sum_by-cons version_in word [] in
+    let was = old.read.1 in
+    let is = c.version-versions.ensures.version in
+    let none : IsEmptyWord c.read_at-word.result = search rules in
+    let known = subst (λ z. All (λ cell. cell < z.limits.cells) (cells_in c.args.rows.now c.args.column)) (sym c.requires.lane) c.requires.known in
+    let found : Finds c.args.lane.now.cells.limits c.loop-count.lane.view (cell_at c.args.column (get_or c.args.rows.now i 0)) c.read_at-word.result f.0 =
+    subst (λ z. Finds z.limits c.loop-count.lane.view (cell_at c.args.column (get_or c.args.rows.now i 0)) c.read_at-word.result f.0) old.cells f.1 in
     record {
       cells = ap (λ (l : Lane). l.cells) f.2 ∙ old.cells;
-      count = omega (arith, counted, once);
-      versions = c.with-empty.ensures.versions;
+      versions = omega (arith, least, within);
       read = (
-        old.read.0 ++ word ∷ [],
-        c.with-empty.ensures.reading old.read.0 old.read.1,
-        All-push IsEmptyWord old.read.0 word old.read.2 none,
-        subst (λ z. ReadPass c.args.lane.now.cells.limits c.args.lane.now.view c.read-word.new.lane.view z (old.read.0 ++ word ∷ [])) (sym (take_next c.args.cells.now i c.loop-cell-test.true))
-            (pass_more _ _ _ _ _ _ _ _ f.0 old.read.3 below found (ap (λ (l : Lane). l.view) f.2)),
+        words ++ word ∷ [],
+        omega (arith, sum, last, was, is),
+        All-push IsEmptyWord words word old.read.2 none,
+        row_more _ _ _ _ c.args.rows.now words c.args.column i _ f.0 known c.loop-count-test.true old.read.3 found (ap (λ (l : Lane). l.view) f.2),
       );
     }

@@ -1,13 +1,13 @@
 use Rattle.std.proofs.Common.{◌≡◌, ◌≤◌, ◌*◌, ◌^◌, ℕ, List, take}
-use Rattle.std.specs.Prelude.{All}
-use Rattle.ext_cells.specs.InnerPasses.{IsReading, ReadPass}
-use Rattle.ext_cells.specs.Words.{IsEmptyWord}
+use Rattle.std.specs.Prelude.{All, sum_by}
+use Rattle.ext_cells.specs.CellCalls.{cells_in}
+use Rattle.ext_cells.specs.InnerPasses.{ReadPass}
+use Rattle.ext_cells.specs.WordChanges.{IsEmptyWord, version_in}
 use Rattle.ext_cells.proofs.cells.Cells.read_empty.Given as goal
 
-abbrev pub invariant-loop-cell : goal.invariant-loop-cell
-invariant-loop-cell l = record {
+abbrev pub invariant-loop-count : goal.invariant-loop-count
+invariant-loop-count l = record {
   cells : l.lane.cells ≡ l.fn.lane.cells;
-  count : l.empty.count ≡ l.cell-index;
-  versions : l.empty.versions ≤ l.empty.count * 2 ^ 40;
-  read : (words : List ℕ) × IsReading words l.empty × All IsEmptyWord words × ReadPass l.fn.lane.cells.limits l.fn.lane.view l.lane.view (take l.cell-index l.cells) words;
+  versions : l.versions ≤ l.count * 2 ^ 40;
+  read : (words : List ℕ) × (l.versions ≡ sum_by version_in words) × All IsEmptyWord words × ReadPass l.fn.lane.cells.limits l.fn.lane.view l.lane.view (take l.count (cells_in l.rows l.column)) words;
 }

@@ -1,7 +1,7 @@
 use Rattle.std.proofs.Common.{◌≡◌, ◌≤◌, ◌++◌, map}
 use Rattle.std.specs.Prelude.{vec_capacity}
 use Rattle.std.specs.List.{flat_map}
-use Rattle.ext_engine.specs.InnerHelpers.{ran_view, ran_in}
+use Rattle.ext_engine.specs.InnerResults.{ran_view, ran_in}
 use Rattle.ext_engine.proofs.node.results.append_all.Given as goal
 
 abbrev pub invariant-loop-outcome : goal.invariant-loop-outcome

@@ -1,6 +1,6 @@
 use Rattle.std.proofs.Common.{map}
 use Rattle.ext_lifecycle.specs.Results.{told}
-use Rattle.ext_engine.specs.InnerHelpers.{ran_view}
+use Rattle.ext_engine.specs.InnerResults.{ran_view}
 use Rattle.ext_engine.specs.NodeRun.{placed}
 use Rattle.ext_engine.proofs.Placing.{IsPlacing}
 use Rattle.ext_engine.proofs.node.results.place.Given as goal

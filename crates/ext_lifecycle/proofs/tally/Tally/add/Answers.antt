@@ -1,5 +1,5 @@
 use Rattle.std.proofs.Common.{ap, sym, ◌∙◌, arith}
-use Rattle.ext_lifecycle.specs.InnerHelpers.{total_in, with_ending}
+use Rattle.ext_lifecycle.specs.InnerTotals.{total_in, with_ending}
 use Rattle.ext_lifecycle.specs.Lifecycle.{ending_of}
 use Rattle.ext_lifecycle.proofs.Tallying.{tally_of-more}
 use Rattle.ext_lifecycle.proofs.tally.Tally.add.Goals as goal

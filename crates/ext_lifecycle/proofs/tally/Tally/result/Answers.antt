@@ -1,5 +1,5 @@
 use Rattle.std.proofs.Common.{◌+◌, refl, ap, sym, ◌∙◌}
-use Rattle.ext_lifecycle.specs.InnerHelpers.{total_in, with_closes, with_faults}
+use Rattle.ext_lifecycle.specs.InnerTotals.{total_in, with_closes, with_faults}
 use Rattle.ext_lifecycle.proofs.Tallying.{closed-total, faults-none, faults-some, result_of-ended}
 use Rattle.ext_lifecycle.proofs.tally.Tally.result.Goals as goal
 use Rattle.ext_lifecycle.proofs.tally.Tally.result.Goals.{in-Some, in_default}

@@ -3,7 +3,7 @@ use Rattle.std.proofs.lemmas.List.{drop_all}
 use Rattle.ext_lifecycle.specs.FaultTexts.{results_view}
 use Rattle.ext_tree.specs.Trees.{IsTree}
 use Rattle.ext_plain.specs.declared.setting.Setting.{Setting}
-use Rattle.ext_plain.specs.InnerHelpers.{ChildrenRun, NodeRuns, any_child, plan_in, run_view}
+use Rattle.ext_plain.specs.InnerSteps.{ChildrenRun, NodeRuns, any_child, plan_in, run_view}
 use Rattle.ext_plan.specs.PlanCalls.{concurrent_of}
 use Rattle.ext_plain.specs.PlainRun.{body_run, node_run}
 use Rattle.ext_plain.proofs.Nodes.{child_is}

@@ -1,5 +1,5 @@
 use Rattle.std.proofs.Common.{◌≡◌, ◌*◌, ◌+◌, drop}
-use Rattle.ext_plain.specs.InnerHelpers.{run_view}
+use Rattle.ext_plain.specs.InnerSteps.{run_view}
 use Rattle.ext_plain.proofs.Runs.{StillRuns}
 use Rattle.ext_plain.proofs.plain.PlainRunner.+nodes.Given as goal
 

@@ -2,7 +2,7 @@ use Rattle.std.proofs.Common.{◌≡◌, ◌∙◌, map, ap}
 use Rattle.ext_lifecycle.specs.FaultTexts.{result_view, results_view}
 use Rattle.ext_plan.specs.Values.{close_fault}
 use Rattle.ext_plain.specs.ContextEnds.{closeables, faults_of_closes}
-use Rattle.ext_plain.specs.InnerHelpers.{calls_end, state_view}
+use Rattle.ext_plain.specs.InnerSteps.{calls_end, state_view}
 use Rattle.ext_plain.specs.ValueStates.{key_limit, with_memory}
 use Rattle.ext_plain.proofs.Memories.{seal_keys-with}
 use Rattle.ext_plain.proofs.Nodes.{end_is, outcome_is}

@@ -2,7 +2,7 @@ use Rattle.std.proofs.Common.{◌≤◌, ◌∙◌, [], map, refl, sym, ap, subs
 use Rattle.std.specs.Prelude.{option_map}
 use Rattle.std.proofs.lemmas.List.{take_all}
 use Rattle.ext_plain.specs.ContextEnds.{closeables}
-use Rattle.ext_plain.specs.InnerHelpers.{state_view, HasClosed}
+use Rattle.ext_plain.specs.InnerSteps.{state_view, HasClosed}
 use Rattle.ext_plain.proofs.Sealing.{closes-more, closes-same, HasClosed-is, HasClosed-more}
 use Rattle.ext_plain.proofs.value_store.ValueStore.close_values.Goals as goal
 use Rattle.ext_plain.proofs.value_store.ValueStore.close_values.Goals.{in-Some+in_ok-fault, in_default}

@@ -1,6 +1,6 @@
 use Rattle.std.proofs.Common.{◌≤◌, take, map}
 use Rattle.ext_plain.specs.ContextEnds.{closeables}
-use Rattle.ext_plain.specs.InnerHelpers.{state_view, HasClosed}
+use Rattle.ext_plain.specs.InnerSteps.{state_view, HasClosed}
 use Rattle.ext_plain.proofs.value_store.ValueStore.close_values.Given as goal
 use Rattle.ext_plan.specs.Values.{close_fault}
 

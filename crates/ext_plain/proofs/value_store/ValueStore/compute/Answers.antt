@@ -3,7 +3,7 @@ use Rattle.ext_model.specs.declared.look.Look.{Look}
 use Rattle.ext_model.specs.declared.look.Look.TheVariants as look
 use Rattle.ext_plain.specs.ValueStates.{Memory}
 use Rattle.ext_plain.specs.StepRuns.{compute_by, compute_looked}
-use Rattle.ext_plain.specs.InnerHelpers.{memory_of, place_of_call, state_view}
+use Rattle.ext_plain.specs.InnerSteps.{memory_of, place_of_call, state_view}
 use Rattle.ext_plain.proofs.Lacks.{compute-met, says-by}
 use Rattle.ext_plain.proofs.value_store.ValueStore.compute.Goals as goal
 use Rattle.ext_plan.specs.StepCalls.{call_view}

@@ -4,7 +4,7 @@ use Rattle.ext_model.specs.declared.look.Look.TheVariants as look
 use Rattle.ext_plain.specs.declared.lack.Lack.TheVariants as lacks
 use Rattle.ext_plain.specs.ValueStates.{after_act, reply_to, why_refused}
 use Rattle.ext_plain.specs.StepRuns.{compute_by, factory_gave}
-use Rattle.ext_plain.specs.InnerHelpers.{place_of_call, state_view}
+use Rattle.ext_plain.specs.InnerSteps.{place_of_call, state_view}
 use Rattle.ext_plain.proofs.Lacks.{at_lack, given-by, refusal-says, refused-same, unplaced}
 use Rattle.ext_plain.proofs.value_store.ValueStore.compute_absent.Goals as goal
 use Rattle.ext_plan.specs.StepCalls.{call_view}

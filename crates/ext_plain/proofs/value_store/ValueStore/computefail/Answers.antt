@@ -3,7 +3,7 @@ use Rattle.ext_model.specs.declared.look.Look.{Look}
 use Rattle.ext_model.specs.declared.look.Look.TheVariants as look
 use Rattle.ext_plain.specs.ValueStates.{Memory}
 use Rattle.ext_plain.specs.StepRuns.{computefail_by}
-use Rattle.ext_plain.specs.InnerHelpers.{memory_of, place_of_call, state_view}
+use Rattle.ext_plain.specs.InnerSteps.{memory_of, place_of_call, state_view}
 use Rattle.ext_plain.proofs.Lacks.{computefail-found, computefail-met, says-by}
 use Rattle.ext_plain.proofs.value_store.ValueStore.computefail.Goals as goal
 use Rattle.ext_plan.specs.StepCalls.{call_view}

@@ -1,5 +1,5 @@
 use Rattle.std.proofs.Common.{ℕ, List, ◌∙◌, ap}
-use Rattle.ext_plain.specs.InnerHelpers.{keyed_view, memory_of, state_view}
+use Rattle.ext_plain.specs.InnerSteps.{keyed_view, memory_of, state_view}
 use Rattle.ext_plain.specs.StepRuns.{StepEnd, computefail_numbered}
 use Rattle.ext_plain.specs.ValueStates.{Memory, ValueState}
 use Rattle.ext_plain.proofs.KeyedSteps.{full-says, numbered-goes}

@@ -1,7 +1,7 @@
 use Rattle.std.proofs.Common.{◌≡◌, ◌∙◌, false, ap, subst}
 use Rattle.ext_lifecycle.specs.Endings.{is_successful}
 use Rattle.ext_plain.specs.StepRuns.{shown}
-use Rattle.ext_plain.specs.InnerHelpers.{counted_found, state_view}
+use Rattle.ext_plain.specs.InnerSteps.{counted_found, state_view}
 use Rattle.ext_plain.proofs.Lacks.{found_unsaid}
 use Rattle.ext_plain.proofs.value_store.ValueStore.fail_found.Goals as goal
 use Rattle.ext_plan.specs.StepCalls.{call_view}

@@ -1,7 +1,7 @@
 use Rattle.std.proofs.Common.{◌∙◌, ap, sym, subst}
 use Rattle.ext_model.specs.declared.event.Act.TheVariants.{Abandon}
 use Rattle.ext_plain.specs.ValueStates.{after_act}
-use Rattle.ext_plain.specs.InnerHelpers.{Keeps, IsNotKept, LacksGiven, place_of_call, state_view}
+use Rattle.ext_plain.specs.InnerSteps.{Keeps, IsNotKept, LacksGiven, place_of_call, state_view}
 use Rattle.ext_plain.proofs.Lacks.{refusal-gives}
 use Rattle.ext_plain.proofs.value_store.ValueStore.fill_claim.Goals as goal
 use Rattle.ext_plan.specs.StepCalls.{call_view}

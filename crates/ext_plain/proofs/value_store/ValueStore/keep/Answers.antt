@@ -3,7 +3,7 @@ use Rattle.std.specs.Prelude.{nat_lt}
 use Rattle.ext_model.specs.Plain.{state_of, any_lane, next_state, number_drawn}
 use Rattle.ext_plan.proofs.Lists.{map-push}
 use Rattle.ext_plain.specs.ValueStates.{next_number}
-use Rattle.ext_plain.specs.InnerHelpers.{state_view}
+use Rattle.ext_plain.specs.InnerSteps.{state_view}
 use Rattle.ext_plain.proofs.Acts.{keep_refused, popped, state_is, reply_ok}
 use Rattle.ext_plain.proofs.value_store.ValueStore.keep.Goals as goal
 use Rattle.ext_plan.specs.Values.{value_view}

@@ -2,7 +2,7 @@ use Rattle.std.proofs.Common.{◌∙◌, Err, refl, ap, sym, subst}
 use Rattle.ext_lifecycle.specs.declared.outcome.Outcome.{Outcome}
 use Rattle.ext_lifecycle.specs.FaultTexts.{verdict_text}
 use Rattle.ext_plan.specs.Plans.{step_view}
-use Rattle.ext_plain.specs.InnerHelpers.{memory_of_step, state_view, step_end}
+use Rattle.ext_plain.specs.InnerSteps.{memory_of_step, state_view, step_end}
 use Rattle.ext_plain.specs.ValueStates.{enough}
 use Rattle.ext_plain.proofs.Few.{IsFew, step-few}
 use Rattle.ext_plain.proofs.value_store.ValueStore.make_step.Goals as goal

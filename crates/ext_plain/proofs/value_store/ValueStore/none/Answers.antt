@@ -1,6 +1,6 @@
 use Rattle.std.proofs.Common.{◌∙◌, refl, ap}
 use Rattle.ext_plain.specs.StepRuns.{ended, said_by}
-use Rattle.ext_plain.specs.InnerHelpers.{memory_of, state_view}
+use Rattle.ext_plain.specs.InnerSteps.{memory_of, state_view}
 use Rattle.ext_plain.proofs.Lacks.{says-by}
 use Rattle.ext_plain.proofs.value_store.ValueStore.none.Goals as goal
 use Rattle.ext_plan.specs.StepCalls.{call_view}

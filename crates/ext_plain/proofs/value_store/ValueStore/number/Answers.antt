@@ -1,6 +1,6 @@
 use Rattle.std.proofs.Common.{◌≡◌, ◌∙◌, ◌++◌, ◌∷◌, ◌≤◌, ◌<◌, [], length, inl, inr, refl, ap, sym, subst, arith, Contains}
 use Rattle.std.proofs.lemmas.Bool.{le-ltb, lt-ltb}
-use Rattle.ext_plain.specs.InnerHelpers.{state_view}
+use Rattle.ext_plain.specs.InnerSteps.{state_view}
 use Rattle.ext_plain.specs.ValueStates.{next}
 use Rattle.ext_plain.proofs.Numberings.{found_is, is_full, is_next}
 use Rattle.ext_plain.proofs.value_store.ValueStore.number.Goals as goal

@@ -1,5 +1,5 @@
 use Rattle.std.proofs.Common.{◌∙◌, subst}
-use Rattle.ext_plain.specs.InnerHelpers.{IsKeptAs, IsNotKept, Keeps, keyed_view, state_view}
+use Rattle.ext_plain.specs.InnerSteps.{IsKeptAs, IsNotKept, Keeps, keyed_view, state_view}
 use Rattle.ext_plain.proofs.KeyedSteps.{kept-full-says, kept-goes, numbered-drawn, unkept-says}
 use Rattle.ext_plain.proofs.value_store.ValueStore.put_step.Goals as goal
 use Rattle.ext_plan.specs.StepCalls.{call_view}

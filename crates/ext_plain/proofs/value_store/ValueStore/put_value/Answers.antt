@@ -2,7 +2,7 @@ use Rattle.std.proofs.Common.{◌∙◌, ap, refl}
 use Rattle.ext_model.specs.declared.event.Act.TheVariants.{Put}
 use Rattle.ext_plain.specs.ValueStates.{after_act, why_refused}
 use Rattle.ext_plain.specs.StepRuns.{put_in}
-use Rattle.ext_plain.specs.InnerHelpers.{place_of_call, state_view}
+use Rattle.ext_plain.specs.InnerSteps.{place_of_call, state_view}
 use Rattle.ext_plain.proofs.Lacks.{act-says}
 use Rattle.ext_plain.proofs.value_store.ValueStore.put_value.Goals as goal
 use Rattle.ext_plan.specs.StepCalls.{call_view}

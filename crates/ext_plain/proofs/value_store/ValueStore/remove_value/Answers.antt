@@ -2,7 +2,7 @@ use Rattle.std.proofs.Common.{◌∙◌, ap, refl}
 use Rattle.ext_model.specs.declared.event.Act.TheVariants.{Remove}
 use Rattle.ext_plain.specs.ValueStates.{after_act, why_refused}
 use Rattle.ext_plain.specs.StepRuns.{remove_numbered}
-use Rattle.ext_plain.specs.InnerHelpers.{place_of_call, state_view}
+use Rattle.ext_plain.specs.InnerSteps.{place_of_call, state_view}
 use Rattle.ext_plain.proofs.Lacks.{act-says}
 use Rattle.ext_plain.proofs.value_store.ValueStore.remove_value.Goals as goal
 use Rattle.ext_plan.specs.StepCalls.{call_view}

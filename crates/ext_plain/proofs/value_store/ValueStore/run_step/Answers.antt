@@ -3,7 +3,7 @@ use Rattle.std.specs.Prelude.{string_bytes}
 use Rattle.ext_lifecycle.specs.Endings.{aborted, failed}
 use Rattle.ext_plan.specs.Plans.{step_view}
 use Rattle.ext_plain.specs.StepRuns.{ended, said_by, step_by}
-use Rattle.ext_plain.specs.InnerHelpers.{keyed_view, memory_of_step, state_view}
+use Rattle.ext_plain.specs.InnerSteps.{keyed_view, memory_of_step, state_view}
 use Rattle.ext_plain.proofs.Acts.{computes_as, computefails_by, finds_none_by, made_not_closeable, made_closeable, puts_as, removes_by, wants_by}
 use Rattle.ext_plain.proofs.KeyedSteps.{lifted-end}
 use Rattle.ext_plain.proofs.Lacks.{says-by}

@@ -7,7 +7,7 @@ use Rattle.ext_lifecycle.specs.FaultTexts.{fault_text}
 use Rattle.ext_plan.proofs.Lists.{map-drop}
 use Rattle.ext_plain.specs.StepRuns.{steps_run}
 use Rattle.ext_plain.specs.ValueStates.{with_memory}
-use Rattle.ext_plain.specs.InnerHelpers.{state_view, step_end}
+use Rattle.ext_plain.specs.InnerSteps.{state_view, step_end}
 use Rattle.ext_plain.proofs.Memories.{first_found, first_found-nothing, next_step-is}
 use Rattle.ext_plain.proofs.Spared.{passes}
 use Rattle.ext_plain.proofs.Stepping.{after_steps, no_steps, steps-go, steps-stop, steps-end}

@@ -2,7 +2,7 @@ use Rattle.std.proofs.Common.{◌≡◌, ◌≤◌, List, [], drop, map}
 use Rattle.ext_plan.specs.Plans.{step_view}
 use Rattle.ext_plain.specs.StepRuns.{steps_run}
 use Rattle.ext_plain.specs.ValueStates.{Memory, with_memory}
-use Rattle.ext_plain.specs.InnerHelpers.{state_view}
+use Rattle.ext_plain.specs.InnerSteps.{state_view}
 use Rattle.ext_plain.proofs.Stepping.{after_steps}
 use Rattle.ext_plain.proofs.value_store.ValueStore.run_steps.Given as goal
 use Rattle.ext_plan.specs.StepCalls.{keys_in}

@@ -2,7 +2,7 @@ use Rattle.std.proofs.Common.{◌∙◌, length, sym, ap, arith}
 use Rattle.ext_model.specs.declared.event.Act.TheVariants.{Seal}
 use Rattle.ext_model.specs.Closing.{put_in_kept}
 use Rattle.ext_plain.specs.ValueStates.{after_act}
-use Rattle.ext_plain.specs.InnerHelpers.{state_view}
+use Rattle.ext_plain.specs.InnerSteps.{state_view}
 use Rattle.ext_plain.proofs.Sealing.{seal_keys-zero, seal_keys-more, numbers_left-more}
 use Rattle.ext_plain.proofs.value_store.ValueStore.seal_keys.Goals as goal
 

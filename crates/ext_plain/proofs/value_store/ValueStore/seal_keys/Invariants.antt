@@ -1,6 +1,6 @@
 use Rattle.std.proofs.Common.{◌≡◌, ◌≤◌, length}
 use Rattle.ext_plain.specs.ContextEnds.{seal_keys, numbers_left}
-use Rattle.ext_plain.specs.InnerHelpers.{state_view}
+use Rattle.ext_plain.specs.InnerSteps.{state_view}
 use Rattle.ext_plain.proofs.value_store.ValueStore.seal_keys.Given as goal
 
 abbrev pub invariant-loop-key : goal.invariant-loop-key

@@ -1,6 +1,6 @@
 use Rattle.std.proofs.Common.{◌≡◌, [], refl}
 use Rattle.std.specs.Prelude.{Err}
-use Rattle.ext_store_cells.specs.declared.claim.Unused.TheVariants as unused
+use Rattle.ext_store_core.specs.declared.claim.Unused.TheVariants as unused
 use Rattle.ext_store.specs.Computing.{ClaimsMissing}
 use Rattle.ext_store.proofs.Frames.{stays_then}
 use Rattle.ext_store.proofs.Numbered.{of_number, of_refusal, placed_still}

@@ -21,7 +21,7 @@ returns-in-Err-clause-answer g c =
     let s = c.args.self.now in
     let lane : c.lane.inside.cells ≡ c.args.lane.now.cells = ap (λ (l : StoreLane g.row.V.Denot). l.cells) c.lane.view_is in
     let a = c.args.lane.now.cells in
-    let b = c.wait_to_claim.new.lane in
+    let b = c.claim_wait.new.lane in
     let w : ClaimsAfterWaits s c.args.context c.args.key a.view b.view (Err c.in-Err.why) =
     subst (λ (z : StoreView × Lane). ClaimsAfterWaits z.0 c.args.context c.args.key z.1.view b.view (Err c.in-Err.why)) (λ i. (c.self.view_is i, lane i)) c.in-Err.ensures.claim in
     subst (λ r. ComputesAfterWaits s c.args.context c.args.key a b (without_factory r)) (sym c.hand_back.ensures)
@@ -29,8 +29,8 @@ returns-in-Err-clause-answer g c =
 
 pub returns-in-Err-clause-grows : goal.returns-in-Err-clause-grows
 returns-in-Err-clause-grows g c =
-    grows c.args.self.now.id c.args.lane.now (record { cells = c.wait_to_claim.new.lane; known = c.lane.inside.notes; faults = c.lane.inside.faults; keys = c.lane.inside.keys })
-    (waits_frame c.args.self.now.id (record { cells = c.lane.inside.cells; known = c.lane.inside.notes; faults = c.lane.inside.faults; keys = c.lane.inside.keys }) c.args.lane.now (record { cells = c.wait_to_claim.new.lane; known = c.lane.inside.notes; faults = c.lane.inside.faults; keys = c.lane.inside.keys }) c.lane.view_is c.requires.lane c.wait_to_claim.ensures.lane refl
+    grows c.args.self.now.id c.args.lane.now (record { cells = c.claim_wait.new.lane; known = c.lane.inside.notes; faults = c.lane.inside.faults; keys = c.lane.inside.keys })
+    (waits_frame c.args.self.now.id (record { cells = c.lane.inside.cells; known = c.lane.inside.notes; faults = c.lane.inside.faults; keys = c.lane.inside.keys }) c.args.lane.now (record { cells = c.claim_wait.new.lane; known = c.lane.inside.notes; faults = c.lane.inside.faults; keys = c.lane.inside.keys }) c.lane.view_is c.requires.lane c.claim_wait.ensures.lane refl
     c.self.inside.shared (ap (λ (s : StoreView). s.id.cells) c.self.view_is) c.args.context c.args.key (Err c.in-Err.why) c.in-Err.ensures.claim)
 
 pub returns-in-Ok-wait_to_fill-clause-answer : goal.returns-in-Ok-wait_to_fill-clause-answer
@@ -39,7 +39,7 @@ returns-in-Ok-wait_to_fill-clause-answer g c =
     let s = c.args.self.now in
     let lane : c.lane.inside.cells ≡ c.args.lane.now.cells = ap (λ (l : StoreLane g.row.V.Denot). l.cells) c.lane.view_is in
     let a = c.args.lane.now.cells in
-    let b = c.wait_to_claim.new.lane in
+    let b = c.claim_wait.new.lane in
     let w : ClaimsAfterWaits s c.args.context c.args.key a.view b.view (Ok c.in-Ok.claim) =
     subst (λ (z : StoreView × Lane). ClaimsAfterWaits z.0 c.args.context c.args.key z.1.view b.view (Ok c.in-Ok.claim)) (λ i. (c.self.view_is i, lane i)) c.in-Ok.ensures.claim in
     computes_later s c.args.context c.args.key a c.wait_to_fill.new.lane.cells b.view (Ok c.in-Ok.claim) w _ c.requires.lane.cells
@@ -51,7 +51,7 @@ returns-in-Err-wait_to_fill-clause-answer g c =
     let s = c.args.self.now in
     let lane : c.lane.inside.cells ≡ c.args.lane.now.cells = ap (λ (l : StoreLane g.row.V.Denot). l.cells) c.lane.view_is in
     let a = c.args.lane.now.cells in
-    let b = c.wait_to_claim.new.lane in
+    let b = c.claim_wait.new.lane in
     let w : ClaimsAfterWaits s c.args.context c.args.key a.view b.view (Ok c.in-Ok.claim) =
     subst (λ (z : StoreView × Lane). ClaimsAfterWaits z.0 c.args.context c.args.key z.1.view b.view (Ok c.in-Ok.claim)) (λ i. (c.self.view_is i, lane i)) c.in-Ok.ensures.claim in
     computes_later s c.args.context c.args.key a c.wait_to_fill.new.lane.cells b.view (Ok c.in-Ok.claim) w _ c.requires.lane.cells
@@ -61,26 +61,26 @@ pub returns-in-Ok-wait_to_fill-clause-grows : goal.returns-in-Ok-wait_to_fill-cl
 returns-in-Ok-wait_to_fill-clause-grows g c =
     let s = c.args.self.now in
     let inside : StoreLane g.row.V.Denot = record { cells = c.lane.inside.cells; known = c.lane.inside.notes; faults = c.lane.inside.faults; keys = c.lane.inside.keys } in
-    let claimed : StoreLane g.row.V.Denot = record { cells = c.wait_to_claim.new.lane; known = c.lane.inside.notes; faults = c.lane.inside.faults; keys = c.lane.inside.keys } in
+    let claimed : StoreLane g.row.V.Denot = record { cells = c.claim_wait.new.lane; known = c.lane.inside.notes; faults = c.lane.inside.faults; keys = c.lane.inside.keys } in
     grows s.id c.args.lane.now c.wait_to_fill.new.lane
-    (frames_compose s.id [] [] c.args.lane.now claimed c.wait_to_fill.new.lane (waits_frame s.id inside c.args.lane.now claimed c.lane.view_is c.requires.lane c.wait_to_claim.ensures.lane refl c.self.inside.shared (ap (λ (s : StoreView). s.id.cells) c.self.view_is) c.args.context c.args.key (Ok c.in-Ok.claim) c.in-Ok.ensures.claim) c.wait_to_fill.ensures.frame)
+    (frames_compose s.id [] [] c.args.lane.now claimed c.wait_to_fill.new.lane (waits_frame s.id inside c.args.lane.now claimed c.lane.view_is c.requires.lane c.claim_wait.ensures.lane refl c.self.inside.shared (ap (λ (s : StoreView). s.id.cells) c.self.view_is) c.args.context c.args.key (Ok c.in-Ok.claim) c.in-Ok.ensures.claim) c.wait_to_fill.ensures.frame)
 
 pub returns-in-Err-wait_to_fill-clause-grows : goal.returns-in-Err-wait_to_fill-clause-grows
 returns-in-Err-wait_to_fill-clause-grows g c =
     let s = c.args.self.now in
     let inside : StoreLane g.row.V.Denot = record { cells = c.lane.inside.cells; known = c.lane.inside.notes; faults = c.lane.inside.faults; keys = c.lane.inside.keys } in
-    let claimed : StoreLane g.row.V.Denot = record { cells = c.wait_to_claim.new.lane; known = c.lane.inside.notes; faults = c.lane.inside.faults; keys = c.lane.inside.keys } in
+    let claimed : StoreLane g.row.V.Denot = record { cells = c.claim_wait.new.lane; known = c.lane.inside.notes; faults = c.lane.inside.faults; keys = c.lane.inside.keys } in
     grows s.id c.args.lane.now c.wait_to_fill.new.lane
-    (frames_compose s.id [] [] c.args.lane.now claimed c.wait_to_fill.new.lane (waits_frame s.id inside c.args.lane.now claimed c.lane.view_is c.requires.lane c.wait_to_claim.ensures.lane refl c.self.inside.shared (ap (λ (s : StoreView). s.id.cells) c.self.view_is) c.args.context c.args.key (Ok c.in-Ok.claim) c.in-Ok.ensures.claim) c.wait_to_fill.ensures.frame)
+    (frames_compose s.id [] [] c.args.lane.now claimed c.wait_to_fill.new.lane (waits_frame s.id inside c.args.lane.now claimed c.lane.view_is c.requires.lane c.claim_wait.ensures.lane refl c.self.inside.shared (ap (λ (s : StoreView). s.id.cells) c.self.view_is) c.args.context c.args.key (Ok c.in-Ok.claim) c.in-Ok.ensures.claim) c.wait_to_fill.ensures.frame)
 
 pub returns-in-Ok-wait_to_fill-clause-apart : goal.returns-in-Ok-wait_to_fill-clause-apart
 returns-in-Ok-wait_to_fill-clause-apart g c m kept =
     let s = c.args.self.now in
     let inside : StoreLane g.row.V.Denot = record { cells = c.lane.inside.cells; known = c.lane.inside.notes; faults = c.lane.inside.faults; keys = c.lane.inside.keys } in
-    let claimed : StoreLane g.row.V.Denot = record { cells = c.wait_to_claim.new.lane; known = c.lane.inside.notes; faults = c.lane.inside.faults; keys = c.lane.inside.keys } in
+    let claimed : StoreLane g.row.V.Denot = record { cells = c.claim_wait.new.lane; known = c.lane.inside.notes; faults = c.lane.inside.faults; keys = c.lane.inside.keys } in
     c.in-Ok-wait_to_fill.ensures.apart m
     (frame_keeps s.id c.args.lane.now claimed
-    (waits_frame s.id inside c.args.lane.now claimed c.lane.view_is c.requires.lane c.wait_to_claim.ensures.lane refl c.self.inside.shared (ap (λ (s : StoreView). s.id.cells) c.self.view_is) c.args.context c.args.key (Ok c.in-Ok.claim) c.in-Ok.ensures.claim) m kept)
+    (waits_frame s.id inside c.args.lane.now claimed c.lane.view_is c.requires.lane c.claim_wait.ensures.lane refl c.self.inside.shared (ap (λ (s : StoreView). s.id.cells) c.self.view_is) c.args.context c.args.key (Ok c.in-Ok.claim) c.in-Ok.ensures.claim) m kept)
 
 -- what the factory answered it answered for the key of the number
 
@@ -95,8 +95,8 @@ returns-in-Err-wait_to_fill-clause-factory g c =
     let returned = subst (λ value. FnOnceReturnsAt g.F.FnOnce c.args.factory c.args.name.now (Ok value)) (sym kept.0) c.in-Ok-run_factory.ensures in
     let s = c.args.self.now in
     let inside : StoreLane g.row.V.Denot = record { cells = c.lane.inside.cells; known = c.lane.inside.notes; faults = c.lane.inside.faults; keys = c.lane.inside.keys } in
-    let claimed : StoreLane g.row.V.Denot = record { cells = c.wait_to_claim.new.lane; known = c.lane.inside.notes; faults = c.lane.inside.faults; keys = c.lane.inside.keys } in
-    let framed = (waits_frame s.id inside c.args.lane.now claimed c.lane.view_is c.requires.lane c.wait_to_claim.ensures.lane refl c.self.inside.shared (ap (λ (s : StoreView). s.id.cells) c.self.view_is) c.args.context c.args.key (Ok c.in-Ok.claim) c.in-Ok.ensures.claim) in
+    let claimed : StoreLane g.row.V.Denot = record { cells = c.claim_wait.new.lane; known = c.lane.inside.notes; faults = c.lane.inside.faults; keys = c.lane.inside.keys } in
+    let framed = (waits_frame s.id inside c.args.lane.now claimed c.lane.view_is c.requires.lane c.claim_wait.ensures.lane refl c.self.inside.shared (ap (λ (s : StoreView). s.id.cells) c.self.view_is) c.args.context c.args.key (Ok c.in-Ok.claim) c.in-Ok.ensures.claim) in
     uses_later (λ answer. FnOnceReturnsAt g.F.FnOnce c.args.factory c.args.name.now answer) c.args.lane.now claimed c.wait_to_fill.new.lane (frame_on s.id [] c.args.lane.now claimed framed)
     (ap (λ (l : StoreLane g.row.V.Denot). l.known) c.lane.view_is) (ap (λ (l : StoreLane g.row.V.Denot). l.faults) c.lane.view_is) (Unkept c.in-Err-wait_to_fill.value c.in-Err-wait_to_fill.cause) (returned, kept.1, c.wait_to_fill.ensures.faults)
 
@@ -124,7 +124,7 @@ pub returns-in-Err-clause-apart : goal.returns-in-Err-clause-apart
 returns-in-Err-clause-apart g c = unused_apart c.args.factory c.in-Err.why c.hand_back.result c.hand_back.ensures _
 
 pub returns-in-Err-clause-factory : goal.returns-in-Err-clause-factory
-returns-in-Err-clause-factory g c = unused_uses c.args.factory c.in-Err.why c.hand_back.result c.hand_back.ensures (λ answer. FnOnceReturnsAt g.F.FnOnce c.args.factory c.args.name.now answer) c.args.lane.now (record { cells = c.wait_to_claim.new.lane; known = c.lane.inside.notes; faults = c.lane.inside.faults; keys = c.lane.inside.keys }) (ap (λ (l : StoreLane g.row.V.Denot). l.known) c.lane.view_is) (ap (λ (l : StoreLane g.row.V.Denot). l.faults) c.lane.view_is)
+returns-in-Err-clause-factory g c = unused_uses c.args.factory c.in-Err.why c.hand_back.result c.hand_back.ensures (λ answer. FnOnceReturnsAt g.F.FnOnce c.args.factory c.args.name.now answer) c.args.lane.now (record { cells = c.claim_wait.new.lane; known = c.lane.inside.notes; faults = c.lane.inside.faults; keys = c.lane.inside.keys }) (ap (λ (l : StoreLane g.row.V.Denot). l.known) c.lane.view_is) (ap (λ (l : StoreLane g.row.V.Denot). l.faults) c.lane.view_is)
 
 pub returns-in-Err-clause-decided : goal.returns-in-Err-clause-decided
 returns-in-Err-clause-decided g c = unused_decided c.args.factory c.in-Err.why c.hand_back.result c.hand_back.ensures c.in-Err.ensures.decided
@@ -136,8 +136,8 @@ returns-in-Err-run_factory-clause-answer g c =
     let s = c.args.self.now in
     let lane : c.lane.inside.cells ≡ c.args.lane.now.cells = ap (λ (l : StoreLane g.row.V.Denot). l.cells) c.lane.view_is in
     let a = c.args.lane.now.cells in
-    let b = c.wait_to_claim.new.lane in
-    let claimed : StoreLane g.row.V.Denot = (record { cells = c.wait_to_claim.new.lane; known = c.lane.inside.notes; faults = c.lane.inside.faults; keys = c.lane.inside.keys }) in
+    let b = c.claim_wait.new.lane in
+    let claimed : StoreLane g.row.V.Denot = (record { cells = c.claim_wait.new.lane; known = c.lane.inside.notes; faults = c.lane.inside.faults; keys = c.lane.inside.keys }) in
     let w : ClaimsAfterWaits s c.args.context c.args.key a.view b.view (Ok c.in-Ok.claim) =
     subst (λ (z : StoreView × Lane). ClaimsAfterWaits z.0 c.args.context c.args.key z.1.view b.view (Ok c.in-Ok.claim)) (λ i. (c.self.view_is i, lane i)) c.in-Ok.ensures.claim in
     computes_later s c.args.context c.args.key a c.wait_to_end_failed.new.lane.cells b.view (Ok c.in-Ok.claim) w _ c.requires.lane.cells
@@ -147,35 +147,35 @@ pub returns-in-Err-run_factory-clause-grows : goal.returns-in-Err-run_factory-cl
 returns-in-Err-run_factory-clause-grows g c =
     let s = c.args.self.now in
     let inside : StoreLane g.row.V.Denot = record { cells = c.lane.inside.cells; known = c.lane.inside.notes; faults = c.lane.inside.faults; keys = c.lane.inside.keys } in
-    let claimed : StoreLane g.row.V.Denot = (record { cells = c.wait_to_claim.new.lane; known = c.lane.inside.notes; faults = c.lane.inside.faults; keys = c.lane.inside.keys }) in
+    let claimed : StoreLane g.row.V.Denot = (record { cells = c.claim_wait.new.lane; known = c.lane.inside.notes; faults = c.lane.inside.faults; keys = c.lane.inside.keys }) in
     grows s.id c.args.lane.now c.wait_to_end_failed.new.lane
-    (frames_compose s.id [] [] c.args.lane.now claimed c.wait_to_end_failed.new.lane (waits_frame s.id inside c.args.lane.now claimed c.lane.view_is c.requires.lane c.wait_to_claim.ensures.lane refl c.self.inside.shared (ap (λ (s : StoreView). s.id.cells) c.self.view_is) c.args.context c.args.key (Ok c.in-Ok.claim) c.in-Ok.ensures.claim) c.wait_to_end_failed.ensures.frame)
+    (frames_compose s.id [] [] c.args.lane.now claimed c.wait_to_end_failed.new.lane (waits_frame s.id inside c.args.lane.now claimed c.lane.view_is c.requires.lane c.claim_wait.ensures.lane refl c.self.inside.shared (ap (λ (s : StoreView). s.id.cells) c.self.view_is) c.args.context c.args.key (Ok c.in-Ok.claim) c.in-Ok.ensures.claim) c.wait_to_end_failed.ensures.frame)
 
 pub returns-in-Err-run_factory-clause-factory : goal.returns-in-Err-run_factory-clause-factory
 returns-in-Err-run_factory-clause-factory g c =
     let s = c.args.self.now in
-    let claimed : StoreLane g.row.V.Denot = (record { cells = c.wait_to_claim.new.lane; known = c.lane.inside.notes; faults = c.lane.inside.faults; keys = c.lane.inside.keys }) in
+    let claimed : StoreLane g.row.V.Denot = (record { cells = c.claim_wait.new.lane; known = c.lane.inside.notes; faults = c.lane.inside.faults; keys = c.lane.inside.keys }) in
     let used = failed_uses s c.in-Err-run_factory.fault c.in-Ok.claim claimed c.wait_to_end_failed.new.lane (λ answer. FnOnceReturnsAt g.F.FnOnce c.args.factory c.args.name.now answer) c.in-Err-run_factory.ensures (without_factory c.wait_to_end_failed.result) c.wait_to_end_failed.ensures.ends in
     let inside : StoreLane g.row.V.Denot = record { cells = c.lane.inside.cells; known = c.lane.inside.notes; faults = c.lane.inside.faults; keys = c.lane.inside.keys } in
-    let framed = (waits_frame s.id inside c.args.lane.now claimed c.lane.view_is c.requires.lane c.wait_to_claim.ensures.lane refl c.self.inside.shared (ap (λ (s : StoreView). s.id.cells) c.self.view_is) c.args.context c.args.key (Ok c.in-Ok.claim) c.in-Ok.ensures.claim) in
+    let framed = (waits_frame s.id inside c.args.lane.now claimed c.lane.view_is c.requires.lane c.claim_wait.ensures.lane refl c.self.inside.shared (ap (λ (s : StoreView). s.id.cells) c.self.view_is) c.args.context c.args.key (Ok c.in-Ok.claim) c.in-Ok.ensures.claim) in
     uses_later (λ answer. FnOnceReturnsAt g.F.FnOnce c.args.factory c.args.name.now answer) c.args.lane.now claimed c.wait_to_end_failed.new.lane (frame_on s.id [] c.args.lane.now claimed framed)
     (ap (λ (l : StoreLane g.row.V.Denot). l.known) c.lane.view_is) (ap (λ (l : StoreLane g.row.V.Denot). l.faults) c.lane.view_is) (without_factory c.wait_to_end_failed.result) used
 
 pub returns-in-Err-run_factory-clause-handed_back : goal.returns-in-Err-run_factory-clause-handed_back
-returns-in-Err-run_factory-clause-handed_back g c = failed_back c.args.self.now c.in-Err-run_factory.fault c.in-Ok.claim (record { cells = c.wait_to_claim.new.lane; known = c.lane.inside.notes; faults = c.lane.inside.faults; keys = c.lane.inside.keys }) c.wait_to_end_failed.new.lane c.args.factory c.wait_to_end_failed.result c.wait_to_end_failed.ensures.ends
+returns-in-Err-run_factory-clause-handed_back g c = failed_back c.args.self.now c.in-Err-run_factory.fault c.in-Ok.claim (record { cells = c.claim_wait.new.lane; known = c.lane.inside.notes; faults = c.lane.inside.faults; keys = c.lane.inside.keys }) c.wait_to_end_failed.new.lane c.args.factory c.wait_to_end_failed.result c.wait_to_end_failed.ensures.ends
 
 pub returns-in-Err-run_factory-clause-apart : goal.returns-in-Err-run_factory-clause-apart
-returns-in-Err-run_factory-clause-apart g c = failed_apart c.args.self.now c.in-Err-run_factory.fault c.in-Ok.claim (record { cells = c.wait_to_claim.new.lane; known = c.lane.inside.notes; faults = c.lane.inside.faults; keys = c.lane.inside.keys }) c.wait_to_end_failed.new.lane _ c.wait_to_end_failed.result c.wait_to_end_failed.ensures.ends
+returns-in-Err-run_factory-clause-apart g c = failed_apart c.args.self.now c.in-Err-run_factory.fault c.in-Ok.claim (record { cells = c.claim_wait.new.lane; known = c.lane.inside.notes; faults = c.lane.inside.faults; keys = c.lane.inside.keys }) c.wait_to_end_failed.new.lane _ c.wait_to_end_failed.result c.wait_to_end_failed.ensures.ends
 
 pub returns-in-Err-run_factory-clause-no_faults : goal.returns-in-Err-run_factory-clause-no_faults
-returns-in-Err-run_factory-clause-no_faults g c off = failed_faultless c.args.self.now c.in-Err-run_factory.fault c.in-Ok.claim (record { cells = c.wait_to_claim.new.lane; known = c.lane.inside.notes; faults = c.lane.inside.faults; keys = c.lane.inside.keys }) c.wait_to_end_failed.new.lane off c.wait_to_end_failed.result c.wait_to_end_failed.ensures.ends
+returns-in-Err-run_factory-clause-no_faults g c off = failed_faultless c.args.self.now c.in-Err-run_factory.fault c.in-Ok.claim (record { cells = c.claim_wait.new.lane; known = c.lane.inside.notes; faults = c.lane.inside.faults; keys = c.lane.inside.keys }) c.wait_to_end_failed.new.lane off c.wait_to_end_failed.result c.wait_to_end_failed.ensures.ends
 
 pub returns-in-Err-clause-no_faults : goal.returns-in-Err-clause-no_faults
 returns-in-Err-clause-no_faults g c off =
     let s = c.args.self.now in
     let lane : c.lane.inside.cells ≡ c.args.lane.now.cells = ap (λ (l : StoreLane g.row.V.Denot). l.cells) c.lane.view_is in
     let a = c.args.lane.now.cells in
-    let b = c.wait_to_claim.new.lane in
+    let b = c.claim_wait.new.lane in
     let w : ClaimsAfterWaits s c.args.context c.args.key a.view b.view (Err c.in-Err.why) =
     subst (λ (z : StoreView × Lane). ClaimsAfterWaits z.0 c.args.context c.args.key z.1.view b.view (Err c.in-Err.why)) (λ i. (c.self.view_is i, lane i)) c.in-Err.ensures.claim in
     unused_faultless s c.args.context w.then_is.0 c.args.key w.between b.view c.args.factory c.in-Err.why c.hand_back.result c.hand_back.ensures w.then_is.2 off

@@ -2,15 +2,15 @@ use Rattle.std.proofs.Common.{[], refl, ap, subst}
 use Rattle.ext_cells.specs.Lanes.{Lane}
 use Rattle.ext_store.specs.Stores.{StoreView, StoreLane}
 use Rattle.ext_store.specs.LaneCalls.{Gets}
-use Rattle.ext_store_cells.proofs.Events.{gets_quiet}
+use Rattle.ext_store_core.proofs.Events.{gets_quiet}
 use Rattle.ext_store.proofs.Frames.{quiet_frame, stays_inside}
 use Rattle.ext_store.proofs.store.Store.get_numbered.Goals as goal
 
 pub returns-clause-answer : goal.returns-clause-answer
-returns-clause-answer g c = subst (λ (z : StoreView × Lane). Gets z.0 c.args.context c.args.key z.1 c.look_up.new.lane c.look_up.result) (λ i. (c.self.view_is i, (c.lane.view_is i).cells)) c.look_up.ensures.answer
+returns-clause-answer g c = subst (λ (z : StoreView × Lane). Gets z.0 c.args.context c.args.key z.1 c.get.new.lane c.get.result) (λ i. (c.self.view_is i, (c.lane.view_is i).cells)) c.get.ensures.answer
 
 pub returns-clause-stays : goal.returns-clause-stays
 returns-clause-stays g c =
-    stays_inside c.args.self.now.id [] (record { cells = c.lane.inside.cells; known = c.lane.inside.notes; faults = c.lane.inside.faults; keys = c.lane.inside.keys }) c.args.lane.now (record { cells = c.look_up.new.lane; known = c.lane.inside.notes; faults = c.lane.inside.faults; keys = c.lane.inside.keys }) c.lane.view_is refl
-    (quiet_frame c.args.self.now.id (record { cells = c.lane.inside.cells; known = c.lane.inside.notes; faults = c.lane.inside.faults; keys = c.lane.inside.keys }) c.args.lane.now (record { cells = c.look_up.new.lane; known = c.lane.inside.notes; faults = c.lane.inside.faults; keys = c.lane.inside.keys }) c.lane.view_is c.requires.lane c.look_up.ensures.lane refl
-    (gets_quiet c.self.inside.shared c.args.context c.args.key c.lane.inside.cells c.look_up.new.lane c.look_up.result c.look_up.ensures.answer))
+    stays_inside c.args.self.now.id [] (record { cells = c.lane.inside.cells; known = c.lane.inside.notes; faults = c.lane.inside.faults; keys = c.lane.inside.keys }) c.args.lane.now (record { cells = c.get.new.lane; known = c.lane.inside.notes; faults = c.lane.inside.faults; keys = c.lane.inside.keys }) c.lane.view_is refl
+    (quiet_frame c.args.self.now.id (record { cells = c.lane.inside.cells; known = c.lane.inside.notes; faults = c.lane.inside.faults; keys = c.lane.inside.keys }) c.args.lane.now (record { cells = c.get.new.lane; known = c.lane.inside.notes; faults = c.lane.inside.faults; keys = c.lane.inside.keys }) c.lane.view_is c.requires.lane c.get.ensures.lane refl
+    (gets_quiet c.self.inside.shared c.args.context c.args.key c.lane.inside.cells c.get.new.lane c.get.result c.get.ensures.answer))

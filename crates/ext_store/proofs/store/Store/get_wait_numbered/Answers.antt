@@ -3,18 +3,18 @@ use Rattle.std.specs.Prelude.{Ok}
 use Rattle.ext_cells.specs.Lanes.{Lane}
 use Rattle.ext_store.specs.Stores.{StoreView, StoreLane}
 use Rattle.ext_store.specs.LaneCalls.{Gets}
-use Rattle.ext_store_cells.proofs.Events.{gets_quiet}
+use Rattle.ext_store_core.proofs.Events.{gets_quiet}
 use Rattle.ext_store.proofs.Frames.{quiet_frame, stays_inside}
 use Rattle.ext_store.proofs.store.Store.get_wait_numbered.Goals as goal
 
 pub returns-clause-answer : goal.returns-clause-answer
-returns-clause-answer g c = subst (λ (z : StoreView × Lane). Gets z.0 c.args.context c.args.key z.1 c.wait_to_look.new.lane (Ok c.wait_to_look.result)) (λ i. (c.self.view_is i, (c.lane.view_is i).cells)) c.wait_to_look.ensures.answer
+returns-clause-answer g c = subst (λ (z : StoreView × Lane). Gets z.0 c.args.context c.args.key z.1 c.get_wait.new.lane (Ok c.get_wait.result)) (λ i. (c.self.view_is i, (c.lane.view_is i).cells)) c.get_wait.ensures.answer
 
 pub returns-clause-stays : goal.returns-clause-stays
 returns-clause-stays g c =
-    stays_inside c.args.self.now.id [] (record { cells = c.lane.inside.cells; known = c.lane.inside.notes; faults = c.lane.inside.faults; keys = c.lane.inside.keys }) c.args.lane.now (record { cells = c.wait_to_look.new.lane; known = c.lane.inside.notes; faults = c.lane.inside.faults; keys = c.lane.inside.keys }) c.lane.view_is refl
-    (quiet_frame c.args.self.now.id (record { cells = c.lane.inside.cells; known = c.lane.inside.notes; faults = c.lane.inside.faults; keys = c.lane.inside.keys }) c.args.lane.now (record { cells = c.wait_to_look.new.lane; known = c.lane.inside.notes; faults = c.lane.inside.faults; keys = c.lane.inside.keys }) c.lane.view_is c.requires.lane c.wait_to_look.ensures.lane refl
-    (gets_quiet c.self.inside.shared c.args.context c.args.key c.lane.inside.cells c.wait_to_look.new.lane (Ok c.wait_to_look.result) c.wait_to_look.ensures.answer))
+    stays_inside c.args.self.now.id [] (record { cells = c.lane.inside.cells; known = c.lane.inside.notes; faults = c.lane.inside.faults; keys = c.lane.inside.keys }) c.args.lane.now (record { cells = c.get_wait.new.lane; known = c.lane.inside.notes; faults = c.lane.inside.faults; keys = c.lane.inside.keys }) c.lane.view_is refl
+    (quiet_frame c.args.self.now.id (record { cells = c.lane.inside.cells; known = c.lane.inside.notes; faults = c.lane.inside.faults; keys = c.lane.inside.keys }) c.args.lane.now (record { cells = c.get_wait.new.lane; known = c.lane.inside.notes; faults = c.lane.inside.faults; keys = c.lane.inside.keys }) c.lane.view_is c.requires.lane c.get_wait.ensures.lane refl
+    (gets_quiet c.self.inside.shared c.args.context c.args.key c.lane.inside.cells c.get_wait.new.lane (Ok c.get_wait.result) c.get_wait.ensures.answer))
 
 pub returns-clause-decided : goal.returns-clause-decided
-returns-clause-decided g c = c.wait_to_look.ensures.decided
+returns-clause-decided g c = c.get_wait.ensures.decided

@@ -1,7 +1,7 @@
 use Rattle.std.proofs.Common.{◌≡◌, ◌∙◌, refl, sym, ap, subst, length, map}
 use Rattle.std.specs.Prelude.{All}
 use Rattle.ext_cells.specs.Lanes.{fresh_lanes}
-use Rattle.ext_store_cells.specs.ContextCalls.{ContextCells}
+use Rattle.ext_store_core.specs.ContextCalls.{ContextCells}
 use Rattle.ext_store.specs.Stores.{IsLaneOf, IsCloserOf, fresh_store_lane, closers_below}
 use Rattle.ext_store.proofs.Fresh.{lanes_own, closers_own}
 use Rattle.ext_store.proofs.Opened.{opened_bad}

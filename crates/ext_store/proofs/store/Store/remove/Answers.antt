@@ -5,7 +5,7 @@ use Rattle.ext_store.proofs.Frames.{stays_then}
 use Rattle.ext_store.proofs.Numbered.{of_number, of_refusal, refused_steps, steps_later, placed_still}
 use Rattle.ext_model.specs.declared.event.Act.TheVariants.{Remove}
 use Rattle.ext_cells.specs.CellCalls.{ComesLast}
-use Rattle.ext_store_cells.specs.declared.fault.Refusal.TheVariants as refusal
+use Rattle.ext_store_core.specs.declared.fault.Refusal.TheVariants as refusal
 use Rattle.ext_store.specs.Stores.{cell_in}
 use Rattle.ext_store.proofs.store.Store.remove.Goals as goal
 

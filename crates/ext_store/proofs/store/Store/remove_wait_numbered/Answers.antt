@@ -2,18 +2,18 @@ use Rattle.std.proofs.Common.{[], refl, ap, subst}
 use Rattle.ext_cells.specs.Lanes.{Lane}
 use Rattle.ext_store.specs.Stores.{StoreView, StoreLane}
 use Rattle.ext_store.specs.LaneCalls.{Removes}
-use Rattle.ext_store_cells.proofs.Events.{remove_calls}
+use Rattle.ext_store_core.proofs.Events.{remove_calls}
 use Rattle.ext_store.proofs.Frames.{remove_frame, stays_inside}
 use Rattle.ext_store.proofs.store.Store.remove_wait_numbered.Goals as goal
 
 pub returns-clause-answer : goal.returns-clause-answer
-returns-clause-answer g c = subst (λ (z : StoreView × Lane). Removes z.0 c.args.context c.args.key z.1 c.wait_to_remove.new.lane c.wait_to_remove.result) (λ i. (c.self.view_is i, (c.lane.view_is i).cells)) c.wait_to_remove.ensures.answer
+returns-clause-answer g c = subst (λ (z : StoreView × Lane). Removes z.0 c.args.context c.args.key z.1 c.remove_wait.new.lane c.remove_wait.result) (λ i. (c.self.view_is i, (c.lane.view_is i).cells)) c.remove_wait.ensures.answer
 
 pub returns-clause-stays : goal.returns-clause-stays
 returns-clause-stays g c =
-    stays_inside c.args.self.now.id [] (record { cells = c.lane.inside.cells; known = c.lane.inside.notes; faults = c.lane.inside.faults; keys = c.lane.inside.keys }) c.args.lane.now (record { cells = c.wait_to_remove.new.lane; known = c.lane.inside.notes; faults = c.lane.inside.faults; keys = c.lane.inside.keys }) c.lane.view_is refl
-    (remove_frame c.args.self.now.id (record { cells = c.lane.inside.cells; known = c.lane.inside.notes; faults = c.lane.inside.faults; keys = c.lane.inside.keys }) c.args.lane.now (record { cells = c.wait_to_remove.new.lane; known = c.lane.inside.notes; faults = c.lane.inside.faults; keys = c.lane.inside.keys }) c.lane.view_is c.requires.lane c.wait_to_remove.ensures.lane refl c.self.inside.shared c.args.context c.args.key c.wait_to_remove.result
-    (remove_calls c.self.inside.shared c.args.context c.args.key c.lane.inside.cells c.wait_to_remove.new.lane c.wait_to_remove.result c.wait_to_remove.ensures.answer))
+    stays_inside c.args.self.now.id [] (record { cells = c.lane.inside.cells; known = c.lane.inside.notes; faults = c.lane.inside.faults; keys = c.lane.inside.keys }) c.args.lane.now (record { cells = c.remove_wait.new.lane; known = c.lane.inside.notes; faults = c.lane.inside.faults; keys = c.lane.inside.keys }) c.lane.view_is refl
+    (remove_frame c.args.self.now.id (record { cells = c.lane.inside.cells; known = c.lane.inside.notes; faults = c.lane.inside.faults; keys = c.lane.inside.keys }) c.args.lane.now (record { cells = c.remove_wait.new.lane; known = c.lane.inside.notes; faults = c.lane.inside.faults; keys = c.lane.inside.keys }) c.lane.view_is c.requires.lane c.remove_wait.ensures.lane refl c.self.inside.shared c.args.context c.args.key c.remove_wait.result
+    (remove_calls c.self.inside.shared c.args.context c.args.key c.lane.inside.cells c.remove_wait.new.lane c.remove_wait.result c.remove_wait.ensures.answer))
 
 pub returns-clause-decided : goal.returns-clause-decided
-returns-clause-decided g c = c.wait_to_remove.ensures.decided
+returns-clause-decided g c = c.remove_wait.ensures.decided

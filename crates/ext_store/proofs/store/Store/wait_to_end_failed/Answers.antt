@@ -1,6 +1,6 @@
 use Rattle.std.proofs.Common.{[], ◌∷◌, refl}
 use Rattle.ext_model.specs.declared.event.Act.TheVariants.{Abandon}
-use Rattle.ext_store_cells.proofs.Claimed.{none_stored, nor_this}
+use Rattle.ext_store_core.proofs.Claimed.{none_stored, nor_this}
 use Rattle.ext_store.proofs.Composing.{storing_frame}
 use Rattle.ext_store.proofs.store.Store.wait_to_end_failed.Goals as goal
 

@@ -4,7 +4,7 @@ use Rattle.ext_model.specs.CallActs.{Calls, IsHeld}
 use Rattle.ext_cells.specs.Lanes.{CellsId, Lane}
 use Rattle.ext_store.specs.Stores.{StoreLane}
 use Rattle.ext_store.proofs.Filling.{kept_held, fails_held, fails_with, unkept}
-use Rattle.ext_store_cells.proofs.Claimed.{none_stored, nor_this}
+use Rattle.ext_store_core.proofs.Claimed.{none_stored, nor_this}
 use Rattle.ext_store.proofs.Frames.{frame_lane, frames_compose}
 use Rattle.ext_store.proofs.Composing.{storing_frame, fail_frame}
 use Rattle.ext_history.proofs.Composed.{seen_goes_on}

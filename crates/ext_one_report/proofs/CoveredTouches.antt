@@ -1,0 +1,267 @@
+-- The touches of a plan's steps: each step that changes or looks up a place of its key touches it, and each touch is at a context on the path of its node.
+use Rattle.std.proofs.Common.{◌≡◌, ◌<◌, ◌≤◌, ◌⊎◌, ℕ, zero, suc, Bool, true, false, List, [], ◌∷◌, ◌++◌, length, get_or, Contains, All, drop, take, map, Option, Some, None, refl, ap, sym, subst, ◌∙◌, arith, inl, inr, zero-add}
+use Rattle.std.specs.Prelude.{◌&&◌, if◌then◌else◌}
+use Rattle.std.specs.List.{range_with_len}
+use Rattle.std.proofs.lemmas.Bool.{and_parts, cases_lt}
+use Rattle.std.proofs.lemmas.List.{get_or-take, length-drop, length-take}
+use Rattle.std.proofs.lemmas.List.Elements.{All-contains, All-contains_itself, All-drop, Contains-push_cases}
+use Rattle.std.proofs.lemmas.List.FromFn.{get_or-range_with_len, length-range_with_len}
+use Rattle.ext_tree.specs.Keys.{KeyValue}
+use Rattle.ext_tree.specs.Traits.{key_eq}
+use Rattle.ext_tree.proofs.Equalities.{keys_Decides}
+use Rattle.ext_lifecycle.specs.declared.call.Call.{Call}
+use Rattle.ext_plan.specs.Plans.{KeyText, PlanText, StepText}
+use Rattle.ext_plan.specs.PlanCalls.{steps_of_call}
+use Rattle.ext_plan.specs.ReadPlans.{ids_of_nodes}
+use Rattle.ext_plan.specs.StepCalls.{start_of}
+use Rattle.ext_plan.specs.StoreKeys.{key_of_step, place_of_key}
+use Rattle.ext_races.specs.declared.word.Word.{Word}
+use Rattle.ext_races.specs.declared.word.Word.TheVariants as words
+use Rattle.ext_races.specs.Acts.{ActText, act_of}
+use Rattle.ext_races.specs.MadeSteps.{calls_of, made_after, made_by, made_of_node, path_of, plan_path, steps_made}
+use Rattle.ext_races.specs.Touches.{TouchText, below_act, below_computes, keys_named, reach, touch_of, touches_above, touches_along, touches_made, touches_of, touches_of_act}
+use Rattle.ext_races.specs.StepWords.{changes, gives_value, looks_along}
+use Rattle.ext_races.proofs.Lists.{contains-flat_map, contains-flat_map_back, contains-map, contains-map_back, contains_at, contains_cases, contains_first, contains_later, contains_nothing}
+use Rattle.ext_races.proofs.StepTouches.{all_reach}
+
+-- ---- a touch is on the path of its node
+
+above_on : (node key : ℕ) (act : ActText) (above : List ℕ) (t : TouchText) (looks : Bool) → Contains (if looks then map (touch_of node key act false) above else []) t → (t.node ≡ node) × Contains above t.context
+above_on node key act above t true h = let from = contains-map_back (touch_of node key act false) above t h in (sym (ap (λ u. u.node) from.2), subst (Contains above) (ap (λ u. u.context) from.2) from.1)
+above_on node key act above t false h = contains_nothing t h
+
+along_on : (node key : ℕ) (act : ActText) (path : List ℕ) (t : TouchText) → Contains (touches_along node key act path) t → (t.node ≡ node) × Contains path t.context
+along_on node key act [] t h = contains_nothing t h
+along_on node key act (context ∷ above) t h = elim (contains_cases _ t (touches_above node key act above) h) [
+  | inl here ↦ (sym (ap (λ u. u.node) here), subst (Contains (context ∷ above)) (ap (λ u. u.context) here) (contains_first context above))
+  | inr later ↦ let rest = above_on node key act above t (looks_along act.word) later in (rest.0, contains_later context t.context above rest.1)
+]
+
+act_on : (declared : List KeyText) (keys : List KeyValue) (node : ℕ) (path : List ℕ) (before : List StepText) (act : Option ActText) (t : TouchText)
+    → Contains (touches_of_act declared keys node path before act) t → (t.node ≡ node) × Contains path t.context
+act_on declared keys node path before None t h = contains_nothing t h
+act_on declared keys node path before (Some act) t h =
+    let along = drop act.up (reach declared before path act) in
+    let on = along_on node (place_of_key keys (key_of_step declared act.key)) act along t h in
+    let all : All (Contains path) along = All-drop (Contains path) act.up (reach declared before path act) (all_reach (Contains path) declared before path act (All-contains_itself path)) in
+    (on.0, All-contains (Contains path) along t.context all on.1)
+
+pub touch_on_path : (plan : PlanText) (t : TouchText) → Contains (touches_made plan) t → Contains (plan_path plan t.node) t.context
+touch_on_path plan t h =
+    let ids = ids_of_nodes plan.nodes in
+    let from = contains-flat_map_back (touches_of ids plan.keys (keys_named plan)) (steps_made plan) t h in
+    let on = act_on plan.keys (keys_named plan) from.0.node (path_of ids from.0.node) from.0.before (act_of from.0.step) t from.2 in
+    subst (λ node. Contains (plan_path plan node) t.context) (sym on.0) on.1
+
+-- ---- the steps of a call are made
+
+among_push : (before : List StepText) (first : StepText) (more : List StepText) (s : StepText) → (Contains (before ++ first ∷ []) s ⊎ Contains more s) → (Contains before s ⊎ Contains (first ∷ more) s)
+among_push before first more s (inl there) = elim (Contains-push_cases before first s there) [
+  | inl old ↦ inl old
+  | inr same ↦ inr (subst (Contains (first ∷ more)) same (contains_first first more))
+]
+among_push before first more s (inr there) = inr (contains_later first s more there)
+
+-- The step is made by the node after those of a list
+record IsMadeIn (node : ℕ) (before steps : List StepText) (step : StepText) : Type 0 where
+  pub front : List StepText
+  pub made : Contains (made_after node before steps) (made_by node front step)
+  pub among : (s : StepText) → Contains front s → Contains before s ⊎ Contains steps s
+
+made_in : (node : ℕ) (before steps : List StepText) (step : StepText) → Contains steps step → IsMadeIn node before steps step
+made_in node before [] step there = contains_nothing step there
+made_in node before (first ∷ more) step there = elim (contains_cases first step more there) [
+  | inl same ↦ record {
+    front = before;
+    made = subst (λ s. Contains (made_after node before (first ∷ more)) (made_by node before s)) same (contains_first (made_by node before first) (made_after node (before ++ first ∷ []) more));
+    among = λ s old. inl old;
+  }
+  | inr later ↦
+      let rest = made_in node (before ++ first ∷ []) more step later in
+      record {
+        front = rest.front;
+        made = contains_later (made_by node before first) (made_by node rest.front step) (made_after node (before ++ first ∷ []) more) rest.made;
+        among = λ s old. among_push before first more s (rest.among s old);
+      }
+]
+
+-- the step is made by the node, after steps of the same call
+pub record IsMade (plan : PlanText) (node : ℕ) (call : Call) (step : StepText) : Type 0 where
+  pub front : List StepText
+  pub made : Contains (steps_made plan) (made_by node front step)
+  pub among : (s : StepText) → Contains front s → Contains (steps_of_call plan call) s
+
+pub in_range : (count node : ℕ) → node < count → Contains (range_with_len 0 count) node
+in_range count node less = (node, (let long = length-range_with_len 0 count in omega (arith, less, long)), get_or-range_with_len 0 count node node less ∙ zero-add node)
+
+pub is_made : (plan : PlanText) (node : ℕ) (call : Call) (step : StepText) → node < length plan.nodes → Contains (calls_of plan node) call → Contains (steps_of_call plan call) step → IsMade plan node call step
+is_made plan node call step within among there =
+    let steps = steps_of_call plan call in
+    let one = made_in node [] steps step there in
+    record {
+      front = one.front;
+      made = contains-flat_map (made_of_node plan) (range_with_len 0 (length plan.nodes)) node (made_by node one.front step) (in_range (length plan.nodes) node within)
+          (contains-flat_map (λ c. made_after node [] (steps_of_call plan c)) (calls_of plan node) call (made_by node one.front step) among one.made);
+      among = λ s old. elim (one.among s old) [ inl none ↦ contains_nothing s none | inr is ↦ is ];
+    }
+
+-- ---- where a step touches
+
+along_first : (node key : ℕ) (act : ActText) (path : List ℕ) → 0 < length path → Contains (touches_along node key act path) (touch_of node key act (changes act.word) (start_of path))
+along_first node key act [] some = absurd (omega (arith, some))
+along_first node key act (context ∷ above) some = contains_first (touch_of node key act (changes act.word) context) (touches_above node key act above)
+
+above_all : (node key : ℕ) (act : ActText) (above : List ℕ) (context : ℕ) (looks : Bool) → looks ≡ true → Contains above context
+    → Contains (if looks then map (touch_of node key act false) above else []) (touch_of node key act false context)
+above_all node key act above context true is there = contains-map (touch_of node key act false) above context there
+above_all node key act above context false is there = absurd cc
+
+along_all : (node key : ℕ) (act : ActText) (path : List ℕ) (context : ℕ) → looks_along act.word ≡ true → Contains path context → (change : Bool) × Contains (touches_along node key act path) (touch_of node key act change context)
+along_all node key act [] context looks there = contains_nothing context there
+along_all node key act (first ∷ above) context looks there = elim (contains_cases first context above there) [
+  | inl same ↦ (
+    changes act.word,
+    subst (λ c. Contains (touches_along node key act (first ∷ above)) (touch_of node key act (changes act.word) c)) same (contains_first (touch_of node key act (changes act.word) first) (touches_above node key act above)),
+  )
+  | inr later ↦ (
+    false,
+    contains_later (touch_of node key act (changes act.word) first) (touch_of node key act false context) (touches_above node key act above) (above_all node key act above context (looks_along act.word) looks later),
+  )
+]
+
+-- A touch that the plan makes, by the node, at this context and this number of a key; it may change the place, where that is told
+pub record IsTouched (plan : PlanText) (node context number : ℕ) (told : Bool) : Type 0 where
+  pub touch : TouchText
+  pub made : Contains (touches_made plan) touch
+  pub node_is : touch.node ≡ node
+  pub context_is : touch.context ≡ context
+  pub key_is : touch.key ≡ number
+  pub changes : told ≡ true → touch.changes ≡ true
+
+module _ (plan : PlanText) (node : ℕ) (call : Call) where
+  abbrev number_in : ActText → ℕ
+  number_in act = place_of_key (keys_named plan) (key_of_step plan.keys act.key)
+
+  module _ (step : StepText) (is : IsMade plan node call step) (act : ActText) (acts : act_of step ≡ Some act) where
+    abbrev reached : List ℕ
+    reached = drop act.up (reach plan.keys is.front (plan_path plan node) act)
+
+    touch_made : (t : TouchText) → Contains (touches_along node (number_in act) act reached) t → Contains (touches_made plan) t
+    touch_made t there =
+        let ids = ids_of_nodes plan.nodes in
+        contains-flat_map (touches_of ids plan.keys (keys_named plan)) (steps_made plan) (made_by node is.front step) t is.made
+        (subst (λ a. Contains (touches_of_act plan.keys (keys_named plan) node (plan_path plan node) is.front a) t) (sym acts) there)
+
+    reach_is : changes act.word ≡ true → reached ≡ drop act.up (plan_path plan node)
+    reach_is changing = ap (λ (b : Bool). drop act.up (if b then plan_path plan node else below_computes plan.keys (key_of_step plan.keys act.key) (plan_path plan node) is.front)) changing
+
+    pub touches_start : changes act.word ≡ true → act.up < length (plan_path plan node) → IsTouched plan node (start_of (drop act.up (plan_path plan node))) (number_in act) true
+    touches_start changing low =
+        let path = drop act.up (plan_path plan node) in
+        let some : 0 < length path = (let long = length-drop act.up (plan_path plan node) in omega (arith, long, low)) in
+        record {
+          touch = touch_of node (number_in act) act (changes act.word) (start_of path);
+          made = touch_made (touch_of node (number_in act) act (changes act.word) (start_of path))
+              (subst (λ p. Contains (touches_along node (number_in act) act p) (touch_of node (number_in act) act (changes act.word) (start_of path))) (sym (reach_is changing)) (along_first node (number_in act) act path some));
+          node_is = refl;
+          context_is = refl;
+          key_is = refl;
+          changes = λ told. changing;
+        }
+
+    pub touches_reached : (context : ℕ) → looks_along act.word ≡ true → Contains reached context → IsTouched plan node context (number_in act) false
+    touches_reached context looks there =
+        let one = along_all node (number_in act) act reached context looks there in
+        record {
+          touch = touch_of node (number_in act) act one.0 context;
+          made = touch_made (touch_of node (number_in act) act one.0 context) one.1;
+          node_is = refl;
+          context_is = refl;
+          key_is = refl;
+          changes = λ told. absurd cc;
+        }
+
+    pub touches_all : (context : ℕ) → changes act.word ≡ true → looks_along act.word ≡ true → Contains (drop act.up (plan_path plan node)) context → IsTouched plan node context (number_in act) false
+    touches_all context changing looks there = touches_reached context looks (subst (λ p. Contains p context) (sym (reach_is changing)) there)
+
+-- ---- look-ups behind a compute of their call
+
+-- the step computes a value of the key, no further up than this
+pub record Computes (declared : List KeyText) (key : KeyValue) (at : ℕ) (act : Option ActText) : Type 0 where
+  pub one : ActText
+  pub is : act ≡ Some one
+  pub gives : gives_value one.word ≡ true
+  pub same : key_of_step declared one.key ≡ key
+  pub low : one.up ≤ at
+
+-- at this place of the path it is as it was
+abbrev pub IsKept : List ℕ → List ℕ → ℕ → Type 0
+IsKept path below at = (at < length below) × (get_or below at 0 ≡ get_or path at 0)
+
+take_keeps : (path : List ℕ) (up at : ℕ) → at < length path → at < up → IsKept path (take up path) at
+take_keeps path up at less low = ((let long = length-take up path in omega (arith, long, less, low)), get_or-take up path at 0 low)
+
+kept_if : (b : Bool) (path : List ℕ) (up at : ℕ) → at < length path → IsKept path (if b then take up path else path) at ⊎ ((b ≡ true) × (up ≤ at))
+kept_if false path up at less = inl (less, refl)
+kept_if true path up at less = elim (cases_lt at up) [ inl low ↦ inl (take_keeps path up at less low) | inr high ↦ inr (refl, high) ]
+
+module _ (declared : List KeyText) (key : KeyValue) where
+  kept_by_act : (path : List ℕ) (act : Option ActText) (at : ℕ) → at < length path → IsKept path (below_act declared key path act) at ⊎ Computes declared key at act
+  kept_by_act path None at less = inl (less, refl)
+  kept_by_act path (Some act) at less = elim (kept_if (gives_value act.word && key_eq (key_of_step declared act.key) key) path act.up at less) [
+    | inl kept ↦ inl kept
+    | inr cut ↦
+        let parts = and_parts (gives_value act.word) (key_eq (key_of_step declared act.key) key) cut.0 in
+        inr (record { one = act; is = refl; gives = parts.0; same = (keys_Decides (key_of_step declared act.key) key).0 parts.1; low = cut.1 })
+  ]
+
+  pub kept_or_computed : (before : List StepText) (path : List ℕ) (at : ℕ) → at < length path
+      → IsKept path (below_computes declared key path before) at ⊎ ((step : StepText) × Contains before step × Computes declared key at (act_of step))
+  kept_or_computed [] path at less = inl (less, refl)
+  kept_or_computed (step ∷ more) path at less = elim (kept_by_act path (act_of step) at less) [
+    | inl kept ↦ elim (kept_or_computed more (below_act declared key path (act_of step)) at kept.0) [
+      | inl both ↦ inl (both.0, both.1 ∙ kept.1)
+      | inr one ↦ inr (one.0, contains_later step one.0 more one.1, one.2)
+    ]
+    | inr computes ↦ inr (step, contains_first step more, computes)
+  ]
+
+pub computes_all : (word : Word) → gives_value word ≡ true → (changes word ≡ true) × (looks_along word ≡ true)
+computes_all words.Put gives = absurd cc
+computes_all words.PutCloseable gives = absurd cc
+computes_all words.Want gives = absurd cc
+computes_all words.None gives = absurd cc
+computes_all words.Remove gives = absurd cc
+computes_all words.Compute gives = (refl, refl)
+computes_all words.ComputeCloseable gives = (refl, refl)
+computes_all words.ComputeFail gives = absurd cc
+
+pub contains_drop : (n at : ℕ) (xs : List ℕ) → n ≤ at → at < length xs → Contains (drop n xs) (get_or xs at 0)
+contains_drop zero at xs low less = contains_at xs at 0 less
+contains_drop (suc n) at [] low less = absurd (omega (arith, less))
+contains_drop (suc n) zero (x ∷ xs) low less = absurd (omega (arith, low))
+contains_drop (suc n) (suc at) (x ∷ xs) low less = contains_drop n at xs (omega (arith, low)) (omega (arith, less))
+
+looks_not : (declared : List KeyText) (before : List StepText) (path : List ℕ) (act : ActText) → changes act.word ≡ false → below_computes declared (key_of_step declared act.key) path before ≡ reach declared before path act
+looks_not declared before path act looks = rw looks refl
+
+module _ (plan : PlanText) (node : ℕ) (call : Call) (within : node < length plan.nodes) (among : Contains (calls_of plan node) call) where
+  -- a look-up touches each place that it asks, by itself or by a compute before it
+  pub look_touches : (step : StepText) (act : ActText) → Contains (steps_of_call plan call) step → act_of step ≡ Some act → changes act.word ≡ false → looks_along act.word ≡ true
+      → (at : ℕ) → act.up ≤ at → at < length (plan_path plan node) → IsTouched plan node (get_or (plan_path plan node) at 0) (place_of_key (keys_named plan) (key_of_step plan.keys act.key)) false
+  look_touches step act there acts still looks at low less =
+      let path = plan_path plan node in
+      let key = key_of_step plan.keys act.key in
+      let is = is_made plan node call step within among there in
+      elim (kept_or_computed plan.keys key is.front path at less) [
+        | inl kept ↦
+            let below = below_computes plan.keys key path is.front in
+            let here : Contains (drop act.up below) (get_or path at 0) = subst (Contains (drop act.up below)) kept.1 (contains_drop act.up at below low kept.0) in
+            touches_reached plan node call step is act acts (get_or path at 0) looks (subst (λ p. Contains (drop act.up p) (get_or path at 0)) (looks_not plan.keys is.front path act still) here)
+        | inr computed ↦
+            let one = computed.2 in
+            let all = computes_all one.one.word one.gives in
+            let made = is_made plan node call computed.0 within among (is.among computed.0 computed.1) in
+            subst (λ k. IsTouched plan node (get_or path at 0) (place_of_key (keys_named plan) k) false) one.same
+            (touches_all plan node call computed.0 made one.one one.is (get_or path at 0) all.0 all.1 (contains_drop one.one.up at path one.low less))
+      ]

@@ -1,0 +1,132 @@
+-- The steps of a plan name the keys of the plan, so that its nodes give numbers to these alone.
+use Rattle.std.proofs.Common.{◌≡◌, ◌<◌, ℕ, zero, suc, ◌+◌, inl, inr, true, List, [], ◌∷◌, ◌++◌, length, Option, Some, None, All, IfSome, Contains, refl, ap, sym, subst, ◌∙◌, arith}
+use Rattle.std.specs.List.{range_with_len}
+use Rattle.std.proofs.lemmas.Map.Views.{list_any-from_Contains}
+use Rattle.std.proofs.lemmas.List.Elements.{All-cons, All-contains, All-nil, Contains-append_left}
+use Rattle.ext_history.proofs.Lists.{bools}
+use Rattle.ext_model.specs.declared.event.Act.TheVariants.{Seal}
+use Rattle.ext_tree.specs.Keys.{KeyValue}
+use Rattle.ext_tree.specs.Traits.{key_eq_equiv}
+use Rattle.ext_tree.specs.Trees.{IsPathOf}
+use Rattle.ext_lifecycle.specs.declared.call.Call.{Call}
+use Rattle.ext_plan.specs.Plans.{KeyText, PlanText, StepText, put, put_closeable, want, nothing, remove, compute, compute_closeable, compute_fail, fail, abort}
+use Rattle.ext_plan.specs.PlanCalls.{steps_of_call}
+use Rattle.ext_plan.specs.ReadPlans.{NodesAreTree, ids_of_nodes}
+use Rattle.ext_plan.specs.StoreKeys.{is_there, key_of_step, with_key}
+use Rattle.ext_plan.proofs.KeyLists.{is_contained, there_with, with_new, with_old}
+use Rattle.ext_races.specs.Acts.{act_of}
+use Rattle.ext_races.specs.MadeSteps.{MadeText, calls_of, made_after, made_by, made_of_node, steps_made}
+use Rattle.ext_races.specs.Touches.{key_of_act, key_of_made, keys_named, keys_of_steps, with_key_of}
+use Rattle.ext_races.proofs.Lists.{all_contained, contains_cases, contains_first, contains_later, contains_nothing, contains-flat_map}
+use Rattle.ext_plain.specs.ValueStates.{ValueState, key_limit}
+use Rattle.ext_plain.specs.ContextEnds.{seal_keys}
+use Rattle.ext_plain.specs.PlainRun.{RunState, node_run}
+use Rattle.ext_plain.specs.PlainRunLaws.{NamesOneOf}
+use Rattle.ext_plain.proofs.Values.{act-values}
+use Rattle.ext_one_report.proofs.Rooms.{GaveFew, few_are_given}
+use Rattle.ext_one_report.proofs.FrameNodes.{KeepNodes, nodes_keep, within_nodes}
+
+-- ---- the keys of the steps are there
+
+there_before : (keys : List KeyValue) (first key : KeyValue) → is_there keys key ≡ true → is_there (with_key keys first) key ≡ true
+there_before keys first key there = elim (bools (is_there keys first)) [
+  | inl old ↦ ap (λ ks. is_there ks key) (with_old keys first old) ∙ there
+  | inr new ↦ ap (λ ks. is_there ks key) (with_new keys first new) ∙ list_any-from_Contains key_eq_equiv key (keys ++ first ∷ []) (Contains-append_left keys (first ∷ []) key (is_contained keys key there))
+]
+
+there_before_of : (keys : List KeyValue) (first : Option KeyValue) (key : KeyValue) → is_there keys key ≡ true → is_there (with_key_of keys first) key ≡ true
+there_before_of keys None key there = there
+there_before_of keys (Some first) key there = there_before keys first key there
+
+there_kept : (declared : List KeyText) (keys : List KeyValue) (steps : List MadeText) (key : KeyValue) → is_there keys key ≡ true → is_there (keys_of_steps declared keys steps) key ≡ true
+there_kept declared keys [] key there = there
+there_kept declared keys (step ∷ more) key there = there_kept declared (with_key_of keys (key_of_made declared step)) more key (there_before_of keys (key_of_made declared step) key there)
+
+there_first : (declared : List KeyText) (keys : List KeyValue) (more : List MadeText) (key : Option KeyValue) → IfSome key (λ k. is_there (keys_of_steps declared (with_key_of keys key) more) k ≡ true)
+there_first declared keys more None = tt
+there_first declared keys more (Some key) = there_kept declared (with_key keys key) more key (there_with keys key)
+
+there_all : (declared : List KeyText) (keys : List KeyValue) (steps : List MadeText) → All (λ step. IfSome (key_of_made declared step) (λ key. is_there (keys_of_steps declared keys steps) key ≡ true)) steps
+there_all declared keys [] = All-nil (λ step. IfSome (key_of_made declared step) (λ key. is_there keys key ≡ true))
+there_all declared keys (step ∷ more) =
+    All-cons (λ s. IfSome (key_of_made declared s) (λ key. is_there (keys_of_steps declared keys (step ∷ more)) key ≡ true)) step more
+    (there_first declared keys more (key_of_made declared step)) (there_all declared (with_key_of keys (key_of_made declared step)) more)
+
+-- ---- the steps of a call are made
+
+in_range : (from count k : ℕ) → k < count → Contains (range_with_len from count) (from + k)
+in_range from zero k less = absurd (omega (arith, less))
+in_range from (suc count) zero less =
+    let e : from ≡ from + 0 = omega arith in
+    subst (Contains (range_with_len from (suc count))) e (contains_first from (range_with_len (from + 1) count))
+in_range from (suc count) (suc k) less =
+    let e : from + 1 + k ≡ from + suc k = omega arith in
+    subst (Contains (range_with_len from (suc count))) e (contains_later from (from + 1 + k) (range_with_len (from + 1) count) (in_range (from + 1) count k (omega (arith, less))))
+
+made_with : (node : ℕ) (before steps : List StepText) (step : StepText) → Contains steps step → (earlier : List StepText) × Contains (made_after node before steps) (made_by node earlier step)
+made_with node before [] step there = contains_nothing step there
+made_with node before (first ∷ more) step there =
+    elim (contains_cases first step more there) [
+      | inl same ↦ (before, subst (λ s. Contains (made_after node before (first ∷ more)) (made_by node before s)) same (contains_first (made_by node before first) (made_after node (before ++ first ∷ []) more)))
+      | inr later ↦
+          let rest = made_with node (before ++ first ∷ []) more step later in
+          (rest.0, contains_later (made_by node before first) (made_by node rest.0 step) (made_after node (before ++ first ∷ []) more) rest.1)
+    ]
+
+made_of_plan : (plan : PlanText) (node : ℕ) (call : Call) (step : StepText) → node < length plan.nodes → Contains (calls_of plan node) call → Contains (steps_of_call plan call) step
+    → (earlier : List StepText) × Contains (steps_made plan) (made_by node earlier step)
+made_of_plan plan node call step less there made =
+    let one = made_with node [] (steps_of_call plan call) step made in
+    let of_node = contains-flat_map (λ c. made_after node [] (steps_of_call plan c)) (calls_of plan node) call (made_by node one.0 step) there one.1 in (
+      one.0,
+      contains-flat_map (made_of_node plan) (range_with_len 0 (length plan.nodes)) node (made_by node one.0 step)
+          (subst (Contains (range_with_len 0 (length plan.nodes))) (let e : 0 + node ≡ node = omega arith in e) (in_range 0 (length plan.nodes) node less)) of_node,
+    )
+
+-- a step of a key that is there names it
+names_it : (names : List KeyValue) (keys : List KeyText) (step : StepText) → IfSome (key_of_act keys (act_of step)) (λ key. is_there names key ≡ true) → NamesOneOf names keys step
+names_it names keys (put key text up) there = is_contained names (key_of_step keys key) there
+names_it names keys (put_closeable key text up) there = is_contained names (key_of_step keys key) there
+names_it names keys (want key text up) there = is_contained names (key_of_step keys key) there
+names_it names keys (nothing key up) there = is_contained names (key_of_step keys key) there
+names_it names keys (remove key up) there = is_contained names (key_of_step keys key) there
+names_it names keys (compute key text up) there = is_contained names (key_of_step keys key) there
+names_it names keys (compute_closeable key text up) there = is_contained names (key_of_step keys key) there
+names_it names keys (compute_fail key text up) there = is_contained names (key_of_step keys key) there
+names_it names keys (fail text) there = tt
+names_it names keys (abort text) there = tt
+
+pub calls_name_keys : (plan : PlanText) (node : ℕ) (call : Call) → node < length plan.nodes → Contains (calls_of plan node) call → All (NamesOneOf (keys_named plan) plan.keys) (steps_of_call plan call)
+calls_name_keys plan node call less there =
+    all_contained (NamesOneOf (keys_named plan) plan.keys) (steps_of_call plan call) (λ step made.
+    let of_plan = made_of_plan plan node call step less there made in
+    names_it (keys_named plan) plan.keys step
+    (All-contains (λ m. IfSome (key_of_made plan.keys m) (λ key. is_there (keys_named plan) key ≡ true)) (steps_made plan) (made_by node of_plan.0 step) (there_all plan.keys [] (steps_made plan)) of_plan.1))
+
+-- ---- so only these get numbers
+
+module _ (names : List KeyValue) where
+  seals_few : (count node : ℕ) (s : ValueState) → GaveFew names s → GaveFew names (seal_keys count node s)
+  unfolding seal_keys
+  seals_few zero node s few = few
+  seals_few (suc key) node s few =
+      let before = seals_few key node s few in
+      record { values = act-values (Seal (node, key)) (seal_keys key node s) refl before.values; keys = record { different = before.keys.different; few = before.keys.few }; named = before.named }
+
+  -- any node of the plan
+  abbrev Any : ℕ → List ℕ → Type 0
+  Any node path = Unit {0}
+
+  few_keep : (plan : PlanText) → NodesAreTree plan → names ≡ keys_named plan → KeepNodes plan Any (GaveFew names)
+  few_keep plan tree are = record {
+    below = λ parent child path is parented any. tt;
+    calls = λ node path call s any is there few. few_are_given names plan.keys path (steps_of_call plan call) s few
+        (subst (λ ns. All (NamesOneOf ns plan.keys) (steps_of_call plan call)) (sym are) (calls_name_keys plan node call (within_nodes plan node path tree is) there));
+    seals = λ node path s any is few. seals_few key_limit node s few;
+  }
+
+pub nodes_give_few : (plan : PlanText) (levels node : ℕ) (path : List ℕ) (r : RunState) → NodesAreTree plan → IsPathOf (ids_of_nodes plan.nodes) node path
+    → GaveFew (keys_named plan) r.state → GaveFew (keys_named plan) (node_run plan levels path r).state
+nodes_give_few plan levels node path r tree is few =
+    let names = keys_named plan in
+    nodes_keep plan (Any names) (GaveFew names) (few_keep names plan tree refl) tree levels node path r tt is few

@@ -1,0 +1,119 @@
+-- A closeable value that a step of a call leaves is one that the touches of the plan tell, so that each call of a node keeps what stands where the plan may leave it.
+use Rattle.std.proofs.Common.{◌≡◌, ◌<◌, ◌≤◌, ◌+◌, ℕ, zero, suc, true, List, [], ◌∷◌, ◌++◌, length, drop, Contains, All, refl, ap, sym, subst, ◌∙◌, arith, inl, inr}
+use Rattle.std.specs.Prelude.{◌&&◌, codes}
+use Rattle.std.specs.List.{range_with_len}
+use Rattle.std.proofs.lemmas.Bool.{cases_eq}
+use Rattle.std.proofs.lemmas.List.{length-drop, length-map}
+use Rattle.std.proofs.lemmas.List.Elements.{All-contains}
+use Rattle.ext_tree.specs.Trees.{IsPathOf}
+use Rattle.ext_lifecycle.specs.declared.call.Call.{Call}
+use Rattle.ext_plan.specs.Plans.{PlanText, StepText, put, put_closeable, want, nothing, remove, compute, compute_closeable, compute_fail, fail, abort}
+use Rattle.ext_plan.specs.PlanCalls.{steps_of_call}
+use Rattle.ext_plan.specs.ReadPlans.{IsReadPlan, ids_of_nodes}
+use Rattle.ext_plan.specs.StepCalls.{start_of}
+use Rattle.ext_plan.specs.Steps.{height}
+use Rattle.ext_plan.specs.StoreKeys.{key_of_step, place_of_key}
+use Rattle.ext_plan.specs.Values.{begins_with}
+use Rattle.ext_races.specs.declared.word.Word.TheVariants as words
+use Rattle.ext_races.specs.Acts.{ActText}
+use Rattle.ext_races.specs.MadeSteps.{MadeText, calls_of, made_after, made_by, made_of_node, plan_path, steps_made}
+use Rattle.ext_races.specs.Touches.{TouchText, keys_named, text_if, touch_of, touches_above, touches_along, touches_made, touches_of}
+use Rattle.ext_races.specs.StepWords.{changes, has_text, leaves_closeable}
+use Rattle.ext_races.proofs.Lists.{all_contained, contains_cases, contains_first, contains_later, contains_nothing, contains-flat_map}
+use Rattle.ext_plain.specs.ValueStates.{ValueState}
+use Rattle.ext_plain.specs.NodeCalls.{call_run}
+use Rattle.ext_one_report.proofs.OfPlan.{IsOfPlan, MayBeLeft}
+use Rattle.ext_one_report.proofs.OfPlanSteps.{IsReady, StepLeaves, steps_ready}
+use Rattle.ext_one_report.proofs.OfPlanHeights.{call_stays, is_plan_path, path_inside}
+
+-- ---- the steps that are made
+
+in_range : (from count k : ℕ) → from ≤ k → k < from + count → Contains (range_with_len from count) k
+in_range from zero k least most = absurd (omega (arith, least, most))
+in_range from (suc count) k least most = elim (cases_eq k from) [
+  | inl same ↦ subst (λ n. Contains (from ∷ range_with_len (from + 1) count) n) (sym same) (contains_first from (range_with_len (from + 1) count))
+  | inr differ ↦ contains_later from k (range_with_len (from + 1) count) (in_range (from + 1) count k (omega (arith, least, differ)) (omega (arith, most)))
+]
+
+made_there : (node : ℕ) (before steps : List StepText) (step : StepText) → Contains steps step → (b : List StepText) × Contains (made_after node before steps) (made_by node b step)
+made_there node before [] step there = contains_nothing step there
+made_there node before (first ∷ more) step there = elim (contains_cases first step more there) [
+  | inl same ↦ (before, subst (λ s. Contains (made_by node before first ∷ made_after node (before ++ first ∷ []) more) (made_by node before s)) same (contains_first (made_by node before first) (made_after node (before ++ first ∷ []) more)))
+  | inr later ↦ let rest = made_there node (before ++ first ∷ []) more step later in
+      (rest.0, contains_later (made_by node before first) (made_by node rest.0 step) (made_after node (before ++ first ∷ []) more) rest.1)
+]
+
+step_made : (plan : PlanText) (node : ℕ) (call : Call) (step : StepText) → node < length plan.nodes → Contains (calls_of plan node) call → Contains (steps_of_call plan call) step
+    → (b : List StepText) × Contains (steps_made plan) (made_by node b step)
+step_made plan node call step within of_node of_call =
+    let made = made_there node [] (steps_of_call plan call) step of_call in (
+      made.0,
+      contains-flat_map (made_of_node plan) (range_with_len 0 (length plan.nodes)) node (made_by node made.0 step) (in_range 0 (length plan.nodes) node (omega arith) (omega (arith, within)))
+          (contains-flat_map (λ c. made_after node [] (steps_of_call plan c)) (calls_of plan node) call (made_by node made.0 step) of_node made.1),
+    )
+
+-- ---- what they touch
+
+-- an act that leaves a closeable value does so in the first context of its path
+along_left : (plan : PlanText) (node key : ℕ) (act : ActText) (path : List ℕ) → 0 < length path → ((t : TouchText) → Contains (touches_along node key act path) t → Contains (touches_made plan) t)
+    → changes act.word ≡ true → leaves_closeable act.word ≡ true → has_text act.word ≡ true → begins_with (codes "bad") act.text ≡ true → MayBeLeft plan (start_of path) act.text
+along_left plan node key act [] some each acts leaves tells bad = absurd (omega (arith, some))
+along_left plan node key act (context ∷ above) some each acts leaves tells bad =
+    let touch = touch_of node key act (changes act.word) context in
+    let told : touch.text ≡ act.text = λ i. text_if (acts i && tells i) act.text in
+    record {
+      touch = touch;
+      made = each touch (contains_first touch (touches_above node key act above));
+      fails = λ i. acts i && leaves i && (ap (begins_with (codes "bad")) told ∙ bad) i;
+      context_is = refl;
+      text_is = told;
+    }
+
+longer : (up : ℕ) (path : List ℕ) → up < length path → 0 < length (drop up path)
+longer up path below = let left = length-drop up path in omega (arith, left, below)
+
+module _ (plan : PlanText) (node : ℕ) (path : List ℕ) (read : IsReadPlan plan) (is : IsPathOf (ids_of_nodes plan.nodes) node path) where
+  within : node < length plan.nodes
+  within = let inside = path_inside (ids_of_nodes plan.nodes) node path read.runnable.tree is in let long : length (ids_of_nodes plan.nodes) ≡ length plan.nodes = length-map plan.nodes (λ n. n.id) in omega (arith, inside, long)
+
+  -- the touches of a step that is made are those of the plan
+  there : (made : MadeText) → Contains (steps_made plan) made → (t : TouchText) → Contains (touches_of (ids_of_nodes plan.nodes) plan.keys (keys_named plan) made) t → Contains (touches_made plan) t
+  there made of_plan t touches = contains-flat_map (touches_of (ids_of_nodes plan.nodes) plan.keys (keys_named plan)) (steps_made plan) made t of_plan touches
+
+  own_path : (up : ℕ) (text : List ℕ) → MayBeLeft plan (start_of (drop up (plan_path plan node))) text → MayBeLeft plan (start_of (drop up path)) text
+  own_path up text = subst (λ p. MayBeLeft plan (start_of (drop up p)) text) (sym (is_plan_path plan node path read is))
+
+  below : (up : ℕ) → up < length path → 0 < length (drop up (plan_path plan node))
+  below up less = subst (λ p. 0 < length (drop up p)) (is_plan_path plan node path read is) (longer up path less)
+
+  step_leaves : (call : Call) (step : StepText) → Contains (calls_of plan node) call → Contains (steps_of_call plan call) step → height step < length path → StepLeaves plan path step
+  step_leaves call (put key text up) of_node of_call less = tt
+  step_leaves call (put_closeable key text up) of_node of_call less = λ closes bad.
+      let made = step_made plan node call (put_closeable key text up) within of_node of_call in
+      let act : ActText = record { word = words.PutCloseable; key = key; text = text; up = up } in
+      own_path up text (along_left plan node (place_of_key (keys_named plan) (key_of_step plan.keys key)) act (drop up (plan_path plan node)) (below up less) (there (made_by node made.0 (put_closeable key text up)) made.1) refl refl refl bad)
+  step_leaves call (want key text up) of_node of_call less = tt
+  step_leaves call (nothing key up) of_node of_call less = tt
+  step_leaves call (remove key up) of_node of_call less = tt
+  step_leaves call (compute key text up) of_node of_call less = tt
+  step_leaves call (compute_closeable key text up) of_node of_call less = λ closes bad.
+      let made = step_made plan node call (compute_closeable key text up) within of_node of_call in
+      let act : ActText = record { word = words.ComputeCloseable; key = key; text = text; up = up } in
+      own_path up text (along_left plan node (place_of_key (keys_named plan) (key_of_step plan.keys key)) act (drop up (plan_path plan node)) (below up less) (there (made_by node made.0 (compute_closeable key text up)) made.1) refl refl refl bad)
+  step_leaves call (compute_fail key text up) of_node of_call less = tt
+  step_leaves call (fail text) of_node of_call less = tt
+  step_leaves call (abort text) of_node of_call less = tt
+
+  call_leaves : (call : Call) → Contains (calls_of plan node) call → All (StepLeaves plan path) (steps_of_call plan call)
+  call_leaves call of_node =
+      let steps = steps_of_call plan call in
+      all_contained (StepLeaves plan path) steps (λ step of_call. step_leaves call step of_node of_call (All-contains (λ s. height s < length path) steps step (call_stays plan node path read is call of_node) of_call))
+
+  -- ---- a call
+
+  pub call_ready : (call : Call) (s : ValueState) → Contains (calls_of plan node) call → IsReady plan s → IsReady plan (call_run plan path call s).state
+  call_ready call s of_node h = steps_ready plan plan.keys path (steps_of_call plan call) s (call_leaves call of_node) h
+
+pub call_of : (plan : PlanText) (node : ℕ) (path : List ℕ) (call : Call) (s : ValueState) → IsReadPlan plan → IsPathOf (ids_of_nodes plan.nodes) node path → Contains (calls_of plan node) call → s.memory ≡ []
+    → IsOfPlan plan s → IsOfPlan plan (call_run plan path call s).state
+call_of plan node path call s read is of_node none h = (call_ready plan node path read is call s of_node (record { memory = none; of = h })).of

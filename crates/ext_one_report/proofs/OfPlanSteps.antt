@@ -1,0 +1,153 @@
+-- The steps of a plain run keep that each number stands in one place at most, and each value whose close fails where a step of the plan may leave it.
+use Rattle.std.proofs.Common.{◌≡◌, ℕ, Bool, true, false, List, [], ◌∷◌, drop, Option, Some, None, refl, ap, sym, subst, ◌∙◌}
+use Rattle.std.specs.Prelude.{All, codes, if◌then◌else◌}
+use Rattle.std.proofs.lemmas.List.Elements.{All-head, All-tail}
+use Rattle.ext_model.specs.declared.event.Act.TheVariants.{Claim, Fail, Abandon}
+use Rattle.ext_model.specs.declared.look.Look.{Look}
+use Rattle.ext_model.specs.declared.look.Look.TheVariants as look
+use Rattle.ext_model.specs.Plain.{Place}
+use Rattle.ext_tree.specs.Keys.{KeyValue}
+use Rattle.ext_lifecycle.specs.Endings.{successful, aborted, failed}
+use Rattle.ext_lifecycle.specs.FaultTexts.{VerdictText}
+use Rattle.ext_plan.specs.declared.reason.Reason.{Reason}
+use Rattle.ext_plan.specs.Plans.{KeyText, PlanText, StepKeyText, StepText, put, put_closeable, want, nothing, remove, compute, compute_closeable, compute_fail, fail, abort}
+use Rattle.ext_plan.specs.StepCalls.{label_of, start_of}
+use Rattle.ext_plan.specs.StoreKeys.{key_of_step}
+use Rattle.ext_plan.specs.Values.{ValueText}
+use Rattle.ext_plain.specs.ValueStates.{Numbering, ValueState, after_act, enough, found_later, full, keep_value, known, next, next_found, next_number, numbering_of, why_refused, with_memory, with_number}
+use Rattle.ext_plain.specs.StepRuns.{StepEnd, compute_looked, compute_numbered, computefail_looked, computefail_numbered, ended, factory_failed, factory_gave, found_along, keeping_by, kept_or_refused, next_step, none_numbered, number_by, or_refused, put_in, remove_numbered, step_by, step_run, steps_run, unless_ended, want_numbered}
+use Rattle.ext_plain.proofs.Memories.{step_by-with}
+use Rattle.ext_plain.proofs.Stepping.{steps_run-nil, steps_run-cons}
+use Rattle.ext_one_report.proofs.OfPlan.{IsOfPlan}
+use Rattle.ext_one_report.proofs.OfPlanStates.{IsDrawn, IsLeft, drawn_numbered, not_closed, of_abandoned, of_claimed, of_failed, of_filled, of_kept, of_numbered, of_put, of_removed}
+
+-- where a step leaves a closeable value, the plan may leave it there
+abbrev pub StepLeaves : PlanText → List ℕ → StepText → Type 0
+StepLeaves plan path (put key text up) = Unit {0}
+StepLeaves plan path (put_closeable key text up) = IsLeft plan (start_of (drop up path)) (record { text = text; closeable = true })
+StepLeaves plan path (want key text up) = Unit {0}
+StepLeaves plan path (nothing key up) = Unit {0}
+StepLeaves plan path (remove key up) = Unit {0}
+StepLeaves plan path (compute key text up) = Unit {0}
+StepLeaves plan path (compute_closeable key text up) = IsLeft plan (start_of (drop up path)) (record { text = text; closeable = true })
+StepLeaves plan path (compute_fail key text up) = Unit {0}
+StepLeaves plan path (fail text) = Unit {0}
+StepLeaves plan path (abort text) = Unit {0}
+
+module _ (plan : PlanText) where
+  or_of : (name label : List ℕ) (why : Option Reason) (s : ValueState) (goes : StepEnd) → IsOfPlan plan s → (why ≡ None → IsOfPlan plan goes.state) → IsOfPlan plan (or_refused name label why s goes).state
+  or_of name label None s goes h go = go refl
+  or_of name label (Some why) s goes h go = h
+
+  kept_of : (name label : List ℕ) (why : Option Reason) (s : ValueState) (goes : StepEnd) → IsOfPlan plan s → (why ≡ None → IsOfPlan plan goes.state) → IsOfPlan plan (kept_or_refused enough name label why s goes).state
+  kept_of name label None s goes h go = go refl
+  kept_of name label (Some why) s goes h go = h
+
+  either_of : (b : Bool) (x y : StepEnd) → IsOfPlan plan x.state → IsOfPlan plan y.state → IsOfPlan plan (if b then x else y).state
+  either_of true x y p q = p
+  either_of false x y p q = q
+
+  -- by what its key has
+  number_of : (Q : ValueState → Type 0) (name label : List ℕ) (key : KeyValue) (goes : ℕ → ValueState → StepEnd) (s : ValueState) (numbering : Numbering) → ((t : ValueState) → Q t → Q (with_number key t)) → ((t : ValueState) → Q t → IsOfPlan plan t)
+      → ((number : ℕ) (t : ValueState) → Q t → IsOfPlan plan (goes number t).state) → Q s → IsOfPlan plan (number_by enough name label key goes s numbering).state
+  number_of Q name label key goes s (known number) gets of each h = each number s h
+  number_of Q name label key goes s (next number) gets of each h = each number (with_number key s) (gets s h)
+  number_of Q name label key goes s full gets of each h = of s h
+
+  keyed_of : (name label : List ℕ) (key : KeyValue) (goes : ℕ → ValueState → StepEnd) (s : ValueState) → ((number : ℕ) (t : ValueState) → IsOfPlan plan t → IsOfPlan plan (goes number t).state) → IsOfPlan plan s
+      → IsOfPlan plan (number_by enough name label key goes s (numbering_of s.keys key)).state
+  keyed_of name label key goes s each h = number_of (IsOfPlan plan) name label key goes s (numbering_of s.keys key) (of_numbered plan key) (λ t p. p) each h
+
+  put_of : (keys : List KeyText) (name : List ℕ) (key : StepKeyText) (path : List ℕ) (value : ValueText) (s : ValueState) → IsLeft plan (start_of path) value → IsOfPlan plan s → IsOfPlan plan (keeping_by keys enough name key path value s).state
+  put_of keys name key path value s left h =
+      let label = label_of keys key in
+      let k = key_of_step keys key in
+      let kept = keep_value value s in
+      let puts : ℕ → ValueState → StepEnd = λ number. put_in enough name label (start_of path, number) in
+      kept_of name label (why_refused (next_number s) s) s (number_by enough name label k puts kept (numbering_of kept.keys k)) h
+      (λ room. number_of (IsDrawn plan value) name label k puts kept (numbering_of kept.keys k) (drawn_numbered plan k value) (λ t d. d.of) (λ number t d. of_put plan (start_of path, number) value t d left) (of_kept plan value s room h))
+
+  gave_of : (name label : List ℕ) (place : Place) (value : ValueText) (s : ValueState) → IsLeft plan place.0 value → IsOfPlan plan s → IsOfPlan plan (factory_gave name label place value s).state
+  gave_of name label place value s left h =
+      or_of name label (why_refused (next_number s) s) (after_act (Abandon place) s) _ (of_abandoned plan place s h) (λ room. of_filled plan place value (keep_value value s) (of_kept plan value s room h) left)
+
+  compute_of : (name label : List ℕ) (place : Place) (value : ValueText) (s : ValueState) (found : Look) → IsLeft plan place.0 value → IsOfPlan plan s → IsOfPlan plan (compute_looked name label place value s found).state
+  compute_of name label place value s (look.Found at number) left h = h
+  compute_of name label place value s (look.Fault at number) left h = h
+  compute_of name label place value s look.Absent left h =
+      or_of name label (why_refused (Claim place) s) s (factory_gave name label place value (after_act (Claim place) s)) h (λ won. gave_of name label place value (after_act (Claim place) s) left (of_claimed plan place s h))
+  compute_of name label place value s (look.Busy at) left h = h
+  compute_of name label place value s (look.Closed at) left h = h
+
+  failed_of : (name label : List ℕ) (place : Place) (text : List ℕ) (s : ValueState) → IsOfPlan plan s → IsOfPlan plan (factory_failed name label place text s).state
+  failed_of name label place text s h =
+      let value : ValueText = record { text = text; closeable = false } in
+      let kept = keep_value value s in
+      let gone = after_act (Abandon place) s in
+      let stored = ended successful (after_act (Fail place kept.store.drawn) kept) in
+      let left = of_abandoned plan place s h in
+      either_of s.keep_faults (or_refused name label (why_refused (next_number s) s) gone stored) (ended successful gone)
+      (or_of name label (why_refused (next_number s) s) gone stored left (λ room. of_failed plan place value kept (of_kept plan value s room h) (not_closed plan place.0 text))) left
+
+  computefail_of : (name label : List ℕ) (place : Place) (text : List ℕ) (s : ValueState) (found : Look) → IsOfPlan plan s → IsOfPlan plan (computefail_looked name label place text s found).state
+  computefail_of name label place text s (look.Found at number) h = h
+  computefail_of name label place text s (look.Fault at number) h = h
+  computefail_of name label place text s look.Absent h =
+      or_of name label (why_refused (Claim place) s) s (factory_failed name label place text (after_act (Claim place) s)) h (λ won. failed_of name label place text (after_act (Claim place) s) (of_claimed plan place s h))
+  computefail_of name label place text s (look.Busy at) h = h
+  computefail_of name label place text s (look.Closed at) h = h
+
+  -- ---- a step of any form
+
+  step_of : (keys : List KeyText) (path : List ℕ) (step : StepText) (s : ValueState) → StepLeaves plan path step → IsOfPlan plan s → IsOfPlan plan (step_run keys path step s).state
+  step_of keys path (put key text up) s left h = put_of keys (codes "put") key (drop up path) (record { text = text; closeable = false }) s (not_closed plan (start_of (drop up path)) text) h
+  step_of keys path (put_closeable key text up) s left h = put_of keys (codes "put!") key (drop up path) (record { text = text; closeable = true }) s left h
+  step_of keys path (want key text up) s left h = keyed_of (codes "want") (label_of keys key) (key_of_step keys key) (want_numbered enough (codes "want") (label_of keys key) (drop up path) text) s (λ number t p. p) h
+  step_of keys path (nothing key up) s left h = keyed_of (codes "none") (label_of keys key) (key_of_step keys key) (none_numbered enough (codes "none") (label_of keys key) (drop up path)) s (λ number t p. p) h
+  step_of keys path (remove key up) s left h =
+      keyed_of (codes "remove") (label_of keys key) (key_of_step keys key) (remove_numbered enough (codes "remove") (label_of keys key) (drop up path)) s (λ number t p. of_removed plan (start_of (drop up path), number) t p) h
+  step_of keys path (compute key text up) s left h =
+      keyed_of (codes "compute") (label_of keys key) (key_of_step keys key) (compute_numbered enough (codes "compute") (label_of keys key) (drop up path) (record { text = text; closeable = false })) s
+      (λ number t p. compute_of (codes "compute") (label_of keys key) (start_of (drop up path), number) (record { text = text; closeable = false }) t (found_along number (drop up path) t) (not_closed plan (start_of (drop up path)) text) p) h
+  step_of keys path (compute_closeable key text up) s left h =
+      keyed_of (codes "compute!") (label_of keys key) (key_of_step keys key) (compute_numbered enough (codes "compute!") (label_of keys key) (drop up path) (record { text = text; closeable = true })) s
+      (λ number t p. compute_of (codes "compute!") (label_of keys key) (start_of (drop up path), number) (record { text = text; closeable = true }) t (found_along number (drop up path) t) left p) h
+  step_of keys path (compute_fail key text up) s left h =
+      keyed_of (codes "computefail") (label_of keys key) (key_of_step keys key) (computefail_numbered enough (codes "computefail") (label_of keys key) (drop up path) text) s
+      (λ number t p. computefail_of (codes "computefail") (label_of keys key) (start_of (drop up path), number) text t (found_along number (drop up path) t) p) h
+  step_of keys path (fail text) s left h = h
+  step_of keys path (abort text) s left h = h
+
+-- ---- steps one after another, which find all memory
+
+-- what holds of a state between two steps
+pub record IsReady (plan : PlanText) (s : ValueState) : Type 0 where
+  pub memory : s.memory ≡ []
+  pub of : IsOfPlan plan s
+
+module _ (plan : PlanText) where
+  clean : (s : ValueState) → s.memory ≡ [] → with_memory [] s ≡ s
+  clean s none = ap (λ m. with_memory m s) (sym none)
+
+  step_ready : (keys : List KeyText) (path : List ℕ) (step : StepText) (s : ValueState) → StepLeaves plan path step → IsReady plan s → IsReady plan (step_run keys path step s).state
+  step_ready keys path step s left h = record {
+    memory = (let end = step_by-with [] keys enough path step s in sym (ap (λ (e : StepEnd). e.state.memory) (end ∙ ap (step_run keys path step) (clean s h.memory))));
+    of = step_of plan keys path step s left h.of;
+  }
+
+  next_ready : (keys : List KeyText) (path : List ℕ) (step : StepText) (s : ValueState) → StepLeaves plan path step → IsReady plan s → IsReady plan (next_step keys path step s).state
+  next_ready keys path step s left h =
+      let same : next_step keys path step s ≡ step_run keys path step s = ap (λ m. step_by keys (next_found m) path step (with_memory (found_later m) s)) h.memory ∙ ap (step_run keys path step) (clean s h.memory) in
+      subst (λ (e : StepEnd). IsReady plan e.state) (sym same) (step_ready keys path step s left h)
+
+  ended_ready : (v : VerdictText) (first : StepEnd) (go_on : ValueState → StepEnd) → IsReady plan first.state → ((s : ValueState) → IsReady plan s → IsReady plan (go_on s).state) → IsReady plan (unless_ended v first go_on).state
+  ended_ready successful first go_on h go = go first.state h
+  ended_ready (aborted text) first go_on h go = h
+  ended_ready (failed text) first go_on h go = h
+
+  pub steps_ready : (keys : List KeyText) (path : List ℕ) (steps : List StepText) (s : ValueState) → All (StepLeaves plan path) steps → IsReady plan s → IsReady plan (steps_run keys path steps s).state
+  steps_ready keys path [] s left h = subst (λ (e : StepEnd). IsReady plan e.state) (sym (steps_run-nil keys path s)) h
+  steps_ready keys path (step ∷ more) s left h =
+      subst (λ (e : StepEnd). IsReady plan e.state) (sym (steps_run-cons keys path step more s))
+      (ended_ready (next_step keys path step s).verdict (next_step keys path step s) (steps_run keys path more) (next_ready keys path step s (All-head (StepLeaves plan path) step more left) h)
+      (λ t p. steps_ready keys path more t (All-tail (StepLeaves plan path) step more left) p))

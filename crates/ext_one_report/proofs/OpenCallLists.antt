@@ -1,0 +1,187 @@
+-- The calls of a node, some of whose steps compute values at open places, end near those of a plain run.
+use Rattle.std.proofs.Common.{◌≡◌, ℕ, inl, inr, true, false, List, [], ◌∷◌, ◌++◌, map, refl, ap, sym, subst, ◌∙◌, append_assoc, append-nil, arith}
+use Rattle.std.specs.Prelude.{All, ◌&&◌, if◌then◌else◌}
+use Rattle.std.proofs.lemmas.List.{map-append}
+use Rattle.std.proofs.lemmas.List.Sums.{sum_by-append}
+use Rattle.ext_history.proofs.Lists.{bools}
+use Rattle.ext_tree.specs.Trees.{IsPathOf}
+use Rattle.ext_tree.proofs.Walks.{one_path}
+use Rattle.ext_lifecycle.specs.declared.call.Call.{Call}
+use Rattle.ext_lifecycle.specs.declared.outcome.Outcome.{Outcome}
+use Rattle.ext_lifecycle.specs.Endings.{all_successful, is_successful, with_fault}
+use Rattle.ext_lifecycle.specs.FaultTexts.{fault_text}
+use Rattle.ext_lifecycle.specs.Lifecycle.{MakesAll, MakesBefores, ending_of, endings_of}
+use Rattle.ext_plan.specs.Plans.{PlanText}
+use Rattle.ext_plan.specs.PlanCalls.{steps_of_call}
+use Rattle.ext_store.specs.Stores.{IsLaneOf}
+use Rattle.ext_engine.specs.Order.{LaneGoesOn}
+use Rattle.ext_engine.proofs.Going.{goes_same}
+use Rattle.ext_plain.specs.ValueStates.{ValueState}
+use Rattle.ext_plain.specs.StepRuns.{StepEnd}
+use Rattle.ext_plain.specs.NodeCalls.{CallsEnd, and_call, call_run, make, make_all, make_befores, no_calls}
+use Rattle.ext_parallel.specs.StoreCalls.{PlanLane}
+use Rattle.ext_parallel.specs.StoreSteps.{StepsRun}
+use Rattle.ext_one_report.specs.FullRuns.{StepFinds}
+use Rattle.ext_one_report.proofs.CallsWords.{StepsHaveRoom}
+use Rattle.ext_one_report.proofs.CallListsWords.{BeforesHaveRoom, CallsFind, CallsHaveRoom, Makes}
+use Rattle.ext_one_report.proofs.MatchingWords.{Places, RunView}
+use Rattle.ext_one_report.proofs.Calls.{all_first, all_later, steps_faults, steps_go, steps_lane, steps_memory, told_so}
+use Rattle.ext_one_report.proofs.CallLists.{all_go, befores_go, if_made, successful_more}
+use Rattle.ext_one_report.specs.Shares.{Open}
+use Rattle.ext_one_report.proofs.Open.{also, still_open}
+use Rattle.ext_one_report.proofs.OpenSteps.{AreBesideOpen}
+use Rattle.ext_one_report.proofs.OpenCalls.{CallFitsOpen, CallsNear, LeavesNear, AllCallsEndNear, BeforesEndNear}
+use Rattle.ext_one_report.proofs.OpenFits.{fits_later}
+use Rattle.ext_one_report.proofs.OpenGoing.{beside_first, beside_later, left_then}
+use Rattle.ext_one_report.proofs.OpenEnds.{Near}
+use Rattle.ext_one_report.proofs.OpenLists.{left_itself, steps_near}
+
+-- ---- whether all were successful
+
+stays_ended : (does : Call → ValueState → StepEnd) (calls : List Call) (e : CallsEnd) → all_successful e.calls ≡ false → make_befores does calls e ≡ e
+stays_ended does [] e ends = refl
+stays_ended does (call ∷ calls) e ends = ap (make_befores does calls) (ap (λ go. if go then make does e call else e) ends) ∙ stays_ended does calls e ends
+
+-- ---- what is said, counted and left
+
+pub record Calls (run : RunView) (places : Places) (open_at : Open) (a : PlanLane) (s : ValueState) (os : List Outcome) (b : PlanLane) (e : CallsEnd) : Type 0 where
+  pub near : CallsNear os e
+  pub left : LeavesNear run places open_at a s b e.state
+  -- so that further calls may come
+  pub of : IsLaneOf run.store.id b
+  pub memory : e.state.memory ≡ []
+  pub faults : e.state.keep_faults ≡ s.keep_faults
+
+pub more_near : {run : RunView} {places : Places} {open_at : Open} {a : PlanLane} {s : ValueState} {b : PlanLane} (os : List Outcome) (o : Outcome) (e : CallsEnd) (end : StepEnd)
+    → CallsNear os e → Near run places open_at a s o b end → CallsNear (os ++ o ∷ []) (and_call e end)
+more_near os o e end near one =
+    let ends : endings_of (os ++ o ∷ []) ≡ endings_of os ++ ending_of o.verdict ∷ [] = map-append (λ x. ending_of x.verdict) os (o ∷ []) in
+    let computed = sum_by-append (λ (x : Outcome). x.computed) os (o ∷ []) in
+    let found = sum_by-append (λ (x : Outcome). x.found) os (o ∷ []) in
+    record {
+      says = ap (map (with_fault fault_text)) ends ∙ (map-append (with_fault fault_text) (endings_of os) (ending_of o.verdict ∷ []) ∙ (λ i. near.says i ++ one.says i ∷ []));
+      counts = omega (arith, computed, found, near.counts, one.counts);
+    }
+
+joined : (os rest all : List Outcome) (o : Outcome) → all ≡ o ∷ rest → (os ++ o ∷ []) ++ rest ≡ os ++ all
+joined os rest all o is = append_assoc os (o ∷ []) rest ∙ ap (λ l. os ++ l) (sym is)
+
+module _ (run : RunView) (plan : PlanText) (node : ℕ) (path : List ℕ) (path_is : IsPathOf run.store.tree node path) where
+  -- no call was made
+  pub none_near : (os rest : List Outcome) (places : Places) (open_at : Open) (a b c : PlanLane) (e : CallsEnd) → rest ≡ [] → b ≡ a → CallsNear os e → AreBesideOpen run path places open_at a c e.state
+      → Calls run places open_at a e.state (os ++ rest) b e
+  none_near os rest places open_at a b c e none same near both = record {
+    near = subst (λ l. CallsNear l e) (sym (ap (λ l. os ++ l) none ∙ append-nil os)) near;
+    left = left_itself run path places open_at a b c e.state same both;
+    of = subst (λ (x : PlanLane). IsLaneOf run.store.id x) (sym same) both.of;
+    memory = both.memory;
+    faults = refl;
+  }
+
+  -- ---- one call
+
+  call_goes : (call : Call) (a : PlanLane) (o : Outcome) (b : PlanLane) → Makes plan run.store node a call o b → LaneGoesOn a b
+  call_goes call a o b made = steps_go run.store plan.keys made.path (steps_of_call plan call) a o b made.steps
+
+  module _ (call : Call) (places : Places) (open_at : Open) (a : PlanLane) (o : Outcome) (m b : PlanLane) (s : ValueState) (made : Makes plan run.store node a call o m) (further : LaneGoesOn m b)
+      (both : AreBesideOpen run path places open_at a b s) where
+    one_near : CallFitsOpen run plan path places open_at call → All (StepFinds plan.keys o) (steps_of_call plan call) → StepsHaveRoom plan.keys path (steps_of_call plan call) s
+        → Near run places open_at a s o m (call_run plan path call s)
+    one_near fits finds room =
+        let same : made.path ≡ path = one_path run.store.tree both.tree node made.path path made.path_is path_is in
+        steps_near run plan.keys path (steps_of_call plan call) places open_at a o m s (beside_first run path places open_at a m b s further both) fits.0 fits.1 finds room
+        (subst (λ p. StepsRun run.store plan.keys p (steps_of_call plan call) a o m) same made.steps)
+
+    module _ (one : Near run places open_at a s o m (call_run plan path call s)) where
+      abbrev settled : Places
+      settled = one.left.settled
+
+      both_later : AreBesideOpen run path (also settled places) (still_open settled open_at) m b (call_run plan path call s).state
+      both_later = beside_later run path places open_at a m b s (call_run plan path call s).state both (call_goes call a o m made) further one.left
+          (steps_lane run.store plan.keys made.path (steps_of_call plan call) a o m both.of made.steps)
+          (steps_memory plan.keys path (steps_of_call plan call) s both.memory) (steps_faults plan.keys path (steps_of_call plan call) s)
+
+      both_left : (os : List Outcome) (e : CallsEnd) → Calls run (also settled places) (still_open settled open_at) m (call_run plan path call s).state os b e → Calls run places open_at a s os b e
+      both_left os e rest = record {
+        near = rest.near;
+        left = left_then run path places open_at a m b s (call_run plan path call s).state both (call_goes call a o m made) further e.state one.left rest.left;
+        of = rest.of;
+        memory = rest.memory;
+        faults = rest.faults ∙ steps_faults plan.keys path (steps_of_call plan call) s;
+      }
+
+  pub fit_later : (calls : List Call) (places : Places) (open_at : Open) (settled : Places) (a b : PlanLane) (s : ValueState) → AreBesideOpen run path places open_at a b s
+      → All (CallFitsOpen run plan path places open_at) calls → All (CallFitsOpen run plan path (also settled places) (still_open settled open_at)) calls
+  fit_later calls places open_at settled a b s both fits = λ n d within.
+      let one = fits n d within in
+      (one.0, fits_later run plan.keys path both.path_is _ places open_at settled both.beside one.1)
+
+  -- ---- all calls
+
+  pub all_near : (calls : List Call) (done : List Outcome) (places : Places) (open_at : Open) (a : PlanLane) (os : List Outcome) (b : PlanLane) (e : CallsEnd)
+      → CallsNear done e → AreBesideOpen run path places open_at a b e.state → All (CallFitsOpen run plan path places open_at) calls → CallsFind plan calls os
+      → CallsHaveRoom plan path calls e.state → MakesAll (Makes plan run.store node) calls a os b → Calls run places open_at a e.state (done ++ os) b (make_all (call_run plan path) calls e)
+  all_near [] done places open_at a os b e near both fits finds room made = none_near done os places open_at a b b e made.0 made.1 near both
+  all_near (call ∷ calls) done places open_at a os b e near both fits finds room made =
+      let o = made.0 in
+      let m = made.2 in
+      let end = call_run plan path call e.state in
+      let further = all_go run plan node path places path_is calls m made.1 b made.5 in
+      let found : CallsFind plan (call ∷ calls) (o ∷ made.1) = subst (CallsFind plan (call ∷ calls)) made.3 finds in
+      let one = one_near call places open_at a o m b e.state made.4 further both (all_first (CallFitsOpen run plan path places open_at) call calls fits) found.0 room.0 in
+      let fit = fit_later calls places open_at one.left.settled a b e.state both (all_later (CallFitsOpen run plan path places open_at) call calls fits) in
+      let rest = all_near calls (done ++ o ∷ []) _ _ m made.1 b (and_call e end) (more_near done o e end near one)
+      (both_later call places open_at a o m b e.state made.4 further both one) fit found.1 room.1 made.5 in
+      subst (λ l. Calls run places open_at a e.state l b (make_all (call_run plan path) calls (and_call e end))) (joined done made.1 os o made.3)
+      (both_left call places open_at a o m b e.state made.4 further both one _ _ rest)
+
+  -- ---- calls up to the first that is not successful
+
+  pub befores_near : (calls : List Call) (done : List Outcome) (places : Places) (open_at : Open) (a : PlanLane) (os : List Outcome) (b : PlanLane) (e : CallsEnd) → all_successful e.calls ≡ true
+      → CallsNear done e → AreBesideOpen run path places open_at a b e.state → All (CallFitsOpen run plan path places open_at) calls → CallsFind plan calls os
+      → BeforesHaveRoom plan path calls e.state → MakesBefores (Makes plan run.store node) calls a os b → Calls run places open_at a e.state (done ++ os) b (make_befores (call_run plan path) calls e)
+  befores_near [] done places open_at a os b e all near both fits finds room made = none_near done os places open_at a b b e made.0 made.1 near both
+  befores_near (call ∷ calls) done places open_at a os b e all near both fits finds room made =
+      let o = made.0 in
+      let m = made.2 in
+      let end = call_run plan path call e.state in
+      let found : CallsFind plan (call ∷ calls) (o ∷ made.1) = subst (CallsFind plan (call ∷ calls)) made.3 finds in
+      let fits_one = all_first (CallFitsOpen run plan path places open_at) call calls fits in
+      let first : make_befores (call_run plan path) (call ∷ calls) e ≡ make_befores (call_run plan path) calls (and_call e end) = ap (make_befores (call_run plan path) calls) (if_made (call_run plan path) e call all) in
+      let good : all_successful (and_call e end).calls ≡ is_successful end.verdict = successful_more e.calls end.verdict ∙ ap (λ b. b && is_successful end.verdict) all in
+      elim (bools (is_successful (ending_of o.verdict))) [
+        | inl on ↦
+            let further = befores_go run plan node path places path_is calls m made.1 b (made.5.0 on) in
+            let one = one_near call places open_at a o m b e.state made.4 further both fits_one found.0 room.0 in
+            let passed : is_successful end.verdict ≡ true = ap is_successful (sym one.says) ∙ (told_so o.verdict ∙ on) in
+            let fit = fit_later calls places open_at one.left.settled a b e.state both (all_later (CallFitsOpen run plan path places open_at) call calls fits) in
+            let rest = befores_near calls (done ++ o ∷ []) _ _ m made.1 b (and_call e end) (good ∙ passed) (more_near done o e end near one)
+            (both_later call places open_at a o m b e.state made.4 further both one) fit found.1 (room.1 passed) (made.5.0 on) in
+            subst (λ x. Calls run places open_at a e.state (done ++ os) b x) (sym first)
+            (subst (λ l. Calls run places open_at a e.state l b (make_befores (call_run plan path) calls (and_call e end))) (joined done made.1 os o made.3)
+            (both_left call places open_at a o m b e.state made.4 further both one _ _ rest))
+        | inr off ↦
+            let none = made.5.1 off in
+            let further : LaneGoesOn m b = subst (λ (x : PlanLane). LaneGoesOn m x) (sym none.1) (goes_same m) in
+            let one = one_near call places open_at a o m b e.state made.4 further both fits_one found.0 room.0 in
+            let ended : is_successful end.verdict ≡ false = ap is_successful (sym one.says) ∙ (told_so o.verdict ∙ off) in
+            let last = none_near (done ++ o ∷ []) made.1 _ _ m b b (and_call e end) none.0 none.1 (more_near done o e end near one) (both_later call places open_at a o m b e.state made.4 further both one) in
+            subst (λ x. Calls run places open_at a e.state (done ++ os) b x) (sym (first ∙ stays_ended (call_run plan path) calls (and_call e end) (good ∙ ended)))
+            (subst (λ l. Calls run places open_at a e.state l b (and_call e end)) (joined done made.1 os o made.3) (both_left call places open_at a o m b e.state made.4 further both one _ _ last))
+      ]
+
+  pub befores_first : (calls : List Call) (places : Places) (open_at : Open) (a : PlanLane) (os : List Outcome) (b : PlanLane) (s : ValueState)
+      → AreBesideOpen run path places open_at a b s → All (CallFitsOpen run plan path places open_at) calls → CallsFind plan calls os
+      → BeforesHaveRoom plan path calls s → MakesBefores (Makes plan run.store node) calls a os b → Calls run places open_at a s os b (make_befores (call_run plan path) calls (no_calls s))
+  befores_first calls places open_at a os b s both fits finds room made =
+      befores_near calls [] places open_at a os b (no_calls s) refl (record { says = refl; counts = refl }) both fits finds room made
+
+-- ---- as the lemmas on nodes want it
+
+pub all_calls_end_near : AllCallsEndNear
+all_calls_end_near = λ run plan node path places open_at calls done a os b e path_is near both fits finds room made.
+    let all = all_near run plan node path path_is calls done places open_at a os b e near both fits finds room made in (all.near, all.left)
+
+pub befores_end_near : BeforesEndNear
+befores_end_near = λ run plan node path places open_at calls a os b s path_is both fits finds room made.
+    let all = befores_first run plan node path path_is calls places open_at a os b s both fits finds room made in (all.near, all.left)

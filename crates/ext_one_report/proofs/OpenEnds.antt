@@ -1,0 +1,271 @@
+-- One step at open places and others: it ends near that of the plain run, and leaves places near.
+use Rattle.std.proofs.Common.{◌≡◌, ℕ, ◌+◌, ◌<◌, inl, inr, Bool, true, false, true≢false, List, [], ◌∷◌, ◌++◌, length, drop, Contains, Option, None, Some, refl, ap, sym, subst, ◌∙◌, arith, nat_eq}
+use Rattle.std.specs.Prelude.{◌≢◌, ◌||◌, codes}
+use Rattle.std.proofs.lemmas.List.Elements.{All-contains_itself}
+use Rattle.ext_history.specs.Histories.{seen_by}
+use Rattle.ext_history.proofs.Lists.{bools}
+use Rattle.ext_model.specs.declared.event.Event.{Event}
+use Rattle.ext_model.specs.declared.slot.Slot.{Slot}
+use Rattle.ext_model.specs.declared.slot.Slot.TheVariants as slot
+use Rattle.ext_model.specs.Events.{is_on}
+use Rattle.ext_model.specs.History.{History, IsLegal, state_after}
+use Rattle.ext_tree.specs.Keys.{IsKeyNumber, KeyValue}
+use Rattle.ext_tree.specs.Trees.{IsPathOf}
+use Rattle.ext_tree.proofs.KeyPlacing.{number_stays}
+use Rattle.ext_lifecycle.specs.declared.outcome.Outcome.{Outcome}
+use Rattle.ext_lifecycle.specs.FaultTexts.{verdict_text}
+use Rattle.ext_plan.specs.Plans.{KeyText, StepKeyText, StepText, put, put_closeable, want, nothing, remove, compute, compute_closeable, compute_fail, fail, abort}
+use Rattle.ext_plan.specs.StepCalls.{label_of, start_of}
+use Rattle.ext_plan.specs.Steps.{height, step_key}
+use Rattle.ext_plan.specs.StoreKeys.{key_of_step}
+use Rattle.ext_plan.specs.Values.{ValueText}
+use Rattle.ext_store_core.specs.declared.fault.Refusal.{Refusal}
+use Rattle.ext_store_core.specs.declared.fault.Refusal.TheVariants as refusal
+use Rattle.ext_engine.specs.Order.{LaneGoesOn}
+use Rattle.ext_plain.specs.ValueStates.{ValueState, value_of}
+use Rattle.ext_plain.specs.StepRuns.{StepEnd, step_run}
+use Rattle.ext_parallel.specs.Saying.{EndsRefused}
+use Rattle.ext_parallel.specs.StoreCalls.{HasFrame, PlanLane}
+use Rattle.ext_parallel.specs.StoreSteps.{PlacesItsKey, StepComputes, StepRun, StepsRun, call_of}
+use Rattle.ext_one_report.proofs.PlanCells.{changed_by}
+use Rattle.ext_one_report.proofs.CallsWords.{AreComparedAll, StepHasRoom, StepWithin}
+use Rattle.ext_one_report.specs.FullRuns.{StepFinds}
+use Rattle.ext_one_report.proofs.MatchingWords.{HasNumberIn, IsNumbered, Matches, Places, RunView, cell_of, plain_meaning, plain_slot}
+use Rattle.ext_one_report.proofs.StepsWords.{EndAlike}
+use Rattle.ext_one_report.proofs.Calls.{steps_alike, steps_go}
+use Rattle.ext_one_report.proofs.PlainFrames.{LeavesElse, no_context}
+use Rattle.ext_one_report.proofs.FrameSteps.{steps_leave}
+use Rattle.ext_one_report.proofs.Open.{AreNear, ComputesOpen, MayStand, StandsOrNot, also, at_place, is_open, place_of_step}
+use Rattle.ext_one_report.specs.Shares.{Open}
+use Rattle.ext_one_report.proofs.OpenSteps.{AreBesideOpen, StepEndsNear}
+use Rattle.ext_one_report.proofs.OpenCalls.{LeavesAbove, LeavesNear}
+use Rattle.ext_one_report.proofs.OpenFits.{IsOpenStep, is_at_place, at_itself, open_step}
+use Rattle.ext_one_report.proofs.OpenSingles.{IsChanged, changed_place, changes_within, elsewhere, is_changed, may_change, one_of, only_one, single_is, single_run}
+use Rattle.ext_one_report.proofs.Standing.{computing_keeps_near}
+use Rattle.ext_one_report.proofs.OpenStep.{opens_end_near}
+
+-- how steps end: both say the same, and together have computed and found as many values
+pub record Near (run : RunView) (places : Places) (open_at : Open) (a : PlanLane) (s : ValueState) (o : Outcome) (b : PlanLane) (end : StepEnd) : Type 0 where
+  pub says : verdict_text o.verdict ≡ end.verdict
+  pub counts : o.computed + o.found ≡ end.computed + end.found
+  pub left : LeavesNear run places open_at a s b end.state
+
+-- ---- where nothing is settled
+
+abbrev none_settled : Places
+none_settled context key = false
+
+or_none : (a : Bool) → a ≡ a || false
+or_none true = refl
+or_none false = refl
+
+pub left_open : (run : RunView) (places : Places) (open_at : Open) (a : PlanLane) (s : ValueState) (b : PlanLane) (t : ValueState)
+    → Matches run places (seen_by b.cells.view) t → IsNumbered places t → AreNear run open_at (seen_by b.cells.view) t
+    → ((context : ℕ) (key : KeyValue) (v : ValueText) → open_at context key ≡ Some v → plain_slot t context key ≡ plain_slot s context key)
+    → ((context : ℕ) (key : KeyValue) (number : ℕ) (v : ValueText) → open_at context key ≡ Some v → HasNumberIn run key number
+    → (more : History) → seen_by b.cells.view ≡ seen_by a.cells.view ++ more → (e : Event ℕ) → Contains more e → is_on nat_eq (cell_of run number context) e.act ≡ true → e.lane ≢ a.cells.view.number)
+    → LeavesNear run places open_at a s b t
+left_open run places open_at a s b t matches numbered near unchanged untouched =
+    let same : places ≡ also none_settled places = λ i c k. or_none (places c k) i in
+    record {
+      settled = none_settled;
+      matches = subst (λ (p : Places). Matches run p (seen_by b.cells.view) t) same matches;
+      numbered = subst (λ (p : Places). IsNumbered p t) same numbered;
+      near = near;
+      were_open = λ c k here. absurd (cc here);
+      named = λ c k here. absurd (cc here);
+      stand = λ c k v here is. absurd (cc here);
+      unchanged = λ c k v off is. unchanged c k v is;
+      untouched = λ c k n v off is has more now e there on. untouched c k n v is has more now e there on;
+    }
+
+opened : (open_at : Open) (context : ℕ) (key : KeyValue) (v : ValueText) → open_at context key ≡ Some v → is_open open_at context key ≡ true
+opened open_at context key v is = ap (λ o. is_open (λ c k. o) context key) is
+
+values_stand : (s t : ValueState) (v : ValueText) (x : Option Slot) → ((number : ℕ) (value : ValueText) → value_of s.values number ≡ Some value → value_of t.values number ≡ Some value)
+    → StandsOrNot (plain_meaning s.values) v x → StandsOrNot (plain_meaning t.values) v x
+values_stand s t v None more is = tt
+values_stand s t v (Some (slot.Entry number)) more is = more number v is
+values_stand s t v (Some (slot.Fault number)) more is = is
+values_stand s t v (Some (slot.Claim lane)) more is = is
+values_stand s t v (Some (slot.Sealed kept)) more is = is
+
+-- ---- a step that keeps within places where the lane is alone
+
+module _ (run : RunView) (keys : List KeyText) (path : List ℕ) (places : Places) (open_at : Open) (step : StepText) (a : PlanLane) (o : Outcome) (b : PlanLane) (s : ValueState)
+    (both : AreBesideOpen run path places open_at a b s) (below : height step < length path) (within : StepWithin keys path places step) (leaves : LeavesAbove run keys path open_at step)
+    (finds : StepFinds keys o step) (room : StepHasRoom keys step s) (ran : StepRun run.store keys path step a o b) (frame : HasFrame run.store a b) (placed : PlacesItsKey keys (step_key step) a b) where
+  abbrev next : StepEnd
+  next = step_run keys path step s
+
+  abbrev changes : Places
+  changes = changed_place keys path (changed_by step)
+
+  all : StepsRun run.store keys path (step ∷ []) a o b
+  all = single_run run.store keys path step a o b ran frame placed
+
+  compared : AreComparedAll run keys path places (step ∷ []) a o b s
+  compared = record {
+    beside = record {
+      view = both.view;
+      of = both.of;
+      lane = both.lane;
+      tree = both.tree;
+      path_is = both.path_is;
+      alone = both.alone;
+      memory = both.memory;
+      keeps = both.keeps;
+      matches = both.matches;
+      numbered = both.numbered;
+    };
+    heights = one_of (λ x. height x < length path) step below;
+    within = one_of (StepWithin keys path places) step within;
+    finds = one_of (StepFinds keys o) step finds;
+    room = (room, λ passed. tt);
+  }
+
+  ends_alike : EndAlike run places o b next
+  ends_alike = subst (EndAlike run places o b) (single_is keys path step s both.memory) (steps_alike run keys path places (step ∷ []) a o b s compared all)
+
+  leaves_else : LeavesElse changes no_context s next.state
+  leaves_else = subst (λ (e : StepEnd). LeavesElse changes no_context s e.state) (single_is keys path step s both.memory)
+      (steps_leave keys path (step ∷ []) changes s
+      (λ other key up there is. may_change keys path step key up (subst (λ (x : StepText). changed_by x ≡ Some (key, up)) (sym (only_one step other there)) is)) both.memory)
+
+  -- no open place is the one that it changes, which is among the places
+  not_open : (c : ℕ) (k : KeyValue) (v : ValueText) → open_at c k ≡ Some v → IsChanged keys path step c k → ⊥
+  not_open c k v is it = true≢false (sym (changes_within keys path places step c k below within it) ∙ both.beside.apart c k v is)
+
+  same_slot : (c : ℕ) (k : KeyValue) (v : ValueText) → open_at c k ≡ Some v → plain_slot next.state c k ≡ plain_slot s c k
+  same_slot c k v is = elim (bools (changes c k)) [
+    | inl on ↦ absurd (not_open c k v is (is_changed keys path step c k on))
+    | inr off ↦ leaves_else.slots c k off refl (λ number past. both.near.numbered.beyond c k number (opened open_at c k v is) past)
+  ]
+
+  same_above : (c : ℕ) (k : KeyValue) (v : ValueText) (above : List ℕ) → open_at c k ≡ Some v → IsPathOf run.store.tree c (c ∷ above) → (x : ℕ) → Contains above x → places x k ≡ true
+      → plain_slot next.state x k ≡ plain_slot s x k
+  same_above c k v above is on x there here = elim (bools (changes x k)) [
+    | inl changed ↦
+        let it = is_changed keys path step x k changed in
+        absurd (leaves it.named it.up c v above it.changes (subst (λ key. open_at c key ≡ Some v) it.key_is is) on (subst (Contains above) it.context_is there))
+    | inr off ↦ leaves_else.slots x k off refl (λ number past. both.numbered.beyond x k number here past)
+  ]
+
+  goes : LaneGoesOn a b
+  goes = steps_go run.store keys path (step ∷ []) a o b all
+
+  near_still : AreNear run open_at (seen_by b.cells.view) next.state
+  near_still = record {
+    lanes = λ c k n v is has.
+        let more : History = goes.seen.0 in
+        let legal : IsLegal run.store.id.cells.limits (seen_by a.cells.view ++ more) = subst (IsLegal run.store.id.cells.limits) (sym goes.seen.1) both.legal in
+        subst (λ h. MayStand run.meaning v ((state_after h).slots (cell_of run n c))) goes.seen.1
+        (computing_keeps_near run run.store.id.cells.limits v (cell_of run n c) (seen_by a.cells.view) more legal (both.near.lanes c k n v is has)
+        (λ e there on. both.computed.each more (sym goes.seen.1) c k n v is has e there on));
+    plain = λ c k v is. values_stand s next.state v (plain_slot next.state c k) leaves_else.values
+        (subst (StandsOrNot (plain_meaning s.values) v) (sym (same_slot c k v is)) (both.near.plain c k v is));
+    above = λ c k v path' is on. λ n d inside.
+        same_above c k v path' is on _ (All-contains_itself path' n d inside) (both.beside.above c k v path' is on n d inside) ∙ both.near.above c k v path' is on n d inside;
+    numbered = record {
+      beyond = λ c k number is past. leaves_else.stays_open c refl (λ n far. both.near.numbered.beyond c k n is far) number past;
+      drawn = ends_alike.numbered.drawn;
+    };
+  }
+
+  pub within_near : Near run places open_at a s o b next
+  within_near = record {
+    says = ends_alike.says;
+    counts = omega (arith, ends_alike.computed, ends_alike.found);
+    left = left_open run places open_at a s b next.state ends_alike.matches ends_alike.numbered near_still same_slot
+        (λ c k n v is has more now e there on. elsewhere run keys path step a o b both.view both.lane all c k n (not_open c k v is) has more now e there on);
+  }
+
+-- ---- a step that computes the value of an open place
+
+refused_none : (name label : List ℕ) (why : Refusal) (o : Outcome) → EndsRefused name label why o → o.computed + o.found ≡ 0
+refused_none name label (refusal.Busy at) o ends = absurd ends
+refused_none name label (refusal.Closed at) o ends = omega (arith, ends.computed_are, ends.found_are)
+refused_none name label refusal.Contended o ends = absurd ends
+refused_none name label refusal.Exhausted o ends = omega (arith, ends.computed_are, ends.found_are)
+refused_none name label refusal.DirectoryFull o ends = omega (arith, ends.computed_are, ends.found_are)
+refused_none name label refusal.Unplaced o ends = absurd ends
+refused_none name label refusal.Memory o ends = omega (arith, ends.1, ends.2)
+
+-- it has named its key, where it is not refused
+module _ (run : RunView) (keys : List KeyText) (path : List ℕ) (a : PlanLane) (o : Outcome) (b : PlanLane) (once : o.computed + o.found ≡ 1) where
+  computes_named : (name : List ℕ) (key : StepKeyText) (up : ℕ) (value : ValueText) → StepComputes run.store (call_of keys path name key up) value a o b → (number : ℕ) × IsKeyNumber b.keys (key_of_step keys key) number
+  computes_named name key up value (inl made) = (made.0, made.1)
+  computes_named name key up value (inr refused) =
+      let none = refused_none name (label_of keys key) refused.0 o refused.2.1 in
+      absurd (omega (arith, once, none))
+
+  renamed : (step : StepText) (key : StepKeyText) (up : ℕ) (name : StepKeyText) (height : ℕ) → changed_by step ≡ Some (key, up) → changed_by step ≡ Some (name, height)
+      → (number : ℕ) × IsKeyNumber b.keys (key_of_step keys key) number → (number : ℕ) × IsKeyNumber b.keys (key_of_step keys name) number
+  renamed step key up name height is so number =
+      let one : Some (key, up) ≡ Some (name, height) = sym is ∙ so in
+      let pair : (key, up) ≡ (name, height) = cc one in
+      (number.0, subst (λ (p : StepKeyText × ℕ). IsKeyNumber b.keys (key_of_step keys p.0) number.0) pair number.1)
+
+  key_named : (open_at : Open) (step : StepText) → ComputesOpen keys path open_at step → StepRun run.store keys path step a o b → (it : IsOpenStep keys path open_at step) → (number : ℕ) × IsKeyNumber b.keys (key_of_step keys it.key) number
+  key_named open_at (put key text up) computes ran it = absurd computes
+  key_named open_at (put_closeable key text up) computes ran it = absurd computes
+  key_named open_at (want key text up) computes ran it = absurd computes
+  key_named open_at (nothing key up) computes ran it = absurd computes
+  key_named open_at (remove key up) computes ran it = absurd computes
+  key_named open_at (compute key text up) computes (inl made) it =
+      renamed (compute key text up) key up it.key it.up refl it.changes (computes_named (codes "compute") key up (record { text = text; closeable = false }) made)
+  key_named open_at (compute key text up) computes (inr none) it = absurd (omega (arith, once, none.1.ends.1, none.1.ends.2))
+  key_named open_at (compute_closeable key text up) computes (inl made) it =
+      renamed (compute_closeable key text up) key up it.key it.up refl it.changes (computes_named (codes "compute!") key up (record { text = text; closeable = true }) made)
+  key_named open_at (compute_closeable key text up) computes (inr none) it = absurd (omega (arith, once, none.1.ends.1, none.1.ends.2))
+  key_named open_at (compute_fail key text up) computes ran it = absurd computes
+  key_named open_at (fail text) computes ran it = absurd computes
+  key_named open_at (abort text) computes ran it = absurd computes
+
+module _ (run : RunView) (keys : List KeyText) (path : List ℕ) (places : Places) (open_at : Open) (step : StepText) (a : PlanLane) (o : Outcome) (b : PlanLane) (s : ValueState)
+    (both : AreBesideOpen run path places open_at a b s) (below : height step < length path) (computes : ComputesOpen keys path open_at step)
+    (finds : StepFinds keys o step) (room : StepHasRoom keys step s) (ran : StepRun run.store keys path step a o b) (frame : HasFrame run.store a b) (placed : PlacesItsKey keys (step_key step) a b) where
+  abbrev here : Places
+  here = place_of_step keys path step
+
+  it : IsOpenStep keys path open_at step
+  it = open_step keys path open_at step computes
+
+  ended : StepEndsNear run places open_at here s o b (step_run keys path step s)
+  ended = opens_end_near run keys path places open_at step a o b s computes below both finds room ran
+
+  same_place : (c : ℕ) (k : KeyValue) → here c k ≡ true → (c ≡ start_of (drop it.up path)) × (k ≡ key_of_step keys it.key)
+  same_place c k is = is_at_place (start_of (drop it.up path)) (key_of_step keys it.key) c k (ap (λ (p : Places). p c k) (sym it.at) ∙ is)
+
+  -- the place that it changes is its own
+  own_place : (c : ℕ) (k : KeyValue) → IsChanged keys path step c k → here c k ≡ true
+  own_place c k changed =
+      let one : Some (changed.named, changed.up) ≡ Some (it.key, it.up) = sym changed.changes ∙ it.changes in
+      let pair : (changed.named, changed.up) ≡ (it.key, it.up) = cc one in
+      let c_is : c ≡ start_of (drop it.up path) = changed.context_is ∙ ap (λ (p : StepKeyText × ℕ). start_of (drop p.1 path)) pair in
+      let k_is : k ≡ key_of_step keys it.key = changed.key_is ∙ ap (λ (p : StepKeyText × ℕ). key_of_step keys p.0) pair in
+      ap (λ (p : Places). p c k) it.at ∙ ((λ i. at_place (start_of (drop it.up path)) (key_of_step keys it.key) (c_is i) (k_is i)) ∙ at_itself (start_of (drop it.up path)) (key_of_step keys it.key))
+
+  pub computes_near : Near run places open_at a s o b (step_run keys path step s)
+  computes_near = record {
+    says = ended.says ∙ sym ended.plain_says;
+    counts = ended.once ∙ sym ended.plain_once;
+    left = record {
+      settled = here;
+      matches = ended.matches;
+      numbered = ended.numbered;
+      near = ended.near;
+      were_open = λ c k is. let same = same_place c k is in (it.value, subst (λ (x : ℕ × KeyValue). open_at x.0 x.1 ≡ Some it.value) (λ i. (sym same.0 i, sym same.1 i)) it.is_open);
+      named = λ c k is.
+          let name = key_named run keys path a o b ended.once open_at step computes ran it in
+          (name.0, subst (λ x. HasNumberIn run x name.0) (sym (same_place c k is).1) (number_stays b.keys run.numbering (key_of_step keys it.key) name.0 both.lane.keys name.1));
+      stand = ended.stands;
+      unchanged = ended.others;
+      untouched = λ c k n v off is has more now e there on. elsewhere run keys path step a o b both.view both.lane (single_run run.store keys path step a o b ran frame placed) c k n
+          (λ changed. true≢false (sym (own_place c k changed) ∙ off)) has more now e there on;
+    };
+  }
+
+  pub computes_settled : computes_near.left.settled ≡ here
+  unfolding computes_near
+  computes_settled = refl

@@ -1,0 +1,114 @@
+-- The steps of a call, some of which compute values at open places, end near those of a plain run.
+use Rattle.std.proofs.Common.{◌≡◌, ℕ, ◌<◌, inl, inr, true, false, List, [], ◌∷◌, ◌++◌, length, refl, ap, sym, subst, ◌∙◌, append-nil, arith}
+use Rattle.std.specs.Prelude.{All, Contains}
+use mathlib.Core.List.{append_cancel_left}
+use Rattle.ext_history.specs.Histories.{seen_by}
+use Rattle.ext_history.proofs.Lists.{bools, contains_none}
+use Rattle.ext_model.specs.declared.event.Event.{Event}
+use Rattle.ext_model.specs.History.{History}
+use Rattle.ext_lifecycle.specs.declared.outcome.Outcome.{Outcome}
+use Rattle.ext_lifecycle.specs.Endings.{is_successful}
+use Rattle.ext_lifecycle.specs.FaultTexts.{verdict_text}
+use Rattle.ext_lifecycle.specs.Lifecycle.{ending_of}
+use Rattle.ext_plan.specs.Plans.{KeyText, StepText}
+use Rattle.ext_plan.specs.Steps.{height, step_key}
+use Rattle.ext_plan.specs.ReadPlans.{StayOnPath}
+use Rattle.ext_store.specs.Stores.{IsLaneOf}
+use Rattle.ext_engine.specs.Order.{LaneGoesOn}
+use Rattle.ext_plain.specs.ValueStates.{ValueState}
+use Rattle.ext_plain.specs.StepRuns.{StepEnd, step_run, steps_run}
+use Rattle.ext_plain.proofs.Stepping.{steps_run-nil}
+use Rattle.ext_parallel.specs.StoreCalls.{HasFrame, PlanLane}
+use Rattle.ext_parallel.specs.StoreSteps.{PlacesItsKey, StepRun, StepsRun}
+use Rattle.ext_one_report.specs.FullRuns.{StepFinds}
+use Rattle.ext_one_report.proofs.CallsWords.{StepHasRoom, StepsHaveRoom}
+use Rattle.ext_one_report.proofs.MatchingWords.{Places, RunView}
+use Rattle.ext_one_report.proofs.Calls.{all_first, all_later, finds_by, plain_goes, plain_stops, step_memory, steps_faults, steps_go, steps_lane, success_finds, told_so}
+use Rattle.ext_one_report.specs.Shares.{Open}
+use Rattle.ext_one_report.proofs.Open.{also, still_open}
+use Rattle.ext_one_report.proofs.OpenSteps.{AreBesideOpen}
+use Rattle.ext_one_report.proofs.OpenCalls.{LeavesNear, StepsFit}
+use Rattle.ext_one_report.proofs.OpenFits.{fits_later}
+use Rattle.ext_one_report.proofs.OpenGoing.{beside_first, beside_later, left_then}
+use Rattle.ext_one_report.proofs.OpenSingles.{single_is, single_run}
+use Rattle.ext_one_report.proofs.OpenEnds.{Near, computes_near, computes_settled, left_open, within_near}
+
+-- ---- where nothing happened
+
+no_event : (h more : History) (e : Event ℕ) → h ≡ h ++ more → Contains more e → ⊥
+no_event h more e is there =
+    let none : more ≡ [] = append_cancel_left h more [] (sym is ∙ sym (append-nil h)) in
+    contains_none e (subst (λ l. Contains l e) none there)
+
+pub left_itself : (run : RunView) (path : List ℕ) (places : Places) (open_at : Open) (a b c : PlanLane) (s : ValueState) → b ≡ a → AreBesideOpen run path places open_at a c s → LeavesNear run places open_at a s b s
+left_itself run path places open_at a b c s same both =
+    subst (λ x. LeavesNear run places open_at a s x s) (sym same)
+    (left_open run places open_at a s a s both.matches both.numbered both.near (λ c k v is. refl) (λ c k n v is has more now e there on own. no_event (seen_by a.cells.view) more e now there))
+
+module _ (run : RunView) (keys : List KeyText) (path : List ℕ) where
+  -- ---- the first step, and what the others fit
+
+  record FirstNear (places : Places) (open_at : Open) (a : PlanLane) (s : ValueState) (o : Outcome) (b : PlanLane) (end : StepEnd) (more : List StepText) : Type 0 where
+    near : Near run places open_at a s o b end
+    fits : StepsFit run keys path (also near.left.settled places) (still_open near.left.settled open_at) more
+
+  first_near : (places : Places) (open_at : Open) (step : StepText) (more : List StepText) (a : PlanLane) (o : Outcome) (b : PlanLane) (s : ValueState)
+      → AreBesideOpen run path places open_at a b s → height step < length path → StepsFit run keys path places open_at (step ∷ more)
+      → StepFinds keys o step → StepHasRoom keys step s → StepRun run.store keys path step a o b → HasFrame run.store a b → PlacesItsKey keys (step_key step) a b → FirstNear places open_at a s o b (step_run keys path step s) more
+  first_near places open_at step more a o b s both below (inl fits) finds room ran frame placed =
+      let near = within_near run keys path places open_at step a o b s both below fits.0 fits.1 finds room ran frame placed in
+      record { near = near; fits = fits_later run keys path both.path_is more places open_at near.left.settled both.beside fits.2 }
+  first_near places open_at step more a o b s both below (inr fits) finds room ran frame placed =
+      let near = computes_near run keys path places open_at step a o b s both below fits.0 finds room ran frame placed in
+      record {
+        near = near;
+        fits = subst (λ (p : Places). StepsFit run keys path (also p places) (still_open p open_at) more)
+            (sym (computes_settled run keys path places open_at step a o b s both below fits.0 finds room ran frame placed)) fits.1;
+      }
+
+  -- ---- one step after another
+
+  pub steps_near : (steps : List StepText) (places : Places) (open_at : Open) (a : PlanLane) (o : Outcome) (b : PlanLane) (s : ValueState)
+      → AreBesideOpen run path places open_at a b s → StayOnPath (length path) steps → StepsFit run keys path places open_at steps
+      → All (StepFinds keys o) steps → StepsHaveRoom keys path steps s → StepsRun run.store keys path steps a o b → Near run places open_at a s o b (steps_run keys path steps s)
+  unfolding StepsRun
+  steps_near [] places open_at a o b s both heights fits finds room ran =
+      subst (λ (end : StepEnd). Near run places open_at a s o b end) (sym (steps_run-nil keys path s)) (record {
+        says = ran.1.says;
+        counts = omega (arith, ran.1.computed_are, ran.1.found_are);
+        left = left_itself run path places open_at a b b s ran.0 both;
+      })
+  steps_near (step ∷ more) places open_at a o b s both heights fits finds room ran =
+      let first = ran.0 in
+      let m = ran.1 in
+      let next = step_run keys path step s in
+      let below = all_first (λ x. height x < length path) step more heights in
+      let alone = single_run run.store keys path step a first m ran.2 ran.3 ran.5 in
+      elim (bools (is_successful (ending_of first.verdict))) [
+        | inl on ↦
+            let rest = ran.4.0 on in
+            let goes : LaneGoesOn a m = steps_go run.store keys path (step ∷ []) a first m alone in
+            let further : LaneGoesOn m b = steps_go run.store keys path more m rest.0 b rest.1 in
+            let of : IsLaneOf run.store.id m = steps_lane run.store keys path (step ∷ []) a first m both.of alone in
+            let one : FirstNear places open_at a s first m next more =
+            first_near places open_at step more a first m s (beside_first run path places open_at a m b s further both) below fits (success_finds keys step first on) room.0 ran.2 ran.3 ran.5 in
+            let passed : is_successful next.verdict ≡ true = ap is_successful (sym one.near.says) ∙ (told_so first.verdict ∙ on) in
+            let faults : next.state.keep_faults ≡ s.keep_faults =
+            subst (λ (e : StepEnd). e.state.keep_faults ≡ s.keep_faults) (single_is keys path step s both.memory) (steps_faults keys path (step ∷ []) s) in
+            let later = beside_later run path places open_at a m b s next.state both goes further one.near.left of (step_memory keys path step s both.memory) faults in
+            let others = steps_near more _ _ m rest.0 b next.state later (all_later (λ x. height x < length path) step more heights) one.fits
+            (λ n d within. finds_by keys _ o rest.0 rest.2.verdict_is (all_later (StepFinds keys o) step more finds n d within)) (room.1 passed) rest.1 in
+            subst (λ (end : StepEnd). Near run places open_at a s o b end) (sym (plain_goes keys path step more s both.memory passed)) (record {
+              says = ap verdict_text rest.2.verdict_is ∙ others.says;
+              counts = omega (arith, rest.2.computed_are, rest.2.found_are, one.near.counts, others.counts);
+              left = left_then run path places open_at a m b s next.state both goes further (steps_run keys path more next.state).state one.near.left others.left;
+            })
+        | inr off ↦
+            let is = ran.4.1 off in
+            let found : StepFinds keys first step = finds_by keys step o first (ap (λ (x : Outcome). x.verdict) is.0) (all_first (StepFinds keys o) step more finds) in
+            let both_here : AreBesideOpen run path places open_at a m s = subst (λ (x : PlanLane). AreBesideOpen run path places open_at a x s) is.1 both in
+            let one : FirstNear places open_at a s first m next more = first_near places open_at step more a first m s both_here below fits found room.0 ran.2 ran.3 ran.5 in
+            let ended : is_successful next.verdict ≡ false = ap is_successful (sym one.near.says) ∙ (told_so first.verdict ∙ off) in
+            subst (λ (end : StepEnd). Near run places open_at a s o b end) (sym (plain_stops keys path step more s both.memory ended))
+            (subst (λ (x : Outcome). Near run places open_at a s x b next) (sym is.0) (subst (λ (x : PlanLane). Near run places open_at a s first x next) (sym is.1) one.near))
+      ]

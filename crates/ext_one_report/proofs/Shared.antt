@@ -1,0 +1,63 @@
+-- Which places nodes share with nodes beside them, where all of them compute the same value: of a plan in which nodes that may run beside one another touch a place that one of them may
+-- change only so.
+-- Javadoc `ExtensionContext.Store`, `getOrComputeIfAbsent`; what a step touches, and when two touches agree, are definitions of [ext_races].
+use Rattle.std.specs.Prelude.{ℕ, ◌≡◌, ◌≢◌, Bool, true, false, List, ◌∷◌, drop, All, Contains, Option, Some, None}
+use Rattle.ext_tree.specs.Keys.{KeyValue}
+use Rattle.ext_tree.specs.Trees.{IsParentOf, IsPathOf}
+use Rattle.ext_lifecycle.specs.declared.call.Call.{Call}
+use Rattle.ext_plan.specs.Plans.{PlanText, StepKeyText, StepText}
+use Rattle.ext_plan.specs.PlanCalls.{concurrent_of, steps_of_call}
+use Rattle.ext_plan.specs.ReadPlans.{ids_of_nodes}
+use Rattle.ext_plan.specs.StepCalls.{start_of}
+use Rattle.ext_plan.specs.StoreKeys.{key_of_step}
+use Rattle.ext_plan.specs.Values.{ValueText}
+use Rattle.ext_races.specs.Beside.{IsBeside}
+use Rattle.ext_races.specs.Clashes.{agree}
+use Rattle.ext_races.specs.MadeSteps.{calls_of}
+use Rattle.ext_races.specs.Touches.{TouchText, touches_made}
+use Rattle.ext_races.specs.StepWords.{gives_value}
+use Rattle.ext_one_report.proofs.PlanCells.{changed_by}
+use Rattle.ext_one_report.proofs.MatchingWords.{Places, RunView}
+use Rattle.ext_one_report.specs.Apart.{is_within}
+use Rattle.ext_one_report.proofs.Open.{ComputesOpen}
+use Rattle.ext_one_report.specs.Shares.{Open}
+use Rattle.ext_one_report.proofs.OpenCalls.{CallFitsOpen}
+
+-- ---- plans
+
+-- ---- what nodes share
+
+-- the places that are touched, and are not shared
+abbrev pub unshared : Places → Open → Places
+unshared touched shared context key = keeps (shared context key)
+  where
+    keeps : Option ValueText → Bool
+    keeps None = touched context key
+    keeps (Some v) = false
+
+-- `shares` has the places that each node, or a node below it, computes a value at which a node beside it computes too
+module _ (plan : PlanText) (run : RunView) (touched changes : ℕ → Places) (shares : ℕ → Open) where
+  pub record AreShared : Type 0 where
+    -- the node touches them, in contexts above its own
+    pub touched_there : (node context : ℕ) (key : KeyValue) (v : ValueText) → shares node context key ≡ Some v → touched node context key ≡ true
+    pub outside : (node context : ℕ) (key : KeyValue) (v : ValueText) → shares node context key ≡ Some v → is_within plan node context ≡ false
+    -- it touches the places of the key above them too, which are not shared and which it does not change
+    pub above : (node context : ℕ) (key : KeyValue) (v : ValueText) (path : List ℕ) → shares node context key ≡ Some v → IsPathOf (ids_of_nodes plan.nodes) context (context ∷ path)
+        → All (λ c. (touched node c key ≡ true) × (shares node c key ≡ None) × (changes node c key ≡ false)) path
+    -- each step of its calls that changes one of them computes the value
+    pub computes : (node : ℕ) (path : List ℕ) (call : Call) (step : StepText) (key : StepKeyText) (up : ℕ) (v : ValueText) → IsPathOf (ids_of_nodes plan.nodes) node path → Contains (calls_of plan node) call
+        → Contains (steps_of_call plan call) step → changed_by step ≡ Some (key, up) → shares node (start_of (drop up path)) (key_of_step plan.keys key) ≡ Some v
+        → ComputesOpen plan.keys path (shares node) step
+    -- and each step that looks at one of them comes behind one of its own call that computes it
+    pub calls : (node : ℕ) (path : List ℕ) (call : Call) → IsPathOf (ids_of_nodes plan.nodes) node path → Contains (calls_of plan node) call
+        → CallFitsOpen run plan path (unshared (touched node) (shares node)) (shares node) call
+    -- a child shares what its parent does, where it touches it
+    pub below : (parent child context : ℕ) (key : KeyValue) (v : ValueText) → IsParentOf (ids_of_nodes plan.nodes) parent child → shares parent context key ≡ Some v → touched child context key ≡ true
+        → shares child context key ≡ Some v
+    -- children that run beside one another share each place that one of them changes and another touches
+    pub beside : (parent child other context : ℕ) (key : KeyValue) → IsParentOf (ids_of_nodes plan.nodes) parent child → IsParentOf (ids_of_nodes plan.nodes) parent other → child ≢ other
+        → concurrent_of plan child ≡ true → concurrent_of plan other ≡ true → changes child context key ≡ true → touched other context key ≡ true
+        → (v : ValueText) × (shares child context key ≡ Some v) × (shares other context key ≡ Some v)
+    -- and all that share a place of one parent compute the same value there
+    pub same : (parent child other context : ℕ) (key : KeyValue) (v w : ValueText) → IsParentOf (ids_of_nodes plan.nodes) parent child → IsParentOf (ids_of_nodes plan.nodes) parent other
+        → shares child context key ≡ Some v → shares other context key ≡ Some w → v ≡ w

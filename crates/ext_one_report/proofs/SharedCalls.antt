@@ -1,0 +1,288 @@
+-- The calls of nodes that share values: step by step, what a step touches is not shared or is settled by a compute before it, or the step computes the value itself.
+use Rattle.std.proofs.Common.{◌≡◌, ◌<◌, ◌≤◌, ◌⊎◌, ℕ, Bool, true, false, List, [], ◌∷◌, ◌++◌, length, get_or, Contains, drop, Option, Some, None, refl, ap, sym, subst, ◌∙◌, inl, inr, append_assoc, eq-eqb}
+use Rattle.std.specs.Prelude.{if◌then◌else◌, ◌==◌}
+use Rattle.std.proofs.lemmas.Bool.{and_from, cases_Bool, or_left, or_right, true≢false}
+use Rattle.std.proofs.lemmas.List.Elements.{All-contains, Contains-append_right, Contains-push_cases}
+use Rattle.ext_tree.specs.Keys.{KeyValue}
+use Rattle.ext_tree.specs.Traits.{key_eq}
+use Rattle.ext_tree.proofs.Equalities.{keys_Decides}
+use Rattle.ext_lifecycle.specs.declared.call.Call.{Call}
+use Rattle.ext_plan.specs.Plans.{PlanText, StepKeyText, StepText, put, put_closeable, want, nothing, remove, compute, compute_closeable, compute_fail, fail, abort}
+use Rattle.ext_plan.specs.PlanCalls.{steps_of_call}
+use Rattle.ext_plan.specs.ReadPlans.{IsReadPlan, ids_of_nodes}
+use Rattle.ext_plan.specs.StepCalls.{start_of}
+use Rattle.ext_plan.specs.StoreKeys.{key_of_step, place_of_key}
+use Rattle.ext_plan.specs.Values.{ValueText}
+use Rattle.ext_races.specs.declared.word.Word.{Word}
+use Rattle.ext_races.specs.declared.word.Word.TheVariants as words
+use Rattle.ext_races.specs.Acts.{ActText, act_of}
+use Rattle.ext_races.specs.MadeSteps.{calls_of, plan_path}
+use Rattle.ext_races.specs.Touches.{TouchText, below_computes, keys_named, touch_of, touches_above, touches_along, touches_made}
+use Rattle.ext_races.specs.StepWords.{changes, gives_value, looks_along}
+use Rattle.ext_races.proofs.Lists.{all_contained, contains_cases, contains_first, contains_nothing}
+use Rattle.ext_races.proofs.StepTouches.{reach_below}
+use Rattle.ext_one_report.proofs.PlanCells.{changed_of}
+use Rattle.ext_one_report.proofs.CallsWords.{StepWithin}
+use Rattle.ext_one_report.proofs.MatchingWords.{Places, RunView}
+use Rattle.ext_one_report.proofs.StepsWords.{LooksWithin}
+use Rattle.ext_one_report.proofs.Covered.{touched_in}
+use Rattle.ext_one_report.proofs.CoveredCalls.{call_stays}
+use Rattle.ext_one_report.proofs.CoveredPlans.{IsTouchedBelow, an_act, from_drop, touched_by, within_itself}
+use Rattle.ext_one_report.proofs.CoveredTouches.{computes_all, contains_drop, kept_or_computed}
+use Rattle.ext_one_report.proofs.Open.{ComputesOpen, also, at_place, place_of_step, still_open}
+use Rattle.ext_one_report.specs.Shares.{Open, SharesValues, shares_in}
+use Rattle.ext_one_report.proofs.OpenCalls.{CallFitsOpen, LeavesAbove, StepsFit}
+use Rattle.ext_one_report.proofs.Shared.{unshared}
+use Rattle.ext_one_report.proofs.SharedNodes.{some_or_none, still_is_unshared, unshared_is}
+use Rattle.ext_one_report.proofs.SharedSteps.{acts_there, computes_there, from_start, goes_up, leaves_above, path_is, within}
+use Rattle.ext_one_report.proofs.SharedTouches.{changes_there, looked_above, touches_there}
+
+-- ---- places
+
+at_itself : (context : ℕ) (key : KeyValue) → at_place context key context key ≡ true
+at_itself context key = and_from (context == context) (key_eq key key) (eq-eqb context context refl) ((keys_Decides key key).1 refl)
+
+open_before : {A : Type 0} (b : Bool) (o : Option A) (v : A) → (if b then None else o) ≡ Some v → o ≡ Some v
+open_before true o v e = absurd (cc e)
+open_before false o v e = e
+
+looked_along : (node key : ℕ) (act : ActText) (path : List ℕ) (c : ℕ) → changes act.word ≡ false → looks_along act.word ≡ true → Contains path c → Contains (touches_along node key act path) (touch_of node key act false c)
+looked_along node key act [] c still looks there = contains_nothing c there
+looked_along node key act (context ∷ above) c still looks there = elim (contains_cases context c above there) [
+  | inl same ↦
+      subst (λ (t : TouchText). Contains (touches_along node key act (context ∷ above)) t) (ap (λ (b : Bool). touch_of node key act b context) still ∙ ap (touch_of node key act false) same)
+      (contains_first (touch_of node key act (changes act.word) context) (touches_above node key act above))
+  | inr later ↦ looked_above node key act context above c looks later
+]
+
+still_changes : (word : Word) → changes word ≡ false → gives_value word ≡ true → ⊥
+still_changes word still gives = true≢false (sym (computes_all word gives).0 ∙ still)
+
+one_act : (act other : ActText) → Some act ≡ Some other → act ≡ other
+one_act act other e = cc e
+
+module _ (plan : PlanText) (read : IsReadPlan plan) (shares : SharesValues plan) (run : RunView) (tree : run.store.tree ≡ ids_of_nodes plan.nodes)
+    (node : ℕ) (call : Call) (less : node < length (ids_of_nodes plan.nodes)) (among : Contains (calls_of plan node) call) where
+  abbrev path : List ℕ
+  path = plan_path plan node
+
+  abbrev shared : Open
+  shared = shares_in plan node
+
+  abbrev alone : Places
+  alone = unshared (touched_in plan node) (shares_in plan node)
+
+  abbrev start : ActText → ℕ
+  start act = start_of (drop act.up (plan_path plan node))
+
+  abbrev key_of : ActText → KeyValue
+  key_of act = key_of_step plan.keys act.key
+
+  -- ---- what a step touches and does not change is not shared
+
+  looked_alone : (context : ℕ) (act : ActText) → Contains (touches_made plan) (touch_of node (place_of_key (keys_named plan) (key_of act)) act false context) → alone context (key_of act) ≡ true
+  looked_alone context act made =
+      let key = key_of act in
+      let one : IsTouchedBelow plan node context key false = record {
+        touch = touch_of node (place_of_key (keys_named plan) key) act false context;
+        made = made;
+        below = within_itself plan read node (within plan read shares node call less among);
+        context_is = refl;
+        key_is = refl;
+        changes = λ told. absurd cc;
+      } in
+      unshared_is plan node context key (touched_by plan node context key one) (still_is_unshared plan read shares node context key false one refl)
+
+  -- nor is the place that it changes, where this is not shared
+  acts_alone : (step : StepText) (act : ActText) → Contains (steps_of_call plan call) step → act_of step ≡ Some act → changes act.word ≡ true → shared (start act) (key_of act) ≡ None
+      → alone (start act) (key_of act) ≡ true
+  acts_alone step act there acts changing none =
+      let key = key_of act in
+      let one : IsTouchedBelow plan node (start act) key false = record {
+        touch = touch_of node (place_of_key (keys_named plan) key) act (changes act.word) (start act);
+        made = acts_there plan read shares node call less among step act there acts changing;
+        below = within_itself plan read node (within plan read shares node call less among);
+        context_is = refl;
+        key_is = refl;
+        changes = λ told. absurd cc;
+      } in
+      unshared_is plan node (start act) key (touched_by plan node (start act) key one) none
+
+  -- ---- what is so behind some steps of the call
+
+  -- these places have all that is not shared, and the shared ones that are open no more; and all that computes before have looked at
+  record AreBehind (front : List StepText) (places : Places) (open_at : Open) : Type 0 where
+    unshared_in : (context : ℕ) (key : KeyValue) → alone context key ≡ true → places context key ≡ true
+    shared_in : (context : ℕ) (key : KeyValue) (v : ValueText) → shared context key ≡ Some v → (places context key ≡ true) ⊎ (open_at context key ≡ Some v)
+    open_in : (context : ℕ) (key : KeyValue) (v : ValueText) → open_at context key ≡ Some v → shared context key ≡ Some v
+    looked : (step : StepText) (act : ActText) → Contains front step → act_of step ≡ Some act → gives_value act.word ≡ true → LooksWithin plan.keys (plan_path plan node) places act.key act.up
+
+  -- what a compute looks at is among these places
+  abbrev Settles : Places → StepText → Type 0
+  Settles places step = (act : ActText) → act_of step ≡ Some act → gives_value act.word ≡ true → LooksWithin plan.keys (plan_path plan node) places act.key act.up
+
+  module _ (front : List StepText) (step : StepText) (more : List StepText) (whole : steps_of_call plan call ≡ front ++ step ∷ more) (places : Places) (open_at : Open) (behind : AreBehind front places open_at)
+      (there : Contains (steps_of_call plan call) step) where
+    abbrev Fits : Type 0
+    Fits =
+        (StepWithin plan.keys (plan_path plan node) places step × LeavesAbove run plan.keys (plan_path plan node) open_at step × Settles places step)
+        ⊎ (ComputesOpen plan.keys (plan_path plan node) open_at step × Settles (also (place_of_step plan.keys (plan_path plan node) step) places) step)
+
+    leaves : LeavesAbove run plan.keys (plan_path plan node) open_at step
+    leaves = leaves_above plan read shares node call less among run tree step there open_at behind.open_in
+
+    -- a step that changes the place it acts on, and looks at those above
+    changing_looks : (act : ActText) → act_of step ≡ Some act → changes act.word ≡ true → looks_along act.word ≡ true → (settled : Places)
+        → ((context : ℕ) (key : KeyValue) → alone context key ≡ true → settled context key ≡ true) → settled (start act) (key_of act) ≡ true → LooksWithin plan.keys (plan_path plan node) settled act.key act.up
+    changing_looks act acts changing looks settled has here =
+        let key = key_of act in
+        let number = place_of_key (keys_named plan) key in
+        let rest = from_start (drop act.up path) (goes_up plan read shares node call less among step act there acts) in
+        all_contained (λ c. settled c key ≡ true) (drop act.up path) (λ c held. elim (contains_cases (start act) c rest.0 (subst (λ p. Contains p c) rest.1 held)) [
+          | inl same ↦ subst (λ x. settled x key ≡ true) same here
+          | inr later ↦
+              let touch = touch_of node number act false c in
+              let along = subst (λ p. Contains (touches_along node number act p) touch) (sym rest.1) (looked_above node number act (start act) rest.0 c looks later) in
+              has c key (looked_alone c act (changes_there plan node call (within plan read shares node call less among) among front step more whole act acts changing touch along))
+        ])
+
+    settles : (act : ActText) → act_of step ≡ Some act → changes act.word ≡ true → (settled : Places) → ((context : ℕ) (key : KeyValue) → alone context key ≡ true → settled context key ≡ true)
+        → settled (start act) (key_of act) ≡ true → Settles settled step
+    settles act acts changing settled has here = λ other acts' gives.
+        let same = one_act act other (sym acts ∙ acts') in
+        subst (λ (a : ActText). LooksWithin plan.keys path settled a.key a.up) same
+        (changing_looks act acts changing (computes_all act.word (ap (λ (a : ActText). gives_value a.word) same ∙ gives)).1 settled has here)
+
+    -- it is at a place where the same stands, or computes the value of an open one
+    changing_fits : (act : ActText) → act_of step ≡ Some act → changes act.word ≡ true → place_of_step plan.keys (plan_path plan node) step ≡ at_place (start act) (key_of act)
+        → ((places (start act) (key_of act) ≡ true) → (looks_along act.word ≡ true → LooksWithin plan.keys (plan_path plan node) places act.key act.up) → StepWithin plan.keys (plan_path plan node) places step) → Fits
+    changing_fits act acts changing place step_within =
+        let key = key_of act in
+        let stands : places (start act) key ≡ true → Fits = λ here. inl (
+          step_within here (λ looks. changing_looks act acts changing looks places behind.unshared_in here),
+          leaves,
+          settles act acts changing places behind.unshared_in here,
+        ) in
+        elim (some_or_none (shared (start act) key)) [
+          | inl none ↦ stands (behind.unshared_in (start act) key (acts_alone step act there acts changing none))
+          | inr some ↦ elim (behind.shared_in (start act) key some.0 some.1) [
+            | inl here ↦ stands here
+            | inr open_is ↦
+                let settled = also (place_of_step plan.keys path step) places in
+                inr (
+                  computes_there plan read shares node call less among step there open_at act.key act.up some.0 (ap changed_of acts ∙ ap (λ (b : Bool). if b then Some (act.key, act.up) else None) changing) some.1 open_is,
+                  settles act acts changing settled (λ context k is. or_left (places context k) (place_of_step plan.keys path step context k) (behind.unshared_in context k is))
+                      (or_right (places (start act) key) (place_of_step plan.keys path step (start act) key) (ap (λ (p : Places). p (start act) key) place ∙ at_itself (start act) key)),
+                )
+          ]
+        ]
+
+    -- a look-up is where nothing is shared, or behind a compute of its call
+    looked_at : (act : ActText) → act_of step ≡ Some act → changes act.word ≡ false → looks_along act.word ≡ true → (at : ℕ) → act.up ≤ at → at < length (plan_path plan node)
+        → places (get_or (plan_path plan node) at 0) (key_of act) ≡ true
+    looked_at act acts still looks at low inside =
+        let key = key_of act in
+        let number = place_of_key (keys_named plan) key in
+        let c = get_or path at 0 in
+        elim (kept_or_computed plan.keys key front path at inside) [
+          | inl kept ↦
+              let below = below_computes plan.keys key path front in
+              let touch = touch_of node number act false c in
+              let held = subst (Contains (drop act.up below)) kept.1 (contains_drop act.up at below low kept.0) in
+              let along = subst (λ p. Contains (touches_along node number act (drop act.up p)) touch) (reach_below plan.keys front path act still) (looked_along node number act (drop act.up below) c still looks held) in
+              behind.unshared_in c key
+              (looked_alone c act (touches_there plan node call (within plan read shares node call less among) among front step more whole act acts touch along))
+          | inr computed ↦
+              let one = computed.2 in
+              let all = behind.looked computed.0 one.one computed.1 one.is one.gives in
+              subst (λ k. places c k ≡ true) one.same
+              (All-contains (λ x. places x (key_of_step plan.keys one.one.key) ≡ true) (drop one.one.up path) c all (contains_drop one.one.up at path one.low inside))
+        ]
+
+    looking_fits : (act : ActText) → act_of step ≡ Some act → changes act.word ≡ false → looks_along act.word ≡ true
+        → (LooksWithin plan.keys (plan_path plan node) places act.key act.up → StepWithin plan.keys (plan_path plan node) places step) → Fits
+    looking_fits act acts still looks step_within = inl (
+      step_within (from_drop (λ c. places c (key_of act) ≡ true) act.up path (looked_at act acts still looks)),
+      leaves,
+      λ other acts' gives. absurd (still_changes act.word still (ap (λ (a : ActText). gives_value a.word) (one_act act other (sym acts ∙ acts')) ∙ gives)),
+    )
+
+  -- ---- each step, by its form
+
+  fits : (front : List StepText) (step : StepText) (more : List StepText) (whole : steps_of_call plan call ≡ front ++ step ∷ more) (places : Places) (open_at : Open) (behind : AreBehind front places open_at)
+      (there : Contains (steps_of_call plan call) step) → Fits front step more whole places open_at behind there
+  fits front (put key text up) more whole places open_at behind there =
+      changing_fits front (put key text up) more whole places open_at behind there (an_act words.Put key text up) refl refl refl (λ here looks. here)
+  fits front (put_closeable key text up) more whole places open_at behind there =
+      changing_fits front (put_closeable key text up) more whole places open_at behind there (an_act words.PutCloseable key text up) refl refl refl (λ here looks. here)
+  fits front (want key text up) more whole places open_at behind there =
+      looking_fits front (want key text up) more whole places open_at behind there (an_act words.Want key text up) refl refl refl (λ all. all)
+  fits front (nothing key up) more whole places open_at behind there =
+      looking_fits front (nothing key up) more whole places open_at behind there (an_act words.None key [] up) refl refl refl (λ all. all)
+  fits front (remove key up) more whole places open_at behind there =
+      changing_fits front (remove key up) more whole places open_at behind there (an_act words.Remove key [] up) refl refl refl (λ here looks. here)
+  fits front (compute key text up) more whole places open_at behind there =
+      changing_fits front (compute key text up) more whole places open_at behind there (an_act words.Compute key text up) refl refl refl (λ here looks. looks refl)
+  fits front (compute_closeable key text up) more whole places open_at behind there =
+      changing_fits front (compute_closeable key text up) more whole places open_at behind there (an_act words.ComputeCloseable key text up) refl refl refl (λ here looks. looks refl)
+  fits front (compute_fail key text up) more whole places open_at behind there =
+      changing_fits front (compute_fail key text up) more whole places open_at behind there (an_act words.ComputeFail key text up) refl refl refl (λ here looks. looks refl)
+  fits front (fail text) more whole places open_at behind there = inl (tt, leaves front (fail text) more whole places open_at behind there, λ act acts gives. absurd (cc acts))
+  fits front (abort text) more whole places open_at behind there = inl (tt, leaves front (abort text) more whole places open_at behind there, λ act acts gives. absurd (cc acts))
+
+  -- ---- one step after another
+
+  behind_first : (front : List StepText) (step : StepText) (places : Places) (open_at : Open) → AreBehind front places open_at → Settles places step → AreBehind (front ++ step ∷ []) places open_at
+  behind_first front step places open_at behind settled = record {
+    unshared_in = behind.unshared_in;
+    shared_in = behind.shared_in;
+    open_in = behind.open_in;
+    looked = λ one act held acts gives. elim (Contains-push_cases front step one held) [
+      | inl old ↦ behind.looked one act old acts gives
+      | inr same ↦ settled act (ap act_of same ∙ acts) gives
+    ];
+  }
+
+  more_settled : (at places : Places) (key : StepKeyText) (up : ℕ) → LooksWithin plan.keys (plan_path plan node) places key up → LooksWithin plan.keys (plan_path plan node) (also at places) key up
+  more_settled at places key up all = λ k d inside. or_left (places (get_or (drop up path) k d) (key_of_step plan.keys key)) (at (get_or (drop up path) k d) (key_of_step plan.keys key)) (all k d inside)
+
+  behind_computed : (front : List StepText) (step : StepText) (places : Places) (open_at : Open) (at : Places) → AreBehind front places open_at → Settles (also at places) step
+      → AreBehind (front ++ step ∷ []) (also at places) (still_open at open_at)
+  behind_computed front step places open_at at behind settled = record {
+    unshared_in = λ context key is. or_left (places context key) (at context key) (behind.unshared_in context key is);
+    shared_in = λ context key v is. elim (cases_Bool (at context key)) [
+      | inl here ↦ inl (or_right (places context key) (at context key) here)
+      | inr elsewhere ↦ elim (behind.shared_in context key v is) [
+        | inl stands ↦ inl (or_left (places context key) (at context key) stands)
+        | inr open_is ↦ inr (ap (λ (b : Bool). if b then None else open_at context key) elsewhere ∙ open_is)
+      ]
+    ];
+    open_in = λ context key v is. behind.open_in context key v (open_before (at context key) (open_at context key) v is);
+    looked = λ one act held acts gives. elim (Contains-push_cases front step one held) [
+      | inl old ↦ more_settled at places act.key act.up (behind.looked one act old acts gives)
+      | inr same ↦ settled act (ap act_of same ∙ acts) gives
+    ];
+  }
+
+  all_fit : (front steps : List StepText) → steps_of_call plan call ≡ front ++ steps → (places : Places) (open_at : Open) → AreBehind front places open_at → StepsFit run plan.keys (plan_path plan node) places open_at steps
+  all_fit front [] whole places open_at behind = tt
+  all_fit front (step ∷ more) whole places open_at behind =
+      let there = subst (λ steps. Contains steps step) (sym whole) (Contains-append_right front (step ∷ more) step (contains_first step more)) in
+      let rest = whole ∙ sym (append_assoc front (step ∷ []) more) in
+      elim (fits front step more whole places open_at behind there) [
+        | inl one ↦ inl (one.0, one.1, all_fit (front ++ step ∷ []) more rest places open_at (behind_first front step places open_at behind one.2))
+        | inr one ↦
+            let at = place_of_step plan.keys path step in
+            inr (one.0, all_fit (front ++ step ∷ []) more rest (also at places) (still_open at open_at) (behind_computed front step places open_at at behind one.1))
+      ]
+
+  pub call_fits_open : CallFitsOpen run plan (plan_path plan node) (unshared (touched_in plan node) (shares_in plan node)) (shares_in plan node) call
+  call_fits_open = (
+    call_stays plan read node path (path_is plan read shares node call less among) call among,
+    all_fit [] (steps_of_call plan call) refl alone shared (record {
+      unshared_in = λ context key is. is;
+      shared_in = λ context key v is. inr is;
+      open_in = λ context key v is. is;
+      looked = λ step act held acts gives. contains_nothing step held;
+    }),
+  )

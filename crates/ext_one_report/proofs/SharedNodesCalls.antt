@@ -1,0 +1,289 @@
+-- The callbacks of a container, on the first of its lanes and in the plain run: from before them to after them, where some of their steps compute values at open places.
+use Rattle.std.proofs.Common.{◌≡◌, ℕ, ◌<◌, ◌&&◌, inl, inr, true, not, List, [], ◌∷◌, ◌++◌, append-nil, length, None, Some, refl, ap, sym, subst, ◌∙◌}
+use Rattle.std.specs.Prelude.{All, Contains}
+use Rattle.std.proofs.lemmas.List.Elements.{All-contains, All-head, All-tail, Contains-get_or}
+use Rattle.ext_history.specs.Histories.{seen_by}
+use Rattle.ext_history.proofs.Legal.{legal_begun}
+use Rattle.ext_model.specs.declared.event.Event.{Event}
+use Rattle.ext_model.specs.History.{History}
+use Rattle.ext_tree.specs.Keys.{KeyValue}
+use Rattle.ext_tree.specs.Trees.{IsPathOf}
+use Rattle.ext_lifecycle.specs.declared.call.Call.{Call}
+use Rattle.ext_lifecycle.specs.declared.outcome.Outcome.{Outcome}
+use Rattle.ext_lifecycle.specs.Lifecycle.{MakesAll, MakesBefores}
+use Rattle.ext_plan.specs.Plans.{KeyText, StepText}
+use Rattle.ext_plan.specs.PlanCalls.{steps_of_call}
+use Rattle.ext_plan.specs.ReadPlans.{StayOnPath}
+use Rattle.ext_plan.specs.Steps.{height}
+use Rattle.ext_plan.specs.Values.{ValueText}
+use Rattle.ext_races.specs.Touches.{keys_named}
+use Rattle.ext_store.specs.Stores.{IsLaneOf}
+use Rattle.ext_engine.specs.Meeting.{HasSeenWithin, first_seen}
+use Rattle.ext_engine.specs.Order.{IsMadeIn, LaneGoesOn}
+use Rattle.ext_engine.proofs.Acts.{Acts, same_made}
+use Rattle.ext_parallel.specs.StoreCalls.{PlanLane}
+use Rattle.ext_plain.specs.NodeCalls.{CallsEnd, call_run, make_all, make_befores, no_calls}
+use Rattle.ext_plain.specs.ValueStates.{ValueState, run_numbers}
+use Rattle.ext_plain.proofs.Nodes.{start_is}
+use Rattle.ext_one_report.proofs.CallListsWords.{CallFits}
+use Rattle.ext_one_report.proofs.MatchingWords.{Matches, Places, RunView, cell_of}
+use Rattle.ext_one_report.proofs.StepsWords.{IsLaneIn}
+use Rattle.ext_one_report.proofs.CallLists.{all_alike, befores_first}
+use Rattle.ext_one_report.proofs.Matching.{matches_at_fewer, numbered_at_fewer}
+use Rattle.ext_one_report.proofs.Open.{AreNear, AreOpenBeside, also, place_of_step, still_open}
+use Rattle.ext_one_report.specs.Shares.{Open, SharesNothing}
+use Rattle.ext_one_report.proofs.OpenCalls.{CallFitsOpen, CallsNear, LeavesNear, StepsFit}
+use Rattle.ext_one_report.proofs.OpenSteps.{AreBesideOpen, StandsInBoth}
+use Rattle.ext_one_report.proofs.Shared.{unshared}
+use Rattle.ext_one_report.proofs.Levels.{AreLevel}
+use Rattle.ext_one_report.proofs.SharedNodesWords.{AreComputed, AreOwn}
+use Rattle.ext_one_report.proofs.Beside.{MakesFully, all_find, all_made, befores_find, befores_made, first_of_all, first_of_befores}
+use Rattle.ext_one_report.proofs.LanesAlone.{first_is_alone, first_is_shown, is_more, is_on_place}
+use Rattle.ext_one_report.proofs.NodeCalls.{each_of, fits_more, step_more}
+use Rattle.ext_one_report.proofs.NodePlaces.{and_of, away, away_first, away_from, away_is, or_either, or_first, or_second, within_any}
+use Rattle.ext_one_report.proofs.NodeRooms as node_calls
+use Rattle.ext_one_report.proofs.NodeRooms.{all_room, befores_room}
+use Rattle.ext_one_report.proofs.NodeTrees.{path_apart}
+use Rattle.ext_one_report.proofs.SharedNodesBasis.{in_plan, plan_tree, run_tree}
+use Rattle.ext_one_report.proofs.SharedNodesBeside.{off_above}
+use Rattle.ext_one_report.proofs.SharedNodesBody.{Ground, IsChild, path_in}
+use Rattle.ext_one_report.proofs.SharedNodesPasses.{Passes, own_fewer}
+use Rattle.ext_one_report.proofs.SharedNodesPlaces.{not_both, still_cases, still_parts, unshared_is, unshared_parts}
+use Rattle.ext_one_report.proofs.SharedNodesTold.{AreCounted}
+use Rattle.ext_one_report.proofs.SharedNodesTurn.{Since, Whole, computed_then, own_then}
+use Rattle.ext_one_report.proofs.SharedTestsOpen.{beside_at_others, calls_fit, calls_fit_others, shared_beside}
+use Rattle.ext_one_report.proofs.OpenCallLists.{all_calls_end_near, befores_end_near}
+
+-- steps that fit some places fit others, where these have all of them that are in a context of the path
+fits_places : (run : RunView) (keys : List KeyText) (path : List ℕ) (steps : List StepText) (places more : Places) (o : Open) → StayOnPath (length path) steps
+    → ((context : ℕ) (key : KeyValue) → Contains path context → places context key ≡ true → more context key ≡ true) → StepsFit run keys path places o steps → StepsFit run keys path more o steps
+fits_places run keys path [] places more o stay each fits = tt
+fits_places run keys path (step ∷ steps) places more o stay each fits =
+    let High : StepText → Type 0 = λ s. height s < length path in
+    let rest : StayOnPath (length path) steps = All-tail High step steps stay in
+    elim fits [
+      | inl within ↦ inl (step_more keys path places more each step (All-head High step steps stay) within.0, within.1, fits_places run keys path steps places more o rest each within.2)
+      | inr computes ↦ inr (
+        computes.0,
+        fits_places run keys path steps (also (place_of_step keys path step) places) (also (place_of_step keys path step) more) (still_open (place_of_step keys path step) o) rest
+            (λ context key there is. elim (or_either (places context key) (place_of_step keys path step context key) is) [
+              | inl was ↦ or_first (more context key) (place_of_step keys path step context key) (each context key there was)
+              | inr at ↦ or_second (more context key) (place_of_step keys path step context key) at
+            ]) computes.1,
+      )
+    ]
+
+module _ (g : Ground) where
+  abbrev pub Own : Call → Type 0
+  Own = node_calls.Own g.plan g.run g.basis.read g.node g.path (path_in g)
+
+  abbrev Named : Call → Type 0
+  Named = node_calls.NamesKeys g.plan g.run g.basis.read g.node g.path (path_in g)
+
+  named : (call : Call) → Own call → Named call
+  named = node_calls.names_keys g.plan g.run g.basis.read g.node g.path (path_in g)
+
+  abbrev pub Holds : ValueState → Type 0
+  Holds = node_calls.Holds g.plan g.run g.basis.read g.node g.path (path_in g)
+
+  -- ---- from before some calls to after them
+
+  module _ (w : Whole g) (done : List ℕ) (are : (x : ℕ) → Contains done x → IsChild g x) (o : Open) (xs ys : List PlanLane) (a b : PlanLane) (rest : List PlanLane) (was : xs ≡ a ∷ rest) (is : ys ≡ b ∷ rest)
+      (pre : Acts g.h w.first xs) (acts : Acts g.h xs ys) (post : Acts g.h ys w.last) (known : All (IsLaneIn g.run) ys) (within : All (HasSeenWithin g.h) ys) (goes : LaneGoesOn a b) (s : ValueState) (since : Since g w done o xs s) where
+    abbrev places : Places
+    places = away g.plan done (unshared (g.touched g.node) o)
+
+    among : (context : ℕ) (key : KeyValue) (v : ValueText) → o context key ≡ Some v → g.shares g.node context key ≡ Some v
+    among context key v opens = w.among context key v (since.fewer context key v opens)
+
+    b_in : HasSeenWithin g.h b
+    b_in = All-head (HasSeenWithin g.h) b rest (subst (All (HasSeenWithin g.h)) is within)
+
+    own_here : AreOwn g.run g.h places (a ∷ rest) (b ∷ rest)
+    own_here =
+        let own = own_fewer g.run g.h (unshared (g.touched g.node) o) places xs ys (λ context key there. away_first g.plan done (unshared (g.touched g.node) o) context key there) (own_then g w done o xs ys s pre acts post since) in
+        subst (λ (l : List PlanLane). AreOwn g.run g.h places (a ∷ rest) l) is (subst (λ (l : List PlanLane). AreOwn g.run g.h places l ys) was own)
+
+    computed_here : AreComputed g.run g.h o (a ∷ rest) (b ∷ rest)
+    computed_here =
+        subst (λ (l : List PlanLane). AreComputed g.run g.h o (a ∷ rest) l) is (subst (λ (l : List PlanLane). AreComputed g.run g.h o l ys) was (computed_then g w o xs ys pre acts post since.fewer))
+
+    open_beside : AreOpenBeside g.run places o
+    open_beside =
+        let all = shared_beside g.plan g.run g.locks g.h g.touched g.changes g.changed g.shares g.basis g.node o among in
+        record {
+          apart = λ context key v opens. ap (λ x. x && not (within_any g.plan done context)) (all.apart context key v opens);
+          above = λ context key v path opens path_is.
+              let P : ℕ → Type 0 = λ c. unshared (g.touched g.node) o c key ≡ true in
+              let in_ids = in_plan g.plan g.run g.locks g.h g.touched g.changes g.changed g.shares g.basis context (context ∷ path) path_is in
+              let each : (at : ℕ) → Contains path at → places at key ≡ true =
+              λ at there.
+              and_of (unshared (g.touched g.node) o at key) (not (within_any g.plan done at)) (All-contains P path at (all.above context key v path opens path_is) there)
+              (ap not (off_above g context at key v path (among context key v opens) in_ids there done are)) in
+              λ k d inside. each _ (Contains-get_or path k d inside);
+        }
+
+    beside : IsLaneOf g.run.store.id a → AreBesideOpen g.run g.path places o a b s
+    beside of = record {
+      view = g.basis.view;
+      of = of;
+      lane = All-head (IsLaneIn g.run) b rest (subst (All (IsLaneIn g.run)) is known);
+      legal = legal_begun (seen_by b.cells.view) g.h b_in g.basis.legal;
+      tree = run_tree g.plan g.run g.locks g.h g.touched g.changes g.changed g.shares g.basis;
+      path_is = subst (λ n. IsPathOf g.run.store.tree n g.path) (sym (start_is g.run.store.tree g.node g.path g.path_is)) g.path_is;
+      beside = open_beside;
+      alone = first_is_alone g.run g.h a b rest b_in places own_here;
+      computed = first_is_shown g.run g.h a b rest b_in o computed_here;
+      memory = since.level.memory;
+      keeps = since.level.keeps;
+      matches = subst (λ (l : List PlanLane). Matches g.run places (first_seen l) s) was since.level.matches;
+      numbered = since.level.numbered;
+      near = subst (λ (l : List PlanLane). AreNear g.run o (first_seen l) s) was since.near;
+    }
+
+    -- the calls of the node fit these places
+    fits : (call : Call) → Own call → CallFitsOpen g.run g.plan g.path places o call
+    fits call own =
+        let one = calls_fit g.plan g.run g.locks g.h g.touched g.changes g.changed g.shares g.basis g.node g.path (path_in g) o among call own in (
+          one.0,
+          fits_places g.run g.plan.keys g.path (steps_of_call g.plan call) (unshared (g.touched g.node) o) places o one.0
+              (λ context key there place. away_is g.plan done (unshared (g.touched g.node) o) context key place
+              (λ x x_in inside. path_apart g.plan (plan_tree g.plan g.run g.locks g.h g.touched g.changes g.changed g.shares g.basis) g.node g.path x context (path_in g) (are x x_in) there inside)) one.1,
+        )
+
+    -- and where the node shares nothing, all that they touch is among them
+    fits_others : SharesNothing (g.shares g.node) → (call : Call) → Own call → CallFits g.plan g.path places call
+    fits_others nothing call own =
+        fits_more g.plan g.path (unshared (g.touched g.node) o) places call
+        (λ context key there place. away_is g.plan done (unshared (g.touched g.node) o) context key place
+        (λ x x_in inside. path_apart g.plan (plan_tree g.plan g.run g.locks g.h g.touched g.changes g.changed g.shares g.basis) g.node g.path x context (path_in g) (are x x_in) there inside))
+        (calls_fit_others g.plan g.run g.locks g.h g.touched g.changes g.changed g.shares g.basis g.node g.path (path_in g) o among nothing call own)
+
+    -- what is not open after them was not, or is settled
+    not_open_more : (settled : Places) (context : ℕ) (key : KeyValue) → away g.plan done (unshared (g.touched g.node) (still_open settled o)) context key ≡ true → also settled places context key ≡ true
+    not_open_more settled context key there =
+        let later = still_open settled o in
+        let parts = unshared_parts (g.touched g.node) later context key (away_first g.plan done (unshared (g.touched g.node) later) context key there) in
+        elim (still_cases settled o context key parts.1) [
+          | inl on ↦ or_second (places context key) (settled context key) on
+          | inr closed ↦
+              or_first (places context key) (settled context key)
+              (away_is g.plan done (unshared (g.touched g.node) o) context key (unshared_is (g.touched g.node) o context key parts.0 closed.1) (away_from g.plan done (unshared (g.touched g.node) later) context key there))
+        ]
+
+    -- what calls leave near passes
+    passes : (t : ValueState) (leaves : LeavesNear g.run places o a s b t) → Holds t → Passes g.plan g.run g.h (g.touched g.node) done o xs s (still_open leaves.settled o) ys t
+    passes t leaves held =
+        let later = still_open leaves.settled o in
+        let after = away g.plan done (unshared (g.touched g.node) later) in
+        let fewer = not_open_more leaves.settled in
+        let to_ys : (P : History → Type 0) → P (seen_by b.cells.view) → P (first_seen ys) = λ P p. subst (λ (l : List PlanLane). P (first_seen l)) (sym is) p in
+        record {
+          fewer = λ context key v opens. (still_parts leaves.settled o context key v opens).1;
+          level = record {
+            matches = to_ys (λ m. Matches g.run after m t) (matches_at_fewer g.run (also leaves.settled places) after (seen_by b.cells.view) t fewer leaves.matches);
+            numbered = numbered_at_fewer (also leaves.settled places) after t fewer leaves.numbered;
+            memory = held.memory;
+            keeps = held.keeps;
+            gave = held.gave;
+            of_plan = held.of_plan;
+          };
+          near = to_ys (λ m. AreNear g.run later m t) leaves.near;
+          stand = λ context key v opens none. elim (still_cases leaves.settled o context key none) [
+            | inr closed ↦ not_both (o context key) v closed.1 opens
+            | inl on ↦ to_ys (λ m. StandsInBoth g.run v context key m t) (leaves.stand context key v on opens)
+          ];
+          unchanged = λ context key v opens. let parts = still_parts leaves.settled o context key v opens in leaves.unchanged context key v parts.0 parts.1;
+          untouched = λ context number place key v event opens has there on made.
+              let parts = still_parts leaves.settled o context key v opens in
+              let here : IsMadeIn g.h place (a ∷ rest) (b ∷ rest) = subst (λ (l : List PlanLane). IsMadeIn g.h place (a ∷ rest) l) is (subst (λ (l : List PlanLane). IsMadeIn g.h place l ys) was made) in
+              elim here [
+                | inr none ↦ absurd (same_made g.h rest place none)
+                | inl one ↦
+                    let both : Some one.event ≡ Some event = sym one.there ∙ there in
+                    let same : one.event ≡ event = cc both in
+                    leaves.untouched context key number v parts.0 parts.1 has goes.seen.0 (sym goes.seen.1) event
+                    (is_more g.h (seen_by a.cells.view) (seen_by b.cells.view) goes.seen b_in place event there one.since one.until)
+                    (is_on_place (cell_of g.run number context) event.act on) (sym (ap (λ (x : Event ℕ). x.lane) same) ∙ one.own_event)
+              ];
+        }
+
+    -- where no call is made nothing has passed
+    nothing_passes : a ≡ b → Passes g.plan g.run g.h (g.touched g.node) done o xs s o ys s
+    nothing_passes same =
+        let one : xs ≡ ys = was ∙ (ap (λ (x : PlanLane). x ∷ rest) same ∙ sym is) in
+        record {
+          fewer = λ context key v opens. opens;
+          level = subst (λ (l : List PlanLane). AreLevel g.plan g.run places (first_seen l) s) one since.level;
+          near = subst (λ (l : List PlanLane). AreNear g.run o (first_seen l) s) one since.near;
+          stand = λ context key v opens none. not_both (o context key) v none opens;
+          unchanged = λ context key v opens. refl;
+          untouched = λ context number place key v event opens has there on made. same_made g.h xs place (subst (λ (l : List PlanLane). IsMadeIn g.h place xs l) (sym one) made);
+        }
+
+    -- what is so after calls, that had these outcomes
+    pub record Called (outcomes : List Outcome) (end : CallsEnd) : Type 0 where
+      pub near : CallsNear outcomes end
+      pub counted : SharesNothing (g.shares g.node) → AreCounted outcomes end
+      pub later : Open
+      pub step : Passes g.plan g.run g.h (g.touched g.node) done o xs s later ys end.state
+
+    held_here : Holds s
+    held_here = record { memory = since.level.memory; keeps = since.level.keeps; gave = since.level.gave; of_plan = since.level.of_plan }
+
+    pub befores_called : (calls : List Call) (os : List Outcome) → All Own calls → MakesBefores (MakesFully g.plan g.run g.locks g.node None) calls a os b
+        → (make_befores (call_run g.plan g.path) calls (no_calls s)).state.store.drawn < run_numbers → Called os (make_befores (call_run g.plan g.path) calls (no_calls s))
+    befores_called [] os own made drawn = record {
+      near = subst (λ (l : List Outcome). CallsNear l (no_calls s)) (sym made.0) (record { says = refl; counts = refl });
+      counted = λ nothing. subst (λ (l : List Outcome). AreCounted l (no_calls s)) (sym made.0) (record { computed = refl; found = refl });
+      later = o;
+      step = nothing_passes (sym made.1);
+    }
+    befores_called (call ∷ calls) os own made drawn =
+        let all = call ∷ calls in
+        let room = befores_room (keys_named g.plan) g.basis.few g.plan g.path all (no_calls s) refl (each_of Own Named all named own) since.level.gave since.level.memory drawn in
+        let its = beside (first_of_befores g.plan g.run g.locks g.node None call calls a os b made) in
+        let finds = befores_find g.plan g.run g.locks g.node None all a os b made in
+        let makes = befores_made g.plan g.run g.locks g.node None all a os b made in
+        let both = befores_end_near g.run g.plan g.node g.path places o all a os b s g.path_is its (each_of Own (CallFitsOpen g.run g.plan g.path places o) all fits own) finds room makes in
+        record {
+          near = both.0;
+          counted = λ nothing.
+              let alike = befores_first g.run g.plan g.node g.path places g.path_is all a os b s
+              (record { beside = beside_at_others g.run g.path places o a b s its; fits = each_of Own (CallFits g.plan g.path places) all (fits_others nothing) own; finds = finds }) room makes in
+              record { computed = alike.computed; found = alike.found };
+          later = still_open both.1.settled o;
+          step = passes _ both.1 (node_calls.befores_hold g.plan g.run g.basis.read g.node g.path (path_in g) all (no_calls s) own held_here);
+        }
+
+    pub all_called : (calls : List Call) (before os : List Outcome) (e : CallsEnd) → e.state ≡ s → CallsNear before e → (SharesNothing (g.shares g.node) → AreCounted before e) → All Own calls → MakesAll (MakesFully g.plan g.run g.locks g.node None) calls a os b
+        → (make_all (call_run g.plan g.path) calls e).state.store.drawn < run_numbers → Called (before ++ os) (make_all (call_run g.plan g.path) calls e)
+    all_called [] before os e at near counted own made drawn = record {
+      near = subst (λ (l : List Outcome). CallsNear (before ++ l) e) (sym made.0) (subst (λ (l : List Outcome). CallsNear l e) (sym (append-nil before)) near);
+      counted = λ nothing.
+          subst (λ (l : List Outcome). AreCounted (before ++ l) e) (sym made.0) (subst (λ (l : List Outcome). AreCounted l e) (sym (append-nil before)) (counted nothing));
+      later = o;
+      step = subst (λ (t : ValueState). Passes g.plan g.run g.h (g.touched g.node) done o xs s o ys t) (sym at) (nothing_passes (sym made.1));
+    }
+    all_called (call ∷ calls) before os e at near counted own made drawn =
+        let all = call ∷ calls in
+        let B : ValueState → Type 0 = λ t. AreBesideOpen g.run g.path places o a b t in
+        let held : Holds e.state = subst Holds (sym at) held_here in
+        let room = all_room (keys_named g.plan) g.basis.few g.plan g.path all e (each_of Own Named all named own) held.gave held.memory drawn in
+        let its : AreBesideOpen g.run g.path places o a b e.state = subst B (sym at) (beside (first_of_all g.plan g.run g.locks g.node None call calls a os b made)) in
+        let finds = all_find g.plan g.run g.locks g.node None all a os b made in
+        let makes = all_made g.plan g.run g.locks g.node None all a os b made in
+        let both = all_calls_end_near g.run g.plan g.node g.path places o all before a os b e g.path_is near its (each_of Own (CallFitsOpen g.run g.plan g.path places o) all fits own) finds room makes in
+        let E : ValueState → Type 0 = λ q. LeavesNear g.run places o a q b (make_all (call_run g.plan g.path) all e).state in
+        let leaves = subst E at both.1 in
+        record {
+          near = both.0;
+          counted = λ nothing.
+              let early = counted nothing in
+              let alike = all_alike g.run g.plan g.node g.path places g.path_is all before a os b e
+              (record { says = near.says; computed = early.computed; found = early.found; matches = its.matches; numbered = its.numbered })
+              (record { beside = beside_at_others g.run g.path places o a b e.state its; fits = each_of Own (CallFits g.plan g.path places) all (fits_others nothing) own; finds = finds }) room makes in
+              record { computed = alike.computed; found = alike.found };
+          later = still_open leaves.settled o;
+          step = passes _ leaves (node_calls.all_hold g.plan g.run g.basis.read g.node g.path (path_in g) all e own held);
+        }

@@ -1,0 +1,37 @@
+-- Which places the nodes of a plan share, by the touches of its steps; and plans without races, whose nodes share values.
+-- Javadoc `ExtensionContext.Store`, `getOrComputeIfAbsent`; what a step touches, and when two touches agree, are definitions of [ext_races].
+use Rattle.ext_one_report.specs.Shares.{shares_in, SharesNothing, SharesValues}
+use Rattle.std.specs.Prelude.{ℕ, ◌≡◌, ◌==◌, Bool, true, ◌&&◌, if◌then◌else◌, Contains, None, find, option_map}
+use Rattle.std.specs.List.{list_any}
+use Rattle.ext_tree.specs.Keys.{KeyValue}
+use Rattle.ext_plan.specs.Plans.{PlanText}
+use Rattle.ext_plan.specs.ReadPlans.{IsReadPlan, ids_of_nodes}
+use Rattle.ext_plan.specs.StoreKeys.{place_of_key}
+use Rattle.ext_plan.specs.Values.{ValueText}
+use Rattle.ext_races.specs.declared.race.Race.{Race}
+use Rattle.ext_races.specs.declared.word.Word.TheVariants as words
+use Rattle.ext_races.specs.Beside.{IsBeside, nodes_beside}
+use Rattle.ext_races.specs.Clashes.{agree}
+use Rattle.ext_races.specs.Races.{IsRace}
+use Rattle.ext_races.specs.Touches.{TouchText, keys_named, touches_made}
+use Rattle.ext_races.specs.StepWords.{gives_value, word_eq}
+use Rattle.ext_one_report.proofs.MatchingWords.{RunView}
+use Rattle.ext_one_report.proofs.Covered.{changed_in, touched_in}
+use Rattle.ext_one_report.specs.Apart.{KeepsApart}
+use Rattle.ext_one_report.proofs.Shared.{AreShared}
+
+-- ---- places
+
+-- ---- laws
+
+-- the nodes of a plan that share values share these
+abbrev pub PlansAreShared : Type 0
+PlansAreShared =
+    (plan : PlanText) (run : RunView) → IsReadPlan plan → SharesValues plan → run.store.tree ≡ ids_of_nodes plan.nodes → AreShared plan run (touched_in plan) (changed_in plan) (shares_in plan)
+
+-- plans whose nodes keep apart are such, and no node of them shares a value
+abbrev pub ApartSharesValues : Type 0
+ApartSharesValues = (plan : PlanText) → KeepsApart plan → SharesValues plan
+
+abbrev pub ApartSharesNothing : Type 0
+ApartSharesNothing = (plan : PlanText) → IsReadPlan plan → KeepsApart plan → (node : ℕ) → SharesNothing (shares_in plan node)

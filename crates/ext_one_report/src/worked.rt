@@ -1,0 +1,30 @@
+//! Worked plans.
+ghost use Rattle.ext_one_report.specs.WorkedPlans.{ComputesAreNoRace, ComputesDoNot, LookAndPutDoNot, LooksKeepApart, OneByOneKeepsApart, OneTextTellsOne, OwnPutsKeepApart, PutsAboveDoNot, ReplacedDoesNotTellOne, TestsAreBeside, TestsAreRead, TwoContextsTellOne, TwoFaultsDoNotTellOne, TwoKeysKeepApart, WorkedHasKeys, WorkedHasNumbers, WorkedIsRead, WorkedKeepsApart, WorkedTellsOne, ClassSharesNone, ComputesShareValues, FirstShares, SecondShares};
+
+/// Proves which of some small plans keep apart and whose closes tell one text, and that one plan has all that `report_laws` asks. It does
+/// nothing when it runs.
+pub fn worked_plans()
+    ensures own_puts_keep_apart { OwnPutsKeepApart }
+    ensures looks_keep_apart { LooksKeepApart }
+    ensures two_keys_keep_apart { TwoKeysKeepApart }
+    ensures one_by_one_keeps_apart { OneByOneKeepsApart }
+    ensures puts_above_do_not { PutsAboveDoNot }
+    ensures look_and_put_do_not { LookAndPutDoNot }
+    ensures computes_are_no_race { ComputesAreNoRace }
+    ensures computes_do_not { ComputesDoNot }
+    ensures two_faults_do_not_tell_one { TwoFaultsDoNotTellOne }
+    ensures replaced_does_not_tell_one { ReplacedDoesNotTellOne }
+    ensures one_text_tells_one { OneTextTellsOne }
+    ensures two_contexts_tell_one { TwoContextsTellOne }
+    ensures worked_keeps_apart { WorkedKeepsApart }
+    ensures worked_tells_one { WorkedTellsOne }
+    ensures worked_has_keys { WorkedHasKeys }
+    ensures worked_has_numbers { WorkedHasNumbers }
+    ensures worked_is_read { WorkedIsRead }
+    ensures tests_are_beside { TestsAreBeside }
+    ensures tests_are_read { TestsAreRead }
+    ensures computes_share { ComputesShareValues }
+    ensures first_shares { FirstShares }
+    ensures second_shares { SecondShares }
+    ensures class_shares_none { ClassSharesNone }
+{}

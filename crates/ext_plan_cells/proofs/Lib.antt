@@ -1,6 +1,0 @@
--- Lemmas of this crate.
-pub mod Going
-pub mod Runs
-pub mod Steps
-pub mod Stored
-pub mod StoredRuns

@@ -1,3 +1,0 @@
--- What the clauses of this crate speak of.
-pub mod PlanCells
-pub mod Stored

@@ -1,0 +1,62 @@
+-- What private functions read, and which output or fault they answer. No public clause needs it.
+use Rattle.std.specs.Prelude.{◌≡◌, ◌<◌, ◌≤◌, ℕ, ◌+◌, false, List, ◌++◌, length, Option, Result, Ok, Err}
+use Rattle.std.specs.Io.KnownBytes.{Consumes, IsAtEnd}
+use Rattle.ext_parallel.specs.ParallelRun.{IsRefusedRun}
+use Rattle.ext_plan_reading.specs.Plans.{PlanText}
+use Rattle.ext_run.specs.declared.fault.RunFault.{RunFault}
+use Rattle.ext_run.specs.declared.fault.RunFault.TheVariants as faults
+use Rattle.ext_run.specs.declared.options.Options.{Options}
+use Rattle.ext_run.specs.declared.runs.Output.{Output}
+use Rattle.ext_run.specs.Checks.{IsCountsOf, RefusedUnrun}
+use Rattle.ext_run.specs.Reports.{IsReadFault, RefusedAs, Reports, RunReport, input_limit}
+
+-- ---- the input
+
+-- so many bytes more were read, none only at the end, and the input keeps within its limit
+pub record ReadsMore (before after : Option (List ℕ)) (old new : List ℕ) (count : ℕ) : Type 0 where
+  pub bytes : List ℕ
+  pub taken : Consumes before after bytes
+  pub kept : new ≡ old ++ bytes
+  pub counted : length bytes ≡ count
+  pub short : length new ≤ input_limit
+  pub ended : count ≡ 0 → IsAtEnd after
+
+-- these bytes more were read, and then no more, for this fault
+pub record StopsReading (before after : Option (List ℕ)) (old : List ℕ) (fault : RunFault) : Type 0 where
+  pub bytes : List ℕ
+  pub taken : Consumes before after bytes
+  pub short : length (old ++ bytes) ≤ input_limit + 1
+  pub known : IsReadFault fault
+  pub long : fault ≡ faults.TooLong → input_limit < length (old ++ bytes)
+
+abbrev pub Reads : Option (List ℕ) → Option (List ℕ) → List ℕ → List ℕ → Result ℕ RunFault → Type 0
+Reads before after old new (Ok count) = ReadsMore before after old new count
+Reads before after old new (Err fault) = StopsReading before after old fault
+
+-- ---- the run
+
+-- why a plan that was read has no results: memory was refused, or its run on several lanes
+abbrev pub IsPlanFault : Options → PlanText → RunFault → Type 0
+IsPlanFault options plan faults.Read = ⊥
+IsPlanFault options plan faults.Write = ⊥
+IsPlanFault options plan faults.TooLong = ⊥
+IsPlanFault options plan (faults.Plan fault) = ⊥
+IsPlanFault options plan (faults.Engine fault) = (options.plain ≡ false) × IsRefusedRun plan options.lanes fault
+IsPlanFault options plan faults.Memory = Unit {0}
+
+-- ---- the report
+
+abbrev pub output_view : Output → RunReport
+output_view o = record { report = o.report.items; failed = o.failed; lacked = o.lacked }
+
+-- what a function returned is the report of what was read, or a fault that goes with it
+abbrev pub ReportsAs : Options → Result Output RunFault → Result PlanText RunFault → Type 0
+ReportsAs options (Ok output) read = Reports options read (output_view output)
+ReportsAs options (Err fault) read = RefusedAs options fault read
+
+-- ---- the line of a plan that is not run
+
+-- what a function returned is the line of what was read, or a fault that goes with it
+abbrev pub ChecksAs : {X : Type 0} → (X → List ℕ) → Result X RunFault → Result PlanText RunFault → Type 0
+ChecksAs view (Ok x) read = IsCountsOf read (view x)
+ChecksAs view (Err fault) read = RefusedUnrun fault read

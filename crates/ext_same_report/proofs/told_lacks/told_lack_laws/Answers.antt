@@ -1,8 +1,0 @@
-use Rattle.ext_same_report.proofs.ToldLacks.{tells_lacks}
-use Rattle.ext_same_report.proofs.told_lacks.told_lack_laws.Goals as goal
-
-pub returns : goal.returns
-returns c = record {
-  lacks = tells_lacks;
-  one_report = λ plan lanes results read has run spared. c.report_laws.ensures.one_report plan lanes results read has run (tells_lacks plan lanes results read run spared);
-}

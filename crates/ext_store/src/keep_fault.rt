@@ -1,0 +1,92 @@
+//! Keeping of factories' faults: each gets the next number, and its place.
+ghost use Rattle.std.specs.Prelude.{ℕ, ◌≡◌, ◌≢◌, ◌+◌, ◌<◌, ◌≤◌, [], IfErr, IfOk, IsTrue, MatchResult, Ok, Err};
+ghost use Rattle.ext_model.specs.declared.event.Act.TheVariants as act_is;
+ghost use Rattle.ext_values.specs.Known.{AreNotesOf};
+ghost use Rattle.ext_cells.specs.CellCalls.{ComesLast};
+ghost use Rattle.ext_store.specs.Stores.{IsKeptBy, IsLaneOf};
+ghost use Rattle.ext_store.specs.LaneCalls.{Frame, steps_of, KeepsFault, KeepsNoFault};
+ghost use Rattle.ext_store.specs.Waiting.{IsDecidedFault};
+ghost use Rattle.ext_values.specs.Places.{IsNumber};
+ghost use Rattle.ext_store.specs.InnerKeeping.{IsOfCount, PlacesDrawn};
+
+use crate::{KeepFault, Lane, Store, StoreValue};
+use ext_cells::CellRefusal;
+use ext_model::Fault;
+use ext_values::SilentNotes;
+use std::sync::{Forever, Wait};
+
+impl<V: StoreValue + Drop> Store<V> {
+    // Draws a number for the fault, which has it from then on.
+    #[tactic(auto, unfolding(crate::specs::LaneCalls::KeepFails, crate::specs::LaneCalls::Frame))]
+    pub(crate) fn keep_fault(
+        &self,
+        lane: &mut Lane<V>,
+        fault: Fault,
+    ) -> Result<u32, (Fault, KeepFault)>
+        requires lane { IsLaneOf self.now.id lane.old }
+        requires faults { IsTrue self.now.id.cells.limits.keep_faults }
+        ensures answer { MatchResult result (KeepsFault fault lane.old lane.new) (λ e. KeepsNoFault self.now fault lane.old lane.new e.0 e.1) }
+        ensures known { lane.new.known ≡ lane.old.known }
+        ensures keys { lane.new.keys ≡ lane.old.keys }
+        ensures apart { IfOk result (λ number. (m : ℕ) → IsKeptBy lane.old m → m ≢ number) }
+        ensures frame { Frame self.now.id [] lane.old lane.new }
+        ensures steps { steps_of lane.old.cells lane.new.cells ≤ self.now.tries + 1 }
+        ensures contended { ComesLast (fault, KeepFault.Contended) self.now.tries lane.old.cells lane.new.cells (act_is.Keep 0) result }
+    {
+        self.recall();
+        let boxed = match Box::new(self.alloc, fault) {
+            Ok(boxed) => boxed,
+            Err(failed) => return Err((failed.value, KeepFault::Memory)),
+        };
+        let drawn = self.shared.keep(&mut lane.cells);
+        self.place_drawn_fault(&mut lane.faults, drawn, boxed)
+    }
+
+    // Draws a number for the fault, however often other lanes are in the way.
+    #[tactic(auto, unfolding(crate::specs::LaneCalls::KeepFails, crate::specs::LaneCalls::Frame))]
+    pub(crate) fn keep_fault_wait<R: Wait>(
+        &self,
+        rounds: Forever<'_, R>,
+        lane: &mut Lane<V>,
+        fault: Fault,
+    ) -> Result<u32, (Fault, KeepFault)>
+        requires lane { IsLaneOf self.now.id lane.old }
+        requires faults { IsTrue self.now.id.cells.limits.keep_faults }
+        ensures answer { MatchResult result (KeepsFault fault lane.old lane.new) (λ e. KeepsNoFault self.now fault lane.old lane.new e.0 e.1) }
+        ensures decided { IfErr result (λ e. IsDecidedFault e.1) }
+        ensures known { lane.new.known ≡ lane.old.known }
+        ensures apart { IfOk result (λ number. (m : ℕ) → IsKeptBy lane.old m → m ≢ number) }
+        ensures frame { Frame self.now.id [] lane.old lane.new }
+        ensures keys { lane.new.keys ≡ lane.old.keys }
+    {
+        self.recall();
+        let boxed = match Box::new(self.alloc, fault) {
+            Ok(boxed) => boxed,
+            Err(failed) => return Err((failed.value, KeepFault::Memory)),
+        };
+        let drawn = self.shared.keep_wait(rounds, &mut lane.cells);
+        self.place_drawn_fault(&mut lane.faults, drawn, boxed)
+    }
+
+    // Places the fault at the number that was drawn for it, and answers the number, or hands the
+    // fault back.
+    pub(crate) fn place_drawn_fault(
+        &self,
+        notes: &mut SilentNotes<Fault>,
+        drawn: Result<u32, CellRefusal>,
+        boxed: Box<Fault>,
+    ) -> Result<u32, (Fault, KeepFault)>
+        requires notes { AreNotesOf self.now.id.fault_places notes.old }
+        requires drawn { MatchResult drawn (IsNumber self.now.id.fault_places) IsOfCount }
+        ensures { PlacesDrawn boxed.value drawn notes.old notes.new result }
+    {
+        let number = match drawn {
+            Ok(number) => number,
+            Err(why) => return Err((Box::into_inner(boxed), KeepFault::of(why))),
+        };
+        match notes.place(&self.faults, number, boxed) {
+            Ok(()) => Ok(number),
+            Err(back) => Err((Box::into_inner(back), KeepFault::Unplaced)),
+        }
+    }
+}

@@ -1,9 +1,0 @@
-use Rattle.std.proofs.Common.{sym, subst}
-use Rattle.ext_store_cells.specs.Claiming.{Stands}
-use Rattle.ext_store_cells.proofs.Missing.{stands_by}
-use Rattle.ext_store_cells.proofs.store_cells.StoreCells.stands_along.Goals as goal
-
-pub returns-clause-stands : goal.returns-clause-stands
-returns-clause-stands c =
-    subst (Stands c.args.self.now c.args.path.now c.args.key c.args.lane.now c.look_along.new.lane) (sym c.of.ensures)
-    (stands_by c.args.self.now c.args.path.now c.args.key c.args.lane.now c.look_along.new.lane c.look_along.result c.look_along.ensures.look)

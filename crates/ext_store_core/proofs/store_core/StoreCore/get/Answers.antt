@@ -1,0 +1,23 @@
+use Rattle.std.proofs.Common.{rules, ◌≤◌, ap, arith, length}
+use Rattle.ext_tree.specs.Trees.{IsPathOf}
+use Rattle.ext_store_core.specs.ContextCalls.{Gets}
+use Rattle.ext_store_core.proofs.LookUps.{looks_answer, looks_overtaken}
+use Rattle.ext_store_core.proofs.Faultless.{looks_faultless}
+use Rattle.ext_store_core.proofs.store_core.StoreCore.get.Goals as goal
+
+pub returns-clause-answer : goal.returns-clause-answer
+unfolding Gets
+returns-clause-answer c =
+    let some : 1 ≤ length c.as_slice.result.now = (let l = ap length c.as_slice.ensures.contexts in let s = c.path-path.ensures.some in omega (arith, l, s)) in
+    let path : IsPathOf c.args.self.now.tree c.args.context c.as_slice.result.now = search rules in (
+      c.as_slice.result.now,
+      path,
+      looks_answer c.args.self.now c.as_slice.result.now c.args.key c.args.lane.now c.look_along.new.lane c.look_along.result some c.look_along.ensures.look,
+      looks_overtaken c.args.self.now c.as_slice.result.now c.args.key c.args.lane.now c.look_along.new.lane c.look_along.result c.look_along.ensures.look,
+    )
+
+pub returns-clause-lane : goal.returns-clause-lane
+returns-clause-lane c = c.look_along.ensures.lane
+
+pub returns-clause-no_faults : goal.returns-clause-no_faults
+returns-clause-no_faults c off = looks_faultless c.args.self.now c.as_slice.result.now c.args.key c.args.lane.now c.look_along.new.lane c.requires.lane off c.look_along.result c.look_along.ensures.look

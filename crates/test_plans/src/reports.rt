@@ -1,0 +1,308 @@
+//! Reports of worked runs, each from results made by hand.
+use crate::same::same;
+use crate::trees::push_ids;
+use ext_model::{ContextNo, Fault};
+use ext_report::{NodeResult, Status, any_failed, report_text};
+use ext_tree::Tree;
+use std::alloc::{AllocError, Global};
+use std::process::Abort;
+use std::test::Fail;
+
+/// An engine, a class and a test.
+const CHAIN: &str = "[engine:x]\n[engine:x]/[class:A]\n[engine:x]/[class:A]/[method:m()]";
+
+/// A result whose fault is a text; an empty one is none.
+#[derive(Clone, Copy)]
+struct Ended {
+    node: ContextNo,
+    is_test: bool,
+    status: Status,
+    fault: &'static str,
+    more: u64,
+    computed: u64,
+    found: u64,
+    closed: u64,
+    close_faults: u64,
+}
+
+/// The root, a container that ended successfully and closed nothing.
+const CONTAINER: Ended = Ended {
+    node: 0,
+    is_test: false,
+    status: Status::Successful,
+    fault: "",
+    more: 0,
+    computed: 0,
+    found: 0,
+    closed: 0,
+    close_faults: 0,
+};
+
+/// The root, a test that ended successfully and closed nothing.
+const TEST: Ended = Ended {
+    is_test: true,
+    ..CONTAINER
+};
+
+/// The fault that is told by this text.
+fn fault_of(alloc: Global, text: &str) -> Result<Option<Fault>, AllocError> {
+    match text {
+        "" => Ok(None),
+        "no memory" => Ok(Some(Fault::Memory)),
+        _ => Ok(Some(Fault::Text(String::from_str(alloc, text)?))),
+    }
+}
+
+/// The results.
+fn results_of(alloc: Global, rows: &[Ended]) -> Result<Vec<NodeResult>, AllocError> {
+    let mut results = Vec::new(alloc);
+    for row in rows {
+        results.push(NodeResult {
+            node: row.node,
+            is_test: row.is_test,
+            status: row.status,
+            fault: fault_of(alloc, row.fault)?,
+            more: row.more,
+            computed: row.computed,
+            found: row.found,
+            closed: row.closed,
+            close_faults: row.close_faults,
+        })?;
+    }
+    Ok(results)
+}
+
+/// The contexts with these ids, one a line.
+fn tree_of(alloc: Global, ids: &str) -> Result<Tree, Fail> {
+    let mut parsed = Vec::new(alloc);
+    push_ids(alloc, ids, &mut parsed)?;
+    Ok(Tree::build(alloc, parsed.as_slice())?)
+}
+
+/// Asserts that the results of the contexts with these ids have this report, and whether a node failed.
+fn reports<R: Abort>(
+    rt: &R,
+    alloc: Global,
+    ids: &str,
+    rows: &[Ended],
+    failed: bool,
+    wanted: &str,
+) -> Result<(), Fail> {
+    let tree = tree_of(alloc, ids)?;
+    let results = results_of(alloc, rows)?;
+    same(rt, any_failed(results.as_slice()), failed, wanted);
+    tells(rt, alloc, &tree, results.as_slice(), wanted)
+}
+
+/// Asserts that the results have this report.
+fn tells<R: Abort>(
+    rt: &R,
+    alloc: Global,
+    tree: &Tree,
+    results: &[NodeResult],
+    wanted: &str,
+) -> Result<(), Fail> {
+    assert!(rt; results.iter().all(|r| r.node < tree.len()));
+    let text = report_text(alloc, tree, results)?;
+    same(rt, text.as_str(), wanted, "the report");
+    Ok(())
+}
+
+/// The chain, whose test passed.
+const PUT_AND_WANT: [Ended; 3] = [
+    CONTAINER,
+    Ended {
+        node: 1,
+        ..CONTAINER
+    },
+    Ended { node: 2, ..TEST },
+];
+
+/// Tests `report_text`.
+#[test]
+fn report_of_chain_put_and_want(rt: HostRuntime) -> Result<(), Fail> {
+    let wanted = "[engine:x] successful closed 0\n\
+         [engine:x]/[class:A] successful closed 0\n\
+         [engine:x]/[class:A]/[method:m()] successful closed 0\n\
+         tests 1 successful 1 aborted 0 failed 0 skipped 0\n\
+         computed 0 found 0 closed 0 close faults 0\n";
+    reports(&rt, rt.alloc(), CHAIN, &PUT_AND_WANT, false, wanted)
+}
+
+/// The chain, whose test has a value that did not close.
+const CLOSE_FAULT: [Ended; 3] = [
+    CONTAINER,
+    Ended {
+        node: 1,
+        ..CONTAINER
+    },
+    Ended {
+        node: 2,
+        status: Status::Failed,
+        fault: "close bad2",
+        closed: 3,
+        close_faults: 1,
+        ..TEST
+    },
+];
+
+/// Tests `report_text`.
+#[test]
+fn report_of_close_fault(rt: HostRuntime) -> Result<(), Fail> {
+    let wanted = "[engine:x] successful closed 0\n\
+         [engine:x]/[class:A] successful closed 0\n\
+         [engine:x]/[class:A]/[method:m()] failed closed 3: close bad2\n\
+         tests 1 successful 0 aborted 0 failed 1 skipped 0\n\
+         computed 0 found 0 closed 3 close faults 1\n";
+    reports(&rt, rt.alloc(), CHAIN, &CLOSE_FAULT, true, wanted)
+}
+
+/// The chain, whose test has a fault before it, and one more.
+const BEFORE_FAULT: [Ended; 3] = [
+    CONTAINER,
+    Ended {
+        node: 1,
+        ..CONTAINER
+    },
+    Ended {
+        node: 2,
+        status: Status::Failed,
+        fault: "f",
+        more: 1,
+        ..TEST
+    },
+];
+
+/// Tests `report_text`.
+#[test]
+fn report_of_before_fault(rt: HostRuntime) -> Result<(), Fail> {
+    let wanted = "[engine:x] successful closed 0\n\
+         [engine:x]/[class:A] successful closed 0\n\
+         [engine:x]/[class:A]/[method:m()] failed closed 0: f (+1)\n\
+         tests 1 successful 0 aborted 0 failed 1 skipped 0\n\
+         computed 0 found 0 closed 0 close faults 0\n";
+    reports(&rt, rt.alloc(), CHAIN, &BEFORE_FAULT, true, wanted)
+}
+
+/// An engine with two classes of two methods each.
+const TWO_CLASSES: &str = "[engine:x]
+[engine:x]/[class:A]
+[engine:x]/[class:A]/[method:m1()]
+[engine:x]/[class:A]/[method:m2()]
+[engine:x]/[class:B]
+[engine:x]/[class:B]/[method:n1()]
+[engine:x]/[class:B]/[method:n2()]";
+
+/// The two classes: values were computed and found, and a test was aborted.
+const OF_TWO_CLASSES: [Ended; 7] = [
+    Ended {
+        closed: 1,
+        ..CONTAINER
+    },
+    Ended {
+        node: 1,
+        computed: 1,
+        closed: 1,
+        ..CONTAINER
+    },
+    Ended { node: 2, ..TEST },
+    Ended {
+        node: 3,
+        status: Status::Aborted,
+        fault: "later",
+        found: 1,
+        ..TEST
+    },
+    Ended {
+        node: 4,
+        found: 1,
+        ..CONTAINER
+    },
+    Ended {
+        node: 5,
+        closed: 1,
+        ..TEST
+    },
+    Ended { node: 6, ..TEST },
+];
+
+/// Tests `report_text` and `any_failed`.
+#[test]
+fn report_of_two_classes(rt: HostRuntime) -> Result<(), Fail> {
+    let wanted = "[engine:x] successful closed 1\n\
+         [engine:x]/[class:A] successful closed 1\n\
+         [engine:x]/[class:A]/[method:m1()] successful closed 0\n\
+         [engine:x]/[class:A]/[method:m2()] aborted closed 0: later\n\
+         [engine:x]/[class:B] successful closed 0\n\
+         [engine:x]/[class:B]/[method:n1()] successful closed 1\n\
+         [engine:x]/[class:B]/[method:n2()] successful closed 0\n\
+         tests 4 successful 3 aborted 1 failed 0 skipped 0\n\
+         computed 1 found 2 closed 3 close faults 0\n";
+    reports(&rt, rt.alloc(), TWO_CLASSES, &OF_TWO_CLASSES, false, wanted)
+}
+
+/// The chain, whose class was aborted.
+const ABORTED_CONTAINER: [Ended; 3] = [
+    CONTAINER,
+    Ended {
+        node: 1,
+        status: Status::Aborted,
+        fault: "no",
+        ..CONTAINER
+    },
+    Ended {
+        node: 2,
+        status: Status::Skipped,
+        ..TEST
+    },
+];
+
+/// Tests `report_text`.
+#[test]
+fn report_of_aborted_container(rt: HostRuntime) -> Result<(), Fail> {
+    let wanted = "[engine:x] successful closed 0\n\
+         [engine:x]/[class:A] aborted closed 0: no\n\
+         [engine:x]/[class:A]/[method:m()] skipped closed 0\n\
+         tests 1 successful 0 aborted 0 failed 0 skipped 1\n\
+         computed 0 found 0 closed 0 close faults 0\n";
+    reports(&rt, rt.alloc(), CHAIN, &ABORTED_CONTAINER, false, wanted)
+}
+
+/// A test that had no memory.
+const WANT_OF_MEMORY: [Ended; 1] = [Ended {
+    status: Status::Failed,
+    fault: "no memory",
+    ..TEST
+}];
+
+/// Tests `report_text`.
+#[test]
+fn report_of_want_of_memory(rt: HostRuntime) -> Result<(), Fail> {
+    let wanted = "[engine:x] failed closed 0: no memory\n\
+         tests 1 successful 0 aborted 0 failed 1 skipped 0\n\
+         computed 0 found 0 closed 0 close faults 0\n";
+    reports(&rt, rt.alloc(), "[engine:x]", &WANT_OF_MEMORY, true, wanted)
+}
+
+/// Containers that found as much as can be counted.
+const GREATEST_COUNTS: [Ended; 2] = [
+    Ended {
+        found: u64::MAX,
+        ..CONTAINER
+    },
+    Ended {
+        node: 1,
+        found: u64::MAX,
+        ..CONTAINER
+    },
+];
+
+/// Tests `report_text`.
+#[test]
+fn report_of_the_greatest_counts(rt: HostRuntime) -> Result<(), Fail> {
+    let wanted = "[engine:x] successful closed 0\n\
+         [engine:x]/[class:A] successful closed 0\n\
+         tests 0 successful 0 aborted 0 failed 0 skipped 0\n\
+         computed 0 found 36893488147419103230 closed 0 close faults 0\n";
+    reports(&rt, rt.alloc(), CHAIN, &GREATEST_COUNTS, false, wanted)
+}

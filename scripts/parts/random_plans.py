@@ -1,0 +1,112 @@
+"""Makes random plans, asks the proved program which of them are free of races (`check --races`), and runs each. A plan that is free has to have one report: that of
+the plain run, on 4 and on 16 lanes, each time. Of those that race some have to show two. Prints a line for each plan that is not as it has to be.
+
+words:
+  --plans N   how many plans are made, 60 without the word
+  --times N   how often each is run on 4 lanes, and as often on 16: 5 without the word
+  --seed N    other plans for each N, 1 without the word
+  --racing    those that race are run too
+"""
+import argparse
+import pathlib
+import random
+import subprocess
+
+TOP = pathlib.Path(__file__).resolve().parent.parent.parent
+KEYS = ["a", "b"]
+TEXTS = ["x", "y", "bad1", "bad2"]
+WORDS = ["put", "put!", "want", "want", "none", "none", "remove", "compute", "compute", "compute!", "computefail"]
+
+
+def step_of(chance, depth):
+    """A step that goes up at most so far."""
+    word, key, text = chance.choice(WORDS), chance.choice(KEYS), chance.choice(TEXTS)
+    up = chance.randint(0, depth)
+    words = [word, key] + ([] if word in ("none", "remove") else [text]) + ([f"up {up}"] if up else [])
+    return " ".join(words)
+
+
+def steps_of(chance, depth, most):
+    """So many steps at most."""
+    return [step_of(chance, depth) for _ in range(chance.randint(0, most))]
+
+
+def node_of(chance, node_id, depth, is_test):
+    """The lines of a node."""
+    lines = ["[[node]]", f'id = "{node_id}"']
+    if depth and chance.random() < 0.85:
+        lines.append('mode = "concurrent"')
+    if chance.random() < 0.1:
+        lines.append("isolated = true")
+    if chance.random() < 0.2:
+        lines.append(f'locks = ["{chance.choice(["READ", "READ_WRITE"])} db"]')
+    if chance.random() < 0.25:
+        lines.append(f"before_each = {[steps_of(chance, depth, 1)]}")
+    if chance.random() < 0.15:
+        lines.append(f"after_each = {[steps_of(chance, depth, 1)]}")
+    if is_test:
+        lines.append(f"test = {steps_of(chance, depth, 2)}")
+    elif chance.random() < 0.4:
+        lines.append(f"before_all = {[steps_of(chance, depth, 2)]}")
+    return lines
+
+
+def plan_of(chance):
+    """The text of a plan: a root, classes and tests."""
+    lines = [] if chance.random() < 0.7 else ["keep_faults = true"]
+    lines += node_of(chance, "[engine:x]", 0, False)
+    for number in range(chance.randint(2, 3)):
+        at = f"[engine:x]/[class:{number}]"
+        lines += node_of(chance, at, 1, False)
+        for test in range(chance.randint(1, 2)):
+            lines += node_of(chance, f"{at}/[test:{test}]", 2, True)
+    return ("\n".join(lines) + "\n").replace("'", '"').encode()
+
+
+def ran(program, plan, *words):
+    """The status and the output of the program."""
+    end = subprocess.run([program, *words], input=plan, capture_output=True, timeout=120)
+    return end.returncode, end.stdout + end.stderr
+
+
+def reports_of(program, plan, times):
+    """The different reports of so many runs."""
+    found = {ran(program, plan, "run", "--store", "plain")}
+    for lanes in ("4", "16"):
+        found.update(ran(program, plan, "run", "--lanes", lanes) for _ in range(times))
+    return found
+
+
+def main(program, words):
+    parser = argparse.ArgumentParser(usage=__doc__)
+    parser.add_argument("--plans", type=int, default=60)
+    parser.add_argument("--times", type=int, default=5)
+    parser.add_argument("--seed", type=int, default=1)
+    parser.add_argument("--racing", action="store_true")
+    asked = parser.parse_args(words)
+    chance = random.Random(asked.seed)
+    free = racing = several = failed = 0
+    for number in range(asked.plans):
+        plan = plan_of(chance)
+        status, told = ran(program, plan, "check", "--races")
+        if status not in (0, 1) or (status == 0) != (told == b"no races\n"):
+            failed += 1
+            print(f"plan {number}: check --races ended with {status}: {told[:200]}\n{plan.decode()}")
+            continue
+        free, racing = free + (status == 0), racing + (status == 1)
+        if status == 1 and not asked.racing:
+            continue
+        found = reports_of(program, plan, asked.times)
+        several += status == 1 and len(found) > 1
+        if status == 0 and len(found) > 1:
+            failed += 1
+            print(f"plan {number} is free and has {len(found)} reports\n{plan.decode()}")
+    if racing and asked.racing and not several:
+        failed += 1
+        print("no plan that races showed two reports")
+    shown = "" if not asked.racing else f", of which {several} showed two reports"
+    print(f"{free} plans are free of races and have one report each; {racing} race{shown}")
+    if free == 0:
+        failed += 1
+        print("no plan is free of races")
+    return max(asked.plans - failed, 0), failed
