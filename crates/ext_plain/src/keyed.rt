@@ -53,6 +53,7 @@ impl<'a> ValueStore<'a> {
         say_unless_refused(alloc, call, why)
     }
 
+    /// Makes a step `want`: looks the key up, and compares what is found with the text.
     pub fn want_step(
         &mut self,
         alloc: Global,
@@ -70,6 +71,7 @@ impl<'a> ValueStore<'a> {
         }
     }
 
+    /// Makes a step `none`: looks the key up, and fails where anything is found.
     pub fn none_step(
         &mut self,
         alloc: Global,
@@ -86,6 +88,7 @@ impl<'a> ValueStore<'a> {
         }
     }
 
+    /// Makes a step `remove`: takes what stands under the key in the context itself.
     pub fn remove_step(
         &mut self,
         alloc: Global,

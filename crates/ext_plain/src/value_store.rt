@@ -54,6 +54,7 @@ impl<'a> ValueStore<'a> {
         }
     }
 
+    /// Whether the store keeps the faults of factories that fail.
     pub fn keeps_faults(&self) -> bool
         ensures { result ≡ (state_view self.now).keep_faults }
     {

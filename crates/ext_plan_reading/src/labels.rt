@@ -29,6 +29,7 @@ impl<'a> Model for Labels<'a> {
 }
 
 impl<'a> Labels<'a> {
+    /// Makes an empty list of labels.
     pub fn new(alloc: Global) -> Labels<'a>
         ensures { result ≡ [] }
     {
@@ -45,6 +46,7 @@ impl<'a> Labels<'a> {
         self.numbers.get(label).copied()
     }
 
+    /// How many labels were added.
     pub fn len(&self) -> usize
         ensures { result ≡ length self.now }
     {

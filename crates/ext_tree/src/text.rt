@@ -25,6 +25,7 @@ impl Model for Text {
 }
 
 impl Text {
+    /// The bytes of the text.
     pub fn as_bytes(&self) -> &[u8]
         ensures { result.now ≡ self.now }
     {

@@ -227,8 +227,8 @@ fn place_and_standing(
     }
 }
 
-/// Asserts what is nearest along some rows. In column 3 the rows 4 and 2 hold the number of a value each, row 7 that of a fault, and row
-/// 5 is sealed; row 8 holds the number of a value in the column before it.
+/// Asserts what is nearest along some rows. In column 3 a value's number stands in the rows 4 and 2, a fault's in the last but one,
+/// and a seal in the one of 5; the last has a value's number in the column before it.
 fn ask_for_nearest(rt: &impl Abort, cells: &Cells, lane: &mut CellLane)
     requires lane { lane.old.cells ≡ cells.now.id }
     requires cells { 576 ≤ cells.now.id.limits.cells }
