@@ -122,6 +122,11 @@ static void refused_openings(void) {
           two_roots = TEXTS("[engine:x]", "[engine:y]"), twice = TEXTS("[engine:x]", "[engine:x]/[class:A]", "[engine:x]/[class:A]"),
           no_parent = TEXTS("[engine:x]", "[engine:x]/[class:A]/[method:a()]");
     CODE(open_slots(&no_text, USUAL, slots, 1), EXT_BAD_TEXT);
+    /* the first refusal is told: limits, then lengths, then texts */
+    texts no_text_and_long = TEXTS("[x]", "[engine:\xff]");
+    no_text_and_long.lengths[1]++;
+    CODE(open_slots(&no_text_and_long, USUAL, slots, 1), EXT_BAD_LENGTHS);
+    CODE(open_slots(&no_text_and_long, (limits){64, 0, false}, slots, 1), EXT_BAD_LIMIT);
     CODE(open_slots(&no_id, USUAL, slots, 1), EXT_BAD_ID);
     CODE(open_slots(&no_root, USUAL, slots, 1), EXT_BAD_TREE);
     CODE(open_slots(&two_roots, USUAL, slots, 1), EXT_BAD_TREE);
@@ -186,6 +191,7 @@ static void keys_have_one_number(void) {
     long_one.lengths[1] = UINT32_MAX;
     CODE(key_of(&slots[0], none, &number), EXT_BAD_LENGTHS);
     CODE(key_of(&slots[0], long_one, &number), EXT_BAD_LENGTHS);
+    WANT(number == 1); /* no refusal writes one */
     left(slots, 2);
 }
 
@@ -247,7 +253,9 @@ static void compute_in_two_calls(void) {
     CODE(ext_fill(one, 1, true, &number), EXT_NO_CLAIM);
     CODE(ext_fail(one, 1, &number), EXT_NO_CLAIM);
     CODE(ext_abandon(one), EXT_NO_CLAIM);
+    value = (ext_value){.context = 7, .number = 8};
     CODE(ext_begin(one, CLASS, server, &value), EXT_RUN);
+    WANT(value.context == 7 && value.number == 8);
     /* the lane that claims */
     CODE(ext_begin(one, CLASS, server, &value), EXT_CLAIMING);
     CODE(ext_get(one, ENGINE, server, &value), EXT_CLAIMING);
@@ -256,19 +264,22 @@ static void compute_in_two_calls(void) {
     WANT(key(one, "server") == server);
     /* the others */
     CODE(ext_get(other, FIRST, server, &value), EXT_BUSY);
-    WANT(value.context == CLASS);
+    WANT(value.context == CLASS && value.number == 8);
     CODE(ext_begin(other, FIRST, server, &value), EXT_BUSY);
     WANT(value.context == CLASS);
     CODE(ext_put(other, CLASS, server, 1, true, &value), EXT_BUSY);
     CODE(ext_remove(other, CLASS, server, &value), EXT_BUSY);
     CODE(ext_get(other, ENGINE, server, &value), EXT_ABSENT);
+    WANT(value.context == CLASS && value.number == 8);
     CODE(ext_put(other, FIRST, server, 73, true, &value), EXT_DONE);
     /* each end */
     CODE(ext_abandon(one), EXT_DONE);
     CODE(ext_abandon(one), EXT_NO_CLAIM);
     CODE(ext_get(other, CLASS, server, &value), EXT_ABSENT);
     CODE(ext_begin(other, CLASS, server, &value), EXT_RUN);
+    number = 7;
     CODE(ext_fail(other, 5, &number), EXT_GIVEN_UP);
+    WANT(number == 7);
     CODE(ext_get(one, CLASS, server, &value), EXT_ABSENT);
     CODE(ext_begin(one, CLASS, server, &value), EXT_RUN);
     CODE(ext_fill(one, 74, true, &number), EXT_DONE);
@@ -357,6 +368,22 @@ static void closes_latest_first(void) {
     CODE(ext_close_joined(last, ENGINE, values, 64, &count), EXT_DONE);
     WANT(count == 1 && values[0].handle == 606);
     left(slots, 3);
+}
+
+/* Once a close was told that its lane does not know a value, the lane knows it. */
+static void refused_close_is_asked_again(void) {
+    ext_slot slots[2] = {{0, NULL}}, *one = &slots[0], *last = &slots[1];
+    opened(slots, 2, USUAL);
+    size_t count = 9;
+    ext_value value = {0}, values[64] = {{0}};
+    CODE(ext_put(one, CLASS, 0, 71, true, &value), EXT_DONE);
+    CODE(ext_close(last, CLASS, values, 64, &count), EXT_UNJOINED);
+    WANT(count == 0);
+    CODE(ext_close(last, CLASS, values, 64, &count), EXT_DONE);
+    WANT(count == 1 && is(values[0], 71, 1, CLASS, true, false));
+    CODE(ext_close(one, CLASS, values, 64, &count), EXT_NO_CLOSER);
+    WANT(count == 0);
+    left(slots, 2);
 }
 
 static void context_of_64_values(void) {
@@ -645,6 +672,7 @@ int main(int count, char **words) {
     compute_in_two_calls(), ran("compute_in_two_calls");
     fault_is_kept(), ran("fault_is_kept");
     closes_latest_first(), ran("closes_latest_first");
+    refused_close_is_asked_again(), ran("refused_close_is_asked_again");
     context_of_64_values(), ran("context_of_64_values");
     numbers_run_out(), ran("numbers_run_out");
     slot_moves(), ran("slot_moves");

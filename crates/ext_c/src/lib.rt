@@ -30,8 +30,6 @@ mod saying;
 mod seat;
 mod slot;
 mod telling;
-#[cfg(test)]
-mod tests;
 mod texts;
 mod value;
 mod written;
