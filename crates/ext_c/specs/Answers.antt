@@ -1,5 +1,7 @@
--- What each call says of its seat, by its code and by what it writes out: what the store's calls say of the lane that sits there.
--- `before` and `after` are the seat, or the lane, before and after the call; `was` is what stood where the call writes out, and is there still where nothing is said of it. The words of the store are those of `LaneCalls` and `Computing` of ext_store.
+-- What each call promises of its seat, by its code and by what it writes out: what the store's calls promise of the
+-- lane that sits there. `before` and `after` are the seat, or the lane, before and after the call. `was` is what stood
+-- where the call writes, and still stands there unless the call is said to change it. The store's words are those of
+-- `LaneCalls` and `Computing` in ext_store.
 use Rattle.std.specs.Prelude.{ℕ, ◌≡◌, ◌<◌, ◌≤◌, ◌^◌, ◌⊎◌, IsFalse, IsTrue, true, false, List, [], length, Option, None, Some, Result, Ok, Err}
 use Rattle.std.specs.Arc.{arc_value}
 use Rattle.ext_model.specs.declared.look.Fault.{Fault}
@@ -27,24 +29,23 @@ use Rattle.ext_c.specs.Codes.{keep_code, refusal_code}
 use Rattle.ext_c.specs.Faults.{IsFaultOf}
 use Rattle.ext_c.specs.Texts.{AreTexts, IsNamed, NamesNoKey, texts_in}
 
--- the store of a seat
 abbrev pub store_of : Seat → StoreView
 store_of seat = arc_value seat.store
 
 -- ---- handles
 
--- the value of this number is told, and the lane knows it from now on
+-- The call writes out the value of this number, which the lane knows from now on.
 pub record TellsValue (context number : ℕ) (before after : StoreLane Handle) (told : ExtValue) : Type 0 where
   pub at : told.context ≡ context
   pub named : told.number ≡ number
   pub value : told.fault ≡ false
   pub learnt : Learns before.known after.known number (record { raw = told.handle; closeable = told.closeable })
 
--- the lane knows no fault of this number that has a handle
+-- The lane knows no fault of this number that has a handle.
 abbrev pub KnowsNoFault : ℕ → StoreLane Handle → Type 0
 KnowsNoFault number lane = (why : Fault) (own : ℕ) → known_at lane.faults number ≡ Some why → own < 2 ^ 64 → IsFaultOf own why → ⊥
 
--- the kept fault of this number is told, and the lane knows it from now on
+-- The call writes out the kept fault of this number, which the lane knows from now on.
 pub record TellsFault (context number : ℕ) (before after : StoreLane Handle) (told : ExtValue) : Type 0 where
   pub at : told.context ≡ context
   pub named : told.number ≡ number
@@ -54,37 +55,37 @@ pub record TellsFault (context number : ℕ) (before after : StoreLane Handle) (
   pub learnt : Learns before.faults after.faults number why
   pub handle : (own : ℕ) → own < 2 ^ 64 → IsFaultOf own why → told.handle ≡ own
 
--- the number and the context alone
+-- The number and the context alone.
 abbrev pub number_alone : ℕ → ℕ → ExtValue
 number_alone context number = record { handle = 0; context = context; number = number; closeable = false; fault = false }
 
--- the number is told, of which the thread found no handle
+-- The call writes out only the number and the context. The thread found no handle for it.
 abbrev pub TellsNumber : ℕ → ℕ → ExtValue → Type 0
 TellsNumber context number told = told ≡ number_alone context number
 
--- the context alone is written
+-- Only the context is written.
 abbrev pub at_context : ℕ → ExtValue → ExtValue
 at_context at was = record { handle = was.handle; context = at; number = was.number; closeable = was.closeable; fault = was.fault }
 
--- a value that was found
+-- The code and the value written out, if a value was found.
 abbrev pub TellsFound : ℕ → ℕ → StoreLane Handle → StoreLane Handle → ExtValue → Code → Type 0
 TellsFound context number before after told said =
     ((said ≡ code.Done) × TellsValue context number before after told) ⊎ ((said ≡ code.Unshown) × TellsNumber context number told × (known_at before.known number ≡ None))
 
--- a kept fault that was found
+-- The code and the fault written out, if a kept fault was found.
 abbrev pub TellsStanding : ℕ → ℕ → StoreLane Handle → StoreLane Handle → ExtValue → Code → Type 0
 TellsStanding context number before after told said =
     ((said ≡ code.FaultStands) × TellsFault context number before after told) ⊎ ((said ≡ code.Unshown) × TellsNumber context number told × KnowsNoFault number before)
 
--- what stood, a value or a kept fault
+-- The code and what is written out, if a value or a kept fault stood there.
 abbrev pub TellsStood : ℕ → ℕ → StoreLane Handle → StoreLane Handle → ExtValue → Code → Type 0
 TellsStood context number before after told said =
     ((said ≡ code.Done) × (TellsValue context number before after told ⊎ TellsFault context number before after told))
     ⊎ ((said ≡ code.Unshown) × TellsNumber context number told × (known_at before.known number ≡ None) × KnowsNoFault number before)
 
--- ---- calls on the store that are not made
+-- ---- calls that are not made on the store
 
--- the lane has a claim, or there is no such context, or no such key
+-- The lane has a claim, or there is no such context or key.
 pub data NotAsked (context key : ℕ) (seat : Seat) : Code → Type 0 where
   claiming : (claim : ℕ) → seat.claim ≡ Some claim → NotAsked context key seat code.Claiming
   no_context : seat.claim ≡ None → length (store_of seat).tree ≤ context → NotAsked context key seat code.BadContext
@@ -92,7 +93,7 @@ pub data NotAsked (context key : ℕ) (seat : Seat) : Code → Type 0 where
 
 -- ---- get
 
--- what is told of a look-up
+-- The code and what is written out, by the store's answer to a look-up.
 abbrev pub TellsLook : Result Look Refusal → StoreLane Handle → StoreLane Handle → ExtValue → ExtValue → Code → Type 0
 TellsLook (Ok (look.Found at number)) before after was found said = TellsFound at number before after found said
 TellsLook (Ok (look.Fault at number)) before after was found said = TellsStanding at number before after found said
@@ -101,7 +102,7 @@ TellsLook (Ok (look.Busy at)) before after was found said = (said ≡ code.Busy)
 TellsLook (Ok (look.Closed at)) before after was found said = (said ≡ code.Closed) × (found ≡ at_context at was)
 TellsLook (Err why) before after was found said = (said ≡ refusal_code why) × (found ≡ was)
 
--- the store looked, and this is told of what it found
+-- The store looked, and this call answers what it found.
 pub data GetSays (context key : ℕ) (before after : Seat) (was found : ExtValue) (said : Code) : Type 0 where
   not_asked : NotAsked context key before said → after ≡ before → found ≡ was → GetSays context key before after was found said
   asked : before.claim ≡ None → (looked : Result Look Refusal) → Gets (store_of before) context key before.lane.cells after.lane.cells looked
@@ -109,13 +110,13 @@ pub data GetSays (context key : ℕ) (before after : Seat) (was found : ExtValue
 
 -- ---- put and remove
 
--- what is told of a put
+-- The code and what is written out, by the store's answer to a put.
 abbrev pub TellsPut : ℕ → Result (Option ℕ) (ℕ × Refusal) → StoreLane Handle → StoreLane Handle → ExtValue → ExtValue → Code → Type 0
 TellsPut context (Ok None) before after was stood said = (said ≡ code.Done) × TellsNumber context 0 stood
 TellsPut context (Ok (Some number)) before after was stood said = TellsStood context number before after stood said
 TellsPut context (Err refused) before after was stood said = (said ≡ refusal_code refused.1) × (stood ≡ was)
 
--- the handle was kept under a number, and that number was put; or it was not kept
+-- The handle was kept under a number and that number put, or it was not kept.
 pub data PutSays (context key : ℕ) (handle : Handle) (before after : Seat) (was stood : ExtValue) (said : Code) : Type 0 where
   not_asked : NotAsked context key before said → after ≡ before → stood ≡ was → PutSays context key handle before after was stood said
   unkept : before.claim ≡ None → (why : KeepFault) → KeepsNothing (store_of before) handle before.lane after.lane handle why → said ≡ keep_code why → stood ≡ was
@@ -124,13 +125,13 @@ pub data PutSays (context key : ℕ) (handle : Handle) (before after : Seat) (wa
       → Puts (store_of before) context key number kept.cells after.lane.cells result → TellsPut context result kept after.lane was stood said
       → PutSays context key handle before after was stood said
 
--- what is told of a remove
+-- The code and what is written out, by the store's answer to a remove.
 abbrev pub TellsRemove : ℕ → Result (Option ℕ) Refusal → StoreLane Handle → StoreLane Handle → ExtValue → ExtValue → Code → Type 0
 TellsRemove context (Ok None) before after was taken said = (said ≡ code.Absent) × (taken ≡ was)
 TellsRemove context (Ok (Some number)) before after was taken said = TellsStood context number before after taken said
 TellsRemove context (Err why) before after was taken said = (said ≡ refusal_code why) × (taken ≡ was)
 
--- the store took what stood, and this is told of it
+-- The store took what stood there, and this call answers what that was.
 pub data RemoveSays (context key : ℕ) (before after : Seat) (was taken : ExtValue) (said : Code) : Type 0 where
   not_asked : NotAsked context key before said → after ≡ before → taken ≡ was → RemoveSays context key before after was taken said
   asked : before.claim ≡ None → (result : Result (Option ℕ) Refusal) → Removes (store_of before) context key before.lane.cells after.lane.cells result
@@ -138,7 +139,7 @@ pub data RemoveSays (context key : ℕ) (before after : Seat) (was taken : ExtVa
 
 -- ---- a compute
 
--- what is written out where a claim is refused: the context that decides, where one does
+-- If a claim is refused, the context that decides is written, if one does.
 abbrev pub at_decided : Refusal → ExtValue → ExtValue
 at_decided (refusal.Busy at) was = at_context at was
 at_decided (refusal.Closed at) was = at_context at was
@@ -148,13 +149,13 @@ at_decided refusal.DirectoryFull was = was
 at_decided refusal.Unplaced was = was
 at_decided refusal.Memory was = was
 
--- what is told where there is no claim
+-- The code and what is written out, by the reason why there is no claim.
 abbrev pub TellsUnused : Unused → StoreLane Handle → StoreLane Handle → ExtValue → ExtValue → Code → Type 0
 TellsUnused (unused.Found at number) before after was found said = TellsFound at number before after found said
 TellsUnused (unused.FaultStands at number) before after was found said = TellsStanding at number before after found said
 TellsUnused (unused.Refused why) before after was found said = (said ≡ refusal_code why) × (found ≡ at_decided why was)
 
--- the lane has claimed the place, or this is told of why not
+-- The lane has claimed the place, or the call answers why it has not.
 pub data BeginSays (context key : ℕ) (before after : Seat) (was found : ExtValue) (said : Code) : Type 0 where
   not_asked : NotAsked context key before said → after ≡ before → found ≡ was → BeginSays context key before after was found said
   claimed : before.claim ≡ None → (claim : ℕ) → ClaimsMissing (store_of before) context key before.lane.cells.view after.lane.cells.view (Ok claim)
@@ -162,7 +163,7 @@ pub data BeginSays (context key : ℕ) (before after : Seat) (was found : ExtVal
   unclaimed : before.claim ≡ None → (why : Unused) → ClaimsMissing (store_of before) context key before.lane.cells.view after.lane.cells.view (Err why)
       → TellsUnused why before.lane after.lane was found said → after.claim ≡ None → BeginSays context key before after was found said
 
--- the handle is kept, and its number stands in the claimed cell; or it is not kept, and the claim is given up
+-- The handle is kept and its number stands in the claimed cell; or it is not kept, and the claim is given up.
 pub data FillSays (handle : Handle) (before after : Seat) (was number : ℕ) (said : Code) : Type 0 where
   no_claim : before.claim ≡ None → after ≡ before → number ≡ was → said ≡ code.NoClaim → FillSays handle before after was number said
   filled : (claim : ℕ) → before.claim ≡ Some claim → Fills (store_of before).id.cells.limits [] claim before.lane.cells.view after.lane.cells.view number
@@ -171,7 +172,8 @@ pub data FillSays (handle : Handle) (before after : Seat) (was number : ℕ) (sa
       → IsUnkept (store_of before).id.cells.limits (store_of before).tries [] claim before.lane.cells.view after.lane.cells.view why
       → number ≡ was → said ≡ keep_code why → FillSays handle before after was number said
 
--- The fault of the handle is kept, and its number in the claimed cell; or it is not kept, and the claim is given up; or the store keeps no faults
+-- The handle's fault is kept and its number stands in the claimed cell; or it is not kept, and the claim is given up;
+-- or the store keeps no faults.
 pub data FailSays (handle : ℕ) (before after : Seat) (was number : ℕ) (said : Code) : Type 0 where
   no_claim : before.claim ≡ None → after ≡ before → number ≡ was → said ≡ code.NoClaim → FailSays handle before after was number said
   failed : (claim : ℕ) (why : Fault) → before.claim ≡ Some claim → IsTrue (store_of before).id.cells.limits.keep_faults → IsFaultOf handle why
@@ -183,7 +185,7 @@ pub data FailSays (handle : ℕ) (before after : Seat) (was number : ℕ) (said 
   given_up : (claim : ℕ) → before.claim ≡ Some claim → IsFalse (store_of before).id.cells.limits.keep_faults
       → EndsClaim before.lane.cells after.lane.cells (act_is.Abandon claim) → number ≡ was → said ≡ code.GivenUp → FailSays handle before after was number said
 
--- the claim is given up
+-- The claim is given up.
 pub data AbandonSays (before after : Seat) (said : Code) : Type 0 where
   no_claim : before.claim ≡ None → after ≡ before → said ≡ code.NoClaim → AbandonSays before after said
   given_up : (claim : ℕ) → before.claim ≡ Some claim → EndsClaim before.lane.cells after.lane.cells (act_is.Abandon claim)
@@ -191,12 +193,12 @@ pub data AbandonSays (before after : Seat) (said : Code) : Type 0 where
 
 -- ---- the number of a key
 
--- the key that was named has this number for the lane, which makes no step on the cells; or why it has none
+-- The key has this number for the lane, which makes no step on the cells; or this is why it has none.
 pub data KeySays (key : KeyValue) (before after : Seat) (was number : ℕ) (said : Code) : Type 0 where
   numbered : IsKeyNumber after.lane.keys key number → after.lane.cells ≡ before.lane.cells → said ≡ code.Done → KeySays key before after was number said
   refused : (why : Refusal) → IsKeyRefused before.lane after.lane key why → number ≡ was → said ≡ refusal_code why → KeySays key before after was number said
 
--- the texts name a key, and this is said of it; or why they name none
+-- The texts name a key, whose number the call answers; or the call answers why they name none.
 pub data NamesKey (bytes lengths : List ℕ) (before after : Seat) (was number : ℕ) (said : Code) : Type 0 where
   unnamed : NamesNoKey bytes lengths said → after ≡ before → number ≡ was → NamesKey bytes lengths before after was number said
   named : AreTexts bytes lengths → (key : KeyValue) → IsNamed (texts_in bytes lengths) key → KeySays key before after was number said

@@ -1,4 +1,5 @@
--- What a close says of its seat. `before` and `after` are the seat, `was` and `values` the caller's list, and `count` is how many of it are written.
+-- What a close promises of its seat. `before` and `after` are the seat, `was` and `values` the caller's list, and
+-- `count` is how many values are written there.
 use Rattle.std.specs.Prelude.{ℕ, ◌≡◌, ◌≢◌, ◌<◌, ◌≤◌, ◌⊎◌, List, [], ◌∷◌, drop, length, slice_index_or, take, None, Some, Ok, Err}
 use Rattle.ext_values.specs.Known.{Learns}
 use Rattle.ext_store.specs.Stores.{CloserView, StoreLane}
@@ -16,14 +17,14 @@ use Rattle.ext_c.specs.Answers.{store_of}
 use Rattle.ext_c.specs.Codes.{close_code}
 use Rattle.ext_c.specs.Writing.{WritesNext}
 
--- the lane has no claim, the list has enough places, and there is such a context
+-- The lane has no claim, the list has enough places, and there is such a context.
 pub record MayAsk (context places : ℕ) (seat : Seat) : Type 0 where
   pub idle : seat.claim ≡ None
   pub room : 64 ≤ places
   pub listed : context < length (store_of seat).tree
 
--- The close is not asked of the store for the first of these reasons that there is: the lane has a claim, the list has too few places, there is no such context, this lane doesn't
--- close it, or it was closed
+-- Why the store is not asked for a close, by the first reason that applies: the lane has a claim, the list has too few
+-- places, there is no such context, this lane doesn't close it, or it is closed already.
 pub data NotClosing (context places : ℕ) (seat : Seat) : Code → Type 0 where
   claiming : (claim : ℕ) → seat.claim ≡ Some claim → NotClosing context places seat code.Claiming
   too_few : seat.claim ≡ None → places < 64 → NotClosing context places seat code.TooFewPlaces
@@ -33,38 +34,38 @@ pub data NotClosing (context places : ℕ) (seat : Seat) : Code → Type 0 where
       → NotClosing context places seat code.NoCloser
   was_closed : MayAsk context places seat → context < length seat.closers.items → slice_index_or seat.closers.items context None ≡ None → NotClosing context places seat code.Closed
 
--- the close is asked of the store, by this closer, which the lane has of the context
+-- The store is asked for the close, with the lane's closer of the context.
 pub record Asks (context places : ℕ) (seat : Seat) (closer : CloserView) : Type 0 where
   pub may : MayAsk context places seat
   pub has : slice_index_or seat.closers.items context None ≡ Some closer
   pub own : closer.context ≡ context
 
--- what is written out: so many values at the front of the list, which is otherwise as it was
+-- `count` values are written to the front of the list, and the rest stays as it was.
 pub record WritesOut (was values : List ExtValue) (count : ℕ) (written : List ExtValue) : Type 0 where
   pub counted : count ≡ length written
   pub front : take count values ≡ written
   pub rest : drop count values ≡ drop count was
 
--- the closers of all other contexts are as they were
+-- The closers of all other contexts are as they were.
 abbrev pub KeepsOthers : ℕ → Seat → Seat → Type 0
 KeepsOthers context before after = (other : ℕ) → other ≢ context → slice_index_or after.closers.items other None ≡ slice_index_or before.closers.items other None
 
--- the closer of this context is gone, and no other one
+-- Only the closer of this context is gone.
 pub record LosesOnly (context : ℕ) (before after : Seat) : Type 0 where
   pub gone : slice_index_or after.closers.items context None ≡ None
   pub others : KeepsOthers context before after
   pub places : length after.closers.items ≡ length before.closers.items
 
--- What is said of a close that the store refused, and what became of the lane since: as `Unjoined` it knows the value now that it did not know, and else it is as it was, also where the
--- thread does not find that value
+-- The code of a close that the store refused, and what became of the lane since. After `Unjoined` the lane now knows
+-- the value that it lacked, unless the thread does not find it. Otherwise the lane is unchanged.
 abbrev pub TellsRefused : CloseFault → StoreLane Handle → StoreLane Handle → Code → Type 0
 TellsRefused (close.Unjoined number) asked after said =
     ((said ≡ code.Unjoined) × ((value : Handle) × Learns asked.known after.known number value)) ⊎ ((said ≡ code.Unshown) × (after ≡ asked))
 TellsRefused (close.Busy key) asked after said = (said ≡ close_code (close.Busy key)) × (after ≡ asked)
 TellsRefused (close.Contended key) asked after said = (said ≡ close_code (close.Contended key)) × (after ≡ asked)
 
--- One close of the store with this lane alone in hand, which writes out what remains and is closeable, the latest first, after which the lane has its closer no more; or why it is
--- refused, after which the lane has all closers that it had
+-- One close of the store with only this lane in hand. It writes out the closeable values that remain, latest first, and
+-- the lane loses its closer. Or this is why it is refused, and the lane has all closers that it had.
 pub data CloseSays (context : ℕ) (before after : Seat) (was values : List ExtValue) (count : ℕ) (said : Code) : Type 0 where
   not_asked : NotClosing context (length was) before said → after ≡ before → values ≡ was → count ≡ 0 → CloseSays context before after was values count said
   closed : (closer : CloserView) (first last : Written) (closed : Closed) → Asks context (length was) before closer → first.values.items ≡ [] → first.context ≡ context

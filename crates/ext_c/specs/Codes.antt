@@ -13,7 +13,7 @@ use Rattle.ext_tree.specs.declared.fault.TreeFault.TheVariants as tree
 use Rattle.ext_ids.specs.declared.fault.IdFault.{IdFault}
 use Rattle.ext_ids.specs.declared.fault.IdFault.TheVariants as id
 
--- the number of each code, which C sees
+-- The number of each code, as C sees it.
 abbrev pub code_number : Code → ℕ
 code_number code.Done = 0
 code_number code.Absent = 1
@@ -45,7 +45,7 @@ code_number code.BadTree = 26
 code_number code.TooMany = 27
 code_number code.TooFewPlaces = 28
 
--- why a call of the store is refused
+-- Why a call of the store is refused.
 abbrev pub refusal_code : Refusal → Code
 refusal_code (refusal.Busy context) = code.Busy
 refusal_code (refusal.Closed context) = code.Closed
@@ -55,20 +55,20 @@ refusal_code refusal.DirectoryFull = code.DirectoryFull
 refusal_code refusal.Unplaced = code.Unplaced
 refusal_code refusal.Memory = code.NoMemory
 
--- why a value or a fault is not kept
+-- Why a value or a fault is not kept.
 abbrev pub keep_code : KeepFault → Code
 keep_code keep.Memory = code.NoMemory
 keep_code keep.NumbersFull = code.NumbersFull
 keep_code keep.Contended = code.Contended
 keep_code keep.Unplaced = code.Unplaced
 
--- why a context is not closed
+-- Why a context is not closed.
 abbrev pub close_code : CloseFault → Code
 close_code (close.Busy key) = code.Busy
 close_code (close.Contended key) = code.Contended
 close_code (close.Unjoined number) = code.Unjoined
 
--- why ids are no tree
+-- Why ids are no tree.
 abbrev pub tree_code : TreeFault → Code
 tree_code tree.NoRoot = code.BadTree
 tree_code (tree.TwoRoots at) = code.BadTree
@@ -77,7 +77,7 @@ tree_code (tree.Twice at) = code.BadTree
 tree_code tree.TooMany = code.TooMany
 tree_code tree.Memory = code.NoMemory
 
--- why a text is no id
+-- Why a text is no id.
 abbrev pub id_code : IdFault → Code
 id_code id.Empty = code.BadId
 id_code (id.NoOpen at) = code.BadId

@@ -1,4 +1,4 @@
--- What an opening says of its slots, and what a leave says. `before` and `after` are the slots, or the slot.
+-- What an opening promises of its slots, and what a leave promises. `before` and `after` are the slots, or the slot.
 use Rattle.std.specs.Prelude.{ℕ, ◌≡◌, ◌≢◌, ◌*◌, ◌++◌, All, Bool, List, [], ◌∷◌, length, map, Option, None, Some}
 use Rattle.std.specs.Global.{Box}
 use Rattle.std.specs.List.{AllZip}
@@ -15,11 +15,11 @@ use Rattle.ext_c.specs.declared.slot.ExtSlot.{ExtSlot}
 use Rattle.ext_c.specs.Answers.{store_of}
 use Rattle.ext_c.specs.Texts.{AreTexts, NamesNoTree, texts_in}
 
--- no slot has a lane
+-- No slot has a lane.
 abbrev pub AreEmpty : List ExtSlot → Type 0
 AreEmpty slots = All (λ (s : ExtSlot). s.state ≡ 0) slots
 
--- the store is of these ids and limits, and of 64 keys
+-- The store has these ids and limits, and 64 keys.
 pub record IsStoreOf (ids : List Id) (lanes tries numbers : ℕ) (keeps : Bool) (store : StoreView) : Type 0 where
   pub within : AreStoreLimits lanes tries numbers
   pub tree : store.tree ≡ ids
@@ -29,29 +29,30 @@ pub record IsStoreOf (ids : List Id) (lanes tries numbers : ℕ) (keeps : Bool) 
   pub places : length store.id.places ≡ numbers
   pub fault_places : length store.id.fault_places ≡ fault_count keeps numbers
 
--- a lane for each number below this, in order, which has made no step and knows nothing
+-- The store's first lanes, in order, which have made no step and know nothing.
 abbrev pub lanes_below : StoreView → ℕ → List (StoreLane Handle)
 lanes_below store lanes = map (fresh_store_lane store.id.places store.id.fault_places store.id.keys) (fresh_lanes store.id.cells 0 lanes)
 
--- a closer for each context, in order
+-- A closer for each context, in order.
 abbrev pub all_closers : StoreView → List (Option CloserView)
 all_closers store = map Some (closers_below store.id.cells (length store.tree))
 
--- the seat is of this store and this lane, has these closers, and no claim
+-- The seat is of this store and this lane, has these closers, and no claim.
 pub record IsSeatOf (store : StoreView) (closers : List (Option CloserView)) (lane : StoreLane Handle) (seat : Seat) : Type 0 where
   pub store_is : store_of seat ≡ store
   pub lane_is : seat.lane ≡ lane
   pub closers_are : seat.closers.items ≡ closers
   pub unclaimed : seat.claim ≡ None
 
--- the slot has such a seat
+-- The slot has such a seat.
 pub record HasSeatOf (store : StoreView) (closers : List (Option CloserView)) (lane : StoreLane Handle) (slot : ExtSlot) : Type 0 where
   pub filled : slot.state ≡ 1
   pub seat : Seat
   pub has : slot.lane.seat ≡ Some seat
   pub is : IsSeatOf store closers lane seat
 
--- the slots have these lanes of the store, one each, in order; the last has the closers of all contexts, and no other one has any
+-- Each slot has one of these lanes of the store, in order. The last has the closers of all contexts, and the others
+-- have none.
 pub record HaveLanes (store : StoreView) (lanes : List (StoreLane Handle)) (slots : List ExtSlot) : Type 0 where
   pub other_lanes : List (StoreLane Handle)
   pub last_lane : StoreLane Handle
@@ -62,14 +63,14 @@ pub record HaveLanes (store : StoreView) (lanes : List (StoreLane Handle)) (slot
   pub others : AllZip (HasSeatOf store []) other_lanes other_slots
   pub last : HasSeatOf store (all_closers store) last_lane last_slot
 
--- ---- within the crate: the seats before they stand in the slots
+-- ---- within the crate: the seats before they are put into the slots
 
--- the slot has this seat
+-- The slot has this seat.
 pub record IsIn (seat : Box Seat) (slot : ExtSlot) : Type 0 where
   pub filled : slot.state ≡ 1
   pub has : slot.lane.seat ≡ Some seat.value
 
--- a seat for each lane, in order; the last has these closers, and no other one has any
+-- There is a seat for each lane, in order. The last has these closers, and the others have none.
 pub record AreSeats (store : StoreView) (lanes : List (StoreLane Handle)) (closers : List CloserView) (seats : List (Box Seat)) : Type 0 where
   pub other_lanes : List (StoreLane Handle)
   pub last_lane : StoreLane Handle
@@ -80,16 +81,17 @@ pub record AreSeats (store : StoreView) (lanes : List (StoreLane Handle)) (close
   pub others : AllZip (λ lane seat. IsSeatOf store [] lane seat.value) other_lanes other_seats
   pub last : IsSeatOf store (map Some closers) last_lane last_seat.value
 
--- the seats of a store of these ids and limits
+-- The seats of a store with these ids and limits.
 pub record AreOpened (ids : List Id) (lanes tries numbers : ℕ) (keeps : Bool) (seats : List (Box Seat)) : Type 0 where
   pub store : StoreView
   pub is : IsStoreOf ids lanes tries numbers keeps store
   pub seats_are : AreSeats store (lanes_below store lanes) (closers_below store.id.cells (length store.tree)) seats
 
--- ---- what the exports say
+-- ---- what the exports promise
 
--- A slot has a lane; or none has, and a limit is out of its range; or none is, and the texts name no tree; or all are texts, and memory was wanted: then nothing has changed. Else there is
--- a store of these ids and limits, and the slots have its lanes
+-- The opening is refused, and nothing has changed, if a slot has a lane; otherwise if a limit is out of its range;
+-- otherwise if the texts name no tree, or if all are texts but memory was refused. If it is not refused, there is a
+-- store with these ids and limits, and the slots have its lanes.
 pub data OpenSays (bytes lengths : List ℕ) (tries numbers : ℕ) (keeps : Bool) (before after : List ExtSlot) (said : Code) : Type 0 where
   not_empty : ¬ AreEmpty before → after ≡ before → said ≡ code.NotEmpty → OpenSays bytes lengths tries numbers keeps before after said
   bad_limit : AreEmpty before → ¬ AreStoreLimits (length before) tries numbers → after ≡ before → said ≡ code.BadLimit → OpenSays bytes lengths tries numbers keeps before after said
@@ -100,7 +102,7 @@ pub data OpenSays (bytes lengths : List ℕ) (tries numbers : ℕ) (keeps : Bool
       → (store : StoreView) → IsStoreOf ids (length before) tries numbers keeps store → HaveLanes store (lanes_below store (length before)) after
       → said ≡ code.Done → OpenSays bytes lengths tries numbers keeps before after said
 
--- The slot had no lane, and is as it was; or it had one, and is empty
+-- The slot had no lane and is unchanged; or it had one and is now empty.
 pub data LeaveSays (before after : ExtSlot) (said : Code) : Type 0 where
   no_lane : before.state ≢ 1 → after ≡ before → said ≡ code.NoLane → LeaveSays before after said
   left : (seat : Seat) → before.lane.seat ≡ Some seat → after.state ≡ 0 → after.lane.seat ≡ None → said ≡ code.Done → LeaveSays before after said

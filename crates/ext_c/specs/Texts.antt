@@ -1,4 +1,5 @@
--- Texts that a caller hands over: their bytes one behind the other, and the length of each. What they name, and why they name nothing.
+-- Texts that a caller hands over as bytes, one text after the other, and the length of each; what they name, and why
+-- they name nothing.
 use Rattle.std.specs.Prelude.{ℕ, ◌≡◌, ◌<◌, ◌≤◌, List, [], ◌∷◌, ◌++◌, ◌⊎◌, length, slice_index_or, take, drop}
 use Rattle.std.specs.List.{AllZip}
 use Rattle.std.specs.Str.{IsUtf8}
@@ -10,48 +11,47 @@ use Rattle.ext_tree.specs.declared.fault.TreeFault.{TreeFault}
 use Rattle.ext_tree.specs.Keys.{KeyValue, NamespaceValue, created_namespace, global_namespace, key_of}
 use Rattle.ext_tree.specs.Trees.{Id, HasFault}
 
--- the texts
 abbrev pub texts_in : List ℕ → List ℕ → List (List ℕ)
 texts_in bytes [] = []
 texts_in bytes (n ∷ lengths) = take n bytes ∷ texts_in (drop n bytes) lengths
 
--- ---- which are texts
+-- ---- which bytes are texts
 
--- a text of this length stands at the front of the bytes
+-- A text of this length stands at the front of the bytes.
 pub record IsFirstText (bytes : List ℕ) (n : ℕ) : Type 0 where
   pub within : n ≤ length bytes
   pub utf8 : IsUtf8 (take n bytes)
 
--- each is a text: the bytes are as many as their lengths want, and each is UTF-8
+-- Each is a text: there are enough bytes for all lengths, and each text is UTF-8.
 abbrev pub AreTexts : List ℕ → List ℕ → Type 0
 AreTexts bytes [] = Unit {0}
 AreTexts bytes (n ∷ lengths) = IsFirstText bytes n × AreTexts (drop n bytes) lengths
 
--- what is wrong with a text at the front of the bytes: its length goes beyond them, or it is no UTF-8
+-- Why there is no text at the front of the bytes: its length goes beyond them, or it is not UTF-8.
 pub data IsNoText (bytes : List ℕ) (n : ℕ) : Code → Type 0 where
   too_long : length bytes < n → IsNoText bytes n code.BadLengths
   no_utf8 : n ≤ length bytes → ¬ IsUtf8 (take n bytes) → IsNoText bytes n code.BadText
 
--- what is wrong with the first text that is none: those before it are texts
+-- What is wrong with the first text that is none. Those before it are texts.
 abbrev pub IsTextFault : List ℕ → List ℕ → Code → Type 0
 IsTextFault bytes [] said = ⊥
 IsTextFault bytes (n ∷ lengths) said = IsNoText bytes n said ⊎ (IsFirstText bytes n × IsTextFault (drop n bytes) lengths said)
 
 -- ---- keys
 
--- the namespace of these parts: of none it is the global one
+-- The namespace with these parts. Without parts it is the global one.
 abbrev pub namespace_named : List (List ℕ) → NamespaceValue
 namespace_named [] = global_namespace
 namespace_named (part ∷ parts) = created_namespace (part ∷ parts)
 
--- the key is named so: by the parts of its namespace, and then its name
+-- The texts name the key: first the parts of its namespace, then its name.
 pub record IsNamed (texts : List (List ℕ)) (key : KeyValue) : Type 0 where
   pub parts : List (List ℕ)
   pub name : List ℕ
   pub splits : texts ≡ parts ++ name ∷ []
   pub is : key ≡ key_of (namespace_named parts) name
 
--- why texts name no key: there is none, or the first that is no text is none for this reason; or each is a text, and memory was wanted
+-- Why texts name no key: there are none; or one of them is no text, for this reason; or memory was refused.
 pub data NamesNoKey (bytes lengths : List ℕ) (said : Code) : Type 0 where
   no_text : lengths ≡ [] → said ≡ code.BadLengths → NamesNoKey bytes lengths said
   unread : IsTextFault bytes lengths said → NamesNoKey bytes lengths said
@@ -59,13 +59,14 @@ pub data NamesNoKey (bytes lengths : List ℕ) (said : Code) : Type 0 where
 
 -- ---- ids
 
--- the text at this place is no id
+-- The text at this place is no id.
 pub record IsNoId (texts : List (List ℕ)) : Type 0 where
   pub at : ℕ
   pub within : at < length texts
   pub spells_none : (pairs : List Pair) → IsIdText (slice_index_or texts at []) pairs → ⊥
 
--- why texts name no tree: the first that is no text is none for this reason; one of them is no id; or the ids are no tree, by their first fault
+-- Why texts name no tree: one of them is no text, for this reason; or one is no id; or the ids are no tree, by their
+-- first fault.
 pub data NamesNoTree (bytes lengths : List ℕ) (said : Code) : Type 0 where
   unread : IsTextFault bytes lengths said → NamesNoTree bytes lengths said
   no_id : AreTexts bytes lengths → IsNoId (texts_in bytes lengths) → said ≡ code.BadId → NamesNoTree bytes lengths said

@@ -1,5 +1,5 @@
--- What the contract of each call says of its result. `CallActs` of ext_model has the words: the events that a call made, its fronts, and the points at
--- which its answer may be that of one thread. Here stand, for each call, what one thread is answered at a point, and which events an answer means.
+-- What each call on the cells promises of its result: what one thread would be answered at a point of the call, and
+-- which events an answer means. `CallActs` of ext_model has the words for events, fronts and points.
 use Rattle.std.specs.Prelude.{ℕ, ◌≡◌, ◌<◌, ◌≤◌, ◌+◌, ◌-◌, ◌*◌, All, slice_index, sum_by, List, [], ◌∷◌, length, map, take, Option, None, Some, Result, Ok, Err}
 use Rattle.ext_model.specs.declared.event.Act.{Act}
 use Rattle.ext_model.specs.declared.event.Act.TheVariants.{Keep, Put, Remove, Claim, Seal}
@@ -24,9 +24,9 @@ use Rattle.ext_cells.specs.Lanes.{Lane}
 
 -- ---- what one thread is answered
 
--- The result of a call whose reply is this; `value` makes the result's value of the number that the reply answers. To a claim a number that stands is an answer, of
--- a value or of a kept fault.
--- The last is a reply to the ends of claims alone. `Contended` stands for it, as it is the one result that is never the reply of one thread
+-- The result of a call with this reply; `value` converts the number that the reply answers. For a claim, a value or
+-- kept fault that stands there is an answer, not a refusal. The last reply comes only to the ends of claims.
+-- `Contended` stands in for it, since one thread never answers `Contended`.
 abbrev pub result_of : {A : Type 0} → (Option ℕ → A) → events.Reply → Result A CellRefusal
 result_of value (events.Happens answer) = Ok (value answer)
 result_of value (events.Answers answer) = Ok (value answer)
@@ -38,11 +38,12 @@ result_of value (events.Refuses (events.Standing number)) = Ok (value (Some numb
 result_of value (events.Refuses (events.FaultStanding number)) = Ok (value (Some number))
 result_of value (events.Refuses events.Barred) = Err Contended
 
--- what one thread is answered by a change of a cell, directly after a history
+-- What one thread answers to a change of a cell directly after a history.
 abbrev pub change_reply : Lane → Act ℕ → History → Result (Option ℕ) CellRefusal
 change_reply lane act h = result_of what_stood (reply_after lane.cells.limits h lane.view.number act)
 
--- by a claim, where a number that stands is the answer, and tells whether it is that of a value or of a fault,
+-- The result of a claim with this reply. A number that stands there is an answer, which says whether it is that of a
+-- value or of a fault.
 abbrev pub claim_result : ℕ → events.Reply → Result Claimed CellRefusal
 claim_result cell (events.Happens answer) = Ok (claimed.Won cell)
 claim_result cell (events.Answers answer) = Ok (claimed.Won cell)
@@ -54,32 +55,33 @@ claim_result cell (events.Refuses (events.Standing number)) = Ok (claimed.Standi
 claim_result cell (events.Refuses (events.FaultStanding number)) = Ok (claimed.Fault number)
 claim_result cell (events.Refuses events.Barred) = Err Contended
 
+-- What one thread answers to a claim directly after a history.
 abbrev pub claim_reply : Lane → ℕ → History → Result Claimed CellRefusal
 claim_reply lane cell h = claim_result cell (reply_after lane.cells.limits h lane.view.number (Claim cell))
 
--- and by the drawing of a number: a reply to a keep doesn't depend on the number that it is asked with
+-- What one thread answers when a number is drawn. The reply to a keep doesn't depend on the number in it, here 0.
 abbrev pub number_reply : Lane → History → Result ℕ CellRefusal
 number_reply lane h = result_of number_drawn (reply_after lane.cells.limits h lane.view.number (Keep 0))
 
 -- ---- which events a result means
 
--- the number that was drawn
+-- A draw is the event of its number.
 abbrev pub number_acts : Result ℕ CellRefusal → List (Act ℕ)
 number_acts (Ok number) = Keep number ∷ []
 number_acts (Err why) = []
 
--- a put that is not refused stores its number
+-- A put that is not refused stores its number.
 abbrev pub put_acts : ℕ → ℕ → Result (Option ℕ) CellRefusal → List (Act ℕ)
 put_acts cell number (Ok stood) = Put cell number ∷ []
 put_acts cell number (Err why) = []
 
--- a remove takes what stood, and is no event where nothing stood
+-- A remove takes what stood there, and is no event if nothing did.
 abbrev pub remove_acts : ℕ → Result (Option ℕ) CellRefusal → List (Act ℕ)
 remove_acts cell (Ok None) = []
 remove_acts cell (Ok (Some number)) = Remove cell ∷ []
 remove_acts cell (Err why) = []
 
--- a claim that is won is an event
+-- A claim that is won is an event.
 abbrev pub claim_acts : ℕ → Result Claimed CellRefusal → List (Act ℕ)
 claim_acts cell (Ok (claimed.Won claim)) = Claim cell ∷ []
 claim_acts cell (Ok (claimed.Standing number)) = []
@@ -88,77 +90,80 @@ claim_acts cell (Err why) = []
 
 -- ---- the results of calls
 
--- The result is the reply at a point of the call, and the lane's events are those that it means. Or it is `Contended`, and at least `tries` events of
--- other lanes came past the call's first front
+-- The result is the reply of one thread at a point of the call, and the lane's events are those that it means. Or it is
+-- `Contended`, and at least `tries` events of other lanes came after the call's first front.
 abbrev pub Answers : {A : Type 0} → ℕ → Lane → Lane → (Result A CellRefusal → List (Act ℕ)) → (History → Result A CellRefusal) → Result A CellRefusal → Type 0
 Answers tries before after acts_of reply_at result = model.Answers before.cells.limits tries (Err Contended) before.view after.view acts_of reply_at result
 
--- How many of the events changed the word that an act of this place changes: those on its cell, or for a keep, which is on none, the keeps
+-- How many events changed the word that an act at this place changes. That is the cell's word; for a keep, which has no
+-- cell, it is the count of numbers.
 abbrev pub changes_at : Option ℕ → History → ℕ
 changes_at None h = (state_after h).drawn
 changes_at (Some cell) h = version_of h cell
 
--- The call of the act was overtaken at the act's own word, and the act would be done now
+-- Other lanes overtook the call at the very word that its act changes, and the act would succeed now.
 pub record IsOvertakenAt (tries : ℕ) (before after : Lane) (act : Act ℕ) : Type 0 where
-  -- directly after what the lane has seen now the act would happen
+  -- The act would happen directly after what the lane has seen now.
   pub would_happen : (answer : Option ℕ) × (reply_after before.cells.limits (seen_by after.view) before.view.number act ≡ events.Happens answer)
-  -- past the call's first front at least so many events changed the one word that the act changes
+  -- At least `tries` events after the call's first front changed that word.
   pub own_word : changes_at (place_of act) (first_front before.view after.view) + tries ≤ changes_at (place_of act) (seen_by after.view)
 
--- `contended`, the refusal of a call of the act that says that other lanes were in the way, comes last: where it is the result, the act would happen directly
--- after what the lane has seen now. So every other answer of one thread there, with an event or without, comes before it. And it comes of the act's own cell
--- alone, or for a keep of the keeps: events elsewhere are in the way of no change
+-- `contended` is the refusal that says that other lanes were in the way. A call answers it only if its act would happen
+-- directly after what the lane has seen now: any other answer that one thread would give there is given first. Only
+-- changes of the act's own word count; events elsewhere are never in the way of a change.
 abbrev pub ComesLast : {A R : Type 0} → R → ℕ → Lane → Lane → Act ℕ → Result A R → Type 0
 ComesLast contended tries before after act result = result ≡ Err contended → IsOvertakenAt tries before after act
 
--- The result of a seal: the cell is sealed and has kept this, by an event of this call or by one before; or it is refused at a point of the call; or other
--- lanes were in the way
+-- The result of a seal: the cell is sealed and has kept this, whether by this call or an earlier one; or it is refused
+-- at a point of the call; or other lanes were in the way.
 abbrev pub SealAnswers : ℕ → Lane → Lane → ℕ → Result (Option ℕ) CellRefusal → Type 0
 SealAnswers tries before after cell (Ok kept) = model.Seals before.cells.limits cell before.view after.view kept
 SealAnswers tries before after cell (Err Contended) = model.IsOvertaken before.cells.limits tries before.view after.view
 SealAnswers tries before after cell (Err why) = model.HoldsAtPoint before.cells.limits before.view after.view [] (λ p. change_reply before (Seal cell) p ≡ Err why)
 
--- a fact of the claim, where it was won
+-- The fact holds of the claim, if it was won.
 abbrev pub IfWon : Result Claimed CellRefusal → (ℕ → Type 0) → Type 0
 IfWon (Ok (claimed.Won claim)) Fact = Fact claim
 IfWon (Ok (claimed.Standing number)) Fact = Unit {0}
 IfWon (Ok (claimed.Fault number)) Fact = Unit {0}
 IfWon (Err why) Fact = Unit {0}
 
--- The call made this one event, a fill, a fail or an abandon, which one thread does at that point
+-- The call made this one event, a fill, a fail or an abandon, as one thread would at that point.
 abbrev pub EndsClaim : Lane → Lane → Act ℕ → Type 0
 EndsClaim before after act = model.HoldsAtPoint before.cells.limits before.view after.view (act ∷ []) (λ p. reply_after before.cells.limits p before.view.number act ≡ events.Happens None)
 
--- The words of the cells as they stood together at ONE point of the call, which made no event. Where there are cells to read, the call made a step of its own
+-- The words of the cells as they stood together at one single point of the call, which made no event. If there are
+-- cells to read, the call made at least one step.
 pub record StoodTogether (before after : Lane) (cells words : List ℕ) : Type 0 where
   pub calls : model.Calls before.cells.limits before.view after.view []
   pub stepped : 1 ≤ length cells → IsStepped before.view after.view
   pub point : (p : History) × IsAnswerPoint before.view after.view [] p × (words ≡ map (word_of p) cells)
 
--- The point at which they did: a collect reads each cell once in every pass, and this is the front after the last read of the pass before its last
+-- The point of a collect. Each pass reads every cell once, and the point is the front after the last read of the pass
+-- before the last.
 abbrev pub before_last_pass : ℕ → LaneView → LaneView → History
 before_last_pass cells before after = last_after (seen_by before) (take (length (call_fronts before after) - cells) (call_fronts before after))
 
--- Of looks: past the call's first front at least so many events were on these cells
+-- At least `tries` events after the call's first front were on these cells.
 abbrev pub IsOvertakenOn : ℕ → List ℕ → LaneView → LaneView → Type 0
 IsOvertakenOn tries cells before after = sum_by (version_of (first_front before after)) cells + tries ≤ sum_by (version_of (seen_by after)) cells
 
--- the result of a collect: such words, or other lanes were in the way
+-- The result of a collect: words that stood together, or other lanes were in the way.
 abbrev pub Collects : ℕ → Lane → Lane → List ℕ → Result (List ℕ) CellRefusal → Type 0
 Collects tries before after cells (Ok words) = StoodTogether before after cells words
 Collects tries before after cells (Err why) = (why ≡ Contended) × model.IsOvertaken before.cells.limits tries before.view after.view
 
 -- ---- the nearest cell
 
--- a row has 64 cells, one in each column: the cell of a row in this column
+-- The cell of a row in a column. A row has 64 cells, one for each column.
 abbrev pub cell_at : ℕ → ℕ → ℕ
 cell_at column row = row * 64 + column
 
--- the cells that rows have in one column, in the order of the rows
+-- The cells of these rows in one column, in the order of the rows.
 abbrev pub cells_in : List ℕ → ℕ → List ℕ
 cells_in rows column = map (cell_at column) rows
 
--- what a look-up is told by what stands at a cell: not whose claim it is, nor what a seal keeps
+-- What a look-up learns of what stands at a cell. It learns neither whose claim it is nor what a seal keeps.
 abbrev pub standing_of : Option Slot → Option Standing
 standing_of None = None
 standing_of (Some (slot.Entry number)) = Some (standing.Value number)
@@ -166,24 +171,25 @@ standing_of (Some (slot.Fault number)) = Some (standing.Fault number)
 standing_of (Some (slot.Claim lane)) = Some standing.Claim
 standing_of (Some (slot.Sealed kept)) = Some standing.Seal
 
--- The first of the cells where anything stands after a history: its place in the list, and what stands there
+-- The first of the cells where anything stands after a history: its place in the list, and what stands there.
 pub record StandsFirst (h : History) (cells : List ℕ) (nearest : Nearest) : Type 0 where
   pub within : nearest.place < length cells
   pub nothing_before : All (λ cell. (state_after h).slots cell ≡ None) (take nearest.place cells)
   pub stands : standing_of ((state_after h).slots (slice_index cells nearest.place)) ≡ Some nearest.standing
 
--- that cell, or there is none: nothing stands in any of them
+-- That cell, or none if nothing stands in any of them.
 abbrev pub IsNearest : History → List ℕ → Option Nearest → Type 0
 IsNearest h cells None = All (λ cell. (state_after h).slots cell ≡ None) cells
 IsNearest h cells (Some nearest) = StandsFirst h cells nearest
 
--- The nearest cell where anything stood at ONE point of the call, which made no event. Where there are cells to read, the call made a step of its own
+-- The nearest cell where anything stood at one single point of the call, which made no event. If there are cells to
+-- read, the call made at least one step.
 pub record StoodNearest (before after : Lane) (cells : List ℕ) (nearest : Option Nearest) : Type 0 where
   pub calls : model.Calls before.cells.limits before.view after.view []
   pub stepped : 1 ≤ length cells → IsStepped before.view after.view
   pub point : (p : History) × IsAnswerPoint before.view after.view [] p × IsNearest p cells nearest
 
--- the result of such a look-up: that cell, or other lanes were in the way
+-- The result of such a look-up: that cell, or other lanes were in the way.
 abbrev pub FindsNearest : ℕ → Lane → Lane → List ℕ → Result (Option Nearest) CellRefusal → Type 0
 FindsNearest tries before after cells (Ok nearest) = StoodNearest before after cells nearest
 FindsNearest tries before after cells (Err why) = (why ≡ Contended) × model.IsOvertaken before.cells.limits tries before.view after.view

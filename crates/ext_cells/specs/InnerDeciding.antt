@@ -1,5 +1,5 @@
--- What a call does next, by the word that it found: what stands there and the version tell the reply of one thread.
--- Below the public contracts.
+-- What a call does next, by the word that it found: what stands there and the version determine the reply of one
+-- thread. No public contract cites it.
 use Rattle.std.specs.Prelude.{◌≡◌, ◌≢◌, ℕ, ◌+◌, ◌==◌, ◌≤◌, ◌^◌, ◌<◌, Bool, true, false, if◌then◌else◌, Option, Some, None, Ok, Err}
 use Rattle.ext_model.specs.declared.event.Act.{Act}
 use Rattle.ext_model.specs.declared.event.Act.TheVariants.{Keep, Put, Remove, Claim, Fill, Fail, Abandon, Seal}
@@ -25,7 +25,7 @@ state_of (Some (slot.Fault number)) = Failed
 state_of (Some (slot.Claim lane)) = Computing
 state_of (Some (slot.Sealed kept)) = Sealed
 
--- a number that stands is not 0, which in a word means that there is none
+-- A number that stands is not 0, which in a word means that there is none.
 abbrev pub IsNumbered : Option Slot → Type 0
 IsNumbered None = Unit {0}
 IsNumbered (Some (slot.Entry number)) = 1 ≤ number
@@ -34,14 +34,14 @@ IsNumbered (Some (slot.Claim lane)) = Unit {0}
 IsNumbered (Some (slot.Sealed None)) = Unit {0}
 IsNumbered (Some (slot.Sealed (Some number))) = 1 ≤ number
 
--- the word is that of what stands, at a version that has room for a seal
+-- The word of what stands, at a version that leaves room for a seal.
 pub record IsCellWord (stands : Option Slot) (version word : ℕ) : Type 0 where
   pub is : word ≡ word_with (state_of stands) (number_code stands) version
   pub fits : number_code stands < 2 ^ 20
   pub numbered : IsNumbered stands
   pub room : state_of stands ≢ Sealed → version + 1 < 2 ^ 40
 
--- what stood at a cell, or what its seal keeps, by the state and the number in its word, where 0 is no number
+-- What stood at a cell, or what its seal keeps, by the state and the number in its word, where 0 is no number.
 abbrev pub stood_in : CellState → ℕ → Stood
 stood_in Empty number = Nothing
 stood_in Computing number = Nothing
@@ -49,7 +49,7 @@ stood_in Present number = Value number
 stood_in Sealed number = if number == 0 then Nothing else Value number
 stood_in Failed number = Fault number
 
--- there is nothing to do for the act in this state: nothing to remove, a number where a claim was to be, or a seal that stands
+-- The act has nothing to do in this state: a remove finds nothing, a claim a number, or a seal another seal.
 abbrev pub is_settled : Act ℕ → CellState → Bool
 is_settled (Remove at) Empty = true
 is_settled (Claim at) Present = true
@@ -57,7 +57,7 @@ is_settled (Claim at) Failed = true
 is_settled (Seal at) Sealed = true
 is_settled act state = false
 
--- a put of a number that fits its bits, a remove, a claim or a seal
+-- A put of a number that fits its bits, a remove, a claim or a seal.
 abbrev pub IsChange : Act ℕ → Type 0
 IsChange (Keep number) = ⊥
 IsChange (Put at number) = number < 2 ^ 20
@@ -68,17 +68,18 @@ IsChange (Fail at number) = ⊥
 IsChange (Abandon at) = ⊥
 IsChange (Seal at) = Unit {0}
 
--- what one thread replies to these, by what stands and by the version: the reply of a store in which this is so at each cell
+-- What one thread replies to these, by what stands and by the version. It is the reply of a store in which every cell
+-- is like this one.
 abbrev pub reply_on : Act ℕ → Option Slot → ℕ → events.Reply
 reply_on act stands version = events.reply 0 (λ at. version) (record { slots = λ at. stands; drawn = 0 }) 0 act
 
--- the decision is to make the event, which leaves this word; or it is the answer, without an event
+-- The decision is right: the event it makes happens and leaves this word, or one thread gives this answer without an
+-- event.
 abbrev pub Decides : Act ℕ → Option Slot → ℕ → Decision → Type 0
 Decides act stands version (Change next stood) = (reply_on act stands version ≡ events.Happens (answer_to act stood)) × ((lane : ℕ) → next ≡ slot_word (events.slot_after lane act stands) (version + 1))
 Decides act stands version (Done (Ok stood)) = reply_on act stands version ≡ idle_reply act stood
 Decides act stands version (Done (Err why)) = (result_of what_stood (reply_on act stands version) ≡ Err why)
 
--- a seal, of whichever cell
 abbrev pub IsSeal : Act ℕ → Type 0
 IsSeal (Keep number) = ⊥
 IsSeal (Put at number) = ⊥

@@ -1,5 +1,5 @@
--- One pass over some cells, which reads each of them once, in order, and what is kept of the words.
--- Below the public contracts.
+-- One pass over some cells, which reads each of them once and in order, and what is kept of their words. No public
+-- contract cites it.
 use Rattle.std.specs.Prelude.{◌≡◌, ◌⊎◌, ℕ, ◌^◌, ◌<◌, List, [], ◌∷◌, All, Option, None, Some, length, slice_index, sum_by, take}
 use Rattle.ext_model.specs.declared.slot.Slot.{Slot}
 use Rattle.ext_model.specs.History.{History, Limits, own, IsLegal}
@@ -14,7 +14,7 @@ use Rattle.ext_cells.specs.WordChanges.{version_in, IsEmptyWord}
 use Rattle.ext_cells.specs.CellCalls.{standing_of}
 use Rattle.ext_cells.specs.InnerSteps.{Finds}
 
--- each word is its cell's at the front with which it was read
+-- Each word is its cell's at the front with which it was read.
 abbrev pub EachRead : List ℕ → List ℕ → List History → Type 0
 EachRead [] [] [] = Unit {0}
 EachRead [] [] (f ∷ fs) = ⊥
@@ -33,11 +33,11 @@ pub record ReadPass (limits : Limits) (before after : LaneView) (cells words : L
 
 -- ---- what is kept of the words
 
--- the word, of whatever stands at whatever version, says that this does
+-- Whatever slot and version the word stands for, this is what stands there.
 abbrev pub Says : ℕ → Option Standing → Type 0
 Says word standing = (stands : Option Slot) (version : ℕ) → number_code stands < 2 ^ 20 → word ≡ slot_word stands version → standing_of stands ≡ standing
 
--- the first of the words that says that anything stands
+-- The first of the words that says that anything stands.
 pub record SaysFirst (words : List ℕ) (nearest : Nearest) : Type 0 where
   pub within : nearest.place < length words
   pub before : All IsEmptyWord (take nearest.place words)
@@ -54,7 +54,7 @@ pub record IsReading (words : List ℕ) (reading : Reading) : Type 0 where
 
 -- ---- a pass that ends at the first cell where anything stands
 
--- what came behind the empty cells: nothing, where those were all; or the read of one more, where something stands
+-- How the pass ended: all cells were empty, or one more cell was read after the empty ones, and something stood there.
 abbrev pub EndsAt : Limits → LaneView → LaneView → List ℕ → EmptyCells → Type 0
 EndsAt limits before after cells empty =
     ((after ≡ before) × (empty.count ≡ length cells) × (empty.behind ≡ 0))

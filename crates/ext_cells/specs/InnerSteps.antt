@@ -1,5 +1,5 @@
--- What a lane is told by its two kinds of steps on the shared words, a load and an exchange, what a change of one cell is, and what ends a claim.
--- Below the public contracts.
+-- What a lane learns from its two kinds of steps on the shared words, a load and an exchange, what changes a cell, and
+-- what ends a claim. No public contract cites it.
 use Rattle.std.specs.Prelude.{◌≡◌, ◌⊎◌, ℕ, ◌<◌, [], ◌∷◌, ◌++◌, Option, None, Some, Result, Ok, Err}
 use Rattle.ext_model.specs.declared.event.Act.{Act}
 use Rattle.ext_model.specs.declared.event.Act.TheVariants.{Keep, Put, Remove, Claim, Fill, Fail, Abandon, Seal}
@@ -16,23 +16,23 @@ use Rattle.ext_cells.specs.Lanes.{Lane}
 use Rattle.ext_cells.specs.CellCalls.{change_reply}
 use Rattle.ext_cells.specs.InnerRule.{IsWordAt}
 
--- the lane after a step that left this history
+-- The lane after a step that left this history.
 abbrev pub stepped : Lane → History → Lane
 stepped lane h = record { cells = lane.cells; view = moved lane.view (h ∷ []) }
 
--- a step of the lane on a place found this history, and this word there
+-- A step of the lane at a place found this history, with this word there.
 pub record Finds (limits : Limits) (lane : LaneView) (place word : ℕ) (h : History) : Type 0 where
   pub on : model.GoesOn limits lane h
   pub word_is : IsWordAt limits h place word
-  -- the lane is one of those that were opened
+  -- The lane is one of those that were opened.
   pub below : lane.number < limits.lanes
 
--- the history may go on by this act of the lane, and this is the word at the place then
+-- The lane may make this act next, and then this word stands at the place.
 pub record MayGoOn (limits : Limits) (lane : LaneView) (h : History) (place word : ℕ) (act : Act ℕ) : Type 0 where
   pub allowed : IsAllowed limits h (by lane.number act)
   pub word_is : IsWordAt limits (h ++ by lane.number act ∷ []) place word
 
--- a put, a remove, a claim or a seal of the cell
+-- A put, a remove, a claim or a seal of the cell.
 abbrev pub IsChangeOf : ℕ → Act ℕ → Type 0
 IsChangeOf cell (Keep number) = ⊥
 IsChangeOf cell (Put at number) = at ≡ cell
@@ -43,7 +43,7 @@ IsChangeOf cell (Fail at number) = ⊥
 IsChangeOf cell (Abandon at) = ⊥
 IsChangeOf cell (Seal at) = at ≡ cell
 
--- a fill, a fail or an abandon of the cell
+-- A fill, a fail or an abandon of the cell.
 abbrev pub IsEndOf : ℕ → Act ℕ → Type 0
 IsEndOf cell (Keep number) = ⊥
 IsEndOf cell (Put at number) = ⊥
@@ -54,42 +54,41 @@ IsEndOf cell (Fail at number) = at ≡ cell
 IsEndOf cell (Abandon at) = at ≡ cell
 IsEndOf cell (Seal at) = ⊥
 
--- ---- what a change makes of what stood
+-- ---- what an answer keeps of what stood
 
--- the number, of a value or of a fault
 abbrev pub number_of : Stood → Option ℕ
 number_of Nothing = None
 number_of (Value number) = Some number
 number_of (Fault number) = Some number
 
--- the number of a value
 abbrev pub value_of : Stood → Option ℕ
 value_of Nothing = None
 value_of (Value number) = Some number
 value_of (Fault number) = None
 
--- what an act answers that happens where this stood: a seal the number of a value alone
+-- What an act answers that happens where this stood. A seal answers only the number of a value.
 abbrev pub answer_to : Act ℕ → Stood → Option ℕ
 answer_to (Seal at) stood = value_of stood
 answer_to act stood = number_of stood
 
--- what one thread replies where there is nothing to do: to a claim, the number that stands
+-- What one thread replies if the act has nothing to do. A claim is refused with the number that stands.
 abbrev pub idle_reply : Act ℕ → Stood → events.Reply
 idle_reply (Claim at) (Value number) = events.Refuses (events.Standing number)
 idle_reply (Claim at) (Fault number) = events.Refuses (events.FaultStanding number)
 idle_reply act stood = events.Answers (answer_to act stood)
 
--- what a put or a remove answers that met this,
+-- What a put or a remove answers, by what it met.
 abbrev pub number_result : Result Stood CellRefusal → Result (Option ℕ) CellRefusal
 number_result (Ok stood) = Ok (number_of stood)
 number_result (Err why) = Err why
 
--- and what a seal does
+-- What a seal answers, by what it met.
 abbrev pub value_result : Result Stood CellRefusal → Result (Option ℕ) CellRefusal
 value_result (Ok stood) = Ok (value_of stood)
 value_result (Err why) = Err why
 
--- The result of a change: it happened at a point of the call, or it was answered there without an event; or it was refused there; or other lanes were in the way
+-- The result of a change: it happened at a point of the call, or was answered there without an event; or it was refused
+-- there; or other lanes were in the way.
 abbrev pub Changes : ℕ → Lane → Lane → Act ℕ → Result Stood CellRefusal → Type 0
 Changes tries before after act (Ok stood) =
     model.HoldsAtPoint before.cells.limits before.view after.view (act ∷ []) (λ p. reply_after before.cells.limits p before.view.number act ≡ events.Happens (answer_to act stood))

@@ -1,4 +1,4 @@
--- What the parts of a close say, below the public contract.
+-- The parts of a close. No public contract cites it.
 use Rattle.std.specs.Prelude.{ℕ, ◌≡◌, List, Option, Result, Ok, Err}
 use Rattle.ext_model.specs.Closing.{remaining}
 use Rattle.ext_cells.specs.Lanes.{Lane}
@@ -8,14 +8,14 @@ use Rattle.ext_closing.specs.declared.fault.CloseFault.{CloseFault}
 use Rattle.ext_closing.specs.declared.fault.CloseFault.TheVariants.{Busy, Contended, Unjoined}
 use Rattle.ext_closing.specs.Sealing.{slots_seen, AreSealed, SealOvertaken, SealsAll, MakesSeals, SealsUntil, keys_sealed}
 
--- what the seal of one key answers, with the key at which it is refused
+-- What the seal of one key answers, with the key if it is refused.
 abbrev pub SealsNext : StoreView → ℕ → ℕ → Lane → Lane → Result (Option ℕ) CloseFault → Type 0
 SealsNext store context key before after (Ok kept) = SealsCell store context key before after kept
 SealsNext store context key before after (Err (Busy at)) = (at ≡ key) × IsBusyThere store context key before after
 SealsNext store context key before after (Err (Contended at)) = (at ≡ key) × SealOvertaken store context key before after
 SealsNext store context key before after (Err (Unjoined number)) = ⊥
 
--- how it stands when the first so many keys are sealed: the numbers are those that their seals keep
+-- The first `keys` keys are sealed, and the numbers are those that their seals keep.
 pub record SealedSoFar (store : StoreView) (context keys : ℕ) (before after : Lane) (numbers : List ℕ) : Type 0 where
   pub same : after.cells ≡ before.cells
   pub seals : SealsAll store context keys before after
@@ -23,13 +23,13 @@ pub record SealedSoFar (store : StoreView) (context keys : ℕ) (before after : 
   pub made : MakesSeals store context keys before after
   pub numbers_are : numbers ≡ remaining (slots_seen store context after) keys
 
--- how it stands when all keys are sealed, or when the seal of one was refused
+-- All keys are sealed, or the seal of one was refused.
 pub record SealingEnds (store : StoreView) (context : ℕ) (before after : Lane) (fault : Option CloseFault) : Type 0 where
   pub seals : SealsUntil store context before after fault
   pub sealed : AreSealed store context (keys_sealed store fault) after
   pub made : MakesSeals store context (keys_sealed store fault) before after
 
--- the refusal is one of the seal of a key
+-- The refusal is one of a key's seal.
 abbrev pub IsOfKey : CloseFault → Type 0
 IsOfKey (Busy key) = Unit {0}
 IsOfKey (Contended key) = Unit {0}

@@ -1,4 +1,5 @@
--- What private functions hold and answer of results: what ran, and what a test is run with. No public clause needs it.
+-- Results as private functions hold and answer them: what ran, and what a test is run with. No public contract cites
+-- it.
 use Rattle.std.specs.Prelude.{◌≡◌, ℕ, ◌+◌, ◌<◌, ◌≤◌, true, List, [], ◌∷◌, ◌++◌, length, map, Result, Ok, Err, IfOk, IfErr, Vec, vec_len, vec_capacity}
 use Rattle.std.specs.List.{flat_map}
 use Rattle.std.specs.declared.alloc.Global.{Global}
@@ -18,25 +19,25 @@ use Rattle.ext_engine.specs.NodeFailing.{TestEndsEarly}
 abbrev pub ran_view : RanNode → Ran
 ran_view r = record { result = told r.result; went_on = r.went_on }
 
--- what ran, in an answer, and nothing in a fault
+-- The nodes that ran, by an answer. A fault has none.
 abbrev pub ran_in : {E : Type 0} → Result (Vec RanNode Global) E → List Ran
 ran_in (Ok v) = map ran_view v.items
 ran_in (Err e) = []
 
--- what ran below a container: what its concurrent children gave, and the others
+-- The nodes that ran below a container: first those of its concurrent children, then the others.
 abbrev pub rans_below : Below → List Ran
 rans_below below = flat_map ran_in below.beside.items ++ flat_map ran_in below.in_turn.items
 
--- what is told of the nodes in an answer
+-- An answer of the code as contracts see it.
 abbrev pub answer_of : Result (Vec RanNode Global) EngineFault → Result (List Ran) EngineFault
 answer_of (Ok v) = Ok (map ran_view v.items)
 answer_of (Err why) = Err why
 
--- what ran, where it is a test
+-- The one node that ran, a test.
 abbrev pub of_test : NodeResult → List Ran
 of_test r = record { result = told r; went_on = true } ∷ []
 
--- what a test is run with: its callbacks, its locks, and room for its result
+-- What a test is run with: its callbacks, its locks, and room for its result.
 pub record ArePartsOf {V A : Type 0} (t : TreeSetting V A) (node : ℕ) (parts : TestParts) : Type 0 where
   pub path : List ℕ
   pub path_is : IsPathOf t.store.tree node path
@@ -49,7 +50,7 @@ pub record ArePartsOf {V A : Type 0} (t : TreeSetting V A) (node : ℕ) (parts :
   pub empty : parts.ran.items ≡ []
   pub room : vec_len parts.ran < vec_capacity parts.ran
 
--- how the run of a test ends, `view` being what ran
+-- How the run of a test ends. `view` gives the nodes that ran.
 module _ {V A : Type 0} (t : TreeSetting V A) where
   pub record TestEnds {X : Type 0} (view : X → List Ran) (node : ℕ) (before : Lanes V) (result : Result X EngineFault) (after : Lanes V) : Type 0 where
     pub lanes : IsUsable t.store t.locks after

@@ -1,5 +1,5 @@
--- How the parts of a run of a tree end, in the contracts of private functions; no public clause needs it. The lanes are usable again and as many as before; and it is said
--- what ran, or why the run did not come to its end and what is then said of the share.
+-- How the parts of a run of a tree end. The lanes are usable again and as many as before. If the run reached its end,
+-- the contract says what ran; otherwise, why it did not, and what became of the share. No public contract cites it.
 use Rattle.std.specs.Prelude.{◌≡◌, ◌≢◌, ℕ, Bool, true, List, [], length, map, min, Result, IfOk, IfErr, Vec, slice_index_or}
 use Rattle.std.specs.List.{flat_map}
 use Rattle.std.specs.declared.alloc.Global.{Global}
@@ -13,37 +13,35 @@ use Rattle.ext_engine.specs.declared.node.results.Below.{Below}
 use Rattle.ext_engine.specs.TreeRun.{Ran, TreeSetting, Lanes, IsUsable, TreeRun, BodyMade, RanInTurn}
 use Rattle.ext_engine.specs.Failing.{EndsAs, EndsInTurn, BodyEndsEarly, EndsEarly}
 
--- the nodes of items
 abbrev pub nodes_in : Vec Item Global → List ℕ
 nodes_in items = map (λ i. i.node) items.items
 
--- the nodes that ran, of a list of the code
 abbrev pub rans_in : Vec RanNode Global → List Ran
 rans_in ran = map ran_view ran.items
 
 module _ {V A : Type 0} (t : TreeSetting V A) where
-  -- so many levels of the tree at a node
+  -- The run of a node and of those below it, down to `depth` levels.
   abbrev pub NodeEnds : ℕ → ℕ → Lanes V → Result (Vec RanNode Global) EngineFault → Lanes V → Type 0
   NodeEnds depth node before result after =
       IsUsable t.store t.locks after × (length after.first ≡ length before.first)
       × IfOk result (λ ran. TreeRun t depth node before (rans_in ran) after)
       × IfErr result (λ why. EndsEarly t depth node before why after)
 
-  -- the body of a container, where it is to be run
+  -- The run of a container's body, if it has to be run.
   abbrev pub BodyEnds : ℕ → Bool → ℕ → Lanes V → Result Below EngineFault → Lanes V → Type 0
   BodyEnds depth go node before result after =
       IsUsable t.store t.locks after × (length after.first ≡ length before.first)
       × IfOk result (λ below. BodyMade t (TreeRun t depth) go node before (rans_below below) after)
       × IfErr result (λ why. (go ≡ true) × BodyEndsEarly t (TreeRun t depth) (EndsEarly t depth) node before why after)
 
-  -- children, one after another
+  -- The run of children one after another.
   abbrev pub TurnEnds : ℕ → List ℕ → Lanes V → Result (Vec (Result (Vec RanNode Global) EngineFault) Global) EngineFault → Lanes V → Type 0
   TurnEnds depth nodes before result after =
       IsUsable t.store t.locks after × (length after.first ≡ length before.first)
       × IfOk result (λ outcomes. RanInTurn (TreeRun t depth) nodes before (flat_map ran_in outcomes.items) after)
       × IfErr result (λ why. EndsInTurn (TreeRun t depth) (EndsEarly t depth) nodes before why after)
 
-  -- children, beside one another: each of them came to its end, or not
+  -- The run of children beside one another. Each of them reached its end or did not.
   abbrev pub BesideEnds : ℕ → Vec Item Global → Lanes V → Result (Vec (Result (Vec RanNode Global) EngineFault) Global) EngineFault → Lanes V → Type 0
   BesideEnds depth items before result after =
       IsUsable t.store t.locks after × (length after.first ≡ length before.first)

@@ -1,6 +1,7 @@
--- How the run of one node ends early: memory is refused before anything of it was done; or its context can't be closed, after all that is to be done before its close. And
--- which refusal of several is told.
--- Own rule, for JUnit 5 User Guide, "Relative Execution Order of User Code and Extensions" and "Keeping State in Extensions".
+-- How the run of one node ends early: memory is refused before anything of it is done, or its context can't be closed
+-- after everything that comes before its close. And which of several refusals a run reports.
+-- The order of calls is that of the JUnit 5 User Guide, "Relative Execution Order of User Code and Extensions" and
+-- "Keeping State in Extensions". How a run ends early is not from JUnit.
 use Rattle.std.specs.Prelude.{◌≡◌, ℕ, Bool, true, false, None, Some, List, ◌∷◌, ◌++◌, map, All, Result, Ok, Err}
 use Rattle.std.specs.List.{FoldsTo}
 use Rattle.ext_lifecycle.specs.declared.outcome.Outcome.{Outcome}
@@ -19,8 +20,8 @@ use Rattle.ext_engine.specs.declared.node.fault.EngineFault.TheVariants as fault
 use Rattle.ext_engine.specs.NodeRun.{TreeSetting, Lanes, OnFirst, MakesOn, TakesSet, GivesBack}
 use Rattle.ext_engine.specs.Suites.{locks_on, IsSetOf}
 
--- Closes by one closer were refused, any number of them and for whatever reasons, and the last as unjoined with this number: it remains in the context, and no lane in hand
--- knows its value. The action was not called
+-- Closes by one closer were refused any number of times, for whatever reasons, and the last as `Unjoined` with this
+-- number: it remains in the context, and no lane in hand knows its value. The action was not called.
 pub record IsLeftOpen {V A : Type 0} (is_closeable : V → Bool) (gives : A → ℕ → V → Answer → A → Type 0) (store : StoreView) (closer : CloserView) (action : A)
     (before : List (StoreLane V)) (number : ℕ) (after : List (StoreLane V)) : Type 0 where
   pub refusals : List CloseFault
@@ -29,13 +30,13 @@ pub record IsLeftOpen {V A : Type 0} (is_closeable : V → Bool) (gives : A → 
   pub own_lanes : All (IsLaneOf store.id) asked
   pub unjoined : IsRefused is_closeable gives store closer action asked (close_faults.Unjoined number) after
 
--- memory was refused before anything was done: the lanes are as they were
+-- Memory was refused before anything was done: the lanes are as they were.
 pub record IsNotBegun {V : Type 0} (before : Lanes V) (why : EngineFault) (after : Lanes V) : Type 0 where
   pub told : why ≡ faults.Memory
   pub untouched : after ≡ before
 
 module _ {V A : Type 0} (t : TreeSetting V A) where
-  -- the node's context could not be closed, which is told with the number that remained in it
+  -- The node's context could not be closed. The fault names the context and the number that remained in it.
   pub record LeavesOpen (node : ℕ) (before : List (StoreLane V)) (why : EngineFault) (after : List (StoreLane V)) : Type 0 where
     pub closer : CloserView
     pub closer_is : IsCloserOf t.store closer
@@ -46,7 +47,7 @@ module _ {V A : Type 0} (t : TreeSetting V A) where
     pub left_open : IsLeftOpen t.is_closeable t.close_gives t.store closer action before number after
     pub told : why ≡ faults.Unjoined node number
 
-  -- A test: its locks were taken, all of its calls were made, its context could not be closed, and its locks were given back
+  -- A test's locks were taken and all its calls made, its context could not be closed, and its locks were given back.
   pub record TestEndsEarly (node : ℕ) (path : List ℕ) (before : Lanes V) (why : EngineFault) (after : Lanes V) : Type 0 where
     pub set : List (ℕ × LockMode)
     pub set_is : IsSetOf t.locks.names (locks_on t.suite path) set
@@ -59,7 +60,7 @@ module _ {V A : Type 0} (t : TreeSetting V A) where
     pub left_open : LeavesOpen node called why after.first
     pub given_back : OnFirst (GivesBack held) locked after.second
 
-  -- A container after its children: all of its after-callbacks were made, and its context could not be closed
+  -- After a container's children all its after-callbacks were made, and its context could not be closed.
   pub record IsLeftUnclosed (node : ℕ) (path : List ℕ) (before : List (StoreLane V)) (why : EngineFault) (after : List (StoreLane V)) : Type 0 where
     pub afters : List Outcome
     pub called : List (StoreLane V)
@@ -68,7 +69,7 @@ module _ {V A : Type 0} (t : TreeSetting V A) where
 
 -- ---- several nodes
 
--- this refusal is the first among the outcomes
+-- This refusal is the first among the outcomes.
 pub record IsFirstRefusal {X : Type 0} (outcomes : List (Result X EngineFault)) (why : EngineFault) : Type 0 where
   pub before : List X
   pub rest : List (Result X EngineFault)

@@ -1,6 +1,6 @@
--- How one node is run: the locks of a test, its calls and its close; what is told of it; and why a run does not come to its end.
--- JUnit 5 User Guide, "Relative Execution Order of User Code and Extensions", "Synchronization" and "Keeping State in Extensions"; lanes, shares and what is told
--- of a node are own rules.
+-- How one node is run: the locks of a test, its calls and its close; what the run reports about it; and why a run does
+-- not reach its end (JUnit 5 User Guide, "Relative Execution Order of User Code and Extensions", "Synchronization" and
+-- "Keeping State in Extensions"). Lanes, shares and what is reported about a node are not from JUnit.
 use Rattle.std.specs.Prelude.{◌≡◌, ℕ, ◌<◌, ◌≤◌, Bool, true, false, Option, None, Some, List, [], ◌∷◌, ◌++◌, length, map, All, slice_set}
 use Rattle.std.specs.List.{range_with_len}
 use Rattle.ext_model.specs.declared.look.Fault.{Fault}
@@ -28,37 +28,38 @@ pub use Rattle.ext_engine.specs.Taking.{IsNamedLock, IsIdle, TakesSet, GivesBack
 
 -- ---- results
 
--- a node that ran, what is told of it, and whether the nodes below it were run: of a test, which has none, true
+-- A node that ran, its result, and whether the nodes below it were run. For a test, which has none, `went_on` is true.
 pub record Ran : Type 0 where
   pub result : ResultOf Fault
   pub went_on : Bool
 
--- each result at the place of its node
+-- Each result in its node's place.
 abbrev pub placed : List (ResultOf Fault) → List Ran → List (ResultOf Fault)
 placed places [] = places
 placed places (r ∷ rs) = placed (slice_set places r.result.node r.result) rs
 
--- before any node ran, each is skipped
+-- Before any node ran, each is skipped.
 abbrev pub all_skipped : SuiteView → ℕ → List (ResultOf Fault)
 all_skipped suite count = map (λ node. skipped_result node (suite.is_test node)) (range_with_len 0 count)
 
 -- ---- what a run goes over
 
--- What a run of a tree goes over: the store and the locks, and what the suite says of its nodes
+-- What a run of a tree is about: the store, the locks, and what the suite says of its nodes.
 pub record TreeSetting (V A : Type 0) : Type 1 where
   pub store : StoreView
   pub locks : LocksView
   pub suite : SuiteView
-  -- how many callbacks of a kind a node has
+  -- How many callbacks of a kind a node has.
   pub registered : Kind → ℕ → ℕ
-  -- what a call of a node does: the node, the call, what it is lent, the lane before it, its outcome, and the lane after it
+  -- What a call of a node does: the node, the call, the locks it is lent, the lane before it, its outcome, and the lane
+  -- after it.
   pub call_gives : ℕ → Call → Option HeldView → StoreLane V → Outcome → StoreLane V → Type 0
-  -- the close actions that a node may be given, which values are closeable, and what a call of an action does
+  -- The close actions that a node may be given, which values are closeable, and what a call of an action does.
   pub action_gives : ℕ → A → Type 0
   pub is_closeable : V → Bool
   pub close_gives : A → ℕ → V → Answer → A → Type 0
 
--- the setting of a suite of a type, by what is said of all suites of the type
+-- The setting for one suite of a type, from what is said of all suites of the type.
 module _ {V S A : Type 0} (is_closeable : V → Bool) (suite_view : S → SuiteView) (registered : S → Kind → ℕ → ℕ)
     (call_gives : S → StoreView → ℕ → Call → Option HeldView → StoreLane V → Outcome → StoreLane V → Type 0) (action_gives : S → ℕ → A → Type 0) (close_gives : A → ℕ → V → Answer → A → Type 0) where
   abbrev pub setting_of : S → StoreView → LocksView → TreeSetting V A
@@ -73,7 +74,7 @@ module _ {V S A : Type 0} (is_closeable : V → Bool) (suite_view : S → SuiteV
     close_gives = close_gives;
   }
 
--- the setting with other calls
+-- The setting with other calls.
 abbrev pub with_calls : {V A : Type 0} → (ℕ → Call → Option HeldView → StoreLane V → Outcome → StoreLane V → Type 0) → TreeSetting V A → TreeSetting V A
 with_calls calls t = record {
   store = t.store;
@@ -86,13 +87,13 @@ with_calls calls t = record {
   close_gives = t.close_gives;
 }
 
--- lanes of the store, and as many lanes of the locks
+-- Lanes of the store, and as many lanes of the locks.
 abbrev pub Lanes : Type 0 → Type 0
 Lanes V = Share (StoreLane V) Lane
 
 -- ---- shares
 
--- the first of the lanes changes so, and no other
+-- The first of the lanes changes like this, and no other.
 pub record OnFirst {X : Type 0} (R : X → X → Type 0) (before after : List X) : Type 0 where
   pub lane : X
   pub left : X
@@ -104,8 +105,8 @@ pub record OnFirst {X : Type 0} (R : X → X → Type 0) (before after : List X)
 -- ---- the run of a node
 
 module _ {V A : Type 0} (t : TreeSetting V A) where
-  -- The node's context is closed with an action of the node, by one close or by several of which all but the last were refused; and this is how the closes of its
-  -- values ended, in their order
+  -- The node's context is closed with an action of the node, by one close or by several of which only the last was not
+  -- refused. `faults` says how the closes of its values ended, in order.
   pub record ClosesNode (node : ℕ) (before : List (StoreLane V)) (faults : List (Option Fault)) (after : List (StoreLane V)) : Type 0 where
     pub closer : CloserView
     pub closer_is : IsCloserOf t.store closer
@@ -117,11 +118,12 @@ module _ {V A : Type 0} (t : TreeSetting V A) where
     pub closes : IsClosedBy t.is_closeable t.close_gives t.store closer before action closed after action_left
     pub faults_are : faults ≡ map fault_in closes.closes.answers
 
-  -- what a call of the node does to a lane, where it is lent this
+  -- What a call of the node does to a lane, with the locks that it is lent.
   abbrev pub MakesOn : ℕ → Option HeldView → StoreLane V → Call → Outcome → StoreLane V → Type 0
   MakesOn node held before call outcome after = t.call_gives node call held before outcome after
 
-  -- A test: the first lock lane takes its locks, all of its calls are lent them, its context is closed with all lanes, and the same lock lane gives them back
+  -- A test: the first lock lane takes its locks, all its calls are lent them, its context is closed with all lanes in
+  -- hand, and the same lock lane gives the locks back.
   pub record TestRun (node : ℕ) (path : List ℕ) (before : Lanes V) (ran : List Ran) (after : Lanes V) : Type 0 where
     pub set : List (ℕ × LockMode)
     pub set_is : IsSetOf t.locks.names (locks_on t.suite path) set
@@ -136,11 +138,13 @@ module _ {V A : Type 0} (t : TreeSetting V A) where
     pub given_back : OnFirst (GivesBack held) locked after.second
     pub ran_is : ran ≡ record { result = result_of node true (endings_of outcomes) (computed_in outcomes) (found_in outcomes) faults; went_on = true } ∷ []
 
-  -- A container before its children: its before-callbacks are called on the first lane, up to the first that isn't successful
+  -- A container before its children: its before-callbacks are called on the first lane, up to the first that isn't
+  -- successful.
   abbrev pub CallsBefores : ℕ → List ℕ → List (StoreLane V) → List Outcome → List (StoreLane V) → Type 0
   CallsBefores node path before befores opened = OnFirst (λ a b. MakesBefores (MakesOn node None) (befores_of t.registered false node path) a befores b) before opened
 
-  -- and after them: all of its after-callbacks are called on the first lane, its context is closed with all lanes, and this is told of it
+  -- A container after its children: all its after-callbacks are called on the first lane, its context is closed with
+  -- all lanes in hand, and this is its result.
   pub record EndsContainer (node : ℕ) (path : List ℕ) (befores : List Outcome) (before : List (StoreLane V)) (own : Ran) (after : List (StoreLane V)) : Type 0 where
     pub afters : List Outcome
     pub called : List (StoreLane V)
@@ -154,7 +158,7 @@ module _ {V A : Type 0} (t : TreeSetting V A) where
 
 -- ---- conditions
 
--- 1 to 16 lanes, all of the store, and as many lock lanes, all of the locks, that hold nothing
+-- 1 to 16 lanes, all of the store, and as many lock lanes, all of these locks, that hold nothing.
 pub record IsUsable {V : Type 0} (store : StoreView) (locks : LocksView) (s : Lanes V) : Type 0 where
   pub some : 0 < length s.first
   pub same : length s.second ≡ length s.first
@@ -162,7 +166,8 @@ pub record IsUsable {V : Type 0} (store : StoreView) (locks : LocksView) (s : La
   pub lanes : All (IsLaneOf store.id) s.first
   pub idle : All (IsIdle locks) s.second
 
--- The nodes of a suite can be run over this store with these locks: the locks have every name that a node asks for, and no node is below a test
+-- The nodes of a suite can be run over this store with these locks: the locks have every name that a node asks for, and
+-- no node is below a test.
 pub record IsRunnable (store : StoreView) (locks : LocksView) (suite : SuiteView) : Type 0 where
   pub names : (node : ℕ) → node < length store.tree → All (λ asked. IsNamedLock locks.names asked.name) (suite.locks node)
   pub below : (node : ℕ) → node < length store.tree → suite.is_test node ≡ true → children_of store.tree node ≡ []
@@ -170,7 +175,8 @@ pub record IsRunnable (store : StoreView) (locks : LocksView) (suite : SuiteView
 -- ---- faults
 
 module _ {V A : Type 0} (t : TreeSetting V A) where
-  -- a close of this context was refused, and left these lanes: this number remained in it, and none of them knows its value
+  -- A close of this context was refused and left these lanes. The number remained in the context, and none of the lanes
+  -- knows its value.
   pub record IsRefusedClose (context number : ℕ) (after : List (StoreLane V)) : Type 0 where
     pub closer : CloserView
     pub closer_is : IsCloserOf t.store closer
@@ -181,11 +187,11 @@ module _ {V A : Type 0} (t : TreeSetting V A) where
     pub own_lanes : All (IsLaneOf t.store.id) before
     pub refused : IsLeftUnjoined t.store closer before number after
 
-  -- and so with some lanes
+  -- The same for some lanes.
   abbrev pub IsUnjoined : ℕ → ℕ → Type 0
   IsUnjoined context number = (after : List (StoreLane V)) × IsRefusedClose context number after
 
-  -- why a tree is not run to its end: memory ran out, or a context could not be closed
+  -- Why a tree is not run to its end: memory ran out, or a context could not be closed.
   abbrev pub IsFault : EngineFault → Type 0
   IsFault faults.Memory = Unit {0}
   IsFault faults.NoThread = ⊥

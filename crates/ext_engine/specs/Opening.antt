@@ -1,5 +1,5 @@
--- What texts are read as ids, why they are not, and why what a run goes over is not opened.
--- JUnit Platform, Javadoc `UniqueId`; the limits and the order of the refusals are own rules.
+-- Which texts are read as ids (JUnit Platform, Javadoc `UniqueId`), why others are not, and why nothing is opened. The
+-- limits and the order of the refusals are not from JUnit.
 use Rattle.std.specs.Prelude.{◌≡◌, ◌≢◌, ℕ, ◌<◌, List, [], ◌∷◌, ◌++◌, Ok, All, length, map, take, slice_index_or}
 use Rattle.ext_ids.specs.Reading.{read_id, FailsAs}
 use Rattle.ext_ids.specs.declared.fault.IdFault.{IdFault}
@@ -16,11 +16,11 @@ use Rattle.ext_engine.specs.declared.opening.OpenFault.TheVariants as faults
 
 -- ---- texts of ids
 
--- each text is read as the id at its place
+-- Each text is read as the id at its place.
 abbrev pub AreRead : List (List ℕ) → List Id → Type 0
 AreRead texts ids = map (λ text. read_id text) texts ≡ map (λ id. Ok id) ids
 
--- the text at this place is the first that is not read as an id, for this fault; or memory ran out there
+-- The text at this place is the first that is not read as an id, for this fault; or memory ran out there.
 pub record IsFirstUnread (texts : List (List ℕ)) (at : ℕ) (why : IdFault) : Type 0 where
   pub within : at < length texts
   pub before : List Id
@@ -35,24 +35,24 @@ IsNotRead texts (faults.Locks why) = ⊥
 
 -- ---- the opening
 
--- the ids are no tree for this fault; or they are one, and memory ran out
+-- The ids are no tree, for this fault; or they are one, and memory ran out.
 abbrev pub IsNoTree : List Id → TreeFault → Type 0
 IsNoTree ids tree_faults.Memory = IsTree ids
 IsNoTree ids why = HasFault ids why
 
--- the limits are not those of a store; or they are, and memory ran out
+-- The limits are not those of a store; or they are, and memory ran out.
 abbrev pub IsNoStore : Limits → StoreFault → Type 0
 IsNoStore limits store_faults.BadLimit = ¬ AreStoreLimits limits.lanes limits.tries limits.numbers
 IsNoStore limits store_faults.Memory = AreStoreLimits limits.lanes limits.tries limits.numbers
 
--- why no store is opened: the first that applies
+-- Why no store is opened: the first reason that applies.
 abbrev pub IsStoreFault : List Id → Limits → OpenFault → Type 0
 IsStoreFault ids limits (faults.Id at why) = ⊥
 IsStoreFault ids limits (faults.Tree why) = IsNoTree ids why
 IsStoreFault ids limits (faults.Store why) = IsTree ids × IsNoStore limits why
 IsStoreFault ids limits (faults.Locks why) = ⊥
 
--- why nothing is opened: the first that applies
+-- Why nothing is opened: the first reason that applies.
 abbrev pub IsNotOpened : List Id → List (List ℕ) → Limits → OpenFault → Type 0
 IsNotOpened ids names limits (faults.Id at why) = ⊥
 IsNotOpened ids names limits (faults.Tree why) = IsNoTree ids why
@@ -61,7 +61,7 @@ IsNotOpened ids names limits (faults.Locks why) = IsTree ids × AreStoreLimits l
 
 -- ---- what is taken out of what was opened
 
--- the first closer of this context is taken out, and the others stay in order
+-- The first closer of this context is taken out, and the others stay in order.
 pub record IsTaken (context : ℕ) (before : List CloserView) (closer : CloserView) (after : List CloserView) : Type 0 where
   pub context_is : closer.context ≡ context
   pub front : List CloserView
@@ -70,7 +70,7 @@ pub record IsTaken (context : ℕ) (before : List CloserView) (closer : CloserVi
   pub left : after ≡ front ++ rest
   pub first : All (λ other. other.context ≢ context) front
 
--- there is none of this context, and all stay
+-- There is no closer of this context, and all stay.
 pub record HasNone (context : ℕ) (before after : List CloserView) : Type 0 where
   pub left : after ≡ before
   pub none : All (λ other. other.context ≢ context) before

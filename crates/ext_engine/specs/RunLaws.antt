@@ -1,6 +1,6 @@
--- Laws of runs of trees, which `engine_laws` proves: which nodes ran, which were skipped, and what a run leaves of its lanes.
--- JUnit 5 User Guide, "Relative Execution Order of User Code and Extensions" and "Parallel Execution"; that a node is skipped where one above it did not run its
--- children is an own rule.
+-- Laws of runs of trees, each proved by `engine_laws`: which nodes ran, which were skipped, and what a run leaves of
+-- its lanes (JUnit 5 User Guide, "Relative Execution Order of User Code and Extensions" and "Parallel Execution"). That
+-- a node is skipped if one above it did not run its children is chosen here.
 use Rattle.std.specs.Prelude.{◌≡◌, ◌≢◌, ◌↔◌, ℕ, ◌<◌, Bool, true, false, Some, List, length, map, All, AllPairs, Contains, slice_get}
 use Rattle.std.specs.List.{range_with_len}
 use Rattle.ext_model.specs.declared.look.Fault.{Fault}
@@ -14,13 +14,13 @@ use Rattle.ext_engine.specs.TreeRun.{Ran, Lanes, TreeSetting, TreeRun, IsRunnabl
 
 -- ---- nodes
 
--- the node is this one, or below it
+-- The node is `top` or below it.
 pub record IsAtOrBelow (ids : List Id) (top node : ℕ) : Type 0 where
   pub path : List ℕ
   pub path_is : IsPathOf ids node path
   pub on_path : Contains path top
 
--- the first is above the second: an ancestor of it, at or below `top`
+-- The one node is an ancestor of the other, at or below `top`.
 pub record IsBetween (ids : List Id) (top above node : ℕ) : Type 0 where
   pub within : IsAtOrBelow ids top above
   pub below : IsAtOrBelow ids above node
@@ -32,7 +32,7 @@ nodes_of ran = map (λ r. r.result.node) ran
 abbrev pub HasRun : List Ran → ℕ → Type 0
 HasRun ran node = Contains (nodes_of ran) node
 
--- the node ran, and the nodes below it were to run, or not
+-- The node ran. `went_on` says whether the nodes below it were to run.
 pub record RanAs (ran : List Ran) (node : ℕ) (went_on : Bool) : Type 0 where
   pub one : Ran
   pub among : Contains ran one
@@ -41,17 +41,18 @@ pub record RanAs (ran : List Ran) (node : ℕ) (went_on : Bool) : Type 0 where
 
 -- ---- what a run of the tree at `top` gives
 
--- each node at or below it stands at most once among those that ran, and no other node does
+-- Each node at or below `top` is at most once among those that ran, and no other node is.
 pub record IsRunOnce (ids : List Id) (top : ℕ) (ran : List Ran) : Type 0 where
   pub once : AllPairs (λ a b. a ≢ b) (nodes_of ran)
   pub none_else : All (IsAtOrBelow ids top) (nodes_of ran)
 
--- A node ran exactly where each node above it ran and went on; and it was skipped exactly where one above it ran and did not go on
+-- A node ran exactly if each node above it ran and went on. It was skipped exactly if one above it ran and did not go
+-- on.
 pub record IsSkippedExactly (ids : List Id) (top : ℕ) (ran : List Ran) (node : ℕ) : Type 0 where
   pub runs : HasRun ran node ↔ ((above : ℕ) → IsBetween ids top above node → RanAs ran above true)
   pub skipped : (¬ HasRun ran node) ↔ ((above : ℕ) × IsBetween ids top above node × RanAs ran above false)
 
--- one result a node, in order: that of its run where it ran, and `skipped` else
+-- One result for each node, in order: that of its run if it ran, and `skipped` otherwise.
 pub record IsOneEach (suite : SuiteView) (count : ℕ) (ran : List Ran) (results : List (ResultOf Fault)) : Type 0 where
   pub nodes : map (λ r. r.node) results ≡ range_with_len 0 count
   pub tests : map (λ r. r.is_test) results ≡ map suite.is_test (range_with_len 0 count)
@@ -62,7 +63,7 @@ pub record IsOneEach (suite : SuiteView) (count : ℕ) (ran : List Ran) (results
 -- ---- the laws
 
 module _ {V A : Type 0} (t : TreeSetting V A) where
-  -- a run of the tree at a node
+  -- A run of the tree at a node.
   pub record IsRun (top : ℕ) (before : Lanes V) (ran : List Ran) (after : Lanes V) : Type 0 where
     pub tree : IsTree t.store.tree
     pub runnable : IsRunnable t.store t.locks t.suite
@@ -76,22 +77,22 @@ module _ {V A : Type 0} (t : TreeSetting V A) where
   SkipsExactly = (top : ℕ) (before : Lanes V) (ran : List Ran) (after : Lanes V) → IsRun top before ran after
       → (node : ℕ) → IsAtOrBelow t.store.tree top node → IsSkippedExactly t.store.tree top ran node
 
-  -- the results that a run of the whole tree gives
+  -- A run of the whole tree gives one result for each node.
   abbrev pub OneResultEach : Type 0
   OneResultEach = (before : Lanes V) (ran : List Ran) (after : Lanes V) → IsRun 0 before ran after
       → IsOneEach t.suite (length t.store.tree) ran (all_results t.suite (length t.store.tree) ran)
 
-  -- among which a node is skipped exactly where one above it ran and did not run the nodes below it
+  -- In the results a node is skipped exactly if one above it ran and did not run the nodes below it.
   abbrev pub SkippedBelow : Type 0
   SkippedBelow = (before : Lanes V) (ran : List Ran) (after : Lanes V) → IsRun 0 before ran after
       → (node : ℕ) (result : ResultOf Fault) → slice_get (all_results t.suite (length t.store.tree) ran) node ≡ Some result
       → (result.status ≡ statuses.Skipped) ↔ ((above : ℕ) × IsBetween t.store.tree 0 above node × RanAs ran above false)
 
-  -- a run leaves as many lanes of the store as there were, and as many lock lanes that hold nothing
+  -- A run leaves as many lanes of the store as there were, and as many lock lanes, which hold nothing.
   abbrev pub KeepsLanes : Type 0
   KeepsLanes = (top : ℕ) (before : Lanes V) (ran : List Ran) (after : Lanes V) → IsRun top before ran after
       → IsUsable t.store t.locks before → IsUsable t.store t.locks after × (length after.first ≡ length before.first)
 
--- what is true of runs by each suite of a type, over any store and any locks
+-- The law holds of runs by each suite of a type, over any store and any locks.
 abbrev pub OfRuns : {V S A : Type 0} → (S → StoreView → LocksView → TreeSetting V A) → (TreeSetting V A → Type 0) → Type 0
 OfRuns {V} {S} {A} setting Law = (suite : S) (store : StoreView) (locks : LocksView) → Law (setting suite store locks)

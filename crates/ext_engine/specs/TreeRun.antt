@@ -1,6 +1,6 @@
--- What a run of a tree of nodes leaves of its lanes, and the results that it gives. What is done for one node alone stands in `NodeRun` of `ext_engine`, whose names
--- are passed on.
--- JUnit 5 User Guide, "Relative Execution Order of User Code and Extensions" and "Parallel Execution"; shares, lanes and dealings are own rules.
+-- What a run of a tree of nodes leaves of its lanes, and the results that it gives (JUnit 5 User Guide, "Relative
+-- Execution Order of User Code and Extensions" and "Parallel Execution"). Shares, lanes and dealings are not from
+-- JUnit. `NodeRun` has what is done for one node alone; its names are passed on.
 use Rattle.std.specs.Prelude.{◌≡◌, ℕ, zero, suc, Bool, true, false, not, List, [], ◌∷◌, ◌++◌, length, map, min, filter, slice_index_or}
 use Rattle.std.specs.List.{FoldsTo, flat_map}
 use Rattle.ext_model.specs.declared.look.Fault.{Fault}
@@ -17,17 +17,17 @@ pub use Rattle.ext_engine.specs.NodeRun.{Ran, TreeSetting, setting_of, with_call
 
 -- ---- results
 
--- one result a node, in order: those of the nodes that ran, and the others are skipped
+-- One result for each node, in order. Nodes that did not run are skipped.
 abbrev pub all_results : SuiteView → ℕ → List Ran → List (ResultOf Fault)
 all_results suite count ran = placed (all_skipped suite count) ran
 
--- the same share, with these lanes of the store
+-- The same share with these lanes of the store.
 abbrev pub with_lanes : {V : Type 0} → List (StoreLane V) → Lanes V → Lanes V
 with_lanes lanes s = record { first = lanes; second = s.second }
 
 -- ---- children
 
--- these nodes are run one after another, each with the whole share
+-- These nodes are run one after another, each with the whole share.
 pub record RanInTurn {A B : Type 0} (Run : ℕ → Share A B → List Ran → Share A B → Type 0) (nodes : List ℕ) (before : Share A B) (ran : List Ran) (after : Share A B) : Type 0 where
   pub done : List (ℕ × List Ran)
   pub each : map (λ d. d.0) done ≡ nodes
@@ -37,18 +37,19 @@ pub record RanInTurn {A B : Type 0} (Run : ℕ → Share A B → List Ran → Sh
 -- ---- the run of a node with those below it
 
 module _ {V A : Type 0} (t : TreeSetting V A) where
-  -- the children of a container that run beside one another
+  -- The children of a container that run beside one another.
   abbrev pub concurrent_children : ℕ → List ℕ
   concurrent_children node = filter t.suite.is_concurrent (children_of t.store.tree node)
 
-  -- and the others
+  -- The other children.
   abbrev pub same_thread_children : ℕ → List ℕ
   same_thread_children node = filter (λ c. not (t.suite.is_concurrent c)) (children_of t.store.tree node)
 
-  -- `Child` says what the run of a child does
+  -- `Child` says what the run of a child does.
   module _ (Child : ℕ → Lanes V → List Ran → Lanes V → Type 0) where
-    -- The body of a container: all lanes are shown what the first has seen; its concurrent children by some dealing, each with a share of the lanes; once all have ended
-    -- the first lane is shown what all have seen; and the others in order, each with all
+    -- The body of a container. All lanes are shown what the first has seen. The concurrent children are dealt out, each
+    -- with a share of the lanes. Once all have ended, the first lane is shown what all have seen. Then the other
+    -- children run in order, each with all lanes.
     pub record BodyRun (node : ℕ) (before : Lanes V) (below : List Ran) (after : Lanes V) : Type 0 where
       pub forked : List (StoreLane V)
       pub forks : Forks t.store before.first forked
@@ -62,12 +63,13 @@ module _ {V A : Type 0} (t : TreeSetting V A) where
       pub in_turn : RanInTurn Child (same_thread_children node) (with_lanes joined between) alone after
       pub below_are : below ≡ flat_map (λ ran. ran) beside ++ alone
 
-    -- the body is run where it is to be, and else there is no step
+    -- The body is run if `go` is true. Otherwise nothing is done.
     pub record BodyMade (go : Bool) (node : ℕ) (before : Lanes V) (below : List Ran) (after : Lanes V) : Type 0 where
       pub made : go ≡ true → BodyRun node before below after
       pub skipped : go ≡ false → (below ≡ []) × (after ≡ before)
 
-    -- A container: its before-callbacks, its body where all of them were successful, and what is done after it. It takes no lock
+    -- A container: its before-callbacks, its body if all of them were successful, and what is done after it. It takes
+    -- no lock.
     pub record ContainerRun (node : ℕ) (path : List ℕ) (before : Lanes V) (ran : List Ran) (after : Lanes V) : Type 0 where
       pub befores : List Outcome
       pub opened : List (StoreLane V)
@@ -80,7 +82,7 @@ module _ {V A : Type 0} (t : TreeSetting V A) where
       pub no_locks : after.second ≡ body.second
       pub ran_are : ran ≡ own ∷ below
 
-  -- A node and all below it, to so many levels
+  -- A node and all nodes below it, down to `depth` levels.
   abbrev pub TreeRun : ℕ → ℕ → Lanes V → List Ran → Lanes V → Type 0
   TreeRun zero node before ran after = ⊥
   TreeRun (suc depth) node before ran after =

@@ -1,4 +1,5 @@
--- The line of each fault: its code, and its place where it has one. Texts are lists of bytes, numbers are decimal.
+-- The line that is printed for each fault: its code, and its place if it has one. Texts are lists of bytes, numbers are
+-- decimal.
 use Rattle.std.specs.Prelude.{ℕ, codes, List, ◌++◌}
 use Rattle.std.specs.Fmt.{decimal}
 use Rattle.ext_ids.specs.declared.fault.IdFault.{IdFault}

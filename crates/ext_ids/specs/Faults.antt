@@ -13,7 +13,7 @@
 --     after a segment's `]`          anything but `/` or the end         RawCharacter
 --     after the 16th segment's `]`   `/`                                 TooDeep
 --
--- A place is a byte offset; where the text ended it is the text's length.
+-- A place is a byte offset. If the text ended too soon it is the text's length.
 use Rattle.std.specs.Prelude.{ℕ, ◌+◌, ◌≡◌, ◌≢◌, ◌<◌, ◌==◌, ◌||◌, Bool, true, false, if◌then◌else◌, List, [], ◌∷◌, ◌++◌, length, Option, Some, None, is_some}
 use Rattle.std.specs.List.{flat_map, AllByRecursion}
 use Rattle.ext_ids.specs.declared.fault.IdFault.{IdFault}
@@ -24,7 +24,8 @@ abbrev pub has_character : List ℕ → Bool
 has_character [] = false
 has_character (c ∷ cs) = true
 
--- what is wrong in a type at the place `at` with what stands from there on, where `some` says whether an item stands before it
+-- The fault, if any, of a type that has been read up to `at`, by the rest of the text. `some` says whether an item
+-- stands before it.
 abbrev pub type_fault : ℕ → Bool → List ℕ → Option IdFault
 type_fault at some [] = Some (faults.NoSeparator at)
 type_fault at some (c ∷ rest) =
@@ -34,7 +35,7 @@ type_fault at some (c ∷ rest) =
     else if c == right_bracket then Some (faults.NoSeparator at)
     else None
 
--- what is wrong in a value
+-- The same for a value.
 abbrev pub value_fault : ℕ → Bool → List ℕ → Option IdFault
 value_fault at some [] = Some (faults.NoClose at)
 value_fault at some (c ∷ rest) =
@@ -44,7 +45,7 @@ value_fault at some (c ∷ rest) =
     else if c == right_bracket then (if some then None else Some (faults.EmptyPart at))
     else None
 
--- the segments before a place, each with its `/`
+-- The segments before a place, each with its `/`.
 abbrev pub ahead : List Pair → List ℕ
 ahead pairs = flat_map (λ p. segment_text p ++ slash ∷ []) pairs
 
@@ -52,12 +53,12 @@ abbrev pub opens : List ℕ → Bool
 opens [] = false
 opens (c ∷ rest) = c == left_bracket
 
--- the text begins with these whole segments, each with its `/`, and then has the rest
+-- The text begins with these complete segments, each with its `/`, followed by `rest`.
 pub record BeginsWith (text : List ℕ) (before : List Pair) (rest : List ℕ) : Type 0 where
   pub filled : AllByRecursion IsFilled before
   pub splits : text ≡ ahead before ++ rest
 
--- the text has this fault: up to its place stand whole segments, or part of one, as the grammar has them
+-- The text has this fault: it follows the grammar up to the fault's place, and no further.
 pub data HasFault (text : List ℕ) : IdFault → Type 0 where
   no_text : text ≡ [] → HasFault text faults.Empty
   no_segment : (before : List Pair) (rest : List ℕ) → length before < 16 → text ≢ [] → BeginsWith text before rest

@@ -6,16 +6,17 @@
 --     item    = any character but % + [ ] : /
 --             | "%25" | "%2B" | "%5B" | "%5D" | "%3A" | "%2F"
 --
--- The form is that of JUnit's `UniqueId` (Javadoc of the JUnit Platform); that no other spelling is accepted, and the limit of 16, are own rules.
--- Texts are bytes in UTF-8: a character past ASCII stands as its bytes are, and none of these is a mark (`SpellsCharacters` in Laws).
+-- The form is that of `UniqueId` (Javadoc of the JUnit Platform). The limit of 16 segments is not from JUnit, nor is it
+-- that no other spelling is accepted. Texts are bytes in UTF-8. A character past ASCII stands for itself, and none of
+-- its bytes is a mark (`SpellsCharacters` of `SpellingLaws`).
 use Rattle.std.specs.Prelude.{ℕ, ◌≡◌, ◌≢◌, ◌≤◌, ◌<◌, ◌==◌, ◌&&◌, if◌then◌else◌, List, [], ◌∷◌, ◌++◌, length, codes, Option, Some, None}
 use Rattle.std.specs.List.{flat_map, AllByRecursion}
 
--- a type and a value, decoded
+-- A type and a value, decoded.
 abbrev pub Pair : Type 0
 Pair = List ℕ × List ℕ
 
--- the six marks
+-- The six marks, which stand in a part only as escapes.
 abbrev pub percent : ℕ
 percent = 37
 
@@ -34,7 +35,7 @@ colon = 58
 abbrev pub slash : ℕ
 slash = 47
 
--- a character as it is written: the six marks by an escape, each other one by itself
+-- A character as it is written: a mark by its escape, any other by itself.
 abbrev pub spelled : ℕ → List ℕ
 spelled c =
     if c == percent then codes "%25"
@@ -45,8 +46,8 @@ spelled c =
     else if c == slash then codes "%2F"
     else c ∷ []
 
--- the character whose escape the two after its `%` are: 25, 2B, 5B, 5D, 3A or 2F
--- (50, 51, 53 are the digits 2, 3, 5, and 65, 66, 68, 70 the letters A, B, D, F)
+-- The mark that the two digits after a `%` stand for, which are 25, 2B, 5B, 5D, 3A or 2F. In ASCII 50, 51 and 53 are
+-- the digits 2, 3 and 5, and 65, 66, 68 and 70 the letters A, B, D and F.
 abbrev pub escape_of : List ℕ → Option ℕ
 escape_of [] = None
 escape_of (h ∷ []) = None
@@ -59,39 +60,39 @@ escape_of (h ∷ l ∷ rest) =
     else if (h == 50) && (l == 70) then Some slash
     else None
 
--- a part as it is written
+-- A part as it is written.
 abbrev pub part_text : List ℕ → List ℕ
 part_text part = flat_map spelled part
 
--- a segment as it is written: `[`, the type, `:`, the value, `]`
+-- A segment as it is written: `[`, the type, `:`, the value, `]`.
 abbrev pub segment_text : Pair → List ℕ
 segment_text p = left_bracket ∷ (part_text p.0 ++ (colon ∷ (part_text p.1 ++ (right_bracket ∷ []))))
 
--- a further segment, after a `/`
+-- A segment after the first, with the `/` before it.
 abbrev pub further_text : Pair → List ℕ
 further_text p = slash ∷ segment_text p
 
--- an id as it is written: its segments with `/` between two
+-- An id as it is written: its segments, separated by `/`.
 abbrev pub id_text : List Pair → List ℕ
 id_text [] = []
 id_text (p ∷ ps) = segment_text p ++ flat_map further_text ps
 
--- both parts have a character
+-- Neither the type nor the value is empty.
 abbrev pub IsFilled : Pair → Type 0
 IsFilled p = (p.0 ≢ []) × (p.1 ≢ [])
 
--- the pairs are those of an id: 1 to 16, and no part is empty
+-- The pairs make an id: there are 1 to 16, and no part is empty.
 pub record IsId (pairs : List Pair) : Type 0 where
   pub some : 0 < length pairs
   pub few : length pairs ≤ 16
   pub filled : AllByRecursion IsFilled pairs
 
--- the text is the spelling of an id with these pairs
+-- The text spells the id of these pairs.
 pub record IsIdText (text : List ℕ) (pairs : List Pair) : Type 0 where
   pub id : IsId pairs
   pub spells : text ≡ id_text pairs
 
--- the text is the spelling of a part that is not empty (for contracts within the crate)
+-- The text spells a part that is not empty. Only contracts within the crate cite it.
 pub record IsPartText (text : List ℕ) : Type 0 where
   pub part : List ℕ
   pub some : part ≢ []

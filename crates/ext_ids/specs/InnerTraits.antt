@@ -1,4 +1,5 @@
--- What the traits `PartialEq` and `Eq` ask for beside their function: that it is an equivalence. Nothing here is to be judged.
+-- What the traits `PartialEq` and `Eq` ask for beside their function: that it is an equivalence. A reader has nothing
+-- to judge here.
 use Rattle.std.specs.Cmp.{IsEquivalence, and_equiv, on_equiv}
 use Rattle.std.specs.Cmp.Lexicographic.{nat_list_eq_equiv}
 use Rattle.ext_ids.specs.Ids.{pair_eq}

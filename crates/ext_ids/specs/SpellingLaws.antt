@@ -1,16 +1,15 @@
--- Laws of the grammar and of the fault table, which need no call: the text tells the pairs, the pairs tell the text,
--- bytes are spelled as characters are, and each text is an id's or has one fault.
+-- Laws of the grammar and of the table of faults.
 use Rattle.std.specs.Prelude.{ℕ, ◌≡◌, ◌⊎◌, List, encode_utf8_all}
 use Rattle.std.specs.List.{flat_map}
 use Rattle.ext_ids.specs.declared.fault.IdFault.{IdFault}
 use Rattle.ext_ids.specs.Faults.{HasFault}
 use Rattle.ext_ids.specs.Grammar.{Pair, IsId, IsIdText, id_text, part_text, spelled}
 
--- a text spells at most one id
+-- A text spells at most one id.
 abbrev pub TextTellsPairs : Type 0
 TextTellsPairs = (text : List ℕ) (ps qs : List Pair) → IsIdText text ps → IsIdText text qs → ps ≡ qs
 
--- pairs that make an id have the spelling `id_text`, and no other
+-- Pairs that make an id have the spelling `id_text` and no other.
 pub record HasOneSpelling (pairs : List Pair) : Type 0 where
   pub spelling : IsIdText (id_text pairs) pairs
   pub only : (text : List ℕ) → IsIdText text pairs → text ≡ id_text pairs
@@ -18,11 +17,11 @@ pub record HasOneSpelling (pairs : List Pair) : Type 0 where
 abbrev pub PairsTellText : Type 0
 PairsTellText = (pairs : List Pair) → IsId pairs → HasOneSpelling pairs
 
--- the bytes of a part are spelled as its characters are, one by one
+-- Spelling the bytes of a part is the same as spelling its characters one by one.
 abbrev pub SpellsCharacters : Type 0
 SpellsCharacters = (characters : List ℕ) → part_text (encode_utf8_all characters) ≡ encode_utf8_all (flat_map spelled characters)
 
--- the text spells an id or has a fault, never both, and never two faults
+-- The text spells an id or has a fault, never both and never two faults.
 pub record IsDecided (text : List ℕ) : Type 0 where
   pub one_of_both : ((pairs : List Pair) × IsIdText text pairs) ⊎ ((fault : IdFault) × HasFault text fault)
   pub not_both : (pairs : List Pair) (fault : IdFault) → IsIdText text pairs → HasFault text fault → ⊥

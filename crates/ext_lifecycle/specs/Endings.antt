@@ -1,21 +1,21 @@
--- How calls ended, and what the ends of a node's calls come to in all.
---
--- A node that has a failed call is failed, with the first such fault; else one that has an aborted call is aborted, with the first such abort; else it is
--- successful. Every further fault or abort is counted. That a call fails or aborts is as in Javadoc `TestExecutionResult`; which fault is told, and what is
--- counted, is an own rule. A fault is an `F`: a [ext_model Fault] of a call that was made, a text where a definition says what a run gives.
+-- How a node's calls ended, and their total. A node with a failed call is failed, with the first fault; otherwise a
+-- node with an aborted call is aborted, with the first abort; otherwise it is successful. Each further fault or abort
+-- is counted. Calls fail or abort as in Javadoc `TestExecutionResult`; which fault is reported and what is counted are
+-- chosen here. A fault is an `F`: a `Fault` of ext_model for a call that was made, a text where a definition says what
+-- a run gives.
 use Rattle.std.specs.Prelude.{ℕ, ◌-◌, Bool, true, false, not, ◌&&◌, List, [], ◌∷◌, Option, Some, None, option_map}
 use Rattle.std.specs.List.{count_by}
 use Rattle.ext_model.specs.Closed.{or_else}
 use Rattle.ext_lifecycle.specs.declared.status.Status.{Status}
 use Rattle.ext_lifecycle.specs.declared.status.Status.TheVariants as statuses
 
--- how a call ended
+-- How a call ended.
 pub data Ending (F : Type 0) : Type 0 where
   successful : Ending F
   aborted : F → Ending F
   failed : F → Ending F
 
--- the status of a node, the fault that is told of it, and how many faults and aborts came besides
+-- A node's status, the fault that is reported for it, and how many more faults and aborts there were.
 pub record Total (F : Type 0) : Type 0 where
   pub status : Status
   pub fault : Option F
@@ -49,11 +49,11 @@ module _ {F : Type 0} where
   first_abort [] = None
   first_abort (ending ∷ more) = or_else (abort_in ending) (first_abort more)
 
-  -- how many calls were not successful
+  -- How many calls were not successful.
   abbrev pub unsuccessful : List (Ending F) → ℕ
   unsuccessful endings = count_by (λ e. not (is_successful e)) endings
 
-  -- by the first fault, the first abort, and how many there are of both
+  -- The total, by the first fault, the first abort, and how many there are of both.
   abbrev pub total_by : Option F → Option F → ℕ → Total F
   total_by (Some fault) abort count = record { status = statuses.Failed; fault = Some fault; more = count - 1 }
   total_by None (Some abort) count = record { status = statuses.Aborted; fault = Some abort; more = count - 1 }
@@ -62,7 +62,7 @@ module _ {F : Type 0} where
   abbrev pub total_of : List (Ending F) → Total F
   total_of endings = total_by (first_fault endings) (first_abort endings) (unsuccessful endings)
 
--- ---- the same with other faults, as with their texts
+-- ---- the same with each fault converted, for instance to its text
 
 abbrev pub with_fault : {F G : Type 0} → (F → G) → Ending F → Ending G
 with_fault to successful = successful

@@ -1,5 +1,5 @@
--- A fault as it is written, how a call ended with the text of its fault, and a node's result with that text. A text stands as it is, and want of memory is
--- `no memory`.
+-- A fault as it is written, and how a call or a node ended, with its fault as it is written. A text stands for itself,
+-- and a lack of memory is `no memory`.
 use Rattle.std.specs.Prelude.{ℕ, codes, List, map, string_bytes}
 use Rattle.ext_model.specs.declared.look.Fault.{Fault}
 use Rattle.ext_model.specs.declared.look.Fault.TheVariants as faults
@@ -13,14 +13,14 @@ abbrev pub fault_text : Fault → List ℕ
 fault_text (faults.Text text) = string_bytes text
 fault_text faults.Memory = codes "no memory"
 
--- how a call ended, with the text of its fault
+-- How a call ended, with the text of its fault.
 abbrev pub VerdictText : Type 0
 VerdictText = Ending (List ℕ)
 
 abbrev pub verdict_text : Verdict → VerdictText
 verdict_text verdict = with_fault fault_text (ending_of verdict)
 
--- a node's result, with its fault as it is written
+-- A node's result, with its fault as it is written.
 abbrev pub NodeOutcome : Type 0
 NodeOutcome = ResultOf (List ℕ)
 

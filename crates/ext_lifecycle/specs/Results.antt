@@ -1,7 +1,6 @@
--- What is told of a node: how its calls ended and what they counted, and how the closes of its context ended, which come after them. A close fails or is
--- successful. The fault of a close is told where no call failed; each other fault and abort is counted.
---
--- JUnit 5 User Guide, "Keeping State in Extensions", for closes at the end of a context; what is told of a node is an own rule.
+-- What a run reports about a node: how its calls ended and what they counted, and how the closes of its context ended,
+-- which come after them (JUnit 5 User Guide, "Keeping State in Extensions"). A close is successful or fails. The fault
+-- of a close is reported if no call failed; each other fault and abort is counted. What is reported is chosen here.
 use Rattle.std.specs.Prelude.{ℕ, Bool, List, ◌++◌, length, map, Option, Some, None, option_map}
 use Rattle.ext_model.specs.declared.look.Fault.{Fault}
 use Rattle.ext_model.specs.Closed.{close_faults}
@@ -10,7 +9,7 @@ use Rattle.ext_lifecycle.specs.declared.status.Status.{Status}
 use Rattle.ext_lifecycle.specs.declared.status.Status.TheVariants as statuses
 use Rattle.ext_lifecycle.specs.Endings.{Ending, successful, failed, total_of}
 
--- a node's result, whose fault is an `F`
+-- A node's result, whose fault is an `F`.
 pub record ResultOf (F : Type 0) : Type 0 where
   pub node : ℕ
   pub is_test : Bool
@@ -22,7 +21,7 @@ pub record ResultOf (F : Type 0) : Type 0 where
   pub closed : ℕ
   pub close_faults : ℕ
 
--- what a result in memory tells
+-- What a result in memory says.
 abbrev pub told : NodeResult → ResultOf Fault
 told r = record {
   node = r.node;
@@ -36,7 +35,7 @@ told r = record {
   close_faults = r.close_faults;
 }
 
--- the same with another fault, as with its text
+-- The same with its fault converted, for instance to its text.
 abbrev pub with_fault_told : {F G : Type 0} → (F → G) → ResultOf F → ResultOf G
 with_fault_told to r = record {
   node = r.node;
@@ -51,12 +50,12 @@ with_fault_told to r = record {
 }
 
 module _ {F : Type 0} where
-  -- how a close ended, by its fault if it had one
+  -- How a close ended, by its fault.
   abbrev pub close_ending : Option F → Ending F
   close_ending None = successful
   close_ending (Some fault) = failed fault
 
-  -- of a node that ran: by how its calls ended, how many values they computed and found, and by its closes
+  -- The result of a node that ran, by how its calls ended, how many values they computed and found, and its closes.
   abbrev pub result_of : ℕ → Bool → List (Ending F) → ℕ → ℕ → List (Option F) → ResultOf F
   result_of node is_test calls computed found closes = record {
     node = node;
@@ -70,7 +69,7 @@ module _ {F : Type 0} where
     close_faults = close_faults closes;
   }
 
-  -- of a node that did not run
+  -- The result of a node that did not run.
   abbrev pub skipped_result : ℕ → Bool → ResultOf F
   skipped_result node is_test = record {
     node = node;

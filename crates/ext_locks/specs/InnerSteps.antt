@@ -1,5 +1,5 @@
--- What the parts of a call on a set of locks do to a lane's seat. No public clause cites these. A
--- set stands here as one mode, or none, for each lock number.
+-- What the parts of a call on a set of locks do to a lane's seat. No public contract cites it. Here a set is a list
+-- with one mode, or none, for each lock number.
 use Rattle.std.specs.Prelude.{ℕ, ◌≡◌, ◌+◌, ◌<◌, ◌≤◌, ◌&&◌, Bool, false, if◌then◌else◌, leb, ltb, List, length, Option, Some, None, slice_index_or}
 use Rattle.atomic_table.specs.Seated.{TableId}
 use Rattle.atomic_table.specs.declared.shared.Seat.{Seat}
@@ -13,11 +13,11 @@ use Rattle.ext_locks.specs.Views.{LaneView, Lane, LaneCalls}
 use Rattle.ext_locks.specs.InnerRule.{lane_view}
 use Rattle.ext_locks.specs.Refusals.{StoodAt}
 
--- the lane of a seat, as contracts see it
+-- The lane of a seat as contracts see it.
 abbrev pub lane_at : Seat (Unit {0}) SeatView → ℕ → Lane
 lane_at seat lane = record { table = seat.table_id; lanes = seat.me.0.lanes; view = lane_view seat.me.0 lane }
 
--- the seat is this lane's, of a table with a word for each lock, and what it has seen is legal
+-- The seat is this lane's, in a table with a word for each lock, and what it has seen is legal.
 pub record IsLane (table : TableId) (locks : ℕ) (seat : Seat (Unit {0}) SeatView) (lane : ℕ) : Type 0 where
   pub same_table : seat.table_id ≡ table
   pub same_locks : locks ≡ table.words
@@ -25,47 +25,47 @@ pub record IsLane (table : TableId) (locks : ℕ) (seat : Seat (Unit {0}) SeatVi
   pub few : lane < 16
   pub legal : IsLegal seat.me.0.lanes (seen seat.me.0.fronts)
 
--- the seat went on, and its lane made these events
+-- The seat's lane made these events.
 pub record Makes (before after : Seat (Unit {0}) SeatView) (lane : ℕ) (events : List LockEvent) : Type 0 where
   pub number : after.me.0.number ≡ before.me.0.number
   pub calls : LaneCalls (lane_at before lane) (lane_at after lane) events
 
--- at most so many fronts were added
+-- At most `count` fronts were added.
 abbrev pub AddsAtMost : ℕ → List LockHistory → List LockHistory → Type 0
 AddsAtMost count before after = length after ≤ length before + count
 
--- ---- what is held of a set
+-- ---- what a lane holds of a set
 
 abbrev pub is_mode : Option LockMode → LockMode → Bool
 is_mode None mode = false
 is_mode (Some m) mode = same_mode m mode
 
--- whether the modes have this one for the lock
+-- The set wants the lock in this mode.
 abbrev pub has_mode : List (Option LockMode) → ℕ → LockMode → Bool
 has_mode modes lock mode = is_mode (slice_index_or modes lock None) mode
 
 abbrev pub is_between : ℕ → ℕ → ℕ → Bool
 is_between from end lock = leb from lock && ltb lock end
 
--- the lane holds the locks of the set from one number up to another, and no others
+-- The lane holds the set's locks with numbers from `from` up to `end`, exclusive, and no others.
 pub record HoldsBetween (fronts : List LockHistory) (lane : ℕ) (modes : List (Option LockMode)) (from end : ℕ) : Type 0 where
   pub each : (lock : ℕ) (mode : LockMode) → holds (seen fronts) lock mode lane ≡ (is_between from end lock && has_mode modes lock mode)
 
--- what the lane holds stayed the same
+-- The lane holds what it held.
 pub record SameHeld (before after : List LockHistory) (lane : ℕ) : Type 0 where
   pub each : (lock : ℕ) (mode : LockMode) → holds (seen after) lock mode lane ≡ holds (seen before) lock mode lane
 
--- it stayed the same, but for one lock and mode, which the lane holds now, or holds no more
+-- The lane holds what it held, except that it now holds this lock in this mode, or no longer does.
 pub record HeldBut (before after : List LockHistory) (lane lock : ℕ) (mode : LockMode) (held : Bool) : Type 0 where
   pub each : (k : ℕ) (m : LockMode) → holds (seen after) k m lane ≡ (if is_about (event lane lock mode held) k m lane then held else holds (seen before) k m lane)
 
--- no lock of the set is past the last one
+-- No lock of the set is past the last one.
 pub record IsWithin (modes : List (Option LockMode)) (locks : ℕ) : Type 0 where
   pub each : (lock : ℕ) (mode : LockMode) → slice_index_or modes lock None ≡ Some mode → lock < locks
 
 -- ---- why one lock was not taken
 
--- between these fronts there was at least one, and what was seen last says why: the point of the refusal is there
+-- The lane made a step, and what it saw last says why the lock was refused: that is the point of the refusal.
 pub record Missed (refusal : LockRefusal) (before after : LaneView) (mode : LockMode) (tries : ℕ) : Type 0 where
   pub stepped : IsStepped before after
   pub stood : StoodAt refusal mode tries before after (seen after.fronts)

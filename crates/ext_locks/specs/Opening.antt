@@ -1,5 +1,5 @@
--- What locks are once they are opened, and when they are not. There are 1 to 16 lanes, 1 to 64
--- tries, and at most 63 names beside the global lock.
+-- What opened locks are, and when locks are not opened. There are 1 to 16 lanes, 1 to 64 tries, and at most 63 names
+-- beside the global lock.
 use Rattle.std.specs.Prelude.{ℕ, zero, suc, ◌≡◌, ◌<◌, ◌≤◌, List, [], ◌∷◌, ◌++◌, length, IsPermutation}
 use Rattle.std.specs.List.Sorted.{IsSorted}
 use Rattle.std.specs.Ordering.{nat_cmp}
@@ -10,19 +10,19 @@ use Rattle.ext_locks.specs.declared.fault.LockFault.TheVariants.{BadLimit, TooMa
 use Rattle.ext_locks.specs.Views.{Lane}
 use Rattle.ext_locks.specs.Names.{AreDifferent, IsFirstTwice}
 
--- Locks as contracts see them: their table of words, the names in the order of their numbers, how many lanes there are, and how many
--- exchanges a call makes at most for one lock
+-- Locks as contracts see them: their table of words, the names in the order of their numbers, how many lanes there are,
+-- and how many exchanges a call makes at most for one lock.
 pub record LocksView : Type 0 where
   pub table : TableId
   pub names : List (List ℕ)
   pub lanes : ℕ
   pub tries : ℕ
 
--- a lane, of so many, that has seen nothing
+-- A lane, one of `lanes`, that has seen nothing.
 abbrev pub fresh_lane : TableId → ℕ → ℕ → Lane
 fresh_lane table lanes number = record { table = table; lanes = lanes; view = record { number = number; fronts = [] } }
 
--- the first of so many lanes, numbered from 0
+-- The first lanes of `lanes`, numbered from 0.
 abbrev pub fresh_lanes : TableId → ℕ → ℕ → List Lane
 fresh_lanes table lanes zero = []
 fresh_lanes table lanes (suc n) = fresh_lanes table lanes n ++ fresh_lane table lanes n ∷ []
@@ -30,7 +30,7 @@ fresh_lanes table lanes (suc n) = fresh_lanes table lanes n ++ fresh_lane table 
 abbrev pub AreLimits : ℕ → ℕ → Type 0
 AreLimits lanes tries = (1 ≤ lanes) × (lanes ≤ 16) × (1 ≤ tries) × (tries ≤ 64)
 
--- why locks of these names and limits are not opened: the first that applies
+-- Why locks with these names and limits are not opened: the first reason that applies.
 abbrev pub IsNotOpened : List (List ℕ) → ℕ → ℕ → LockFault → Type 0
 IsNotOpened names lanes tries BadLimit = ¬ (AreLimits lanes tries)
 IsNotOpened names lanes tries TooMany = AreLimits lanes tries × (63 < length names)
@@ -38,15 +38,16 @@ IsNotOpened names lanes tries (Twice at) = AreLimits lanes tries × (length name
 IsNotOpened names lanes tries (UnknownResource at) = ⊥
 IsNotOpened names lanes tries Memory = AreLimits lanes tries × (length names ≤ 63) × AreDifferent names
 
--- What is true of all locks: their limits, and names that are few, different, and in the order of their bytes
+-- What is true of all locks: their limits are in range, and their names are at most 63, different, and ordered by their
+-- bytes.
 pub record AreLocks (locks : LocksView) : Type 0 where
   pub limits : AreLimits locks.lanes locks.tries
   pub few : length locks.names ≤ 63
   pub different : AreDifferent locks.names
   pub sorted : IsSorted (slice_cmp nat_cmp) locks.names
 
--- The names are those handed in, in the order of their bytes, and the lanes are fresh, all that there are: so the history is empty and
--- nobody holds anything (`fresh` of `lock_laws`)
+-- The names are those handed in, ordered by their bytes, and all lanes are fresh. So the history is empty and nobody
+-- holds anything (`fresh` of `lock_laws`).
 pub record IsOpened (names : List (List ℕ)) (lanes tries : ℕ) (locks : LocksView) (made : List Lane) : Type 0 where
   pub limits : AreLimits lanes tries
   pub few : length names ≤ 63

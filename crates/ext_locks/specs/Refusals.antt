@@ -1,5 +1,5 @@
--- When a set of locks is refused: another lane held one of them, or other lanes were in the way.
--- JUnit waits instead; that a set is refused whole, and why, is an own rule.
+-- When a set of locks is refused: another lane held one of them, or other lanes were in the way. JUnit waits instead.
+-- That a set is refused whole, and why, is not from JUnit.
 use Rattle.std.specs.Prelude.{ℕ, ◌≡◌, ◌≢◌, ◌+◌, ◌*◌, Bool, true, false, List, ◌++◌, length}
 use mathlib.Core.List.{IsPrefix}
 use Rattle.ext_history.specs.Histories.{first_front, IsStepped, IsPointAfter, IsCrowdedAt}
@@ -12,14 +12,14 @@ use Rattle.ext_locks.specs.History.{LockHistory, lane_of, holds, IsFree}
 use Rattle.ext_locks.specs.Views.{LaneView, Lane}
 use Rattle.ext_locks.specs.Sets.{locks_below, wants, takes_of, gives_of}
 
--- whether a lane that holds a lock in the first mode keeps others from it in the second
+-- A lane that holds a lock in the first mode keeps others from it in the second.
 abbrev pub excludes_mode : LockMode → LockMode → Bool
 excludes_mode Read Read = false
 excludes_mode Read ReadWrite = true
 excludes_mode ReadWrite Read = true
 excludes_mode ReadWrite ReadWrite = true
 
--- another lane holds the lock, in a mode that keeps this one from it
+-- Another lane holds the lock in a mode that keeps this one from it.
 pub record IsTakenBy (h : LockHistory) (lane lock : ℕ) (mode : LockMode) : Type 0 where
   pub other : ℕ
   pub held : LockMode
@@ -27,41 +27,42 @@ pub record IsTakenBy (h : LockHistory) (lane lock : ℕ) (mode : LockMode) : Typ
   pub holds_it : holds h lock held other ≡ true
   pub excludes : excludes_mode held mode ≡ true
 
--- the lock that a refusal names
+-- The lock that a refusal names.
 abbrev pub lock_of : LockRefusal → ℕ
 lock_of (Taken lock) = lock
 lock_of (Contended lock) = lock
 
--- the lane took the locks of the set below the one that refused it, and gave them back
+-- The lane took the locks of the set below the refused one, and gave them back.
 abbrev pub undone : ℕ → List (ℕ × LockMode) → LockRefusal → List LockEvent
 undone lane set refusal = takes_of lane (locks_below (lock_of refusal) set) ++ gives_of lane (locks_below (lock_of refusal) set)
 
--- Taken: at a point of the call, once it had taken the locks before this one, another lane held this one.
--- Contended: at such a point the lock was free for the mode, and other lanes had made so many events since the call's first step
+-- Taken: at a point of the call, after the lane had taken the locks before this one, another lane held this one.
+-- Contended: at such a point the lock was free for the mode, and other lanes had made at least `tries` events since the
+-- call's first step.
 abbrev pub StoodAt : LockRefusal → LockMode → ℕ → LaneView → LaneView → LockHistory → Type 0
 StoodAt (Taken lock) mode tries before after p = IsTakenBy p before.number lock mode
 StoodAt (Contended lock) mode tries before after p = IsFree p lock mode × IsCrowdedAt lane_of tries before after p
 
 -- ---- how many steps a call makes at most
 
--- where it takes the set: for each lock a load, and as many exchanges as there are tries
+-- To take the set: for each lock a load and at most `tries` exchanges.
 abbrev pub steps_to_take : ℕ → List (ℕ × LockMode) → ℕ
 steps_to_take tries set = length set * (tries + 1)
 
--- where the set is refused: the same for the locks below the one that refused it, which are then given back by a step each, and for that one
+-- To be refused: the same for the refused lock and each lock below it, and one step to give back each lock below it.
 abbrev pub steps_to_refuse : ℕ → List (ℕ × LockMode) → LockRefusal → ℕ
 steps_to_refuse tries set refusal = length (locks_below (lock_of refusal) set) * (tries + 2) + (tries + 1)
 
 -- ---- why a set was refused
 
--- Why the set was refused: by which lock of it, and at which point of the call
+-- Why the set was refused: which of its locks was, and at which point of the call.
 pub record IsRefused (tries : ℕ) (set : List (ℕ × LockMode)) (before after : Lane) (refusal : LockRefusal) : Type 0 where
   pub mode : LockMode
   pub wanted : wants set (lock_of refusal) mode ≡ true
   pub stepped : IsStepped before.view after.view
   pub point : LockHistory
-  -- the point is not before the call's first step
+  -- The point is no earlier than the call's first step.
   pub since_first : IsPrefix (first_front before.view after.view) point
-  -- there the lane had taken the locks of the set below this one, and given none back
+  -- At the point the lane had taken the set's locks below this one and given none back.
   pub is_point : IsPointAfter lane_of before.view after.view (takes_of before.view.number (locks_below (lock_of refusal) set)) point
   pub stood : StoodAt refusal mode tries before.view after.view point

@@ -1,5 +1,5 @@
--- Sets of locks, which a lane holds whole or not at all.
--- JUnit 5 User Guide, section "Synchronization". A set is the list of its locks, each with its mode, in the order of their numbers.
+-- Sets of locks, which a lane holds whole or not at all (JUnit 5 User Guide, "Synchronization"). A set lists its locks
+-- with their modes, in the order of their numbers.
 use Rattle.std.specs.Prelude.{ℕ, suc, ◌≡◌, ◌<◌, ◌==◌, ◌&&◌, Bool, true, false, nat_lt, List, [], ◌∷◌, map, filter, Option, Some, None}
 use Rattle.std.specs.List.{list_any}
 use Rattle.atomic_table.specs.Seated.{TableId}
@@ -10,7 +10,8 @@ use Rattle.ext_locks.specs.declared.event.LockEvent.{LockEvent}
 use Rattle.ext_locks.specs.History.{LockHistory, event, same_mode, holds}
 use Rattle.ext_locks.specs.Views.{Lane, own_of}
 
--- the locks of a set, where each lock from a number on has the mode in which the set wants it, or none
+-- The locks of a set, from a list that gives for each lock from a number on the mode in which the set wants it, or
+-- none.
 abbrev pub locks_from : ℕ → List (Option LockMode) → List (ℕ × LockMode)
 locks_from lock [] = []
 locks_from lock (None ∷ modes) = locks_from (suc lock) modes
@@ -19,47 +20,47 @@ locks_from lock (Some mode ∷ modes) = (lock, mode) ∷ locks_from (suc lock) m
 abbrev pub locks_of : List (Option LockMode) → List (ℕ × LockMode)
 locks_of modes = locks_from 0 modes
 
--- the locks of a set below a number
+-- The locks of a set below a number.
 abbrev pub locks_below : ℕ → List (ℕ × LockMode) → List (ℕ × LockMode)
 locks_below number set = filter (λ lock. nat_lt lock.0 number) set
 
 abbrev pub is_lock : ℕ → LockMode → ℕ × LockMode → Bool
 is_lock lock mode member = (member.0 == lock) && same_mode member.1 mode
 
--- whether the set has this lock in this mode
+-- The set has this lock in this mode.
 abbrev pub wants : List (ℕ × LockMode) → ℕ → LockMode → Bool
 wants set lock mode = list_any (is_lock lock mode) set
 
--- each lock of the set has a number below this one
+-- Each lock of the set has a number below this one.
 pub record AllBelow (count : ℕ) (set : List (ℕ × LockMode)) : Type 0 where
   pub each : (lock : ℕ) (mode : LockMode) → wants set lock mode ≡ true → lock < count
 
 -- ---- the events of a whole set
 
--- the lane takes the locks, in order
+-- The lane takes the locks in order.
 abbrev pub takes_of : ℕ → List (ℕ × LockMode) → List LockEvent
 takes_of lane set = map (λ lock. event lane lock.0 lock.1 true) set
 
--- the lane gives them back, in order
+-- The lane gives them back in order.
 abbrev pub gives_of : ℕ → List (ℕ × LockMode) → List LockEvent
 gives_of lane set = map (λ lock. event lane lock.0 lock.1 false) set
 
 -- ---- what a lane holds
 
--- the lane holds no lock
+-- The lane holds no lock.
 pub record HoldsNothing (lane : Lane) : Type 0 where
   pub each : (lock : ℕ) (mode : LockMode) → holds (seen_by lane.view) lock mode lane.view.number ≡ false
 
--- the lane holds each lock of the set in its mode, and nothing else
+-- The lane holds each lock of the set in its mode, and nothing else.
 pub record HoldsExactly (lane : Lane) (set : List (ℕ × LockMode)) : Type 0 where
   pub each : (lock : ℕ) (mode : LockMode) → holds (seen_by lane.view) lock mode lane.view.number ≡ wants set lock mode
 
--- where the one lane writes by a lock, the other holds nothing on it
+-- Where one lane writes by a lock, the other does not hold it.
 pub record Excludes (one other : Lane) : Type 0 where
   pub each : (lock : ℕ) (mode : LockMode) → holds (seen_by one.view) lock ReadWrite one.view.number ≡ true → holds (seen_by other.view) lock mode other.view.number ≡ false
 
--- A held set as contracts see it: the lane that took it, the names of its locks, the set, and the lane's own events as they were once it
--- was taken. How many these are tells one taking of a lane from every other
+-- A held set as contracts see it: the lane that took it, the names of its locks, the set, and the lane's own events up
+-- to when it was taken. Their number distinguishes one taking from every other.
 pub record HeldView : Type 0 where
   pub table : TableId
   pub lane : ℕ
@@ -67,7 +68,7 @@ pub record HeldView : Type 0 where
   pub set : List (ℕ × LockMode)
   pub own_events : LockHistory
 
--- the lane took the set, and has made no event since
+-- The lane took the set and has made no event since.
 pub record IsHeldBy (held : HeldView) (lane : Lane) : Type 0 where
   pub same_table : lane.table ≡ held.table
   pub same_lane : lane.view.number ≡ held.lane

@@ -1,7 +1,8 @@
 -- What one thread answers to each act of a lane, and the state that an event leaves.
--- JUnit 5 User Guide, "Keeping State in Extensions"; Javadoc `ExtensionContext.Store`, `put`, `remove` and `getOrComputeIfAbsent`, and `NamespacedHierarchicalStore`:
--- put and remove act on the given context alone and answer what stood there, and a value that is computed is stored in the given context.
--- Own rules: numbers drawn beforehand, claims held while a factory runs, faults that are kept, seals, and the refusals below.
+-- As in JUnit, put and remove touch the given context alone and answer what stood there, and a computed value is stored
+-- in the given context (User Guide, "Keeping State in Extensions"; Javadoc `ExtensionContext.Store`, `put`, `remove`
+-- and `getOrComputeIfAbsent`, and `NamespacedHierarchicalStore`). Not from JUnit: numbers drawn beforehand, claims held
+-- while a factory runs, kept faults, seals, and the refusals below.
 use Rattle.std.specs.Prelude.{ℕ, ◌+◌, ◌-◌, ◌^◌, ◌==◌, nat_lt, Bool, true, false, if◌then◌else◌, Option, None, Some}
 use Rattle.ext_model.specs.declared.event.Act.{Act}
 use Rattle.ext_model.specs.declared.event.Act.TheVariants.{Keep, Put, Remove, Claim, Fill, Fail, Abandon, Seal}
@@ -12,39 +13,39 @@ use Rattle.ext_model.specs.State.{State, standing_value}
 
 -- ---- what an act answers
 
--- why an act is refused
+-- Why an act is refused.
 pub data Refusal : Type 0 where
-  -- all numbers were drawn
+  -- The store has no number left to draw.
   NumbersFull : Refusal
-  -- a claim stands at the place
+  -- A claim stands at the place.
   Busy : Refusal
-  -- the place is sealed
+  -- The place is sealed.
   Closed : Refusal
-  -- the number of a value stands where a claim was to be
+  -- A claim found a value with this number.
   Standing : ℕ → Refusal
-  -- that of a kept fault does
+  -- A claim found a kept fault with this number.
   FaultStanding : ℕ → Refusal
-  -- the place has had too many events
+  -- The place has had too many events: its version is near 2 ^ 40.
   Exhausted : Refusal
-  -- it is not the lane's claim that stands at the place
+  -- The lane has no claim at the place, and so cannot end one.
   Barred : Refusal
 
--- `Happens`: the act is an event. `Answers`: it is answered without one. Either may answer a number. `Refuses`: there is no event either
+-- `Happens`: the act is an event. `Answers`: it is answered without an event. Either may carry a number. `Refuses`:
+-- there is no event.
 pub data Reply : Type 0 where
   Happens : Option ℕ → Reply
   Answers : Option ℕ → Reply
   Refuses : Refusal → Reply
 
--- the act happens, unless the place has had too many events
 abbrev pub happens_unless : Bool → Option ℕ → Reply
 happens_unless true answer = Refuses Exhausted
 happens_unless false answer = Happens answer
 
--- a keep answers the number that it draws, which is the new count
+-- A keep answers the number that it draws, which is the new count.
 abbrev pub keep_reply : ℕ → ℕ → Reply
 keep_reply numbers drawn = if nat_lt drawn numbers then Happens (Some (drawn + 1)) else Refuses NumbersFull
 
--- a put answers the number that stood, of a value or of a fault
+-- A put answers the number of the value or fault that it replaces.
 abbrev pub put_reply : Bool → Option Slot → Reply
 put_reply worn None = happens_unless worn None
 put_reply worn (Some (slot.Entry number)) = happens_unless worn (Some number)
@@ -52,7 +53,7 @@ put_reply worn (Some (slot.Fault number)) = happens_unless worn (Some number)
 put_reply worn (Some (slot.Claim lane)) = Refuses Busy
 put_reply worn (Some (slot.Sealed kept)) = Refuses Closed
 
--- so does a remove, which is no event where nothing stands
+-- A remove answers the number that it takes away. If nothing stands there it is no event.
 abbrev pub remove_reply : Bool → Option Slot → Reply
 remove_reply worn None = Answers None
 remove_reply worn (Some (slot.Entry number)) = happens_unless worn (Some number)
@@ -60,7 +61,7 @@ remove_reply worn (Some (slot.Fault number)) = happens_unless worn (Some number)
 remove_reply worn (Some (slot.Claim lane)) = Refuses Busy
 remove_reply worn (Some (slot.Sealed kept)) = Refuses Closed
 
--- a claim needs an empty place, and answers the number that stands where it is not
+-- A claim needs an empty place.
 abbrev pub claim_reply : Bool → Option Slot → Reply
 claim_reply worn None = happens_unless worn None
 claim_reply worn (Some (slot.Entry number)) = Refuses (Standing number)
@@ -68,7 +69,7 @@ claim_reply worn (Some (slot.Fault number)) = Refuses (FaultStanding number)
 claim_reply worn (Some (slot.Claim lane)) = Refuses Busy
 claim_reply worn (Some (slot.Sealed kept)) = Refuses Closed
 
--- only the lane of the claim ends it, by a fill, a fail or an abandon
+-- Only the lane that holds the claim may end it, by a fill, a fail or an abandon.
 abbrev pub end_reply : ℕ → Option Slot → Reply
 end_reply lane None = Refuses Barred
 end_reply lane (Some (slot.Entry number)) = Refuses Barred
@@ -76,7 +77,7 @@ end_reply lane (Some (slot.Fault number)) = Refuses Barred
 end_reply lane (Some (slot.Claim by)) = if by == lane then Happens None else Refuses Barred
 end_reply lane (Some (slot.Sealed kept)) = Refuses Barred
 
--- a seal answers the number that it keeps, which is never that of a fault, and is no event where the place is sealed already
+-- A seal answers the number that it keeps, never that of a fault. Sealing a sealed place is no event.
 abbrev pub seal_reply : Option Slot → Reply
 seal_reply None = Happens None
 seal_reply (Some (slot.Entry number)) = Happens (Some number)
@@ -84,16 +85,16 @@ seal_reply (Some (slot.Fault number)) = Happens None
 seal_reply (Some (slot.Claim lane)) = Refuses Busy
 seal_reply (Some (slot.Sealed kept)) = Answers kept
 
--- Versions count the events of a place and are below 2 ^ 40. A put or a remove leaves one for a seal;
+-- Versions count the events of a place and are below 2 ^ 40. A put or a remove must leave one for the seal.
 abbrev pub is_worn : ℕ → Bool
 is_worn version = nat_lt (2 ^ 40 - 3) version
 
--- a claim leaves one more, for the fill, the fail or the abandon that ends it
+-- A claim must leave two: one for the act that ends it and one for the seal.
 abbrev pub is_worn_for_claim : ℕ → Bool
 is_worn_for_claim version = nat_lt (2 ^ 40 - 4) version
 
--- What one thread answers to an act by a lane. `numbers` is the limit of numbers, `version` says how many events of each place there were.
--- A keep is asked without regard to its own number: its reply says which is drawn
+-- What one thread answers to an act of a lane. `numbers` is how many numbers the store has, and `version` how many
+-- events each place has had. The number in a keep is ignored: the reply says which number is drawn.
 module _ {P : Type 0} (numbers : ℕ) (version : P → ℕ) (s : State P) (lane : ℕ) where
   abbrev pub reply : Act P → Reply
   reply (Keep number) = keep_reply numbers s.drawn
@@ -107,7 +108,7 @@ module _ {P : Type 0} (numbers : ℕ) (version : P → ℕ) (s : State P) (lane 
 
 -- ---- what an event leaves
 
--- the place that an act is on; a keep is on none
+-- The place on which an act works; a keep has none.
 abbrev pub place_of : {P : Type 0} → Act P → Option P
 place_of (Keep number) = None
 place_of (Put at number) = Some at
@@ -118,7 +119,7 @@ place_of (Fail at number) = Some at
 place_of (Abandon at) = Some at
 place_of (Seal at) = Some at
 
--- what stands at the place of the act after it, by the lane and by what stood there
+-- What stands at the act's place after it.
 abbrev pub slot_after : {P : Type 0} → ℕ → Act P → Option Slot → Option Slot
 slot_after lane (Keep number) old = old
 slot_after lane (Put at number) old = Some (slot.Entry number)
@@ -129,7 +130,7 @@ slot_after lane (Fail at number) old = Some (slot.Fault number)
 slot_after lane (Abandon at) old = None
 slot_after lane (Seal at) old = Some (slot.Sealed (standing_value old))
 
--- the count of numbers drawn
+-- How many numbers are drawn after the act.
 abbrev pub drawn_after : {P : Type 0} → Act P → ℕ → ℕ
 drawn_after (Keep number) drawn = drawn + 1
 drawn_after (Put at number) drawn = drawn
@@ -140,7 +141,7 @@ drawn_after (Fail at number) drawn = drawn
 drawn_after (Abandon at) drawn = drawn
 drawn_after (Seal at) drawn = drawn
 
--- `same` tells whether two places are one
+-- `same` says whether two places are equal.
 module _ {P : Type 0} (same : P → P → Bool) where
   abbrev pub is_at : P → Option P → Bool
   is_at place None = false
@@ -149,7 +150,7 @@ module _ {P : Type 0} (same : P → P → Bool) where
   abbrev pub is_on : P → Act P → Bool
   is_on place act = is_at place (place_of act)
 
-  -- the state after an event: its place and the count are changed, and nothing else
+  -- The state after an event. Only its place and the count change.
   abbrev pub apply : State P → Event P → State P
   apply s e = record {
     slots = λ place. if is_on place e.act then slot_after e.lane e.act (s.slots place) else s.slots place;

@@ -1,6 +1,9 @@
--- Worked histories: what the definitions say of small lists of events. Each sentence is computed from the definitions, as `worked_histories` says.
--- JUnit 5 User Guide, "Keeping State in Extensions", for values that are replaced, removed and found from descendants; the rest are own rules.
--- Contexts 0, 1 and 2 stand below one another, the root first; keys are 0, 1 and 2; the cell of a context and a key is context * 3 + key.
+-- Worked histories: what the definitions say of short lists of events, each computed from the definitions
+-- (`worked_histories`).
+-- JUnit 5 User Guide, "Keeping State in Extensions", has values that are replaced, removed and found from descendants;
+-- the rest is not from JUnit.
+-- Contexts 0, 1 and 2 are a root, its child and its grandchild; keys are 0, 1 and 2. The cell of a context and a key is
+-- context * 3 + key.
 use Rattle.std.specs.Prelude.{ℕ, ◌≡◌, ◌+◌, ◌*◌, ◌-◌, ◌^◌, true, [], ◌∷◌, ◌++◌, None, Some}
 use Rattle.ext_model.specs.declared.event.Act.{Act}
 use Rattle.ext_model.specs.declared.event.Act.TheVariants.{Keep, Put, Remove, Claim, Fill, Fail, Abandon, Seal}
@@ -19,28 +22,28 @@ small = record { cells = 9; lanes = 2; numbers = 4; keep_faults = true }
 abbrev pub answered : History → ℕ → Act ℕ → Reply
 answered h lane act = reply_after small h lane act
 
--- a look-up from context 2 under key 0
+-- A look-up from context 2 under key 0.
 abbrev pub looks : History → Look
 looks h = look_after (λ context. context * 3) (2 ∷ 1 ∷ 0 ∷ []) h
 
 -- ---- values
 
--- the value 1 stands at the root under key 0
+-- Value 1 stands at the root under key 0.
 abbrev pub at_root : History
 at_root = by 0 (Keep 1) ∷ by 0 (Put 0 1) ∷ []
 
 abbrev pub FoundFromBelow : Type 0
 FoundFromBelow = looks at_root ≡ look.Found 0 1
 
--- a remove in context 1 doesn't go on to the root, and is no event
+-- A remove in context 1 doesn't reach the root, and is no event.
 abbrev pub RemovedNothing : Type 0
 RemovedNothing = answered at_root 0 (Remove 3) ≡ Answers None
 
--- a put over it answers it
+-- A put answers the value that it replaces.
 abbrev pub Replaced : Type 0
 Replaced = answered (at_root ++ by 1 (Keep 2) ∷ []) 1 (Put 0 2) ≡ Happens (Some 1)
 
--- the word has the new number and version 2; after a remove it has version 3 alone
+-- The word has the new number and version 2. After a remove it has only version 3.
 abbrev pub ReplacedWord : Type 0
 ReplacedWord = word_of (at_root ++ by 1 (Keep 2) ∷ by 1 (Put 0 2) ∷ []) 0 ≡ 2 * 2 ^ 24 + 2 * 16 + 2
 
@@ -49,7 +52,7 @@ RemovedWord = word_of (at_root ++ by 1 (Keep 2) ∷ by 1 (Put 0 2) ∷ by 0 (Rem
 
 -- ---- claims
 
--- lane 0 claims context 1 under key 0, and lane 1 draws a number
+-- Lane 0 claims context 1 under key 0, and lane 1 draws a number.
 abbrev pub held : History
 held = by 0 (Claim 3) ∷ by 1 (Keep 1) ∷ []
 
@@ -65,7 +68,7 @@ HeldIsNotFilledByOthers = answered held 1 (Fill 3 1) ≡ Refuses Barred
 abbrev pub HeldIsNotSealed : Type 0
 HeldIsNotSealed = answered held 1 (Seal 3) ≡ Refuses Busy
 
--- it is filled with number 2, or abandoned
+-- Lane 0 fills its claim with number 2, or abandons it.
 abbrev pub filled : History
 filled = held ++ by 0 (Keep 2) ∷ by 0 (Fill 3 2) ∷ []
 
@@ -80,7 +83,7 @@ OwnEvents = own 0 filled ≡ by 0 (Claim 3) ∷ by 0 (Keep 2) ∷ by 0 (Fill 3 2
 
 -- ---- kept faults
 
--- the factory of lane 0 failed, and its fault is kept as number 2
+-- The factory of lane 0 failed, and its fault is kept as number 2.
 abbrev pub failed : History
 failed = held ++ by 0 (Keep 2) ∷ by 0 (Fail 3 2) ∷ []
 
@@ -90,22 +93,22 @@ FailedIsMet = looks failed ≡ look.Fault 1 2
 abbrev pub FailedStands : Type 0
 FailedStands = answered failed 1 (Claim 3) ≡ Refuses (FaultStanding 2)
 
--- a put and a remove answer its number
+-- A put and a remove answer the fault's number.
 abbrev pub FailedIsReplaced : Type 0
 FailedIsReplaced = answered failed 1 (Put 3 1) ≡ Happens (Some 2)
 
 abbrev pub FailedIsRemoved : Type 0
 FailedIsRemoved = answered failed 1 (Remove 3) ≡ Happens (Some 2)
 
--- and a seal keeps none
+-- A seal keeps no number for a fault.
 abbrev pub FailedIsPassed : Type 0
 FailedIsPassed = answered failed 1 (Seal 3) ≡ Happens None
 
--- a context that has a fault under key 0 and a value under key 1 keeps the value alone
+-- A context with a fault under key 0 and a value under key 1 keeps only the value.
 abbrev pub RemainingPassesFault : Type 0
 RemainingPassesFault = remaining (slots_in (λ key. 3 + key) (failed ++ by 1 (Put 4 1) ∷ by 1 (Seal 3) ∷ by 1 (Seal 4) ∷ by 1 (Seal 5) ∷ [])) 3 ≡ 1 ∷ []
 
--- ---- seals: context 2 has values 1, 2 and 3 under its keys, 4 replaces 2, and all is sealed
+-- ---- seals: context 2 has values 1, 2 and 3 under its keys, 4 replaces 2, and all three keys are sealed
 
 abbrev pub closed : History
 closed =

@@ -8,7 +8,6 @@ use Rattle.ext_report.specs.Report.{report_of}
 use Rattle.ext_report.specs.JsonLines.{json_lines}
 use Rattle.ext_report.specs.TreeLines.{tree_of}
 
--- the report of this form
 abbrev pub report_in : ReportForm → List (List Pair) → List NodeOutcome → List ℕ
 report_in forms.Text ids rs = report_of ids rs
 report_in forms.Json ids rs = json_lines ids rs

@@ -4,19 +4,18 @@
 --
 --     ID STATUS closed N
 --
--- ID is the node's id as it is written, STATUS one of `successful`, `aborted`, `failed` and `skipped`,
--- and N how many values were closed with the node's context. The line of a node that aborted or failed
--- goes on with its fault, as `: FAULT`, and where M further faults and aborts came and M is not 0, with
--- ` (+M)`. Want of memory is the fault `no memory`; a fault's text stands as it is. Nothing follows the
--- count where an aborted or failed node has no fault, nor for a successful or skipped node, whatever
--- its fault and its M are.
+-- ID is the node's id as it is written, STATUS one of `successful`, `aborted`, `failed` and `skipped`, and N how many
+-- values were closed with the node's context. If the node aborted or failed, its fault follows as `: FAULT`, and then
+-- ` (+M)` if M more faults and aborts came. A lack of memory is the fault `no memory`; a fault's text stands as it is.
+-- Nothing follows the count if an aborted or failed node has no fault, or if a node is successful or skipped, whatever
+-- its fault and its M.
 --
 -- Two lines of totals follow, the first of tests alone, the second of all nodes:
 --
 --     tests N successful N aborted N failed N skipped N
 --     computed N found N closed N close faults N
 --
--- Each line ends with one line feed. Numbers are decimal. The format is an own rule.
+-- Each line ends with one line feed. Numbers are decimal. The format is not from JUnit.
 use Rattle.std.specs.Prelude.{ℕ, Bool, true, false, ◌&&◌, ◌==◌, codes, List, [], ◌++◌, Option, Some, None, if◌then◌else◌}
 use Rattle.std.specs.List.{flat_map, slice_index_or, sum_by, count_by, list_any}
 use Rattle.std.specs.Fmt.{decimal}
@@ -27,47 +26,44 @@ use Rattle.ext_lifecycle.specs.FaultTexts.{NodeOutcome}
 use Rattle.ext_report.specs.declared.totals.TestCounts.{TestCounts}
 use Rattle.ext_report.specs.declared.totals.NodeSums.{NodeSums}
 
--- a status as it is written
 abbrev pub status_text : Status → List ℕ
 status_text statuses.Successful = codes "successful"
 status_text statuses.Aborted = codes "aborted"
 status_text statuses.Failed = codes "failed"
 status_text statuses.Skipped = codes "skipped"
 
--- how many further faults and aborts there are, where there is one
+-- How many more faults and aborts there are, if any.
 abbrev pub further_faults : ℕ → List ℕ
 further_faults more = if more == 0 then [] else codes " (+" ++ decimal more ++ codes ")"
 
--- a fault and the further ones, where there is a fault
+-- A fault and the number of further ones, if there is a fault.
 abbrev pub fault_and_further : Option (List ℕ) → ℕ → List ℕ
 fault_and_further None more = []
 fault_and_further (Some fault) more = codes ": " ++ fault ++ further_faults more
 
--- whether a node with this status tells its fault
+-- The line of a node with this status has its fault.
 abbrev pub tells_fault : Status → Bool
 tells_fault statuses.Successful = false
 tells_fault statuses.Aborted = true
 tells_fault statuses.Failed = true
 tells_fault statuses.Skipped = false
 
--- what follows the count of closed values
+-- What follows the count of closed values.
 abbrev pub fault_part : NodeOutcome → List ℕ
 fault_part r = if tells_fault r.status then fault_and_further r.fault r.more else []
 
--- how a node ended, and the end of its line
+-- How a node ended, and the end of its line.
 abbrev pub outcome_part : NodeOutcome → List ℕ
 outcome_part r =
     codes " " ++ status_text r.status ++ codes " closed " ++ decimal r.closed ++ fault_part r ++ codes "\n"
 
--- the line of a node with this id
 abbrev pub line_of : List Pair → NodeOutcome → List ℕ
 line_of id r = id_text id ++ outcome_part r
 
--- the lines of the nodes, in the order of the list
+-- The lines of the nodes, in the order of the list.
 abbrev pub lines_of : List (List Pair) → List NodeOutcome → List ℕ
 lines_of ids rs = flat_map (λ r. line_of (slice_index_or ids r.node []) r) rs
 
--- the two statuses are one
 abbrev pub is_status : Status → Status → Bool
 is_status statuses.Successful statuses.Successful = true
 is_status statuses.Aborted statuses.Aborted = true
@@ -75,11 +71,11 @@ is_status statuses.Failed statuses.Failed = true
 is_status statuses.Skipped statuses.Skipped = true
 is_status _ _ = false
 
--- how many tests ended with this status
+-- How many tests ended with this status.
 abbrev pub tests_with : Status → List NodeOutcome → ℕ
 tests_with status rs = count_by (λ r. r.is_test && is_status r.status status) rs
 
--- how many tests there are, and how many ended in each way
+-- How many tests there are, and how many ended in each way.
 abbrev pub counts_of : List NodeOutcome → TestCounts
 counts_of rs = record {
   tests = count_by (λ r. r.is_test) rs;
@@ -89,7 +85,7 @@ counts_of rs = record {
   skipped = tests_with statuses.Skipped rs;
 }
 
--- the sums over all nodes
+-- The sums over all nodes, tests or not.
 abbrev pub sums_of : List NodeOutcome → NodeSums
 sums_of rs = record {
   computed = sum_by (λ r. r.computed) rs;
@@ -98,23 +94,20 @@ sums_of rs = record {
   close_faults = sum_by (λ r. r.close_faults) rs;
 }
 
--- the line of counts
 unfoldable pub counts_line : TestCounts → List ℕ
 counts_line n =
     codes "tests " ++ decimal n.tests ++ codes " successful " ++ decimal n.successful
     ++ codes " aborted " ++ decimal n.aborted ++ codes " failed " ++ decimal n.failed
     ++ codes " skipped " ++ decimal n.skipped ++ codes "\n"
 
--- the line of sums
 unfoldable pub sums_line : NodeSums → List ℕ
 sums_line n =
     codes "computed " ++ decimal n.computed ++ codes " found " ++ decimal n.found
     ++ codes " closed " ++ decimal n.closed ++ codes " close faults " ++ decimal n.close_faults ++ codes "\n"
 
--- the report
 abbrev pub report_of : List (List Pair) → List NodeOutcome → List ℕ
 report_of ids rs = lines_of ids rs ++ counts_line (counts_of rs) ++ sums_line (sums_of rs)
 
--- a node failed, be it a test or a container
+-- A node failed, whether a test or a container.
 abbrev pub any_failed : List NodeOutcome → Bool
 any_failed rs = list_any (λ r. is_status r.status statuses.Failed) rs

@@ -1,9 +1,10 @@
--- The report of a run as a tree: a line for each context, depth first, which stands two spaces further to the right than that of its parent,
+-- The report of a run as a tree: a line for each context, depth first, indented by two spaces more than its parent's,
 --
 --     TYPE:VALUE STATUS closed N: FAULT (+M)
 --
--- TYPE and VALUE are those of the last segment of the context's id, decoded. What follows is as in the report's text (`Report`), for the result that stands at the context's place in the list; nothing
--- where none does. The two lines of totals follow. The format is an own rule.
+-- TYPE and VALUE are those of the last segment of the context's id, decoded. The rest is as in the report's text
+-- (`Report`), for the result at the context's place in the list, and missing if there is none. The two lines of totals
+-- follow. The format is not from JUnit.
 use Rattle.std.specs.Prelude.{ℕ, zero, suc, ◌-◌, codes, List, [], ◌∷◌, ◌++◌, Option, Some, None, length}
 use Rattle.std.specs.List.{flat_map, slice_get, slice_index_or}
 use Rattle.ext_ids.specs.Grammar.{Pair}
@@ -11,37 +12,35 @@ use Rattle.ext_tree.specs.Trees.{Id, id_at, children_of}
 use Rattle.ext_lifecycle.specs.FaultTexts.{NodeOutcome}
 use Rattle.ext_report.specs.Report.{outcome_part, counts_line, counts_of, sums_line, sums_of}
 
--- a context and those below it, so many levels deep, each before those below it and these in the order of the list
+-- A context and those below it, down to `levels` levels. Each comes before those below it, and siblings come in the
+-- order of the list.
 unfoldable pub depth_first_from : ℕ → List Id → ℕ → List ℕ
 depth_first_from zero ids context = []
 depth_first_from (suc levels) ids context = context ∷ flat_map (λ child. depth_first_from levels ids child) (children_of ids context)
 
--- all contexts: no tree is deeper than it has contexts
+-- All contexts. No tree is deeper than it has contexts.
 abbrev pub depth_first : List Id → List ℕ
 depth_first ids = depth_first_from (length ids) ids 0
 
--- two spaces for each level
+-- Two spaces for each level.
 unfoldable pub indent : ℕ → List ℕ
 indent zero = []
 indent (suc levels) = indent levels ++ codes "  "
 
--- `TYPE:VALUE`
 abbrev pub segment_words : Pair → List ℕ
 segment_words segment = segment.0 ++ codes ":" ++ segment.1
 
--- a context's place in the tree, and its last segment
+-- A context's indentation and its last segment.
 unfoldable pub tree_head : Id → List ℕ
 tree_head id = indent (length id - 1) ++ segment_words (slice_index_or id (length id - 1) ([], []))
 
--- how its node ended, and the end of the line
+-- How its node ended, and the end of the line.
 abbrev pub tree_part : Option NodeOutcome → List ℕ
 tree_part None = codes "\n"
 tree_part (Some r) = outcome_part r
 
--- the line of a context
 abbrev pub tree_line : List Id → List NodeOutcome → ℕ → List ℕ
 tree_line ids rs context = tree_head (id_at ids context) ++ tree_part (slice_get rs context)
 
--- the report
 abbrev pub tree_of : List Id → List NodeOutcome → List ℕ
 tree_of ids rs = flat_map (tree_line ids rs) (depth_first ids) ++ counts_line (counts_of rs) ++ sums_line (sums_of rs)

@@ -1,4 +1,5 @@
--- What is written of a plan that was read and is not run: how many nodes it has, how many of them are tests, and how many `[[key]]` tables. Numbers are decimal.
+-- What is written of a plan that is read but not run: how many nodes it has, how many of them are tests, and how many
+-- `[[key]]` tables. Numbers are decimal.
 use Rattle.std.specs.Prelude.{◌≡◌, ℕ, Bool, true, false, not, ◌==◌, codes, List, ◌++◌, length, is_some, Result, Ok, Err}
 use Rattle.ext_races.specs.declared.found.Found.{Found}
 use Rattle.ext_races.specs.declared.found.Found.TheVariants as found
@@ -11,42 +12,42 @@ use Rattle.ext_run.specs.declared.fault.RunFault.{RunFault}
 use Rattle.ext_report.specs.declared.form.ReportForm.TheVariants as forms
 use Rattle.ext_run.specs.Reports.{RefusedAs}
 
--- how many of the nodes are tests
+-- How many of the nodes are tests.
 abbrev pub test_count : List NodeText → ℕ
 test_count nodes = count_by (λ node. is_some node.test) nodes
 
--- `ok, 7 nodes, 3 tests, 2 keys` and a line feed
+-- For instance `ok, 7 nodes, 3 tests, 2 keys` and a line feed.
 unfoldable pub counts_line : PlanText → List ℕ
 counts_line plan =
     codes "ok, " ++ decimal (length plan.nodes) ++ codes " nodes, " ++ decimal (test_count plan.nodes) ++ codes " tests, " ++ decimal (length plan.keys) ++ codes " keys\n"
 
--- the line of what was read; a plan that is refused has none
+-- The line of the plan that was read. A refused plan has none.
 abbrev pub IsCountsOf : Result PlanText RunFault → List ℕ → Type 0
 IsCountsOf (Ok plan) line = line ≡ counts_line plan
 IsCountsOf (Err fault) line = ⊥
 
--- it is refused as a plain run of it would be
+-- It is refused as a plain run of the plan would be.
 abbrev pub RefusedUnrun : RunFault → Result PlanText RunFault → Type 0
 RefusedUnrun fault read = RefusedAs (record { lanes = 1; plain = true; form = forms.Text }) fault read
 
--- how many races are looked for: one more than are told in lines
+-- How many races are looked for: one more than are listed.
 abbrev pub race_limit : ℕ
 race_limit = 21
 
--- no race was found, and no limit is passed
+-- No race was found, and no limit was passed.
 abbrev pub is_free : Found → Bool
 is_free found.TooManyKeys = false
 is_free found.TooManyNumbers = false
 is_free (found.Races races names) = length races.items == 0
 
--- what is told of the races of a plan: their text, and whether there is one or a limit is passed
+-- What is written of a plan's races, and whether there is one or a limit was passed.
 pub record TellsRaces (plan : PlanText) (text : List ℕ) (failed : Bool) : Type 0 where
   pub told : Found
   pub races : IsFound plan race_limit told
   pub text_is : text ≡ found_text plan told
   pub failed_is : failed ≡ not (is_free told)
 
--- of what was read; a plan that is refused has none
+-- The same of what was read. A refused plan has no races.
 abbrev pub IsRacesOf : Result PlanText RunFault → List ℕ → Bool → Type 0
 IsRacesOf (Ok plan) text failed = TellsRaces plan text failed
 IsRacesOf (Err fault) text failed = ⊥

@@ -1,9 +1,9 @@
--- What is printed of an id: a line for each segment, its type and its value, decoded, with a space between; and then the id as it is written.
+-- What is printed of an id: a line for each segment, with its type and its value, decoded and separated by a space, and
+-- then the id as it is written.
 use Rattle.std.specs.Prelude.{ℕ, codes, List, ◌++◌}
 use Rattle.std.specs.List.{flat_map}
 use Rattle.ext_ids.specs.Grammar.{Pair, id_text}
 
--- `TYPE VALUE` and a line feed
 abbrev pub pair_line : Pair → List ℕ
 pair_line p = p.0 ++ codes " " ++ p.1 ++ codes "\n"
 

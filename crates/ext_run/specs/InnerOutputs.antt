@@ -1,4 +1,4 @@
--- What private functions read, and which output or fault they answer. No public clause needs it.
+-- What private functions read, and which output or fault they answer. No public contract cites it.
 use Rattle.std.specs.Prelude.{◌≡◌, ◌<◌, ◌≤◌, ℕ, ◌+◌, false, List, ◌++◌, length, Option, Result, Ok, Err}
 use Rattle.std.specs.Io.KnownBytes.{Consumes, IsAtEnd}
 use Rattle.ext_parallel.specs.ParallelRun.{IsRefusedRun}
@@ -12,7 +12,7 @@ use Rattle.ext_run.specs.Reports.{IsReadFault, RefusedAs, Reports, RunReport, in
 
 -- ---- the input
 
--- so many bytes more were read, none only at the end, and the input keeps within its limit
+-- `count` more bytes were read, 0 only at the end, and the input stays within its limit.
 pub record ReadsMore (before after : Option (List ℕ)) (old new : List ℕ) (count : ℕ) : Type 0 where
   pub bytes : List ℕ
   pub taken : Consumes before after bytes
@@ -21,7 +21,7 @@ pub record ReadsMore (before after : Option (List ℕ)) (old new : List ℕ) (co
   pub short : length new ≤ input_limit
   pub ended : count ≡ 0 → IsAtEnd after
 
--- these bytes more were read, and then no more, for this fault
+-- These bytes were read, and then reading stopped for this fault.
 pub record StopsReading (before after : Option (List ℕ)) (old : List ℕ) (fault : RunFault) : Type 0 where
   pub bytes : List ℕ
   pub taken : Consumes before after bytes
@@ -35,7 +35,7 @@ Reads before after old new (Err fault) = StopsReading before after old fault
 
 -- ---- the run
 
--- why a plan that was read has no results: memory was refused, or its run on several lanes
+-- Why a plan that was read has no results: memory was refused, or its run on several lanes was.
 abbrev pub IsPlanFault : Options → PlanText → RunFault → Type 0
 IsPlanFault options plan faults.Read = ⊥
 IsPlanFault options plan faults.Write = ⊥
@@ -49,14 +49,14 @@ IsPlanFault options plan faults.Memory = Unit {0}
 abbrev pub output_view : Output → RunReport
 output_view o = record { report = o.report.items; failed = o.failed; lacked = o.lacked }
 
--- what a function returned is the report of what was read, or a fault that goes with it
+-- A function returned the report of what was read, or a fault that fits it.
 abbrev pub ReportsAs : Options → Result Output RunFault → Result PlanText RunFault → Type 0
 ReportsAs options (Ok output) read = Reports options read (output_view output)
 ReportsAs options (Err fault) read = RefusedAs options fault read
 
 -- ---- the line of a plan that is not run
 
--- what a function returned is the line of what was read, or a fault that goes with it
+-- A function returned the line of what was read, or a fault that fits it.
 abbrev pub ChecksAs : {X : Type 0} → (X → List ℕ) → Result X RunFault → Result PlanText RunFault → Type 0
 ChecksAs view (Ok x) read = IsCountsOf read (view x)
 ChecksAs view (Err fault) read = RefusedUnrun fault read

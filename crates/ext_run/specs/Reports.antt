@@ -1,5 +1,5 @@
--- What a run makes of the bytes of its input: the report of a run of the plan that they write (`Reports`), or the fault of a plan that is refused (`RefusedAs`). Texts
--- are lists of bytes.
+-- What a run makes of the bytes of its input: the report of a run of the plan that they write (`Reports`), or the fault
+-- of a refused plan (`RefusedAs`). Texts are lists of bytes.
 use Rattle.std.specs.Prelude.{◌≡◌, ℕ, Bool, true, false, List, length, map, nat_lt, Result, Ok, Err, IsOk, if◌then◌else◌}
 use Rattle.std.specs.Str.{is_utf8}
 use Rattle.ext_parallel.specs.Fault.{Fault}
@@ -21,34 +21,35 @@ use Rattle.ext_run.specs.declared.fault.RunFault.{RunFault}
 use Rattle.ext_run.specs.declared.fault.RunFault.TheVariants as faults
 use Rattle.ext_run.specs.declared.options.Options.{Options}
 
--- how many bytes a plan has at most
+-- How many bytes a plan has at most: 1 MiB.
 abbrev pub input_limit : ℕ
 input_limit = 1048576
 
 -- ---- the plan that is read
 
--- what was read of a plan
+-- What was read, with a plan's fault as a run's.
 abbrev pub plan_or_fault : Result PlanText PlanFault → Result PlanText RunFault
 plan_or_fault (Ok read) = Ok read
 plan_or_fault (Err fault) = Err (faults.Plan fault)
 
--- the plan that these bytes write
+-- The plan that these bytes write.
 unfoldable pub plan_of_bytes : List ℕ → Result PlanText RunFault
 plan_of_bytes input = if is_utf8 input then plan_or_fault (plan_of_text input) else Err (faults.Plan plan.NotUtf8)
 
--- the plan that an input writes: more bytes than a plan may have are too many, whatever they are
+-- The plan that an input writes. An input that is too long is refused as such, whatever its bytes.
 unfoldable pub plan_of_input : List ℕ → Result PlanText RunFault
 plan_of_input input = if nat_lt input_limit (length input) then Err faults.TooLong else plan_of_bytes input
 
 -- ---- its run, and the report
 
--- what is told of the nodes by some run on so many lanes, with the texts of their faults
+-- The results of some run on `lanes` lanes, with the texts of their faults.
 pub record RunsOnLanes (plan : PlanText) (lanes : ℕ) (results : List NodeOutcome) : Type 0 where
   pub ran : List (ResultOf Fault)
   pub run : ParallelRun plan lanes ran
   pub told : results ≡ map (with_fault_told fault_text) ran
 
--- What is told of the nodes, and whether a step may have lacked something: of memory, by a plain run; or of anything, as the results tell it, by some run on several lanes
+-- The results of the nodes, and whether a step may have lacked something. A plain run can only lack memory. A run on
+-- several lanes may lack anything, as the results show.
 abbrev pub IsRunBy : Bool → ℕ → PlanText → List NodeOutcome → Bool → Type 0
 IsRunBy true lanes plan results lacked = ArePlain plan results lacked
 IsRunBy false lanes plan results lacked = RunsOnLanes plan lanes results × (lacked ≡ may_have_lacked results)
@@ -56,13 +57,13 @@ IsRunBy false lanes plan results lacked = RunsOnLanes plan lanes results × (lac
 abbrev pub IsRunAs : Options → PlanText → List NodeOutcome → Bool → Type 0
 IsRunAs options plan results lacked = IsRunBy options.plain options.lanes plan results lacked
 
--- what a run gives: a report, whether a node failed, and whether a step may have lacked something
+-- What a run gives: a report, whether a node failed, and whether a step may have lacked something.
 pub record RunReport : Type 0 where
   pub report : List ℕ
   pub failed : Bool
   pub lacked : Bool
 
--- of these results, in this form
+-- The report of these results in this form.
 abbrev pub run_report_of : ReportForm → PlanText → List NodeOutcome → Bool → RunReport
 run_report_of form plan results lacked = record {
   report = report_in form (ids_of_nodes plan.nodes) results;
@@ -70,20 +71,20 @@ run_report_of form plan results lacked = record {
   lacked = lacked;
 }
 
--- it is the report of a run of this plan
+-- It is the report of a run of this plan.
 pub record IsReportOf (options : Options) (plan : PlanText) (given : RunReport) : Type 0 where
   pub results : List NodeOutcome
   pub run : IsRunAs options plan results given.lacked
   pub report_is : given ≡ run_report_of options.form plan results given.lacked
 
--- it reports what was read: that is a plan, and it is the report of a run of it
+-- What was read is a plan, and this is the report of a run of it.
 abbrev pub Reports : Options → Result PlanText RunFault → RunReport → Type 0
 Reports options (Ok plan) given = IsReportOf options plan given
 Reports options (Err fault) given = ⊥
 
--- ---- what a fault tells
+-- ---- what a fault means
 
--- why no input is handed out: the other faults come later in a run
+-- Why no input is handed out. The other faults come later in a run.
 abbrev pub IsReadFault : RunFault → Type 0
 IsReadFault faults.Read = Unit {0}
 IsReadFault faults.Write = ⊥
@@ -92,18 +93,18 @@ IsReadFault (faults.Plan fault) = ⊥
 IsReadFault (faults.Engine fault) = ⊥
 IsReadFault faults.Memory = Unit {0}
 
--- the plan is refused with this fault; want of memory tells nothing
+-- The plan is refused with this fault. A lack of memory says nothing of the plan.
 abbrev pub RefusedPlan : PlanFault → Result PlanText RunFault → Type 0
 RefusedPlan plan.Memory read = Unit {0}
 RefusedPlan fault read = read ≡ Err (faults.Plan fault)
 
--- the plan was read, and its run on several lanes was refused with this fault
+-- The plan was read, and its run on several lanes was refused with this fault.
 abbrev pub RefusedRun : Options → EngineFault → Result PlanText RunFault → Type 0
 RefusedRun options fault (Ok plan) = (options.plain ≡ false) × IsRefusedRun plan options.lanes fault
 RefusedRun options fault (Err other) = ⊥
 
--- A plan that is too long or refused is answered so, and a plan whose run was refused. Where a write failed there was a report to write. A failed read and want of
--- memory tell nothing
+-- A plan that is too long or refused is answered as such, and so is a plan whose run was refused. If a write failed
+-- there was a report to write. A failed read and a lack of memory say nothing of the plan.
 abbrev pub RefusedAs : Options → RunFault → Result PlanText RunFault → Type 0
 RefusedAs options faults.Read read = Unit {0}
 RefusedAs options faults.Write read = IsOk read

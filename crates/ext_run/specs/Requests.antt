@@ -1,5 +1,6 @@
--- What a request to a program over this crate ends with: its exit status, and the line of the fault of a run. The status is 0 where the request was done and no node failed, 1 where one
--- did; 2 where the command line, the plan or the id is refused, and 3 where the work itself failed. Texts are lists of bytes.
+-- How a request to a program over this crate ends: its exit status, and the line of a run's fault. The status is 0 if
+-- the request was done and no node failed, 1 if a node failed, 2 if the command line, the plan or the id is refused,
+-- and 3 if the work itself failed. Texts are lists of bytes.
 use Rattle.std.specs.Prelude.{◌≡◌, ◌≢◌, ℕ, codes, List, ◌++◌, Result, Ok, Err, if◌then◌else◌}
 use Rattle.ext_ids.specs.declared.fault.IdFault.TheVariants as ids
 use Rattle.ext_ids.specs.Faults.{HasFault}
@@ -12,7 +13,7 @@ use Rattle.ext_run.specs.declared.options.Summary.{Summary}
 use Rattle.ext_run.specs.declared.request_fault.RequestFault.{RequestFault}
 use Rattle.ext_run.specs.declared.request_fault.RequestFault.TheVariants as faults
 
--- of a run that gave no report
+-- The status of a run that gave no report.
 abbrev pub status_of_run_fault : RunFault → ℕ
 status_of_run_fault runs.Read = 3
 status_of_run_fault runs.Write = 3
@@ -21,20 +22,19 @@ status_of_run_fault (runs.Plan fault) = 2
 status_of_run_fault (runs.Engine fault) = 3
 status_of_run_fault runs.Memory = 3
 
--- of a request that was not done
+-- The status of a request that was not done.
 abbrev pub status_of_fault : RequestFault → ℕ
 status_of_fault faults.CommandLine = 2
 status_of_fault (faults.Id fault) = 2
 status_of_fault (faults.Run fault) = status_of_run_fault fault
 
--- of a request
 abbrev pub status_of : Result Summary RequestFault → ℕ
 status_of (Ok summary) = if summary.failed then 1 else 0
 status_of (Err fault) = status_of_fault fault
 
 -- ---- the line of a fault
 
--- the code of a fault of the engine
+-- The code of a fault of the engine.
 abbrev pub code_of : EngineFault → List ℕ
 code_of engine.Memory = codes "E1"
 code_of engine.NoThread = codes "E2"
@@ -50,13 +50,13 @@ line_of runs.Memory = codes "run: no memory"
 
 -- ---- the request to read an id
 
--- why a text is refused: for the fault that it has; want of memory and a writer that failed tell nothing of it
+-- Why a text is refused as an id: for the fault that it has. A lack of memory and a failed writer say nothing of it.
 abbrev pub IsNoId : List ℕ → RequestFault → Type 0
 IsNoId text faults.CommandLine = ⊥
 IsNoId text (faults.Id fault) = fault ≢ ids.Memory → HasFault text fault
 IsNoId text (faults.Run fault) = fault ≡ runs.Write
 
--- how it ends for a text that is an id: it is done, or memory was refused, or the writer failed
+-- How the request ends for a text that is an id: it is done, memory was refused, or the writer failed.
 abbrev pub IsIdEnd : Result Summary RequestFault → Type 0
 IsIdEnd (Ok summary) = Unit {0}
 IsIdEnd (Err faults.CommandLine) = ⊥

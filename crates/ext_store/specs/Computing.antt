@@ -1,8 +1,10 @@
--- What `compute` says of its result.
--- Javadoc `ExtensionContext.Store`, `getOrComputeIfAbsent`: a value is computed where the context and its ancestors have none, and is stored in the context. That the
--- context's cell is claimed first and the ancestors are looked at again, and what is refused, are own rules. `Claiming` of ext_store_core has the words for that.
--- `before` and `after` are the lane before and after the call; `first` are the events that the call made before the part that a definition speaks of. `Computes` and
--- `Uses` are for a result without its factory, so that they can be said where the factory's type is not known.
+-- What `compute` promises of its result. As in JUnit, a value is computed only if the context and its ancestors have
+-- none, and is stored in the context (Javadoc `ExtensionContext.Store`, `getOrComputeIfAbsent`). Not from JUnit: the
+-- lane first claims the context's cell and looks along the ancestors again, and a compute may be refused. `Claiming` of
+-- ext_store_core has the words for that.
+-- `before` and `after` are the lane before and after the call. `first` are the call's events before the part in
+-- question. `Computes` and `Uses` speak of a result without its factory, so that they can be cited where the factory's
+-- type is not known.
 use Rattle.std.specs.Prelude.{ℕ, ◌≡◌, ◌+◌, ◌≤◌, Option, IsFalse, IsTrue, List, [], ◌∷◌, ◌++◌, Some, Result, Ok, Err}
 use Rattle.ext_model.specs.declared.event.Act.{Act}
 use Rattle.ext_model.specs.declared.event.Act.TheVariants.{Keep, Claim, Fill, Fail, Abandon}
@@ -28,46 +30,48 @@ use Rattle.ext_store_core.specs.declared.fault.Refusal.{Refusal}
 use Rattle.ext_store_core.specs.Claiming as claiming
 pub use Rattle.ext_store_core.specs.Claiming.{HappensAfter, LooksFirst}
 
--- ---- what a claim of a missing value says, as ext_store_core says it
+-- ---- the claim of a missing value, in the words of ext_store_core
 
--- the look-up from the context is absent at a point of the call, after that the lane claims the cell of the context, and at a point after that and before its next
--- event the look-up along the ancestors is this
+-- The look-up from the context is absent at a point of the call; after that the lane claims the context's cell; then,
+-- before its next event, the look-up along the ancestors gives this.
 abbrev pub ClaimsAndLooks : Limits → StoreView → ℕ → List ℕ → ℕ → LaneView → LaneView → Look → Type 0
 ClaimsAndLooks limits store context ancestors key before after look = claiming.ClaimsAndLooks limits (context_cells store) context ancestors key before after look
 
--- the events of a claim that is given up
+-- The events of a claim that is given up.
 abbrev pub given_up_events : StoreView → ℕ → ℕ → List (Act ℕ)
 given_up_events store context key = claiming.given_up_events (context_cells store) context key
 
--- the look-up from the context is this, at a point of a call without events; or so is the one from its parent, while the lane's claim stands, which is then given up
+-- The look-up from the context meets this at a point of a call without events. Or the look-up from the parent meets it
+-- while the lane's claim stands, and the lane gives the claim up.
 abbrev pub Meets : Limits → StoreView → ℕ → List ℕ → ℕ → LaneView → LaneView → Look → Type 0
 Meets limits store context ancestors key before after met = claiming.Meets limits (context_cells store) context ancestors key before after met
 
--- what each refusal says
+-- What each refusal means.
 abbrev pub IsRefused : Limits → StoreView → ℕ → List ℕ → ℕ → LaneView → LaneView → Refusal → Type 0
 IsRefused limits store context ancestors key before after why = claiming.IsRefused limits (context_cells store) context ancestors key before after why
 
--- a claim under which nothing stands, for the path of the context, or why there is none
+-- The lane holds a claim under which nothing stands on the context's path, or this is why it does not.
 abbrev pub ClaimsMissing : StoreView → ℕ → ℕ → LaneView → LaneView → Result ℕ Unused → Type 0
 ClaimsMissing store context key before after result = claiming.ClaimsMissing (context_cells store) context key before after result
 
--- ---- what comes of the factory's value
+-- ---- after the factory gave a value
 
--- the number is drawn, and stored in the claimed cell
+-- The lane draws the number and stores it in the claimed cell.
 pub record Fills (limits : Limits) (first : List (Act ℕ)) (cell : ℕ) (before after : LaneView) (number : ℕ) : Type 0 where
   pub calls : Calls limits before after (first ++ Keep number ∷ Fill cell number ∷ [])
   pub drawn : HappensAfter limits first before after (Keep number) (Some number)
 
--- no number is drawn, and the claim is given up
+-- The lane draws no number and gives its claim up.
 abbrev pub GivesUp : Limits → List (Act ℕ) → ℕ → LaneView → LaneView → Type 0
 GivesUp limits first cell before after = Calls limits before after (first ++ Abandon cell ∷ [])
 
--- Other lanes were in the way of the drawing of a number: past the call's first front at least so many were drawn, and at a point of the call one was left
+-- Other lanes were in the way of drawing a number: they drew at least `tries` after the call's first front, and at a
+-- point of the call one was left.
 pub record IsOutdrawn (limits : Limits) (tries : ℕ) (before after : LaneView) : Type 0 where
   pub drawn : (state_after (first_front before after)).drawn + tries ≤ (state_after (seen_by after)).drawn
   pub left : (p : History) × IsPoint before after p × ((answer : Option ℕ) × (reply_after limits p before.number (Keep 0) ≡ events.Happens answer))
 
--- why the value is not kept; where its place does not take it, its number was drawn
+-- Why the value is not kept. If its place did not take it, a number was drawn for it.
 unfoldable pub IsUnkept : Limits → ℕ → List (Act ℕ) → ℕ → LaneView → LaneView → KeepFault → Type 0
 IsUnkept limits tries first cell before after fault.Memory = GivesUp limits first cell before after
 IsUnkept limits tries first cell before after fault.NumbersFull =
@@ -77,15 +81,15 @@ IsUnkept limits tries first cell before after fault.Contended = GivesUp limits f
 IsUnkept limits tries first cell before after fault.Unplaced =
     (number : ℕ) × Calls limits before after (first ++ Keep number ∷ Abandon cell ∷ []) × HappensAfter limits first before after (Keep number) (Some number)
 
--- ---- what comes of the factory's fault, where faults are kept
+-- ---- after the factory failed, in a store that keeps faults
 
--- a number is drawn for it, and kept in the claimed cell
+-- The lane draws a number for the fault and keeps it in the claimed cell.
 pub record Fails (limits : Limits) (first : List (Act ℕ)) (cell : ℕ) (before after : LaneView) (number : ℕ) : Type 0 where
   pub calls : Calls limits before after (first ++ Keep number ∷ Fail cell number ∷ [])
   pub drawn : HappensAfter limits first before after (Keep number) (Some number)
 
--- How the claim of a factory ends that failed with this fault: where faults are not kept it is given up; where they are the fault is kept under a number, or comes
--- back with why it is not
+-- How the claim ends after its factory failed with this fault. A store that keeps no faults gives the claim up. A store
+-- that keeps them keeps this one under a number, or hands it back and says why not.
 abbrev pub EndsFailed : {V : Type 0} → StoreView → Fault → ℕ → StoreLane V → StoreLane V → Compute V (Unit {0}) → Type 0
 EndsFailed store why cell before after (Failed said) =
     IsFalse store.id.cells.limits.keep_faults × (said ≡ why) × (after.known ≡ before.known) × (after.faults ≡ before.faults)
@@ -104,7 +108,7 @@ EndsFailed store why cell before after (Refused refusal unused) = ⊥
 
 -- ---- compute
 
--- what a compute answers, without the factory that it hands back
+-- The answer of a compute, without the factory that it hands back.
 abbrev pub without_factory : {V F : Type 0} → Compute V F → Compute V (Unit {0})
 without_factory (Computed number) = Computed number
 without_factory (Found at number unused) = Found at number tt
@@ -115,13 +119,13 @@ without_factory (FaultStands at number unused) = FaultStands at number tt
 without_factory (Unkept value cause) = Unkept value cause
 without_factory (Refused why unused) = Refused why tt
 
--- the result that hands the factory back
+-- The answer that hands the factory back.
 abbrev pub with_factory : {V F : Type 0} → F → Unused → Compute V F
 with_factory factory (unused.Found at number) = Found at number factory
 with_factory factory (unused.FaultStands at number) = FaultStands at number factory
 with_factory factory (unused.Refused why) = Refused why factory
 
--- the factory comes back as it was, where it was not called
+-- A factory that was not called comes back unchanged.
 abbrev pub HandsBack : {V F : Type 0} → F → Compute V F → Type 0
 HandsBack factory (Computed number) = Unit {0}
 HandsBack factory (Found at number unused) = unused ≡ factory
@@ -132,7 +136,7 @@ HandsBack factory (FaultStands at number unused) = unused ≡ factory
 HandsBack factory (Unkept value cause) = Unit {0}
 HandsBack factory (Refused why unused) = unused ≡ factory
 
--- the events of the call and the points of its answer, by its result
+-- The events of the call and the points of its answer, for each result.
 unfoldable pub ComputesFrom : {V : Type 0} → Limits → StoreView → ℕ → List ℕ → ℕ → LaneView → LaneView → Compute V (Unit {0}) → Type 0
 ComputesFrom limits store context ancestors key before after (Computed number) =
     ClaimsAndLooks limits store context ancestors key before after look.Absent
@@ -152,12 +156,13 @@ ComputesFrom limits store context ancestors key before after (Unkept value cause
     × IsUnkept limits store.tries (Claim (cell_in store key context) ∷ []) (cell_in store key context) before after cause
 ComputesFrom limits store context ancestors key before after (Refused why unused) = IsRefused limits store context ancestors key before after why
 
--- for the path of the context, and by the limits of the lane's cells
+-- The same for the path of the context, in the limits of the lane's cells.
 unfoldable pub Computes : {V : Type 0} → StoreView → ℕ → ℕ → Lane → Lane → Compute V (Unit {0}) → Type 0
 Computes store context key before after result =
     (ancestors : List ℕ) × IsPathOf store.tree context (context ∷ ancestors) × ComputesFrom before.cells.limits store context ancestors key before.view after.view result
 
--- What the factory answered, where it was called, and what the lane knows of values and of faults. `Gives` says what the factory may answer for the key
+-- What the factory answered, if it was called, and what the lane knows of values and faults afterwards. `Gives` says
+-- what the factory may answer for the key.
 abbrev pub Uses : {V : Type 0} → (Result V Fault → Type 0) → StoreLane V → StoreLane V → Compute V (Unit {0}) → Type 0
 Uses Gives before after (Computed number) = (value : _) × Gives (Ok value) × Learns before.known after.known number value × (after.faults ≡ before.faults)
 Uses Gives before after (Found at number unused) = (after.known ≡ before.known) × (after.faults ≡ before.faults)
@@ -168,7 +173,7 @@ Uses Gives before after (FaultStands at number unused) = (after.known ≡ before
 Uses Gives before after (Unkept value cause) = Gives (Ok value) × KnowsUnkept before.cells.view after.cells.view before.known after.known cause × (after.faults ≡ before.faults)
 Uses Gives before after (Refused why unused) = (after.known ≡ before.known) × (after.faults ≡ before.faults)
 
--- what a store answers that keeps no faults
+-- What a store that keeps no faults may answer.
 abbrev pub IsFaultless : {V F : Type 0} → Compute V F → Type 0
 IsFaultless (Computed number) = Unit {0}
 IsFaultless (Found at number unused) = Unit {0}
@@ -179,13 +184,13 @@ IsFaultless (FaultStands at number unused) = ⊥
 IsFaultless (Unkept value cause) = Unit {0}
 IsFaultless (Refused why unused) = Unit {0}
 
--- why no factory is called, in a store that keeps no faults
+-- Why no factory is called, in a store that keeps no faults.
 abbrev pub IsFaultlessUnused : Unused → Type 0
 IsFaultlessUnused (unused.Found at number) = Unit {0}
 IsFaultlessUnused (unused.FaultStands at number) = ⊥
 IsFaultlessUnused (unused.Refused why) = Unit {0}
 
--- a fact of the number, where the value was computed and stored under one
+-- The fact holds of the number, if the value was computed and stored under one.
 abbrev pub IfComputed : {V F : Type 0} → Compute V F → (ℕ → Type 0) → Type 0
 IfComputed (Computed number) Fact = Fact number
 IfComputed (Found at number unused) Fact = Unit {0}

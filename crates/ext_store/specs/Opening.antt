@@ -1,16 +1,15 @@
--- What a store is made of that is opened, and why one is not opened. Below the public contract of
--- `open`, but for `fault_count`.
+-- What an opened store is made of, and why one is not opened. Public contracts cite only `fault_count`.
 use Rattle.std.specs.Prelude.{ℕ, ◌≡◌, Bool, if◌then◌else◌, List, length, map}
 use Rattle.ext_cells.specs.Lanes.{CellsView, AreLimits, fresh_lanes}
 use Rattle.ext_store.specs.declared.limits.StoreFault.{StoreFault}
 use Rattle.ext_store.specs.declared.limits.StoreFault.TheVariants.{BadLimit, Memory}
 use Rattle.ext_store.specs.Stores.{StoreLane, CloserView, AreStoreLimits, closers_below, fresh_store_lane}
 
--- how many places there are for faults: one for each number where faults are kept, and else none
+-- How many places there are for faults: one for each number if the store keeps faults, otherwise none.
 abbrev pub fault_count : Bool → ℕ → ℕ
 fault_count keeps numbers = if keeps then numbers else 0
 
--- cells, places of values and of faults, lanes and closers of one store, of these limits and so many contexts
+-- Cells, places of values and of faults, lanes and closers of one store with these limits and `contexts` contexts.
 pub record AreParts {V : Type 0} (count contexts lane_count exchanges number_count : ℕ) (keeps : Bool) (cells : CellsView) (names fault_names key_names : List ℕ) (store_lanes : List (StoreLane V)) (store_closers : List CloserView) : Type 0 where
   pub limits : cells.id.limits ≡ record { cells = count; lanes = lane_count; numbers = number_count; keep_faults = keeps }
   pub tries : cells.tries ≡ exchanges
@@ -20,12 +19,12 @@ pub record AreParts {V : Type 0} (count contexts lane_count exchanges number_cou
   pub lanes : store_lanes ≡ map (fresh_store_lane names fault_names key_names) (fresh_lanes cells.id 0 lane_count)
   pub closers : store_closers ≡ closers_below cells.id contexts
 
--- such parts, where the limits are within their ranges
+-- The same, with the limits in their ranges.
 pub record AreOpened {V : Type 0} (count contexts lanes tries numbers : ℕ) (keeps : Bool) (cells : CellsView) (places fault_names key_places : List ℕ) (store_lanes : List (StoreLane V)) (closers : List CloserView) : Type 0 where
   pub within : AreLimits count lanes tries numbers
   pub parts : AreParts count contexts lanes tries numbers keeps cells places fault_names key_places store_lanes closers
 
--- a limit is out of its range, or memory is refused
+-- A limit is out of its range, or memory is refused.
 abbrev pub IsNotOpened : ℕ → ℕ → ℕ → ℕ → StoreFault → Type 0
 IsNotOpened count lanes tries numbers BadLimit = ¬ AreStoreLimits lanes tries numbers
 IsNotOpened count lanes tries numbers Memory = AreLimits count lanes tries numbers

@@ -1,5 +1,6 @@
--- What the waiting forms say beside what their plain forms say: what they never answer, and what `compute_wait` may do before it answers.
--- JUnit waits for a running factory; that a compute claims its cell and gives it up before it waits is an own rule.
+-- What waiting forms promise beyond their plain forms: what they never answer, and what `compute_wait` may do before it
+-- answers. JUnit waits for a running factory, too. That a compute claims its cell and gives the claim up before it
+-- waits is not from JUnit.
 use Rattle.std.specs.Prelude.{ℕ, Result}
 use Rattle.ext_cells.specs.Lanes.{Lane}
 use Rattle.ext_store.specs.declared.fault.KeepFault.{KeepFault}
@@ -13,19 +14,19 @@ use Rattle.ext_store.specs.Computing.{Computes}
 use Rattle.ext_store_core.specs.Waiting as waiting
 pub use Rattle.ext_store_core.specs.Waiting.{IsDecidedLook, IsDecided, IsDecidedUnused}
 
--- ---- what may come before the answer of a claim that waits, as ext_store_core says it
+-- ---- what may come before the answer of a waiting claim, in the words of ext_store_core
 
--- first the call made some attempts in vain, and then what follows is said from there
+-- The call first made some attempts in vain, and `Then` is said of the lane as it was after them.
 abbrev pub Waits : StoreView → ℕ → ℕ → LaneView → (LaneView → Type 0) → Type 0
 Waits store context key before Then = waiting.Waits (context_cells store) context key before Then
 
--- the last attempt is the claim of a missing value
+-- The last attempt is the claim of a missing value.
 abbrev pub ClaimsAfterWaits : StoreView → ℕ → ℕ → LaneView → LaneView → Result ℕ Unused → Type 0
 ClaimsAfterWaits store context key before after result = waiting.ClaimsAfterWaits (context_cells store) context key before after result
 
--- ---- what is never answered
+-- ---- what a waiting form never answers
 
--- a value is not kept for another reason than that other lanes were in the way
+-- The reason why the value is not kept is not that other lanes were in the way.
 abbrev pub IsDecidedFault : KeepFault → Type 0
 IsDecidedFault fault.Memory = Unit {0}
 IsDecidedFault fault.NumbersFull = Unit {0}
@@ -42,8 +43,8 @@ IsDecidedCompute (FaultStands at number unused) = Unit {0}
 IsDecidedCompute (Unkept value cause) = IsDecidedFault cause
 IsDecidedCompute (Refused why unused) = IsDecided why
 
--- Before its last attempt the lane may have claimed the context's cell and given it up several times, each time for a running factory or because other lanes were in
--- the way. The last one is a compute, with its events and its points
+-- Before its last attempt the lane may have claimed the context's cell and given it up several times, each time for a
+-- running factory or because other lanes were in the way. The last attempt is a compute, with its events and points.
 unfoldable pub ComputesAfterWaits : {V : Type 0} → StoreView → ℕ → ℕ → Lane → Lane → Compute V (Unit {0}) → Type 0
 ComputesAfterWaits store context key before after result =
     Waits store context key before.view (λ between. Computes store context key (record { cells = before.cells; view = between }) after result)

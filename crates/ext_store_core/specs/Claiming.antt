@@ -1,6 +1,6 @@
--- What the claim of a missing value says: the first look-up, the claim, and the second look-up along the ancestors. `CallActs` of ext_model has
--- the words. `before` and `after` are the lane before and after the call; `first` are the events that the call made before the part that a
--- definition speaks of.
+-- What the claim of a missing value promises: the first look-up, the claim, and the second look-up along the ancestors.
+-- `CallActs` of ext_model has the words. `before` and `after` are the lane before and after the call. `first` are the
+-- call's events before the part in question.
 use Rattle.std.specs.Prelude.{ℕ, ◌≡◌, ◌+◌, ◌≤◌, ◌⊎◌, List, [], ◌∷◌, ◌++◌, map, Option, None, Some, Result, Ok, Err}
 use mathlib.Core.List.{IsPrefix}
 use Rattle.ext_model.specs.declared.event.Act.{Act}
@@ -23,54 +23,55 @@ use Rattle.ext_store_core.specs.InnerLooking.{LooksAt}
 
 -- ---- one event of several
 
--- After the first events the lane makes this one, which one thread does directly there, with this answer
+-- After its first events the lane makes this one, as one thread would there, with this answer.
 pub record HappensAfter (limits : Limits) (first : List (Act ℕ)) (before after : LaneView) (act : Act ℕ) (answer : Option ℕ) : Type 0 where
   pub at : History
   pub point : IsPointAfter before after first at
   pub made : IsPointAfter before after (first ++ act ∷ []) (at ++ by before.number act ∷ [])
   pub replied : reply_after limits at before.number act ≡ events.Happens answer
 
--- ---- what stands, or is in the way
+-- ---- what stands there, or is in the way
 
--- At a point of the call, not before its first step and before all of its events, the look-up on the path is absent
+-- At a point of the call, no earlier than its first step and before its events, the look-up on the path is absent.
 pub record LooksFirst (cell_of : ℕ → ℕ) (path : List ℕ) (before after : LaneView) : Type 0 where
   pub at : History
   pub stepped : IsPrefix (first_front before after) at
   pub point : IsPointAfter before after [] at
   pub missing : look_after cell_of path at ≡ look.Absent
 
--- The look-up from the context is absent at a point of the call, and after that the lane claims the cell of the context
+-- The look-up from the context is absent at a point of the call, and after that the lane claims the context's cell.
 pub record Claims (limits : Limits) (store : ContextCells) (context : ℕ) (ancestors : List ℕ) (key : ℕ) (before after : LaneView) : Type 0 where
   pub looked_first : LooksFirst (cell_in store key) (context ∷ ancestors) before after
   pub claimed : HappensAfter limits [] before after (Claim (cell_in store key context)) None
 
--- so it claims, and at a point after that and before its next event the look-up along the ancestors is this
+-- The lane claims the cell, and then, before its next event, the look-up along the ancestors gives this.
 pub record ClaimsAndLooks (limits : Limits) (store : ContextCells) (context : ℕ) (ancestors : List ℕ) (key : ℕ) (before after : LaneView) (look : Look) : Type 0 where
   pub claims : Claims limits store context ancestors key before after
   pub looked : LooksAgain (cell_in store key) ancestors before after (Claim (cell_in store key context) ∷ []) look
 
--- the events of a claim that is given up
+-- The events of a claim that is given up.
 abbrev pub given_up_events : ContextCells → ℕ → ℕ → List (Act ℕ)
 given_up_events store context key = Claim (cell_in store key context) ∷ Abandon (cell_in store key context) ∷ []
 
--- The look-up from the context is this at a point of the call, which made no event. Or the look-up from its parent is this while the lane's claim stands, which
--- is then given up
+-- The look-up from the context meets this at a point of the call, which made no event. Or the look-up from the parent
+-- meets it while the lane's claim stands, and the lane gives the claim up.
 unfoldable pub Meets : Limits → ContextCells → ℕ → List ℕ → ℕ → LaneView → LaneView → Look → Type 0
 Meets limits store context ancestors key before after met =
     HoldsAtPoint limits before after [] (λ p. look_after (cell_in store key) (context ∷ ancestors) p ≡ met)
     ⊎ (Calls limits before after (given_up_events store context key) × ClaimsAndLooks limits store context ancestors key before after met)
 
--- At least so many events were on the cells of the key on the path, past the call's first front
+-- At least `tries` events after the call's first front were on the key's cells on the path.
 abbrev pub IsCrowdedAlong : ContextCells → List ℕ → ℕ → LaneView → LaneView → Type 0
 IsCrowdedAlong store path key before after = IsOvertakenOn store.tries (map (cell_in store key) path) before after
 
--- The claim would happen directly after what the lane has seen last, and past the call's first front at least so many events were on its cell
+-- The claim would happen directly after what the lane has seen last, and at least `tries` events after the call's first
+-- front were on its cell.
 pub record ClaimComesLast (limits : Limits) (tries cell : ℕ) (before after : LaneView) : Type 0 where
   pub would_happen : (answer : Option ℕ) × (reply_after limits (seen_by after) before.number (Claim cell) ≡ events.Happens answer)
   pub own_cell : version_of (first_front before after) cell + tries ≤ version_of (seen_by after) cell
 
--- Other lanes were in the way of a call that made no event, and not elsewhere: on the path, of its first look-up; or at the context's cell, of its claim, after the
--- first look-up was absent
+-- Other lanes were in the way of a call that made no event, and at one of two places: on the path, during the first
+-- look-up; or at the context's cell, after the first look-up was absent.
 pub record IsOvertakenThere (limits : Limits) (store : ContextCells) (context : ℕ) (ancestors : List ℕ) (key : ℕ) (before after : LaneView) : Type 0 where
   pub calls : Calls limits before after []
   pub passed : IsCrowded store.tries before after
@@ -78,7 +79,7 @@ pub record IsOvertakenThere (limits : Limits) (store : ContextCells) (context : 
       IsCrowdedAlong store (context ∷ ancestors) key before after
       ⊎ (LooksFirst (cell_in store key) (context ∷ ancestors) before after × ClaimComesLast limits store.tries (cell_in store key context) before after)
 
--- what each refusal says
+-- What each refusal means.
 unfoldable pub IsRefused : Limits → ContextCells → ℕ → List ℕ → ℕ → LaneView → LaneView → Refusal → Type 0
 IsRefused limits store context ancestors key before after (refusal.Busy at) = Meets limits store context ancestors key before after (look.Busy at)
 IsRefused limits store context ancestors key before after (refusal.Closed at) = Meets limits store context ancestors key before after (look.Closed at)
@@ -93,9 +94,9 @@ IsRefused limits store context ancestors key before after refusal.Exhausted =
     HoldsAtPoint limits before after [] (λ p. reply_after limits p before.number (Claim (cell_in store key context)) ≡ events.Refuses events.Exhausted)
     × LooksFirst (cell_in store key) (context ∷ ancestors) before after
 
--- ---- what the parts of a claim say
+-- ---- the parts of a claim
 
--- why no factory is called where a look-up answers this, if there is a reason
+-- Why no factory is called after a look-up with this answer; `None` if one is.
 abbrev pub unused_of : Result Look Refusal → Option Unused
 unused_of (Ok look.Absent) = None
 unused_of (Ok (look.Found at number)) = Some (Found at number)
@@ -104,7 +105,8 @@ unused_of (Ok (look.Busy at)) = Some (Refused (refusal.Busy at))
 unused_of (Ok (look.Closed at)) = Some (Refused (refusal.Closed at))
 unused_of (Err why) = Some (Refused why)
 
--- the look-up along the path, at a point of a call without events: nothing stands there, or this does, or other lanes were in the way
+-- What the look-up along the path met at a point of a call without events: nothing, or this; or other lanes were in the
+-- way.
 abbrev pub Stands : ContextCells → List ℕ → ℕ → Lane → Lane → Option Unused → Type 0
 Stands store path key before after None = LooksAt store path key before after look.Absent
 Stands store path key before after (Some (Found at number)) = LooksAt store path key before after (look.Found at number)
@@ -117,7 +119,7 @@ Stands store path key before after (Some (Refused refusal.Unplaced)) = ⊥
 Stands store path key before after (Some (Refused refusal.Memory)) = ⊥
 Stands store path key before after (Some (Refused refusal.Exhausted)) = ⊥
 
--- a claim under which the look-up from the parent is absent, or why there is none
+-- The lane holds a claim under which the look-up from the parent is absent, or this is why it does not.
 abbrev pub ClaimsFrom : ContextCells → ℕ → List ℕ → ℕ → LaneView → LaneView → Result ℕ Unused → Type 0
 ClaimsFrom store context ancestors key before after (Ok claim) =
     (claim ≡ cell_in store key context) × IsHeld after claim
@@ -127,6 +129,6 @@ ClaimsFrom store context ancestors key before after (Err (Found at number)) = Me
 ClaimsFrom store context ancestors key before after (Err (FaultStands at number)) = Meets store.cells.limits store context ancestors key before after (look.Fault at number)
 ClaimsFrom store context ancestors key before after (Err (Refused why)) = IsRefused store.cells.limits store context ancestors key before after why
 
--- for the path of the context
+-- The same for the path of the context.
 abbrev pub ClaimsMissing : ContextCells → ℕ → ℕ → LaneView → LaneView → Result ℕ Unused → Type 0
 ClaimsMissing store context key before after result = (ancestors : List ℕ) × IsPathOf store.tree context (context ∷ ancestors) × ClaimsFrom store context ancestors key before after result

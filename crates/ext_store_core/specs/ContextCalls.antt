@@ -1,6 +1,6 @@
--- What contracts see of the cells of a store, and what the contract of each call by the numbers of a context and a key says of its result.
--- Javadoc `ExtensionContext.Store`: `get`, `put` and `remove`; numbers, refusals, points and seals are own rules. `CallActs` of ext_model has the words: the events that a
--- call made, its fronts, and the points at which its answer may be that of one thread.
+-- What contracts see of the cells of a store, and what each call by the numbers of a context and a key promises of its
+-- result. The calls are `get`, `put` and `remove` of Javadoc `ExtensionContext.Store`. Numbers, refusals, points and
+-- seals are not from JUnit. `CallActs` of ext_model has the words for events, fronts and points.
 use Rattle.std.specs.Prelude.{ℕ, ◌≡◌, ◌+◌, ◌*◌, ◌≤◌, List, [], length, map, ◌∷◌, Option, None, Some, Result, Ok, Err}
 use Rattle.ext_model.specs.History.{Limits, History, reply_after}
 use Rattle.ext_tree.specs.Trees.{Id, IsPathOf}
@@ -17,57 +17,58 @@ use Rattle.ext_model.specs.CallActs as model
 use Rattle.ext_store_core.specs.declared.fault.Refusal.{Refusal}
 use Rattle.ext_store_core.specs.declared.fault.Refusal.TheVariants.{Contended, Busy, Closed, Exhausted, DirectoryFull, Unplaced, Memory}
 
--- A store without its values: its cells, the names of the places of its 64 keys, in the order of their numbers, the ids of its contexts, and how many exchanges a call
--- makes at most
+-- A store without its values: its cells, the names of the places of its 64 keys in the order of their numbers, the ids
+-- of its contexts, and how many exchanges a call makes at most.
 pub record ContextCells : Type 0 where
   pub cells : CellsId
   pub keys : List ℕ
   pub tree : List Id
   pub tries : ℕ
 
--- There is a cell for each context and place of a key, of which there are 64; and numbers are few enough for the bits of a cell
+-- There is a cell for each context and each of the 64 places of keys, and the numbers fit the bits of a cell.
 pub record IsWell (tree : List Id) (keys : List ℕ) (limits : Limits) : Type 0 where
   pub cells : limits.cells ≡ length tree * length keys
   pub key_places : length keys ≡ 64
   pub few : limits.numbers ≤ 65535
 
--- the cell of a context and a place of a key, by their numbers
+-- The cell of a context and a place of a key, by their numbers.
 abbrev pub cell_in : ContextCells → ℕ → ℕ → ℕ
 cell_in store key context = context * length store.keys + key
 
 -- ---- answers
 
--- The result is the reply at a point of the call, and the lane's events are those that it means. Or it is `contended`, and at least `tries` events of
--- other lanes came past the call's first front
+-- The result is the reply of one thread at a point of the call, and the lane's events are those that it means. Or it is
+-- `contended`, and at least `tries` events of other lanes came after the call's first front.
 abbrev pub Answers : {A : Type 0} → ContextCells → A → Lane → Lane → (A → List (Act ℕ)) → (History → A) → A → Type 0
 Answers store contended before after acts_of reply_at result = model.Answers before.cells.limits store.tries contended before.view after.view acts_of reply_at result
 
--- the call made these events, and a fact holds at the point of its answer
+-- The call made these events, and `Fact` holds at a history where it may be answered.
 abbrev pub HoldsAtPoint : Lane → Lane → List (Act ℕ) → (History → Type 0) → Type 0
 HoldsAtPoint before after acts Fact = model.HoldsAtPoint before.cells.limits before.view after.view acts Fact
 
--- what one thread replies to an act of the lane, directly after a history
+-- What one thread replies to an act of the lane directly after a history.
 abbrev pub reply_to : Lane → Act ℕ → History → events.Reply
 reply_to lane act h = reply_after lane.cells.limits h lane.view.number act
 
--- how many steps the lane made on the cells: each adds a front
+-- How many steps the lane made on the cells. Each adds a front.
 abbrev pub steps_of : Lane → Lane → ℕ
 steps_of before after = length (call_fronts before.view after.view)
 
 -- ---- get
 
--- a look-up makes no event
+-- A look-up makes no event.
 abbrev pub look_acts : Result Look Refusal → List (Act ℕ)
 look_acts result = []
 
--- The result is the look-up from the context through its ancestors, the nearest first, at ONE point of the call. Or other lanes were in the way, on the path and not
--- elsewhere: at least `tries` events were on the cells that the key has there
+-- The result is the look-up from the context through its ancestors, nearest first, at one single point of the call. Or
+-- other lanes were in the way on the path itself: at least `tries` events after the first front were on the key's cells
+-- there.
 unfoldable pub Gets : ContextCells → ℕ → ℕ → Lane → Lane → Result Look Refusal → Type 0
 Gets store context key before after result =
     (path : List ℕ) × IsPathOf store.tree context path × Answers store (Err Contended) before after look_acts (λ p. Ok (look_after (cell_in store key) path p)) result
     × (result ≡ Err Contended → IsOvertakenOn store.tries (map (cell_in store key) path) before.view after.view)
 
--- what a look-up answers in a store that keeps no faults
+-- What a look-up may answer in a store that keeps no faults.
 abbrev pub IsFaultlessLook : Look → Type 0
 IsFaultlessLook (look.Found at number) = Unit {0}
 IsFaultlessLook (look.Fault at number) = ⊥
@@ -77,8 +78,8 @@ IsFaultlessLook (look.Closed at) = Unit {0}
 
 -- ---- put and remove
 
--- The result of a change in the context whose reply is this.
--- `Contended` stands for the replies that no put and no remove has, as it is the one result that is never the reply of one thread
+-- The result of a put or a remove in the context with this reply. The last replies come to neither. `Contended` stands
+-- in for them, since one thread never answers `Contended`.
 abbrev pub result_at : ℕ → events.Reply → Result (Option ℕ) Refusal
 result_at context (events.Happens answer) = Ok answer
 result_at context (events.Answers answer) = Ok answer
@@ -90,48 +91,48 @@ result_at context (events.Refuses (events.Standing number)) = Err Contended
 result_at context (events.Refuses (events.FaultStanding number)) = Err Contended
 result_at context (events.Refuses events.Barred) = Err Contended
 
--- a refused put hands the kept number back
+-- A refused put hands the kept number back.
 abbrev pub with_kept : ℕ → Result (Option ℕ) Refusal → Result (Option ℕ) (ℕ × Refusal)
 with_kept number (Ok stood) = Ok stood
 with_kept number (Err why) = Err (number, why)
 
--- a put that is not refused stores its number
+-- A put that is not refused stores its number.
 abbrev pub put_acts : ℕ → ℕ → Result (Option ℕ) (ℕ × Refusal) → List (Act ℕ)
 put_acts cell number (Ok stood) = Put cell number ∷ []
 put_acts cell number (Err refused) = []
 
--- the number is stored in the context, and the number that stood there is answered
+-- A put stores the number in the context, and answers the number that stood there.
 unfoldable pub Puts : ContextCells → ℕ → ℕ → ℕ → Lane → Lane → Result (Option ℕ) (ℕ × Refusal) → Type 0
 Puts store context key number before after result =
     Answers store (Err (number, Contended)) before after (put_acts (cell_in store key context) number)
     (λ p. with_kept number (result_at context (reply_to before (Put (cell_in store key context) number) p))) result
 
--- a remove takes what stood, and is no event where nothing stood
+-- A remove takes what stood there, and is no event if nothing did.
 abbrev pub remove_acts : ℕ → Result (Option ℕ) Refusal → List (Act ℕ)
 remove_acts cell (Ok None) = []
 remove_acts cell (Ok (Some number)) = Remove cell ∷ []
 remove_acts cell (Err why) = []
 
--- what stands in the context alone is taken out, and answered
+-- A remove takes what stands in the context itself, and answers it.
 unfoldable pub Removes : ContextCells → ℕ → ℕ → Lane → Lane → Result (Option ℕ) Refusal → Type 0
 Removes store context key before after result =
     Answers store (Err Contended) before after (remove_acts (cell_in store key context)) (λ p. result_at context (reply_to before (Remove (cell_in store key context)) p)) result
 
--- ---- seal: the one call for those who close a context
+-- ---- seal, the one call for those who close a context
 
--- the cell of the key in the context is sealed, and the seal keeps this number, or none
+-- The key's cell in the context is sealed, and the seal keeps this number, or none.
 abbrev pub SealsCell : ContextCells → ℕ → ℕ → Lane → Lane → Option ℕ → Type 0
 SealsCell store context key before after kept = model.Seals before.cells.limits (cell_in store key context) before.view after.view kept
 
--- a lane computed a value for the context at a point of the call
+-- At a point of the call a lane was computing a value for the context.
 abbrev pub IsBusyThere : ContextCells → ℕ → ℕ → Lane → Lane → Type 0
 IsBusyThere store context key before after = HoldsAtPoint before after [] (λ p. reply_to before (Seal (cell_in store key context)) p ≡ events.Refuses events.Busy)
 
--- other lanes were in the way
+-- Other lanes overtook the call.
 abbrev pub IsInTheWay : ContextCells → Lane → Lane → Type 0
 IsInTheWay store before after = model.IsOvertaken before.cells.limits store.tries before.view after.view
 
--- why a seal is refused: it is never refused otherwise
+-- Why a seal is refused. It is never refused for another reason.
 abbrev pub SealFails : ContextCells → ℕ → ℕ → Lane → Lane → Refusal → Type 0
 SealFails store context key before after (Busy at) = (at ≡ context) × IsBusyThere store context key before after
 SealFails store context key before after (Closed at) = ⊥
@@ -141,7 +142,7 @@ SealFails store context key before after Unplaced = ⊥
 SealFails store context key before after Memory = ⊥
 SealFails store context key before after Exhausted = ⊥
 
--- what stood in the context is kept by the seal and answered, or the seal is refused
+-- The seal keeps what stood in the context and answers it, or it is refused.
 abbrev pub SealsKey : ContextCells → ℕ → ℕ → Lane → Lane → Result (Option ℕ) Refusal → Type 0
 SealsKey store context key before after (Ok kept) = SealsCell store context key before after kept
 SealsKey store context key before after (Err why) = SealFails store context key before after why

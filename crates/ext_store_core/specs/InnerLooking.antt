@@ -1,5 +1,5 @@
--- What a look-up along a path says, for any path of the store: of a context, or of its ancestors alone.
--- Below the public contracts.
+-- What a look-up along a path promises, for the path of a context or of its ancestors alone. No public contract cites
+-- it.
 use Rattle.std.specs.Prelude.{ℕ, ◌≡◌, ◌≤◌, ◌<◌, ◌≢◌, List, [], length, All, AllPairs, map, Result, Ok, Err}
 use Rattle.ext_model.specs.declared.look.Look.{Look}
 use Rattle.ext_model.specs.History.{History}
@@ -12,19 +12,20 @@ use Rattle.ext_store_core.specs.declared.fault.Refusal.{Refusal}
 use Rattle.ext_store_core.specs.declared.fault.Refusal.TheVariants.{Contended}
 use Rattle.ext_store_core.specs.ContextCalls.{ContextCells, cell_in}
 
--- at most 16 contexts of the store, all different
+-- At most 16 contexts of the store, all different.
 pub record IsTrail (store : ContextCells) (path : List ℕ) : Type 0 where
   pub few : length path ≤ 16
   pub within : All (λ context. context < length store.tree) path
   pub different : AllPairs (λ a b. a ≢ b) path
 
--- The look-up along the path at ONE point of the call, which made no event. Where there is a context to ask, the call made a step of its own
+-- The look-up along the path at one single point of the call, which made no event. If there is a context to ask, the
+-- call made at least one step.
 pub record LooksAt (store : ContextCells) (path : List ℕ) (key : ℕ) (before after : Lane) (look : Look) : Type 0 where
   pub calls : model.Calls before.cells.limits before.view after.view []
   pub stepped : 1 ≤ length path → IsStepped before.view after.view
   pub point : (p : History) × IsAnswerPoint before.view after.view [] p × (look ≡ look_after (cell_in store key) path p)
 
--- the result of such a look-up: what was found, or other lanes were in the way
+-- The result of such a look-up: what it found, or other lanes were in the way.
 abbrev pub Looks : ContextCells → List ℕ → ℕ → Lane → Lane → Result Look Refusal → Type 0
 Looks store path key before after (Ok look) = LooksAt store path key before after look
 Looks store path key before after (Err why) =

@@ -1,11 +1,11 @@
--- What the store says of a refusal of its cells. Below the public contracts.
+-- How the store passes on a refusal of its cells. No public contract cites it.
 use Rattle.std.specs.Prelude.{ℕ}
 use Rattle.ext_cells.specs.declared.refusal.CellRefusal.{CellRefusal}
 use Rattle.ext_cells.specs.declared.refusal.CellRefusal.TheVariants as cell
 use Rattle.ext_store_core.specs.declared.fault.Refusal.{Refusal}
 use Rattle.ext_store_core.specs.declared.fault.Refusal.TheVariants.{Contended, Busy, Closed, Exhausted}
 
--- a put, a remove, a claim and a seal are refused for these alone
+-- A put, a remove, a claim and a seal are refused only for these.
 abbrev pub IsOfCell : CellRefusal → Type 0
 IsOfCell cell.Busy = Unit {0}
 IsOfCell cell.Closed = Unit {0}
@@ -15,7 +15,7 @@ IsOfCell cell.NumbersFull = ⊥
 IsOfCell cell.Memory = ⊥
 IsOfCell cell.BadLimit = ⊥
 
--- what the store says then: of an act on the context's cell; the last three do not come
+-- The store's refusal of an act on the context's cell. The last three do not come.
 abbrev pub refusal_at : ℕ → CellRefusal → Refusal
 refusal_at context cell.Busy = Busy context
 refusal_at context cell.Closed = Closed context

@@ -1,5 +1,6 @@
--- What the waiting forms say beside what their plain forms say: what they never answer, and what the waiting form of a claim may do before it answers.
--- JUnit waits for a running factory; that a compute claims its cell and gives it up before it waits is an own rule.
+-- What waiting forms promise beyond their plain forms: what they never answer, and what a waiting claim may do before
+-- it answers. JUnit waits for a running factory, too. That a compute claims its cell and gives the claim up before it
+-- waits is not from JUnit.
 use Rattle.std.specs.Prelude.{ℕ, zero, suc, ◌≡◌, Bool, not, Result, Ok, Err}
 use Rattle.ext_model.specs.declared.look.Look.{Look}
 use Rattle.ext_model.specs.declared.look.Look.TheVariants as look
@@ -11,9 +12,9 @@ use Rattle.ext_store_core.specs.declared.claim.Unused.TheVariants as unused
 use Rattle.ext_store_core.specs.ContextCalls.{ContextCells}
 use Rattle.ext_store_core.specs.Claiming.{ClaimsMissing}
 
--- ---- what is never answered
+-- ---- what a waiting form never answers
 
--- no running factory decides the look-up
+-- No running factory decides the look-up.
 abbrev pub IsDecidedLook : Look → Type 0
 IsDecidedLook (look.Found at number) = Unit {0}
 IsDecidedLook (look.Fault at number) = Unit {0}
@@ -21,7 +22,7 @@ IsDecidedLook look.Absent = Unit {0}
 IsDecidedLook (look.Busy at) = ⊥
 IsDecidedLook (look.Closed at) = Unit {0}
 
--- a look-up that a running factory decides is as one that is refused for it
+-- A look-up that a running factory decides counts as refused for it.
 abbrev pub busy_refused : Result Look Refusal → Result Look Refusal
 busy_refused (Ok (look.Found at number)) = Ok (look.Found at number)
 busy_refused (Ok (look.Fault at number)) = Ok (look.Fault at number)
@@ -30,7 +31,7 @@ busy_refused (Ok (look.Busy at)) = Err (refusal.Busy at)
 busy_refused (Ok (look.Closed at)) = Ok (look.Closed at)
 busy_refused (Err why) = Err why
 
--- the call is refused neither for a running factory nor because other lanes were in the way
+-- The call is refused neither for a running factory nor because other lanes were in the way.
 abbrev pub IsDecided : Refusal → Type 0
 IsDecided (refusal.Busy at) = ⊥
 IsDecided (refusal.Closed at) = Unit {0}
@@ -40,7 +41,7 @@ IsDecided refusal.Unplaced = Unit {0}
 IsDecided refusal.Memory = Unit {0}
 IsDecided refusal.Exhausted = Unit {0}
 
--- a factory is not called for another reason than these
+-- The reason why no factory is called is neither of these two.
 abbrev pub IsDecidedUnused : Unused → Type 0
 IsDecidedUnused (unused.Found at number) = Unit {0}
 IsDecidedUnused (unused.FaultStands at number) = Unit {0}
@@ -48,7 +49,8 @@ IsDecidedUnused (unused.Refused why) = IsDecided why
 
 -- ---- between two tries
 
--- Whether the lane has announced that it waits, after a refusal for this: one for a running factory makes it announce itself, and sleep the next time
+-- Whether the lane has announced that it waits, after a refusal for this reason. The first refusal for a running
+-- factory makes it announce itself, and the second makes it sleep.
 abbrev pub announced_after : Refusal → Bool → Bool
 announced_after (refusal.Busy at) announced = not announced
 announced_after (refusal.Closed at) announced = announced
@@ -60,24 +62,26 @@ announced_after refusal.Exhausted announced = announced
 
 -- ---- what may come before the answer of a claim that waits
 
--- An attempt in vain: the claim of a missing value was refused for a running factory, or because other lanes were in the way. What it had claimed it gave up
+-- An attempt in vain: the claim was refused for a running factory, or because other lanes were in the way, and the lane
+-- gave up what it had claimed.
 pub record VainAttempt (store : ContextCells) (context key : ℕ) (before after : LaneView) : Type 0 where
   pub why : Refusal
   pub undecided : IsDecided why → ⊥
   pub refused : ClaimsMissing store context key before after (Err (unused.Refused why))
 
--- so many of these and nothing else, each directly after the one before it
+-- `attempts` of these, one directly after the other, and nothing else.
 abbrev pub VainAttempts : ContextCells → ℕ → ℕ → ℕ → LaneView → LaneView → Type 0
 VainAttempts store context key zero before after = after ≡ before
 VainAttempts store context key (suc attempts) before after = (between : LaneView) × VainAttempts store context key attempts before between × VainAttempt store context key between after
 
--- First the call made so many attempts in vain, and then what follows is said from there
+-- The call first made some attempts in vain, and `Then` is said of the lane as it was after them.
 pub record Waits (store : ContextCells) (context key : ℕ) (before : LaneView) (Then : LaneView → Type 0) : Type 0 where
   pub attempts : ℕ
   pub between : LaneView
   pub in_vain : VainAttempts store context key attempts before between
   pub then_is : Then between
 
--- Before its last attempt the lane may have claimed the context's cell and given it up several times. The last one is the claim of a missing value
+-- Before its last attempt the lane may have claimed the context's cell and given it up several times. The last attempt
+-- is the claim of a missing value.
 abbrev pub ClaimsAfterWaits : ContextCells → ℕ → ℕ → LaneView → LaneView → Result ℕ Unused → Type 0
 ClaimsAfterWaits store context key before after result = Waits store context key before (λ between. ClaimsMissing store context key between after result)

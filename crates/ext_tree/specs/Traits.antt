@@ -1,5 +1,6 @@
--- What the traits `PartialEq`, `Eq` and `Hash` ask for beside their function: that equality is an equivalence, and that equal values are hashed
--- alike. Nothing here is to be judged: that `==` is equality of values is the clause `same` of each.
+-- What the traits `PartialEq`, `Eq` and `Hash` ask for beside their function: that equality is an equivalence, and that
+-- equal values have equal hashes. A reader has nothing to judge here: the clause `same` of each type says that `==` is
+-- equality of values.
 use Rattle.std.specs.Prelude.{Bool, ◌&&◌, ◌++◌, List}
 use Rattle.std.specs.Bool.{beq}
 use Rattle.std.specs.Str.{bytes_eq}

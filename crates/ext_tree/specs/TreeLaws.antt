@@ -1,31 +1,31 @@
--- Laws of trees and of keys, which need no call: they show that the definitions say what is meant.
+-- Laws of trees and of keys, by which a reader may judge the definitions.
 use Rattle.std.specs.Prelude.{ℕ, true, ◌≡◌, ◌≢◌, ◌<◌, ◌+◌, ◌*◌, ◌++◌, ◌⊎◌, ◌↔◌, List, length, Contains, AllPairs}
 use Rattle.ext_tree.specs.declared.fault.TreeFault.{TreeFault}
 use Rattle.ext_tree.specs.Decided.{is_tree}
 use Rattle.ext_tree.specs.Keys.{NamespaceValue, KeyValue, global_namespace, created_namespace, appended, AreDifferent, HasNumber}
 use Rattle.ext_tree.specs.Trees.{IsPathOf, IsParentOf, children_of, Id, IsTree, HasFault}
 
--- the list of ids is a tree, or it has a fault
+-- The list of ids is a tree, or it has a fault.
 abbrev pub IsTreeOrFaulty : List Id → Type 0
 IsTreeOrFaulty ids = IsTree ids ⊎ ((fault : TreeFault) × HasFault ids fault)
 
--- each list of ids is a tree or has a fault, never both, and never two faults
+-- A list of ids is a tree or has a fault, never both and never two faults.
 pub record FaultsTell : Type 0 where
   pub one_of_both : (ids : List Id) → IsTreeOrFaulty ids
   pub not_both : (ids : List Id) (fault : TreeFault) → IsTree ids → HasFault ids fault → ⊥
   pub one_fault : (ids : List Id) (fault second : TreeFault) → HasFault ids fault → HasFault ids second → fault ≡ second
 
--- the test for trees accepts the trees, and no other list
+-- The test for trees accepts exactly the trees.
 abbrev pub TestTells : Type 0
 TestTells = (ids : List Id) → (is_tree ids ≡ true) ↔ IsTree ids
 
--- a context of a tree has at most one parent, which stands before it, and at most one path
+-- A context of a tree has at most one parent, which comes before it, and at most one path.
 pub record PathsAreUnique : Type 0 where
   pub one_parent : (ids : List Id) (p q context : ℕ) → IsTree ids → IsParentOf ids p context → IsParentOf ids q context → p ≡ q
   pub before : (ids : List Id) (p context : ℕ) → IsTree ids → IsParentOf ids p context → p < context
   pub one_path : (ids : List Id) (context : ℕ) (path second : List ℕ) → IsTree ids → IsPathOf ids context path → IsPathOf ids context second → path ≡ second
 
--- the children of a context are the contexts whose parent it is, each once, in order
+-- The children of a context are the contexts whose parent it is, each once and in order.
 pub record ChildrenAreListed (ids : List Id) (context : ℕ) : Type 0 where
   pub child : (k : ℕ) → Contains (children_of ids context) k → IsParentOf ids context k
   pub listed : (k : ℕ) → IsParentOf ids context k → Contains (children_of ids context) k
@@ -34,16 +34,16 @@ pub record ChildrenAreListed (ids : List Id) (context : ℕ) : Type 0 where
 abbrev pub ParentsListChildren : Type 0
 ParentsListChildren = (ids : List Id) (context : ℕ) → context < length ids → ChildrenAreListed ids context
 
--- a key has at most one number, and a number at most one key
+-- A key has at most one number, and a number at most one key.
 pub record NumbersTell : Type 0 where
   pub one_number : (keys : List KeyValue) (key : KeyValue) (number second : ℕ) → AreDifferent keys → HasNumber keys key number → HasNumber keys key second → number ≡ second
   pub one_key : (keys : List KeyValue) (key other : KeyValue) (number : ℕ) → HasNumber keys key number → HasNumber keys other number → key ≡ other
 
--- the cell tells the context and the key, for any number of keys
+-- A cell determines its context and key, for any number of keys.
 abbrev pub CellsTell : Type 0
 CellsTell = (keys context key context' key' : ℕ) → key < keys → key' < keys → context * keys + key ≡ context' * keys + key' → (context ≡ context') × (key ≡ key')
 
--- parts may be given at once or one after the other, and the global namespace is no created one
+-- Parts may be given at once or one after the other. The global namespace with parts is never equal to a created one.
 pub record NamespacesTell : Type 0 where
   pub step_by_step : (namespace : NamespaceValue) (first second : List (List ℕ)) → appended (appended namespace first) second ≡ appended namespace (first ++ second)
   pub created : (first second : List (List ℕ)) → appended (created_namespace first) second ≡ created_namespace (first ++ second)

@@ -1,21 +1,21 @@
--- Laws of what is known, which need no call: they show that the definitions say what is meant.
+-- Laws of what lanes know, by which a reader may judge the definitions.
 use Rattle.std.specs.Prelude.{ℕ, ◌≡◌, List, Some, None}
 use Rattle.ext_values.specs.Places.{IsNumber}
 use Rattle.ext_values.specs.Known.{Known, AreNotesOf, Learns, known_at, nothing_known, places_of}
 
--- notes of places of which nothing is known are notes of these places, and know no number
+-- A lane that starts with these places knows them, but no value.
 pub record NothingIsKnown (V : Type 0) : Type 0 where
   pub places : (places : List ℕ) → AreNotesOf places (nothing_known {V = V} places)
   pub values : (places : List ℕ) (number : ℕ) → known_at (nothing_known {V = V} places) number ≡ None
 
--- a number whose value is known is one of the places
+-- A number whose value is known has one of the places.
 abbrev pub KnownNumbersAreNumbers : Type 0 → Type 0
 KnownNumbersAreNumbers V = (notes : List (Known V)) (number : ℕ) (value : V) → known_at notes number ≡ Some value → IsNumber (places_of notes) number
 
--- notes are told by their places and by what is known of each number
+-- Notes are determined by their places and by what is known of each number.
 abbrev pub NotesTell : Type 0 → Type 0
 NotesTell V = (notes second : List (Known V)) → places_of notes ≡ places_of second → ((number : ℕ) → known_at notes number ≡ known_at second number) → notes ≡ second
 
--- what is known after a value was learnt is told by what was known before
+-- What is known after a value was learnt is determined by what was known before.
 abbrev pub LearningTells : Type 0 → Type 0
 LearningTells V = (before after second : List (Known V)) (number : ℕ) (value : V) → Learns before after number value → Learns before second number value → after ≡ second

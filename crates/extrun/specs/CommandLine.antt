@@ -1,5 +1,6 @@
--- The command line, as its parser reads it: the commands of the program, and the words, options and flags that each takes. What the parser makes of words is `subcommand_of` of
--- clap's specs: the command that they name, and under the name of each option its texts. Own rule.
+-- The command line as its parser reads it: the program's commands, and the words, options and flags that each takes.
+-- `subcommand_of` of clap's specs says what the parser makes of words: the command that they name, and the texts under
+-- the name of each option.
 use Rattle.std.specs.Prelude.{◌≡◌, ◌≢◌, ◌⊎◌, codes, List, [], ◌∷◌, map, Some, pos, true, false}
 use Rattle.clap.specs.Words.{App, Rule, Shape, Text, new_app, new_rule, subcommand_of, takes}
 use Rattle.std.specs.Borrow.{Bor}
@@ -12,7 +13,7 @@ use Rattle.extrun.specs.declared.command.Request.TheVariants as requests
 
 -- ---- what a command takes
 
--- a word that stands alone
+-- A positional word.
 abbrev pub word : Text → Rule
 word name = record (new_rule name) { action = Some Set }
 
@@ -20,7 +21,7 @@ word name = record (new_rule name) { action = Some Set }
 abbrev pub flag : Text → Rule
 flag name = record (new_rule name) { long = Some name; action = Some SetTrue }
 
--- `--name VALUE`, and the value where it does not stand
+-- `--name VALUE`, with a default.
 abbrev pub option : Text → ValueParser → Text → Rule
 option name value default = record (new_rule name) {
   long = Some name;
@@ -30,7 +31,7 @@ option name value default = record (new_rule name) {
   defaults = default ∷ [];
 }
 
--- a value that is one of these texts
+-- A value that is one of these texts.
 abbrev pub IsOneOf : ValueParser → List Text → Type 0
 IsOneOf value names = (given : Bor (List (Bor Text))) × (value ≡ values.Names given) × (map (λ name. name.now) given.now ≡ names)
 
@@ -42,21 +43,21 @@ plan_file = word (codes "FILE")
 abbrev pub lanes : Rule
 lanes = option (codes "lanes") (values.Signed (pos 1) (pos 16)) (codes "4")
 
--- `--tree` of a run, beside which `--report` may not stand
+-- `--tree` of a run, which excludes `--report`.
 abbrev pub tree : Rule
 tree = record (flag (codes "tree")) { is_free = false }
 
--- a command of this name, and what it takes
+-- A command with this name, and what it takes.
 abbrev pub command : Text → List Rule → Shape
 command name rules = record (new_app name).top { rules = rules }
 
--- `run`, where a store and a form of the report are such values
+-- `run`, with these values for the store and for the form of the report.
 abbrev pub run_of : ValueParser → ValueParser → Shape
 run_of store form = command (codes "run")
     (plan_file ∷ lanes ∷ option (codes "store") store (codes "cells") ∷ option (codes "report") form (codes "text") ∷ tree
     ∷ flag (codes "progress") ∷ flag (codes "failures") ∷ flag (codes "explain") ∷ [])
 
--- such a shape
+-- The shape of `run`: its stores are `plain` and `cells`, its forms `text` and `json`.
 pub record IsRun (shape : Shape) : Type 0 where
   pub store : ValueParser
   pub form : ValueParser
@@ -70,11 +71,11 @@ check = command (codes "check") (plan_file ∷ flag (codes "tree") ∷ flag (cod
 abbrev pub id : Shape
 id = command (codes "id") (record (word (codes "TEXT")) { required = true } ∷ flag (codes "explain") ∷ [])
 
--- the program itself, which has a version
+-- The program itself, which has a version.
 abbrev pub program : Shape
 program = record (new_app (codes "extrun")).top { has_version = true; is_leaf = false }
 
--- the program with its commands
+-- The program with its commands.
 pub record IsCommandLine (line : App) : Type 0 where
   pub run : Shape
   pub is_run : IsRun run
@@ -82,7 +83,7 @@ pub record IsCommandLine (line : App) : Type 0 where
 
 -- ---- what words ask for
 
--- nothing more: the help or the version was printed, or could not be, or what is wrong was
+-- Nothing is left to do: the help or the version was printed, or could not be, or a mistake was reported.
 abbrev pub AsksNothing : Request → Type 0
 AsksNothing (requests.Plan _ _ _) = ⊥
 AsksNothing (requests.Id _ _) = ⊥
@@ -91,8 +92,9 @@ AsksNothing requests.Refused = Unit {0}
 AsksNothing requests.Unwritten = Unit {0}
 AsksNothing requests.Memory = ⊥
 
--- What these words ask for, of which the first is the program's own name: what the command asks for that the parser makes of them. Nothing more is asked by words alone that the parser does not
--- take, as far as it is known which it takes: `takes` says so of each command but `run`
+-- What these words ask for, of which the first is the program's own name. The parser makes a command of them, and the
+-- request is what that command asks for. Nothing is left to do only for words that the parser does not take; `takes`
+-- decides that for each command except `run`.
 pub record AsksBy (words : List Text) (request : Request) : Type 0 where
   pub line : App
   pub line_is : IsCommandLine line

@@ -1,4 +1,5 @@
--- What the words of a command line ask for, by the rows that clap found: under the name of each option its texts. Texts are lists of bytes. Own rule.
+-- What the words of a command line ask for, by the rows that clap found: the texts under the name of each option. Texts
+-- are lists of bytes.
 use Rattle.std.specs.Prelude.{◌≡◌, ◌≢◌, ◌↔◌, ◌<◌, ℕ, Bool, true, false, codes, List, [], Option, Some, None, IsTrue, if◌then◌else◌, option_map, string_bytes, unwrap_or}
 use Rattle.std.specs.Str.Parse.{IsNumeral, digits_value, without_leading_plus}
 use Rattle.clap.specs.Walk.{Row, first_of, one_of}
@@ -10,22 +11,22 @@ use Rattle.extrun.specs.declared.command.Request.TheVariants as requests
 use Rattle.extrun.specs.declared.command.Task.{Task}
 use Rattle.extrun.specs.declared.command.Task.TheVariants as tasks
 
--- so many lanes: the number that the text after `--lanes` spells; 4 where there is none
+-- The number that the text after `--lanes` spells, or 4 if there is none.
 pub record IsLaneCount (text : Option (List ℕ)) (lanes : ℕ) : Type 0 where
   pub none : text ≡ None → lanes ≡ 4
   pub value : (t : List ℕ) → text ≡ Some t → IsNumeral 10 (without_leading_plus t) → digits_value 10 (without_leading_plus t) < 256 → lanes ≡ digits_value 10 (without_leading_plus t)
 
--- a flag, which is set where its text is `true`
+-- A flag, which is set if its text is `true`.
 pub record IsFlag (text : Option (List ℕ)) (flag : Bool) : Type 0 where
   pub none : text ≡ None → flag ≡ false
   pub set : text ≡ Some (codes "true") → flag ≡ true
   pub unset : text ≡ Some (codes "false") → flag ≡ false
 
--- how a report is written
 abbrev pub form_of : Bool → Bool → ReportForm
 form_of tree json = if tree then forms.Tree else if json then forms.Json else forms.Text
 
--- in this form: as a tree where the flag `--tree` is set, and else in JSON where the text after `--report` is `json`
+-- The form of the report: a tree if `--tree` is set, otherwise JSON if the text after `--report` is `json`, otherwise
+-- text.
 pub record IsForm (rows : List Row) (form : ReportForm) : Type 0 where
   pub tree : Bool
   pub json : Bool
@@ -33,7 +34,8 @@ pub record IsForm (rows : List Row) (form : ReportForm) : Type 0 where
   pub by_lines : IsTrue json ↔ (first_of (codes "report") rows ≡ Some (codes "json"))
   pub form_is : form ≡ form_of tree json
 
--- a run on so many lanes, or a plain run where the text after `--store` is `plain`; its report in such a form; told of or not, and its faults once more or not
+-- A run on some number of lanes, or a plain run if the text after `--store` is `plain`; the form of its report; whether
+-- its progress is shown; and whether its faults are listed once more.
 pub record AsksRunBy (rows : List Row) (options : Options) (progress failures : Bool) : Type 0 where
   pub lanes : IsLaneCount (one_of (codes "lanes") rows) options.lanes
   pub plain : IsTrue options.plain ↔ (first_of (codes "store") rows ≡ Some (codes "plain"))
@@ -47,11 +49,11 @@ AsksRun rows tasks.Check = ⊥
 AsksRun rows tasks.Draw = ⊥
 AsksRun rows tasks.CheckRaces = ⊥
 
--- to tell a plan's races, or else to draw it, or else to check it
+-- What `check` does by its two flags: list the plan's races, draw it, or check it.
 abbrev pub check_as : Bool → Bool → Task
 check_as races tree = if races then tasks.CheckRaces else if tree then tasks.Draw else tasks.Check
 
--- to tell the plan's races where the flag `--races` is set, or else to draw it where `--tree` is set, or else to check it
+-- To list the plan's races if `--races` is set, otherwise to draw it if `--tree` is set, otherwise to check it.
 pub record AsksCheck (rows : List Row) (task : Task) : Type 0 where
   pub races : Bool
   pub tree : Bool
@@ -59,7 +61,7 @@ pub record AsksCheck (rows : List Row) (task : Task) : Type 0 where
   pub drawn : IsFlag (one_of (codes "tree") rows) tree
   pub task_is : task ≡ check_as races tree
 
--- to do such a thing with the plan of the file that is named, or of standard input, explained or not
+-- To do such a task with the plan of the named file, or of standard input, explained or not.
 abbrev pub AsksOfPlan : List Row → (Task → Type 0) → Request → Type 0
 AsksOfPlan rows asks (requests.Plan task file explain) = asks task × (option_map string_bytes file ≡ first_of (codes "FILE") rows) × IsFlag (one_of (codes "explain") rows) explain
 AsksOfPlan rows asks (requests.Id text explain) = ⊥
@@ -68,7 +70,7 @@ AsksOfPlan rows asks requests.Refused = ⊥
 AsksOfPlan rows asks requests.Unwritten = ⊥
 AsksOfPlan rows asks requests.Memory = ⊥
 
--- to read this id, explained or not
+-- To read this id, explained or not.
 abbrev pub AsksId : List Row → Request → Type 0
 AsksId rows (requests.Plan task file explain) = ⊥
 AsksId rows (requests.Id text explain) = (string_bytes text ≡ unwrap_or (first_of (codes "TEXT") rows) []) × IsFlag (one_of (codes "explain") rows) explain
@@ -77,13 +79,13 @@ AsksId rows requests.Refused = ⊥
 AsksId rows requests.Unwritten = ⊥
 AsksId rows requests.Memory = ⊥
 
--- what a command of this name asks for
+-- What a command with this name asks for.
 pub record AsksCommand (name : List ℕ) (rows : List Row) (request : Request) : Type 0 where
   pub id : name ≡ codes "id" → AsksId rows request
   pub check : name ≡ codes "check" → AsksOfPlan rows (AsksCheck rows) request
   pub run : name ≢ codes "id" → name ≢ codes "check" → AsksOfPlan rows (AsksRun rows) request
 
--- and no command: a run on four lanes, over the store for several threads
+-- Without a command: a run on four lanes, over the store for several threads.
 abbrev pub AsksFor : Option (List ℕ × List Row) → Request → Type 0
 AsksFor None request = request ≡ requests.Plan (tasks.Run (record { lanes = 4; plain = false; form = forms.Text }) false false) None false
 AsksFor (Some command) request = AsksCommand command.0 command.1 request

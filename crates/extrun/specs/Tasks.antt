@@ -1,4 +1,4 @@
--- What is left where a plan was run or checked, as a command line asks for. Texts are lists of bytes. Own rule.
+-- What was done once a plan was run or checked, as a command line asks for. Texts are lists of bytes.
 use Rattle.std.specs.Prelude.{◌≤◌, ℕ, List}
 use Rattle.ext_run.specs.Reports.{RefusedAs, Reports, plan_of_input}
 use Rattle.ext_run.specs.declared.fault.RunFault.{RunFault}
@@ -9,17 +9,18 @@ use Rattle.ext_run.specs.declared.options.Summary.{Summary}
 use Rattle.extrun.specs.declared.command.Task.{Task}
 use Rattle.extrun.specs.declared.command.Task.TheVariants as tasks
 
--- so many lanes as a command line may ask for
+-- A number of lanes that a command line may ask for.
 pub record AsksLanes (options : Options) : Type 0 where
   pub some : 1 ≤ options.lanes
   pub few : options.lanes ≤ 16
 
--- the report of a run of the plan of this input was written, run with just these options
+-- The plan of this input was run with exactly these options, and its report written.
 abbrev pub IsReported : Options → List ℕ → Summary → (List ℕ → Type 0) → Type 0
 IsReported options input summary Written =
     (report : List ℕ) × Reports options (plan_of_input input) (record { report = report; failed = summary.failed; lacked = summary.lacked }) × Written report
 
--- The task was done with the plan of this input: its report was written, run with just these options; or the line of its counts; or its drawing; or its races, of which the summary says whether there is one
+-- The task was done with the plan of this input. What was written is the report of a run with exactly these options,
+-- the line of the plan's counts, its drawing, or its races; then the summary says whether there is one.
 abbrev pub IsDone : Task → List ℕ → Summary → (List ℕ → Type 0) → Type 0
 IsDone (tasks.Run options progress failures) input summary Written =
     AsksLanes options → IsReported options input summary Written
@@ -27,11 +28,12 @@ IsDone tasks.Check input summary Written = (line : List ℕ) × IsCountsOf (plan
 IsDone tasks.Draw input summary Written = (text : List ℕ) × IsTextOf drawing_of (plan_of_input input) text × Written text
 IsDone tasks.CheckRaces input summary Written = (text : List ℕ) × IsRacesOf (plan_of_input input) text summary.failed × Written text
 
--- why a run with just these options has no report: too long an input, a refused plan or a refused run is told as such, and no other
+-- Why a run with exactly these options has no report. An input that is too long, a refused plan and a refused run are
+-- reported as such, and nothing else is.
 abbrev pub IsRefused : Options → List ℕ → RunFault → Type 0
 IsRefused options input fault = RefusedAs options fault (plan_of_input input)
 
--- The task was not done with the plan of this input: it is refused as the call of `ext_run` is
+-- The task was not done with the plan of this input, which is refused as by the call of `ext_run`.
 abbrev pub IsUndone : Task → List ℕ → RunFault → Type 0
 IsUndone (tasks.Run options progress failures) input fault = AsksLanes options → IsRefused options input fault
 IsUndone tasks.Check input fault = RefusedUnrun fault (plan_of_input input)
