@@ -17,7 +17,9 @@ use Rattle.ext_lifecycle.specs.declared.outcome.Verdict.TheVariants as verdicts
 use Rattle.ext_lifecycle.specs.Endings.{successful, aborted, failed, is_successful}
 use Rattle.ext_lifecycle.specs.FaultTexts.{VerdictText, verdict_text}
 use Rattle.ext_lifecycle.specs.Lifecycle.{ending_of}
-use Rattle.ext_plan.specs.Plans.{KeyText, PlanText, StepText, put, put_closeable, want, nothing, remove, compute, compute_closeable, compute_fail, fail, abort}
+use Rattle.ext_plan.specs.declared.word.Word.{Word}
+use Rattle.ext_plan.specs.declared.word.Word.TheVariants as words
+use Rattle.ext_plan.specs.Plans.{KeyText, PlanText, StepText, keyed, fail, abort}
 use Rattle.ext_plan.specs.StepCalls.{label_of, start_of}
 use Rattle.ext_plan.specs.Steps.{height, step_key}
 use Rattle.ext_plan.specs.StoreKeys.{key_of_step}
@@ -38,7 +40,7 @@ use Rattle.ext_parallel.specs.StoreCalls.{HasFrame, PlanLane}
 use Rattle.ext_parallel.specs.StoreSteps.{StepRun, StepsRun}
 use Rattle.ext_parallel.specs.PlanSuites.{RunsCall}
 use Rattle.ext_one_report.proofs.MatchingWords.{RunView, IsRunView, Places, Matches, IsNumbered}
-use Rattle.ext_one_report.proofs.StepsWords.{EndAlike, IsAlone, IsLaneIn}
+use Rattle.ext_one_report.proofs.StepsWords.{EndAlike, IsAlone, IsLaneIn, WordEndsAlike}
 use Rattle.ext_one_report.specs.FullRuns.{FindsAll, StepFinds, name_of}
 use Rattle.ext_one_report.proofs.CallsWords.{AreComparedAll, StepHasRoom, StepWithin}
 use Rattle.ext_one_report.proofs.NodesAlone.{alone_first, alone_later}
@@ -46,6 +48,7 @@ use Rattle.ext_one_report.proofs.StepLooks.{wants_end_alike, nones_end_alike}
 use Rattle.ext_one_report.proofs.Changes.{removes_end_alike, puts_end_alike, closeable_puts_end_alike, fails_end_alike, aborts_end_alike}
 use Rattle.ext_one_report.proofs.Computes.{values_end_alike, closeable_values_end_alike}
 use Rattle.ext_one_report.proofs.FailComputes.{failures_end_alike}
+use Rattle.ext_one_report.proofs.WordCases.{finds_none}
 
 -- ---- one step of any form
 
@@ -63,27 +66,24 @@ path_above ids (first ∷ walk) node zero is within = (refl, subst (λ c. IsWalk
 path_above ids (first ∷ []) node (suc up) is within = absurd (omega (arith, within))
 path_above ids (first ∷ parent ∷ rest) node (suc up) is within = path_above ids (parent ∷ rest) parent up (refl, is.1.1) (omega (arith, within))
 
+word_alike : (word : Word) → WordEndsAlike word
+word_alike words.Put = puts_end_alike
+word_alike words.PutCloseable = closeable_puts_end_alike
+word_alike words.Want = wants_end_alike
+word_alike words.None = nones_end_alike
+word_alike words.Remove = removes_end_alike
+word_alike words.Compute = values_end_alike
+word_alike words.ComputeCloseable = closeable_values_end_alike
+word_alike words.ComputeFail = failures_end_alike
+
 module _ (run : RunView) (keys : List KeyText) (path : List ℕ) (places : Places) (a : PlanLane) (o : Outcome) (b : PlanLane) (s : ValueState)
     (view : IsRunView run) (lane : IsLaneIn run b) (tree : IsTree run.store.tree) (alone : IsAlone run places a.cells.view b.cells.view)
     (keeps : a.cells.cells.limits.keep_faults ≡ s.keep_faults) (matches : Matches run places (seen_by a.cells.view) s) (numbered : IsNumbered places s) where
   step_alike : (step : StepText) → StepOnPath run.store path step → StepWithin keys path places step → StepFinds keys o step → StepHasRoom keys step s
       → StepRun run.store keys path step a o b → EndAlike run places o b (step_run keys path step s)
-  step_alike (put key text up) on within finds room ran = puts_end_alike key text up run keys path places a o b s within
-      (record { view = view; lane = lane; tree = tree; path_is = on; alone = alone; finds = finds.1; room = room; keeps = keeps; matches = matches; numbered = numbered }) ran
-  step_alike (put_closeable key text up) on within finds room ran = closeable_puts_end_alike key text up run keys path places a o b s within
-      (record { view = view; lane = lane; tree = tree; path_is = on; alone = alone; finds = finds.1; room = room; keeps = keeps; matches = matches; numbered = numbered }) ran
-  step_alike (want key text up) on within finds room ran = wants_end_alike key text up run keys path places a o b s within
-      (record { view = view; lane = lane; tree = tree; path_is = on; alone = alone; finds = finds.1; room = room; keeps = keeps; matches = matches; numbered = numbered }) ran
-  step_alike (nothing key up) on within finds room ran = nones_end_alike key up run keys path places a o b s within
-      (record { view = view; lane = lane; tree = tree; path_is = on; alone = alone; finds = finds.1; room = room; keeps = keeps; matches = matches; numbered = numbered }) ran
-  step_alike (remove key up) on within finds room ran = removes_end_alike key up run keys path places a o b s within
-      (record { view = view; lane = lane; tree = tree; path_is = on; alone = alone; finds = finds.1; room = room; keeps = keeps; matches = matches; numbered = numbered }) ran
-  step_alike (compute key text up) on within finds room ran = values_end_alike key text up run keys path places a o b s within
-      (record { view = view; lane = lane; tree = tree; path_is = on; alone = alone; finds = finds.1; room = room; keeps = keeps; matches = matches; numbered = numbered }) ran
-  step_alike (compute_closeable key text up) on within finds room ran = closeable_values_end_alike key text up run keys path places a o b s within
-      (record { view = view; lane = lane; tree = tree; path_is = on; alone = alone; finds = finds.1; room = room; keeps = keeps; matches = matches; numbered = numbered }) ran
-  step_alike (compute_fail key text up) on within finds room ran = failures_end_alike key text up run keys path places a o b s within
-      (record { view = view; lane = lane; tree = tree; path_is = on; alone = alone; finds = finds.1; room = room; keeps = keeps; matches = matches; numbered = numbered }) ran
+  step_alike (keyed word key text up) on within finds room (inl does) = word_alike word key text up run keys path places a o b s within
+      (record { view = view; lane = lane; tree = tree; path_is = on; alone = alone; finds = finds.1; room = room; keeps = keeps; matches = matches; numbered = numbered }) does
+  step_alike (keyed word key text up) on within finds room (inr lacks) = absurd (finds.0 (finds_none keys word key a o b lacks).ends.0)
   step_alike (fail text) on within finds room ran = fails_end_alike text run keys path places a o b s finds.0 matches numbered ran
   step_alike (abort text) on within finds room ran = aborts_end_alike text run keys path places a o b s finds.0 matches numbered ran
 

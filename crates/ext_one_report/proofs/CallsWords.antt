@@ -7,9 +7,10 @@ use Rattle.ext_history.specs.Histories.{seen_by}
 use Rattle.ext_tree.specs.Trees.{IsTree, IsPathOf}
 use Rattle.ext_lifecycle.specs.declared.outcome.Outcome.{Outcome}
 use Rattle.ext_lifecycle.specs.Endings.{is_successful}
-use Rattle.ext_plan.specs.Plans.{KeyText, StepText, put, put_closeable, want, nothing, remove, compute, compute_closeable, compute_fail, fail, abort}
+use Rattle.ext_plan.specs.Plans.{KeyText, StepText, keyed, fail, abort}
 use Rattle.ext_plan.specs.StepCalls.{start_of}
 use Rattle.ext_plan.specs.Steps.{step_key}
+use Rattle.ext_plan.specs.StepWords.{looks_along}
 use Rattle.ext_plan.specs.ReadPlans.{StayOnPath}
 use Rattle.ext_plan.specs.StoreKeys.{key_of_step}
 use Rattle.ext_store.specs.Stores.{IsLaneOf}
@@ -17,20 +18,13 @@ use Rattle.ext_plain.specs.ValueStates.{ValueState}
 use Rattle.ext_plain.specs.StepRuns.{step_run}
 use Rattle.ext_parallel.specs.StoreCalls.{PlanLane}
 use Rattle.ext_one_report.proofs.MatchingWords.{RunView, IsRunView, Places, Matches, IsNumbered}
-use Rattle.ext_one_report.proofs.StepsWords.{ActsWithin, HasRoom, IsAlone, IsLaneIn, LooksWithin}
+use Rattle.ext_one_report.proofs.StepsWords.{HasRoom, IsAlone, IsLaneIn, TouchesWithin}
 
 -- ---- one step of any form
 
 -- What it touches is among the places: the place of its context, and where it looks up those of the contexts above too
 abbrev pub StepWithin : List KeyText → List ℕ → Places → StepText → Type 0
-StepWithin keys path places (put key text up) = ActsWithin keys path places key up
-StepWithin keys path places (put_closeable key text up) = ActsWithin keys path places key up
-StepWithin keys path places (want key text up) = LooksWithin keys path places key up
-StepWithin keys path places (nothing key up) = LooksWithin keys path places key up
-StepWithin keys path places (remove key up) = ActsWithin keys path places key up
-StepWithin keys path places (compute key text up) = LooksWithin keys path places key up
-StepWithin keys path places (compute_closeable key text up) = LooksWithin keys path places key up
-StepWithin keys path places (compute_fail key text up) = LooksWithin keys path places key up
+StepWithin keys path places (keyed word key text up) = TouchesWithin (looks_along word) keys path places key up
 StepWithin keys path places (fail text) = Unit {0}
 StepWithin keys path places (abort text) = Unit {0}
 

@@ -7,7 +7,7 @@ use Rattle.ext_model.specs.declared.event.Act.{Act}
 use Rattle.ext_model.specs.declared.event.Act.TheVariants.{Keep, Put, Remove}
 use Rattle.ext_model.specs.declared.slot.Slot.{Slot}
 use Rattle.ext_model.specs.Events as events
-use Rattle.ext_model.specs.Events.{Reply, Happens, Answers, Refuses, put_reply, remove_reply, place_of, is_worn}
+use Rattle.ext_model.specs.Events.{Reply, Happens, Answers, Refuses, put_reply, remove_reply, is_worn}
 use Rattle.ext_model.specs.State.{State}
 use Rattle.ext_model.specs.History.{History, by, state_after, version_of}
 use Rattle.ext_model.specs.Plain.{Place, any_lane, state_by}
@@ -20,8 +20,9 @@ use Rattle.ext_lifecycle.specs.declared.outcome.Outcome.{Outcome}
 use Rattle.ext_lifecycle.specs.Endings.{successful, aborted, failed}
 use Rattle.ext_lifecycle.specs.FaultTexts.{VerdictText}
 use Rattle.ext_plan.specs.declared.reason.Reason.TheVariants as reasons
-use Rattle.ext_plan.specs.Plans.{KeyText, StepKeyText, put, put_closeable, remove, fail, abort}
-use Rattle.ext_plan.specs.StepCalls.{label_of, start_of}
+use Rattle.ext_plan.specs.declared.word.Word.TheVariants as words
+use Rattle.ext_plan.specs.Plans.{KeyText, StepKeyText, fail, abort}
+use Rattle.ext_plan.specs.StepCalls.{call_of, label_of, start_of}
 use Rattle.ext_plan.specs.StoreKeys.{is_there, key_of_step, place_of_key}
 use Rattle.ext_plan.specs.Values.{ValueText}
 use Rattle.ext_plan.specs.Verdicts.{refused, unless_refused}
@@ -37,10 +38,10 @@ use Rattle.ext_plain.specs.ValueStates.{ValueState, enough, keep_value, reply_to
 use Rattle.ext_plain.specs.StepRuns.{StepEnd, act_ends, ended, kept_or_refused, numbered_by, put_by, put_in, remove_numbered}
 use Rattle.ext_parallel.specs.Saying.{Ends, EndsUnkept, no_memory}
 use Rattle.ext_parallel.specs.StoreCalls.{PlanLane, EndsChange, EndsPut, StoresThere}
-use Rattle.ext_parallel.specs.StoreSteps.{PutsKept, StepPuts, call_of}
+use Rattle.ext_parallel.specs.StoreSteps.{PutsKept, StepPuts}
 use Rattle.ext_one_report.proofs.StandingsWords.{Meaning, Standing, nothing, value, fault, sealed, AreMatched, puts, removes, of_value}
 use Rattle.ext_one_report.proofs.MatchingWords.{RunView, IsRunView, HasNumberIn, Places, Matches, IsNumbered, cell_of, plain_meaning, AreEqualEvents, after_event}
-use Rattle.ext_one_report.proofs.StepsWords.{IsAlone, AreCompared, ActsWithin, EndAlike, StepEndsAlike, EndsAnywhere}
+use Rattle.ext_one_report.proofs.StepsWords.{IsAlone, AreCompared, ActsWithin, EndAlike, WordEndsAlike, EndsAnywhere}
 use Rattle.ext_one_report.specs.FullRuns.{FindsAll}
 use Rattle.ext_one_report.proofs.Standings.{Holds, holds}
 use Rattle.ext_one_report.proofs.Matching.{plain_there, equal_events_keep_matches, equal_events_keep_numbered, values_keep_matches, values_keep_numbered, draw_happens, kept_drawn, value_last}
@@ -216,11 +217,10 @@ put_calls store context key number a b result made decided = (made.replied decid
 
 -- ---- the steps
 
-pub removes_end_alike : (key : StepKeyText) (up : ℕ) → StepEndsAlike (codes "remove") key up ActsWithin (remove key up)
-removes_end_alike key up run keys path places a o b s within both (inr (made, none)) = absurd (both.finds.memory none.ends.0)
-removes_end_alike key up run keys path places a o b s within both (inl (inr (why, refused_key, (same, ends)))) =
+pub removes_end_alike : WordEndsAlike words.Remove
+removes_end_alike key text up run keys path places a o b s within both (inr (why, refused_key, (same, ends))) =
     absurd (key_found (codes "remove") (label_of keys key) o a b (key_of_step keys key) why both.finds refused_key ends)
-removes_end_alike key up run keys path places a o b s within both (inl (inl (number, has, made))) =
+removes_end_alike key text up run keys path places a o b s within both (inl (number, has, made)) =
     let label = label_of keys key in
     let name_of = key_of_step keys key in
     let it : IsNamed places name_of s = named places name_of s both.room.keys both.numbered in
@@ -287,13 +287,11 @@ module _ (run : RunView) (keys : List KeyText) (path : List ℕ) (places : Place
     | inr (why, refused_key, (same, ends)) ↦ absurd (key_found name (label_of keys key) o made.between b (key_of_step keys key) why both.finds refused_key ends)
   ]
 
-pub puts_end_alike : (key : StepKeyText) (text : List ℕ) (up : ℕ) → StepEndsAlike (codes "put") key up ActsWithin (put key text up)
-puts_end_alike key text up run keys path places a o b s within both (inr (made, none)) = absurd (both.finds.memory none.ends.0)
-puts_end_alike key text up run keys path places a o b s within both (inl made) = put_ends_alike run keys path places (codes "put") key up (record { text = text; closeable = false }) a o b s within both made
+pub puts_end_alike : WordEndsAlike words.Put
+puts_end_alike key text up run keys path places a o b s within both made = put_ends_alike run keys path places (codes "put") key up (record { text = text; closeable = false }) a o b s within both made
 
-pub closeable_puts_end_alike : (key : StepKeyText) (text : List ℕ) (up : ℕ) → StepEndsAlike (codes "put!") key up ActsWithin (put_closeable key text up)
-closeable_puts_end_alike key text up run keys path places a o b s within both (inr (made, none)) = absurd (both.finds.memory none.ends.0)
-closeable_puts_end_alike key text up run keys path places a o b s within both (inl made) = put_ends_alike run keys path places (codes "put!") key up (record { text = text; closeable = true }) a o b s within both made
+pub closeable_puts_end_alike : WordEndsAlike words.PutCloseable
+closeable_puts_end_alike key text up run keys path places a o b s within both made = put_ends_alike run keys path places (codes "put!") key up (record { text = text; closeable = true }) a o b s within both made
 
 -- ---- steps that touch nothing
 

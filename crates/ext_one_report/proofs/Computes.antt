@@ -25,8 +25,9 @@ use Rattle.ext_values.specs.Known.{known_at}
 use Rattle.ext_lifecycle.specs.declared.outcome.Outcome.{Outcome}
 use Rattle.ext_lifecycle.specs.Endings.{successful}
 use Rattle.ext_plan.specs.declared.reason.Reason.TheVariants as reasons
-use Rattle.ext_plan.specs.Plans.{KeyText, StepKeyText, compute, compute_closeable}
-use Rattle.ext_plan.specs.StepCalls.{label_of, start_of}
+use Rattle.ext_plan.specs.declared.word.Word.TheVariants as words
+use Rattle.ext_plan.specs.Plans.{KeyText, StepKeyText}
+use Rattle.ext_plan.specs.StepCalls.{call_of, label_of, start_of}
 use Rattle.ext_plan.specs.StoreKeys.{is_there, key_of_step, place_of_key}
 use Rattle.ext_plan.specs.Values.{ValueText}
 use Rattle.ext_plan.specs.Verdicts.{SeenText, refused, none_verdict}
@@ -42,15 +43,15 @@ use Rattle.ext_store.specs.Stores.{context_cells}
 use Rattle.ext_store.specs.Computing.{ComputesFrom, Fills, Uses, Computes, IsRefused, Meets, given_up_events}
 use Rattle.ext_store.specs.Waiting.{ComputesAfterWaits, IsDecided}
 use Rattle.ext_plain.specs.ValueStates.{ValueState, enough, run_numbers, value_of}
-use Rattle.ext_plain.specs.StepRuns.{StepEnd, ended, compute_looked, compute_numbered, factory_gave, found_along, keyed_by}
+use Rattle.ext_plain.specs.StepRuns.{StepEnd, ended, compute_looked, compute_numbered, factory_gave, found_along, numbered_by}
 use Rattle.ext_parallel.specs.declared.steps.stored_value.StoredValue.{StoredValue}
 use Rattle.ext_parallel.specs.Saying.{Ends, EndsRefused, EndsUnkept}
 use Rattle.ext_parallel.specs.StoreCalls.{PlanLane, ComputesValue, EndsCompute, Shows, stored_view}
-use Rattle.ext_parallel.specs.StoreSteps.{StepComputes, call_of}
+use Rattle.ext_parallel.specs.StoreSteps.{StepComputes}
 use Rattle.ext_one_report.specs.Changing.{events_at}
 use Rattle.ext_one_report.proofs.StandingsWords.{Meaning, Shown, absent, found, met, closed, value_shown, fault_shown, shown_of, ShowTheSame, nothing, value, standing_of, value_stands}
 use Rattle.ext_one_report.proofs.MatchingWords.{RunView, IsRunView, HasNumberIn, Places, Matches, IsNumbered, cell_of, plain_meaning, plain_slot, text_of}
-use Rattle.ext_one_report.proofs.StepsWords.{IsAlone, IsLaneIn, AreCompared, LooksWithin, EndAlike, StepEndsAlike}
+use Rattle.ext_one_report.proofs.StepsWords.{IsAlone, IsLaneIn, AreCompared, LooksWithin, EndAlike, WordEndsAlike}
 use Rattle.ext_one_report.specs.FullRuns.{FindsAll}
 use Rattle.ext_one_report.proofs.OnCells.{then_there}
 use Rattle.ext_one_report.proofs.Matching.{plain_there}
@@ -447,17 +448,15 @@ module _ (run : RunView) (keys : List KeyText) (path : List ℕ) (places : Place
       it.state it.there (subst (λ (st : State Place). st.drawn < run_numbers) (sym it.drawn) both.room.numbers) it.numbered v a b o both.lane both.finds both.alone
       (it.matches run (seen_by a.cells.view) both.matches) made
 
-  pub computes_end_alike : StepComputes run.store (call_of keys path name key up) v a o b → EndAlike run places o b (keyed_by keys enough name key (λ label. compute_numbered enough name label (drop up path) v) s)
+  pub computes_end_alike : StepComputes run.store (call_of keys path name key up) v a o b → EndAlike run places o b (numbered_by enough name (label_of keys key) (key_of_step keys key) (compute_numbered enough name (label_of keys key) (drop up path) v) s)
   computes_end_alike (inr (why, refused_key, (same, ends))) = absurd (key_found name (label_of keys key) o a b (key_of_step keys key) why both.finds refused_key ends)
   computes_end_alike (inl (number, has, made)) =
       let it : IsNamed places (key_of_step keys key) s = named places (key_of_step keys key) s both.room.keys both.numbered in
       subst (λ (end : StepEnd). EndAlike run places o b end) (sym (it.goes name (label_of keys key) (compute_numbered enough name (label_of keys key) (drop up path) v)))
       (value_along (drop up path) refl it number has made both.path_is within)
 
-pub values_end_alike : (key : StepKeyText) (text : List ℕ) (up : ℕ) → StepEndsAlike (codes "compute") key up LooksWithin (compute key text up)
-values_end_alike key text up run keys path places a o b s within both (inr (made, none)) = absurd (both.finds.memory none.ends.0)
-values_end_alike key text up run keys path places a o b s within both (inl made) = computes_end_alike run keys path places (codes "compute") key up (record { text = text; closeable = false }) a o b s within both made
+pub values_end_alike : WordEndsAlike words.Compute
+values_end_alike key text up run keys path places a o b s within both made = computes_end_alike run keys path places (codes "compute") key up (record { text = text; closeable = false }) a o b s within both made
 
-pub closeable_values_end_alike : (key : StepKeyText) (text : List ℕ) (up : ℕ) → StepEndsAlike (codes "compute!") key up LooksWithin (compute_closeable key text up)
-closeable_values_end_alike key text up run keys path places a o b s within both (inr (made, none)) = absurd (both.finds.memory none.ends.0)
-closeable_values_end_alike key text up run keys path places a o b s within both (inl made) = computes_end_alike run keys path places (codes "compute!") key up (record { text = text; closeable = true }) a o b s within both made
+pub closeable_values_end_alike : WordEndsAlike words.ComputeCloseable
+closeable_values_end_alike key text up run keys path places a o b s within both made = computes_end_alike run keys path places (codes "compute!") key up (record { text = text; closeable = true }) a o b s within both made

@@ -1,5 +1,5 @@
 -- The places that the nodes of a plan touch and may change cover it, where its nodes keep apart.
-use Rattle.std.proofs.Common.{◌≡◌, ◌≢◌, ◌<◌, ◌≤◌, ◌+◌, ◌⊎◌, ℕ, Bool, true, false, List, [], ◌∷◌, length, get_or, Contains, All, drop, Option, Some, None, refl, ap, sym, subst, ◌∙◌, arith, inl, inr, eq-eqb}
+use Rattle.std.proofs.Common.{◌≡◌, ◌≢◌, ◌<◌, ◌≤◌, ◌+◌, ◌⊎◌, ℕ, Bool, true, false, List, [], ◌∷◌, length, get_or, Contains, All, drop, Some, None, refl, sym, subst, ◌∙◌, arith, inl, inr, eq-eqb}
 use Rattle.std.specs.Prelude.{◌==◌, ◌&&◌, ◌||◌, fold, nat_lt}
 use Rattle.std.specs.List.{list_any}
 use Rattle.std.proofs.lemmas.Bool.{and_from, and_parts, cases_Bool, eqb-true, lt-ltb, ltb-true, or_cases, or_left, or_right}
@@ -9,30 +9,31 @@ use Rattle.std.proofs.lemmas.List.Folds.{Any-from_list_any, list_any-from_Any}
 use Rattle.ext_tree.specs.Keys.{KeyValue}
 use Rattle.ext_tree.specs.Trees.{Id, IsParentOf, IsPathOf, id_at}
 use Rattle.ext_lifecycle.specs.declared.call.Call.{Call}
-use Rattle.ext_plan.specs.Plans.{PlanText, StepKeyText, StepText, put, put_closeable, want, nothing, remove, compute, compute_closeable, compute_fail, fail, abort}
+use Rattle.ext_plan.specs.Plans.{KeyText, PlanText, StepKeyText, StepText, keyed, fail, abort}
 use Rattle.ext_plan.specs.PlanCalls.{steps_of_call}
 use Rattle.ext_plan.specs.ReadPlans.{IsAtOrBelow, IsReadPlan, ids_of_nodes}
 use Rattle.ext_plan.specs.StepCalls.{start_of}
 use Rattle.ext_plan.specs.Steps.{height}
 use Rattle.ext_plan.specs.StoreKeys.{key_of_step, place_of_key}
-use Rattle.ext_races.specs.declared.word.Word.{Word}
-use Rattle.ext_races.specs.declared.word.Word.TheVariants as words
-use Rattle.ext_races.specs.Acts.{ActText, act_of}
+use Rattle.ext_plan.specs.declared.word.Word.{Word}
+use Rattle.ext_races.specs.Acts.{ActText}
 use Rattle.ext_races.specs.MadeSteps.{calls_of, plan_path}
 use Rattle.ext_races.specs.Touches.{TouchText, keys_named, touches_made}
-use Rattle.ext_races.specs.StepWords.{changes, looks_along}
+use Rattle.ext_plan.specs.StepWords.{changes, looks_along}
 use Rattle.ext_races.proofs.Lists.{all_contained, contains_cases, contains_first, contains_later, contains_nothing}
 use Rattle.ext_races.proofs.TouchNodes.{touch_within}
-use Rattle.ext_one_report.proofs.PlanCells.{changed_by, changed_of}
+use Rattle.ext_one_report.proofs.PlanCells.{changed_by}
 use Rattle.ext_one_report.proofs.CallListsWords.{CallFits}
 use Rattle.ext_one_report.proofs.CallsWords.{StepWithin}
-use Rattle.ext_one_report.proofs.StepsWords.{ActsWithin, LooksWithin}
+use Rattle.ext_one_report.proofs.StepsWords.{ActsWithin, LooksWithin, TouchesWithin}
+use Rattle.ext_one_report.proofs.MatchingWords.{Places}
 use Rattle.ext_one_report.proofs.Covered.{PlansAreCovered, changed_in, is_closed_by, touched_in}
 use Rattle.ext_one_report.specs.Shares.{is_at, may_change_at}
 use Rattle.ext_one_report.specs.Apart.{is_within}
 use Rattle.ext_one_report.proofs.CoveredCalls.{call_stays, made_path}
 use Rattle.ext_one_report.proofs.CoveredPaths.{below_below, has_context, holder_within, one_child, passed, path_holds, path_passes, path_starts, path_there, path_up}
-use Rattle.ext_one_report.proofs.CoveredTouches.{IsTouched, contains_drop, is_made, look_touches, touch_on_path, touches_all, touches_start}
+use Rattle.ext_one_report.proofs.CoveredTouches.{IsTouched, contains_drop, is_made, look_touches, step_of, touch_on_path, touches_all, touches_start}
+use Rattle.ext_one_report.proofs.WordCases.{acts_changing}
 
 -- ---- the node is on the path of the context
 
@@ -154,23 +155,11 @@ module _ (plan : PlanText) (node context : ℕ) (key : KeyValue) where
 abbrev pub an_act : Word → StepKeyText → List ℕ → ℕ → ActText
 an_act word key text up = record { word = word; key = key; text = text; up = up }
 
-up_of : Option ActText → ℕ
-up_of None = 0
-up_of (Some act) = act.up
-
--- a step that acts goes up as far as its act
-pub height_is : (step : StepText) (act : ActText) → act_of step ≡ Some act → height step ≡ act.up
-unfolding up_of
-height_is (put key text up) act acts = ap up_of acts
-height_is (put_closeable key text up) act acts = ap up_of acts
-height_is (want key text up) act acts = ap up_of acts
-height_is (nothing key up) act acts = ap up_of acts
-height_is (remove key up) act acts = ap up_of acts
-height_is (compute key text up) act acts = ap up_of acts
-height_is (compute_closeable key text up) act acts = ap up_of acts
-height_is (compute_fail key text up) act acts = ap up_of acts
-height_is (fail text) act acts = absurd (cc acts)
-height_is (abort text) act acts = absurd (cc acts)
+-- what a step touches, by whether it looks along its path
+pub within_by : (keys : List KeyText) (path : List ℕ) (places : Places) (key : StepKeyText) (up : ℕ) (looks : Bool) → (looks ≡ true → LooksWithin keys path places key up)
+    → (looks ≡ false → ActsWithin keys path places key up) → TouchesWithin looks keys path places key up
+within_by keys path places key up true along here = along refl
+within_by keys path places key up false along here = here refl
 
 -- what holds of each context of a path from here on
 pub from_drop : (P : ℕ → Type 0) (up : ℕ) (path : List ℕ) → ((at : ℕ) → up ≤ at → at < length path → P (get_or path at 0)) → All P (drop up path)
@@ -179,7 +168,7 @@ from_drop P up path each = λ k d less.
     let inside : up + k < length path = omega (arith, less, long) in
     subst P (sym (get_or-drop up path k d ∙ get_or_default path (up + k) d 0 inside)) (each (up + k) (omega arith) inside)
 
-none_is : {A : Type 0} {x : A} → None ≡ Some x → ⊥
+pub none_is : {A : Type 0} {x : A} → None ≡ Some x → ⊥
 none_is e = absurd (cc e)
 
 -- ---- nodes above one another
@@ -275,66 +264,53 @@ module _ (plan : PlanText) (read : IsReadPlan plan) where
     low step there = All-contains (λ s. height s < length path) (steps_of_call plan call) step (call_stays plan read node path is call among) there
 
     -- what a step acts on its node may change
-    pub acts_changed : (step : StepText) (act : ActText) → Contains (steps_of_call plan call) step → act_of step ≡ Some act → changes act.word ≡ true → act.up < length path
-        → IsTouchedBelow plan node (start_of (drop act.up path)) (key_of_step plan.keys act.key) true
-    acts_changed step act there acts changing up =
-        let one = touches_start plan node call step (is_made plan node call step within among there) act acts changing (subst (λ p. act.up < length p) along up) in
+    pub acts_changed : (act : ActText) → Contains (steps_of_call plan call) (step_of act) → changes act.word ≡ true → IsTouchedBelow plan node (start_of (drop act.up path)) (key_of_step plan.keys act.key) true
+    acts_changed act there changing =
+        let one = touches_start plan node call act (is_made plan node call (step_of act) within among there) changing (subst (λ p. act.up < length p) along (low (step_of act) there)) in
         below_itself (start_of (drop act.up path)) (key_of_step plan.keys act.key) true
         (subst (λ p. IsTouched plan node (start_of (drop act.up p)) (place_of_key (keys_named plan) (key_of_step plan.keys act.key)) true) (sym along) one)
 
-    acts_within : (step : StepText) (act : ActText) → Contains (steps_of_call plan call) step → act_of step ≡ Some act → changes act.word ≡ true → act.up < length path
-        → ActsWithin plan.keys path (touched_in plan node) act.key act.up
-    acts_within step act there acts changing up =
+    acts_within : (act : ActText) → Contains (steps_of_call plan call) (step_of act) → changes act.word ≡ true → ActsWithin plan.keys path (touched_in plan node) act.key act.up
+    acts_within act there changing =
         touched_by plan node (start_of (drop act.up path)) (key_of_step plan.keys act.key)
-        (weaker plan node (start_of (drop act.up path)) (key_of_step plan.keys act.key) (acts_changed step act there acts changing up))
+        (weaker plan node (start_of (drop act.up path)) (key_of_step plan.keys act.key) (acts_changed act there changing))
 
-    looked : (step : StepText) (act : ActText) → Contains (steps_of_call plan call) step → act_of step ≡ Some act → looks_along act.word ≡ true
+    looked : (act : ActText) → Contains (steps_of_call plan call) (step_of act) → looks_along act.word ≡ true
         → (at : ℕ) → act.up ≤ at → at < length (plan_path plan node) → IsTouched plan node (get_or (plan_path plan node) at 0) (place_of_key (keys_named plan) (key_of_step plan.keys act.key)) false
-    looked step act there acts looks at high less = elim (cases_Bool (changes act.word)) [
+    looked act there looks at high less = elim (cases_Bool (changes act.word)) [
       | inl changing ↦
-          touches_all plan node call step (is_made plan node call step within among there) act acts (get_or (plan_path plan node) at 0) changing looks (contains_drop act.up at (plan_path plan node) high less)
-      | inr still ↦ look_touches plan node call within among step act there acts still looks at high less
+          touches_all plan node call act (is_made plan node call (step_of act) within among there) (get_or (plan_path plan node) at 0) changing looks (contains_drop act.up at (plan_path plan node) high less)
+      | inr still ↦ look_touches plan node call within among act there still looks at high less
     ]
 
-    looks_within : (step : StepText) (act : ActText) → Contains (steps_of_call plan call) step → act_of step ≡ Some act → looks_along act.word ≡ true → LooksWithin plan.keys path (touched_in plan node) act.key act.up
-    looks_within step act there acts looks =
+    looks_within : (act : ActText) → Contains (steps_of_call plan call) (step_of act) → looks_along act.word ≡ true → LooksWithin plan.keys path (touched_in plan node) act.key act.up
+    looks_within act there looks =
         let key = key_of_step plan.keys act.key in
         from_drop (λ context. touched_in plan node context key ≡ true) act.up path (λ at high less.
         touched_by plan node (get_or path at 0) key (below_itself (get_or path at 0) key false
-        (subst (λ p. IsTouched plan node (get_or p at 0) (place_of_key (keys_named plan) key) false) (sym along) (looked step act there acts looks at high (subst (λ p. at < length p) along less)))))
+        (subst (λ p. IsTouched plan node (get_or p at 0) (place_of_key (keys_named plan) key) false) (sym along) (looked act there looks at high (subst (λ p. at < length p) along less)))))
 
     step_within : (step : StepText) → Contains (steps_of_call plan call) step → StepWithin plan.keys path (touched_in plan node) step
-    step_within (put key text up) there = acts_within (put key text up) (an_act words.Put key text up) there refl refl (low (put key text up) there)
-    step_within (put_closeable key text up) there = acts_within (put_closeable key text up) (an_act words.PutCloseable key text up) there refl refl (low (put_closeable key text up) there)
-    step_within (want key text up) there = looks_within (want key text up) (an_act words.Want key text up) there refl refl
-    step_within (nothing key up) there = looks_within (nothing key up) (an_act words.None key [] up) there refl refl
-    step_within (remove key up) there = acts_within (remove key up) (an_act words.Remove key [] up) there refl refl (low (remove key up) there)
-    step_within (compute key text up) there = looks_within (compute key text up) (an_act words.Compute key text up) there refl refl
-    step_within (compute_closeable key text up) there = looks_within (compute_closeable key text up) (an_act words.ComputeCloseable key text up) there refl refl
-    step_within (compute_fail key text up) there = looks_within (compute_fail key text up) (an_act words.ComputeFail key text up) there refl refl
+    step_within (keyed word key text up) there =
+        let act = an_act word key text up in
+        within_by plan.keys path (touched_in plan node) key up (looks_along word) (looks_within act there) (λ acts. acts_within act there (acts_changing word acts))
     step_within (fail text) there = tt
     step_within (abort text) there = tt
 
     pub call_fits : CallFits plan path (touched_in plan node) call
     call_fits = (call_stays plan read node path is call among, all_contained (StepWithin plan.keys path (touched_in plan node)) (steps_of_call plan call) step_within)
 
-    act_changes : (step : StepText) (act : Option ActText) (key : StepKeyText) (up : ℕ) → Contains (steps_of_call plan call) step → act_of step ≡ act → changed_of act ≡ Some (key, up)
-        → IsTouchedBelow plan node (start_of (drop up path)) (key_of_step plan.keys key) true
-    act_changes step None key up there acts changed = absurd (cc changed)
-    act_changes step (Some act) key up there acts changed = elim (cases_Bool (changes act.word)) [
-      | inl changing ↦
-          let up_is = height_is step act acts in
-          let below = low step there in
-          let less : act.up < length path = omega (arith, up_is, below) in
-          let is_some : Some (act.key, act.up) ≡ Some (key, up) = rw changing at changed in
-          let same : (act.key, act.up) ≡ (key, up) = cc is_some in
-          subst (λ (p : StepKeyText × ℕ). IsTouchedBelow plan node (start_of (drop p.1 path)) (key_of_step plan.keys p.0) true) same (acts_changed step act there acts changing less)
-      | inr still ↦ absurd (none_is (rw still at changed))
-    ]
-
     pub step_changes : (step : StepText) (key : StepKeyText) (up : ℕ) → Contains (steps_of_call plan call) step → changed_by step ≡ Some (key, up)
         → IsTouchedBelow plan node (start_of (drop up path)) (key_of_step plan.keys key) true
-    step_changes step key up there changed = act_changes step (act_of step) key up there refl changed
+    step_changes (keyed word name text height) key up there changed = elim (cases_Bool (changes word)) [
+      | inl changing ↦
+          let is_some : Some (name, height) ≡ Some (key, up) = rw changing at changed in
+          let same : (name, height) ≡ (key, up) = cc is_some in
+          subst (λ (p : StepKeyText × ℕ). IsTouchedBelow plan node (start_of (drop p.1 path)) (key_of_step plan.keys p.0) true) same (acts_changed (an_act word name text height) there changing)
+      | inr still ↦ absurd (none_is (rw still at changed))
+    ]
+    step_changes (fail text) key up there changed = absurd (cc changed)
+    step_changes (abort text) key up there changed = absurd (cc changed)
 
 pub plans_are_covered : PlansAreCovered
 plans_are_covered plan read = record {

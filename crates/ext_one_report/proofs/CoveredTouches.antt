@@ -10,19 +10,18 @@ use Rattle.ext_tree.specs.Keys.{KeyValue}
 use Rattle.ext_tree.specs.Traits.{key_eq}
 use Rattle.ext_tree.proofs.Equalities.{keys_Decides}
 use Rattle.ext_lifecycle.specs.declared.call.Call.{Call}
-use Rattle.ext_plan.specs.Plans.{KeyText, PlanText, StepText}
+use Rattle.ext_plan.specs.Plans.{KeyText, PlanText, StepText, keyed, fail, abort}
 use Rattle.ext_plan.specs.PlanCalls.{steps_of_call}
 use Rattle.ext_plan.specs.ReadPlans.{ids_of_nodes}
 use Rattle.ext_plan.specs.StepCalls.{start_of}
 use Rattle.ext_plan.specs.StoreKeys.{key_of_step, place_of_key}
-use Rattle.ext_races.specs.declared.word.Word.{Word}
-use Rattle.ext_races.specs.declared.word.Word.TheVariants as words
 use Rattle.ext_races.specs.Acts.{ActText, act_of}
 use Rattle.ext_races.specs.MadeSteps.{calls_of, made_after, made_by, made_of_node, path_of, plan_path, steps_made}
 use Rattle.ext_races.specs.Touches.{TouchText, below_act, below_computes, keys_named, reach, touch_of, touches_above, touches_along, touches_made, touches_of, touches_of_act}
-use Rattle.ext_races.specs.StepWords.{changes, gives_value, looks_along}
+use Rattle.ext_plan.specs.StepWords.{changes, gives_value, looks_along}
 use Rattle.ext_races.proofs.Lists.{contains-flat_map, contains-flat_map_back, contains-map, contains-map_back, contains_at, contains_cases, contains_first, contains_later, contains_nothing}
-use Rattle.ext_races.proofs.StepTouches.{all_reach}
+use Rattle.ext_races.proofs.StepTouches.{all_reach, reach_below}
+use Rattle.ext_one_report.proofs.WordCases.{computes_all}
 
 -- ---- a touch is on the path of its node
 
@@ -107,7 +106,16 @@ is_made plan node call step within among there =
 
 -- ---- where a step touches
 
-along_first : (node key : ℕ) (act : ActText) (path : List ℕ) → 0 < length path → Contains (touches_along node key act path) (touch_of node key act (changes act.word) (start_of path))
+-- the step of an act
+abbrev pub step_of : ActText → StepText
+step_of act = keyed act.word act.key act.text act.up
+
+pub step_is : (step : StepText) (act : ActText) → act_of step ≡ Some act → step ≡ step_of act
+step_is (keyed word key text up) act acts = let same : ◌≡◌ {A = ActText} (record { word = word; key = key; text = text; up = up }) act = cc acts in ap step_of same
+step_is (fail text) act acts = absurd (cc acts)
+step_is (abort text) act acts = absurd (cc acts)
+
+pub along_first : (node key : ℕ) (act : ActText) (path : List ℕ) → 0 < length path → Contains (touches_along node key act path) (touch_of node key act (changes act.word) (start_of path))
 along_first node key act [] some = absurd (omega (arith, some))
 along_first node key act (context ∷ above) some = contains_first (touch_of node key act (changes act.word) context) (touches_above node key act above)
 
@@ -142,15 +150,12 @@ module _ (plan : PlanText) (node : ℕ) (call : Call) where
   abbrev number_in : ActText → ℕ
   number_in act = place_of_key (keys_named plan) (key_of_step plan.keys act.key)
 
-  module _ (step : StepText) (is : IsMade plan node call step) (act : ActText) (acts : act_of step ≡ Some act) where
+  module _ (act : ActText) (is : IsMade plan node call (step_of act)) where
     abbrev reached : List ℕ
     reached = drop act.up (reach plan.keys is.front (plan_path plan node) act)
 
     touch_made : (t : TouchText) → Contains (touches_along node (number_in act) act reached) t → Contains (touches_made plan) t
-    touch_made t there =
-        let ids = ids_of_nodes plan.nodes in
-        contains-flat_map (touches_of ids plan.keys (keys_named plan)) (steps_made plan) (made_by node is.front step) t is.made
-        (subst (λ a. Contains (touches_of_act plan.keys (keys_named plan) node (plan_path plan node) is.front a) t) (sym acts) there)
+    touch_made t there = contains-flat_map (touches_of (ids_of_nodes plan.nodes) plan.keys (keys_named plan)) (steps_made plan) (made_by node is.front (step_of act)) t is.made there
 
     reach_is : changes act.word ≡ true → reached ≡ drop act.up (plan_path plan node)
     reach_is changing = ap (λ (b : Bool). drop act.up (if b then plan_path plan node else below_computes plan.keys (key_of_step plan.keys act.key) (plan_path plan node) is.front)) changing
@@ -226,42 +231,30 @@ module _ (declared : List KeyText) (key : KeyValue) where
     | inr computes ↦ inr (step, contains_first step more, computes)
   ]
 
-pub computes_all : (word : Word) → gives_value word ≡ true → (changes word ≡ true) × (looks_along word ≡ true)
-computes_all words.Put gives = absurd cc
-computes_all words.PutCloseable gives = absurd cc
-computes_all words.Want gives = absurd cc
-computes_all words.None gives = absurd cc
-computes_all words.Remove gives = absurd cc
-computes_all words.Compute gives = (refl, refl)
-computes_all words.ComputeCloseable gives = (refl, refl)
-computes_all words.ComputeFail gives = absurd cc
-
 pub contains_drop : (n at : ℕ) (xs : List ℕ) → n ≤ at → at < length xs → Contains (drop n xs) (get_or xs at 0)
 contains_drop zero at xs low less = contains_at xs at 0 less
 contains_drop (suc n) at [] low less = absurd (omega (arith, less))
 contains_drop (suc n) zero (x ∷ xs) low less = absurd (omega (arith, low))
 contains_drop (suc n) (suc at) (x ∷ xs) low less = contains_drop n at xs (omega (arith, low)) (omega (arith, less))
 
-looks_not : (declared : List KeyText) (before : List StepText) (path : List ℕ) (act : ActText) → changes act.word ≡ false → below_computes declared (key_of_step declared act.key) path before ≡ reach declared before path act
-looks_not declared before path act looks = rw looks refl
-
 module _ (plan : PlanText) (node : ℕ) (call : Call) (within : node < length plan.nodes) (among : Contains (calls_of plan node) call) where
   -- a look-up touches each place that it asks, by itself or by a compute before it
-  pub look_touches : (step : StepText) (act : ActText) → Contains (steps_of_call plan call) step → act_of step ≡ Some act → changes act.word ≡ false → looks_along act.word ≡ true
+  pub look_touches : (act : ActText) → Contains (steps_of_call plan call) (step_of act) → changes act.word ≡ false → looks_along act.word ≡ true
       → (at : ℕ) → act.up ≤ at → at < length (plan_path plan node) → IsTouched plan node (get_or (plan_path plan node) at 0) (place_of_key (keys_named plan) (key_of_step plan.keys act.key)) false
-  look_touches step act there acts still looks at low less =
+  look_touches act there still looks at low less =
       let path = plan_path plan node in
       let key = key_of_step plan.keys act.key in
-      let is = is_made plan node call step within among there in
+      let is = is_made plan node call (step_of act) within among there in
       elim (kept_or_computed plan.keys key is.front path at less) [
         | inl kept ↦
             let below = below_computes plan.keys key path is.front in
             let here : Contains (drop act.up below) (get_or path at 0) = subst (Contains (drop act.up below)) kept.1 (contains_drop act.up at below low kept.0) in
-            touches_reached plan node call step is act acts (get_or path at 0) looks (subst (λ p. Contains (drop act.up p) (get_or path at 0)) (looks_not plan.keys is.front path act still) here)
+            touches_reached plan node call act is (get_or path at 0) looks (subst (λ p. Contains (drop act.up p) (get_or path at 0)) (reach_below plan.keys is.front path act still) here)
         | inr computed ↦
             let one = computed.2 in
             let all = computes_all one.one.word one.gives in
-            let made = is_made plan node call computed.0 within among (is.among computed.0 computed.1) in
+            let before = subst (Contains is.front) (step_is computed.0 one.one one.is) computed.1 in
+            let made = is_made plan node call (step_of one.one) within among (is.among (step_of one.one) before) in
             subst (λ k. IsTouched plan node (get_or path at 0) (place_of_key (keys_named plan) k) false) one.same
-            (touches_all plan node call computed.0 made one.one one.is (get_or path at 0) all.0 all.1 (contains_drop one.one.up at path one.low less))
+            (touches_all plan node call one.one made (get_or path at 0) all.0 all.1 (contains_drop one.one.up at path one.low less))
       ]

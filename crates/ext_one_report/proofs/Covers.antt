@@ -1,7 +1,7 @@
 -- Which places the nodes of a plan touch and which they may change, each with the nodes below it; and plans whose nodes keep apart.
 -- Javadoc `ExtensionContext.Store` and JUnit 5 User Guide, "Parallel Execution"; what a step touches is a definition of [ext_races Touches].
 use Rattle.ext_one_report.specs.Apart.{is_within}
-use Rattle.std.specs.Prelude.{ℕ, ◌≡◌, ◌≢◌, ◌<◌, ◌==◌, true, Bool, List, length, drop, fold, Contains, Some, false, ◌||◌}
+use Rattle.std.specs.Prelude.{ℕ, ◌≡◌, ◌≢◌, ◌<◌, true, List, length, drop, Contains, Some}
 use Rattle.ext_tree.specs.Keys.{KeyValue}
 use Rattle.ext_tree.specs.Trees.{IsParentOf, IsPathOf}
 use Rattle.ext_lifecycle.specs.declared.call.Call.{Call}
@@ -10,9 +10,7 @@ use Rattle.ext_plan.specs.PlanCalls.{steps_of_call}
 use Rattle.ext_plan.specs.ReadPlans.{ids_of_nodes}
 use Rattle.ext_plan.specs.StepCalls.{start_of}
 use Rattle.ext_plan.specs.StoreKeys.{key_of_step}
-use Rattle.ext_races.specs.Beside.{IsBeside}
-use Rattle.ext_races.specs.MadeSteps.{calls_of, plan_path}
-use Rattle.ext_races.specs.Touches.{TouchText, touches_made}
+use Rattle.ext_races.specs.MadeSteps.{calls_of}
 use Rattle.ext_one_report.proofs.PlanCells.{changed_by}
 use Rattle.ext_one_report.proofs.MatchingWords.{Places}
 use Rattle.ext_one_report.proofs.CallListsWords.{CallFits}

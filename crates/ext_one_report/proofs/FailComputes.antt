@@ -25,7 +25,8 @@ use Rattle.ext_values.specs.Known.{known_at}
 use Rattle.ext_lifecycle.specs.declared.outcome.Outcome.{Outcome}
 use Rattle.ext_lifecycle.specs.Endings.{successful}
 use Rattle.ext_plan.specs.declared.reason.Reason.TheVariants as reasons
-use Rattle.ext_plan.specs.Plans.{KeyText, StepKeyText, compute_fail}
+use Rattle.ext_plan.specs.declared.word.Word.TheVariants as words
+use Rattle.ext_plan.specs.Plans.{KeyText, StepKeyText}
 use Rattle.ext_plan.specs.StepCalls.{label_of, start_of}
 use Rattle.ext_plan.specs.StoreKeys.{is_there, key_of_step, place_of_key}
 use Rattle.ext_plan.specs.Values.{ValueText}
@@ -49,7 +50,7 @@ use Rattle.ext_parallel.specs.StoreCalls.{PlanLane, ComputesFault, EndsComputeFa
 use Rattle.ext_one_report.specs.Changing.{events_at}
 use Rattle.ext_one_report.proofs.StandingsWords.{absent, found, met, closed, value_shown, fault_shown, shown_of, ShowTheSame, fault, standing_of, fault_stands}
 use Rattle.ext_one_report.proofs.MatchingWords.{RunView, IsRunView, HasNumberIn, Places, Matches, IsNumbered, cell_of, plain_meaning, text_of}
-use Rattle.ext_one_report.proofs.StepsWords.{IsAlone, IsLaneIn, AreCompared, LooksWithin, EndAlike, StepEndsAlike, words_of}
+use Rattle.ext_one_report.proofs.StepsWords.{IsAlone, IsLaneIn, AreCompared, LooksWithin, EndAlike, WordEndsAlike, words_of}
 use Rattle.ext_one_report.specs.FullRuns.{FindsAll}
 use Rattle.ext_one_report.proofs.OnCells.{then_there}
 use Rattle.ext_one_report.proofs.NodesAlone.{alone_later, matches_to}
@@ -314,11 +315,10 @@ module _ (run : RunView) (keys : List KeyText) (path : List ℕ) (places : Place
       it.state it.there (subst (λ (st : State Place). st.drawn < run_numbers) (sym it.drawn) both.room.numbers) it.numbered text a b o both.lane both.finds both.alone
       (it.matches run (seen_by a.cells.view) both.matches) (both.keeps ∙ sym it.faults) made
 
-pub failures_end_alike : (key : StepKeyText) (text : List ℕ) (up : ℕ) → StepEndsAlike (codes "computefail") key up LooksWithin (compute_fail key text up)
-failures_end_alike key text up run keys path places a o b s within both (inr none) = absurd (both.finds.memory none.ends.0)
-failures_end_alike key text up run keys path places a o b s within both (inl (inr (why, refused_key, (same, ends)))) =
+pub failures_end_alike : WordEndsAlike words.ComputeFail
+failures_end_alike key text up run keys path places a o b s within both (inr (why, refused_key, (same, ends))) =
     absurd (key_found (codes "computefail") (label_of keys key) o a b (key_of_step keys key) why both.finds refused_key ends)
-failures_end_alike key text up run keys path places a o b s within both (inl (inl (number, has, made))) =
+failures_end_alike key text up run keys path places a o b s within both (inl (number, has, made)) =
     let it : IsNamed places (key_of_step keys key) s = named places (key_of_step keys key) s both.room.keys both.numbered in
     subst (λ (end : StepEnd). EndAlike run places o b end) (sym (it.goes (codes "computefail") (label_of keys key) (computefail_numbered enough (codes "computefail") (label_of keys key) (drop up path) text)))
     (fail_along run keys path places key up text a o b s within both (drop up path) it number has made both.path_is within)

@@ -1,6 +1,5 @@
 -- The steps of a plan name the keys of the plan, so that its nodes give numbers to these alone.
-use Rattle.std.proofs.Common.{◌≡◌, ◌<◌, ℕ, zero, suc, ◌+◌, inl, inr, true, List, [], ◌∷◌, ◌++◌, length, Option, Some, None, All, IfSome, Contains, refl, ap, sym, subst, ◌∙◌, arith}
-use Rattle.std.specs.List.{range_with_len}
+use Rattle.std.proofs.Common.{◌≡◌, ◌<◌, ℕ, zero, suc, inl, inr, true, List, [], ◌∷◌, ◌++◌, length, Option, Some, None, All, IfSome, Contains, refl, ap, sym, subst, ◌∙◌}
 use Rattle.std.proofs.lemmas.Map.Views.{list_any-from_Contains}
 use Rattle.std.proofs.lemmas.List.Elements.{All-cons, All-contains, All-nil, Contains-append_left}
 use Rattle.ext_history.proofs.Lists.{bools}
@@ -9,15 +8,15 @@ use Rattle.ext_tree.specs.Keys.{KeyValue}
 use Rattle.ext_tree.specs.Traits.{key_eq_equiv}
 use Rattle.ext_tree.specs.Trees.{IsPathOf}
 use Rattle.ext_lifecycle.specs.declared.call.Call.{Call}
-use Rattle.ext_plan.specs.Plans.{KeyText, PlanText, StepText, put, put_closeable, want, nothing, remove, compute, compute_closeable, compute_fail, fail, abort}
+use Rattle.ext_plan.specs.Plans.{KeyText, PlanText, StepText, keyed, fail, abort}
 use Rattle.ext_plan.specs.PlanCalls.{steps_of_call}
 use Rattle.ext_plan.specs.ReadPlans.{NodesAreTree, ids_of_nodes}
 use Rattle.ext_plan.specs.StoreKeys.{is_there, key_of_step, with_key}
 use Rattle.ext_plan.proofs.KeyLists.{is_contained, there_with, with_new, with_old}
 use Rattle.ext_races.specs.Acts.{act_of}
-use Rattle.ext_races.specs.MadeSteps.{MadeText, calls_of, made_after, made_by, made_of_node, steps_made}
+use Rattle.ext_races.specs.MadeSteps.{MadeText, calls_of, made_by, steps_made}
 use Rattle.ext_races.specs.Touches.{key_of_act, key_of_made, keys_named, keys_of_steps, with_key_of}
-use Rattle.ext_races.proofs.Lists.{all_contained, contains_cases, contains_first, contains_later, contains_nothing, contains-flat_map}
+use Rattle.ext_races.proofs.Lists.{all_contained}
 use Rattle.ext_plain.specs.ValueStates.{ValueState, key_limit}
 use Rattle.ext_plain.specs.ContextEnds.{seal_keys}
 use Rattle.ext_plain.specs.PlainRun.{RunState, node_run}
@@ -25,6 +24,7 @@ use Rattle.ext_plain.specs.PlainRunLaws.{NamesOneOf}
 use Rattle.ext_plain.proofs.Values.{act-values}
 use Rattle.ext_one_report.proofs.Rooms.{GaveFew, few_are_given}
 use Rattle.ext_one_report.proofs.FrameNodes.{KeepNodes, nodes_keep, within_nodes}
+use Rattle.ext_one_report.proofs.CoveredTouches.{is_made}
 
 -- ---- the keys of the steps are there
 
@@ -52,56 +52,18 @@ there_all declared keys (step ∷ more) =
     All-cons (λ s. IfSome (key_of_made declared s) (λ key. is_there (keys_of_steps declared keys (step ∷ more)) key ≡ true)) step more
     (there_first declared keys more (key_of_made declared step)) (there_all declared (with_key_of keys (key_of_made declared step)) more)
 
--- ---- the steps of a call are made
-
-in_range : (from count k : ℕ) → k < count → Contains (range_with_len from count) (from + k)
-in_range from zero k less = absurd (omega (arith, less))
-in_range from (suc count) zero less =
-    let e : from ≡ from + 0 = omega arith in
-    subst (Contains (range_with_len from (suc count))) e (contains_first from (range_with_len (from + 1) count))
-in_range from (suc count) (suc k) less =
-    let e : from + 1 + k ≡ from + suc k = omega arith in
-    subst (Contains (range_with_len from (suc count))) e (contains_later from (from + 1 + k) (range_with_len (from + 1) count) (in_range (from + 1) count k (omega (arith, less))))
-
-made_with : (node : ℕ) (before steps : List StepText) (step : StepText) → Contains steps step → (earlier : List StepText) × Contains (made_after node before steps) (made_by node earlier step)
-made_with node before [] step there = contains_nothing step there
-made_with node before (first ∷ more) step there =
-    elim (contains_cases first step more there) [
-      | inl same ↦ (before, subst (λ s. Contains (made_after node before (first ∷ more)) (made_by node before s)) same (contains_first (made_by node before first) (made_after node (before ++ first ∷ []) more)))
-      | inr later ↦
-          let rest = made_with node (before ++ first ∷ []) more step later in
-          (rest.0, contains_later (made_by node before first) (made_by node rest.0 step) (made_after node (before ++ first ∷ []) more) rest.1)
-    ]
-
-made_of_plan : (plan : PlanText) (node : ℕ) (call : Call) (step : StepText) → node < length plan.nodes → Contains (calls_of plan node) call → Contains (steps_of_call plan call) step
-    → (earlier : List StepText) × Contains (steps_made plan) (made_by node earlier step)
-made_of_plan plan node call step less there made =
-    let one = made_with node [] (steps_of_call plan call) step made in
-    let of_node = contains-flat_map (λ c. made_after node [] (steps_of_call plan c)) (calls_of plan node) call (made_by node one.0 step) there one.1 in (
-      one.0,
-      contains-flat_map (made_of_node plan) (range_with_len 0 (length plan.nodes)) node (made_by node one.0 step)
-          (subst (Contains (range_with_len 0 (length plan.nodes))) (let e : 0 + node ≡ node = omega arith in e) (in_range 0 (length plan.nodes) node less)) of_node,
-    )
-
 -- a step of a key that is there names it
 names_it : (names : List KeyValue) (keys : List KeyText) (step : StepText) → IfSome (key_of_act keys (act_of step)) (λ key. is_there names key ≡ true) → NamesOneOf names keys step
-names_it names keys (put key text up) there = is_contained names (key_of_step keys key) there
-names_it names keys (put_closeable key text up) there = is_contained names (key_of_step keys key) there
-names_it names keys (want key text up) there = is_contained names (key_of_step keys key) there
-names_it names keys (nothing key up) there = is_contained names (key_of_step keys key) there
-names_it names keys (remove key up) there = is_contained names (key_of_step keys key) there
-names_it names keys (compute key text up) there = is_contained names (key_of_step keys key) there
-names_it names keys (compute_closeable key text up) there = is_contained names (key_of_step keys key) there
-names_it names keys (compute_fail key text up) there = is_contained names (key_of_step keys key) there
+names_it names keys (keyed word key text up) there = is_contained names (key_of_step keys key) there
 names_it names keys (fail text) there = tt
 names_it names keys (abort text) there = tt
 
 pub calls_name_keys : (plan : PlanText) (node : ℕ) (call : Call) → node < length plan.nodes → Contains (calls_of plan node) call → All (NamesOneOf (keys_named plan) plan.keys) (steps_of_call plan call)
 calls_name_keys plan node call less there =
     all_contained (NamesOneOf (keys_named plan) plan.keys) (steps_of_call plan call) (λ step made.
-    let of_plan = made_of_plan plan node call step less there made in
+    let of_plan = is_made plan node call step less there made in
     names_it (keys_named plan) plan.keys step
-    (All-contains (λ m. IfSome (key_of_made plan.keys m) (λ key. is_there (keys_named plan) key ≡ true)) (steps_made plan) (made_by node of_plan.0 step) (there_all plan.keys [] (steps_made plan)) of_plan.1))
+    (All-contains (λ m. IfSome (key_of_made plan.keys m) (λ key. is_there (keys_named plan) key ≡ true)) (steps_made plan) (made_by node of_plan.front step) (there_all plan.keys [] (steps_made plan)) of_plan.made))
 
 -- ---- so only these get numbers
 

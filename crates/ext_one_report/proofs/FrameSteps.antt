@@ -1,6 +1,6 @@
 -- What the steps of a call, the calls of a node and the end of its context leave as it was.
 use Rattle.std.proofs.Common.{◌≡◌, ℕ, zero, suc, inl, inr, Bool, true, false, List, [], ◌∷◌, drop, Option, None, Some, Contains, refl, sym, subst, ◌∙◌}
-use Rattle.std.specs.Prelude.{◌==◌, if◌then◌else◌, codes}
+use Rattle.std.specs.Prelude.{◌==◌, if◌then◌else◌}
 use Rattle.std.proofs.lemmas.Bool.{eq-eqb}
 use Rattle.ext_history.proofs.Lists.{bools}
 use Rattle.ext_model.specs.declared.event.Act.TheVariants.{Put, Remove, Claim, Fill, Fail, Abandon, Seal}
@@ -12,10 +12,12 @@ use Rattle.ext_tree.specs.Trees.{IsPathOf}
 use Rattle.ext_lifecycle.specs.declared.call.Call.{Call}
 use Rattle.ext_lifecycle.specs.Endings.{successful, is_successful}
 use Rattle.ext_plan.specs.declared.reason.Reason.{Reason}
-use Rattle.ext_plan.specs.Plans.{KeyText, PlanText, StepKeyText, StepText, put, put_closeable, want, nothing, remove, compute, compute_closeable, compute_fail, fail, abort}
+use Rattle.ext_plan.specs.declared.word.Word.TheVariants as words
+use Rattle.ext_plan.specs.Plans.{KeyText, PlanText, StepKeyText, StepText, keyed, fail, abort}
 use Rattle.ext_plan.specs.PlanCalls.{steps_of_call}
 use Rattle.ext_plan.specs.ReadPlans.{ids_of_nodes}
-use Rattle.ext_plan.specs.StepCalls.{label_of, start_of}
+use Rattle.ext_plan.specs.StepWords.{word_text}
+use Rattle.ext_plan.specs.StepCalls.{CallText, call_of, start_of}
 use Rattle.ext_plan.specs.StoreKeys.{is_there, key_of_step, place_of_key}
 use Rattle.ext_plan.specs.Values.{ValueText}
 use Rattle.ext_plan.proofs.KeyLists.{place_last}
@@ -23,7 +25,7 @@ use Rattle.ext_races.specs.MadeSteps.{calls_of}
 use Rattle.ext_races.proofs.Lists.{contains_first, contains_later}
 use Rattle.ext_plain.specs.ValueStates.{Numbering, ValueState, after_act, enough, full, keep_value, key_limit, known, next, next_number, numbering_of, why_refused, with_number}
 use Rattle.ext_plain.specs.ContextEnds.{seal_keys}
-use Rattle.ext_plain.specs.StepRuns.{StepEnd, claim_and, compute_looked, compute_numbered, computefail_looked, computefail_numbered, ended, factory_failed, factory_gave, found_along, kept_or_refused, none_numbered, number_by, numbered_by, or_refused, put_in, remove_numbered, step_run, steps_run, want_numbered}
+use Rattle.ext_plain.specs.StepRuns.{StepEnd, acts_by, claim_and, compute_looked, compute_numbered, computefail_looked, ended, factory_failed, factory_gave, found_along, kept_or_refused, number_by, numbered_by, or_refused, put_by, put_in, step_run, steps_run}
 use Rattle.ext_plain.specs.NodeCalls.{call_run}
 use Rattle.ext_plain.proofs.Numberings.{known_is, next_is, there_then}
 use Rattle.ext_plain.proofs.Stepping.{steps_run-nil}
@@ -104,53 +106,49 @@ module _ (changes : Places) where
       (each number t (there_then s.keys key new.there) (new.place ∙ sym (place_last s.keys key new.there)))
   number_leaves name label key goes s full is each = leaves_itself changes no_context s
 
-  put_leaves : (keys : List KeyText) (name : List ℕ) (key : StepKeyText) (path : List ℕ) (value : ValueText) (s : ValueState) → changes (start_of path) (key_of_step keys key) ≡ true
-      → Leaves s (kept_or_refused enough name (label_of keys key) (why_refused (next_number s) s) s (numbered_by enough name (label_of keys key) (key_of_step keys key) (λ number. put_in enough name (label_of keys key) (start_of path, number)) (keep_value value s))).state
-  put_leaves keys name key path value s may =
-      let label = label_of keys key in
-      let k = key_of_step keys key in
-      let at = start_of path in
+  put_leaves : (call : CallText) (value : ValueText) (s : ValueState) → changes (start_of call.path) call.key ≡ true → Leaves s (put_by enough call.name call.label (start_of call.path) call.key value s).state
+  put_leaves call value s may =
+      let at = start_of call.path in
       let kept = keep_value value s in
-      let puts : ℕ → ValueState → StepEnd = λ number. put_in enough name label (at, number) in
-      let stored = numbered_by enough name label k puts kept in
-      kept_so (Leaves s) name label (why_refused (next_number s) s) s stored (leaves_itself changes no_context s)
+      let puts : ℕ → ValueState → StepEnd = λ number. put_in enough call.name call.label (at, number) in
+      let stored = numbered_by enough call.name call.label call.key puts kept in
+      kept_so (Leaves s) call.name call.label (why_refused (next_number s) s) s stored (leaves_itself changes no_context s)
       (leaves_then changes no_context s kept stored.state (leaves_kept changes no_context value s)
-      (number_leaves name label k puts kept (numbering_of kept.keys k) refl (λ number t there is.
-      leaves_acts changes no_context at number k t (puts number t).state there is may (acts_more (at, number) (Put (at, number) t.store.drawn) t t refl (acts_itself (at, number) t)))))
+      (number_leaves call.name call.label call.key puts kept (numbering_of kept.keys call.key) refl (λ number t there is.
+      leaves_acts changes no_context at number call.key t (puts number t).state there is may (acts_more (at, number) (Put (at, number) t.store.drawn) t t refl (acts_itself (at, number) t)))))
 
-  -- a step that acts at the place of its key once that has its number
-  keyed_leaves : (keys : List KeyText) (name : List ℕ) (key : StepKeyText) (path : List ℕ) (goes : ℕ → ValueState → StepEnd) (s : ValueState) → changes (start_of path) (key_of_step keys key) ≡ true
-      → ((number : ℕ) (t : ValueState) → ActsAt (start_of path, number) t (goes number t).state) → Leaves s (number_by enough name (label_of keys key) (key_of_step keys key) goes s (numbering_of s.keys (key_of_step keys key))).state
-  keyed_leaves keys name key path goes s may each =
-      let k = key_of_step keys key in
-      number_leaves name (label_of keys key) k goes s (numbering_of s.keys k) refl (λ number t there is. leaves_acts changes no_context (start_of path) number k t (goes number t).state there is may (each number t))
+  -- a call that acts at the place of its key once that has its number
+  numbered_leaves : (call : CallText) (goes : ℕ → ValueState → StepEnd) (s : ValueState) → changes (start_of call.path) call.key ≡ true
+      → ((number : ℕ) (t : ValueState) → ActsAt (start_of call.path, number) t (goes number t).state) → Leaves s (numbered_by enough call.name call.label call.key goes s).state
+  numbered_leaves call goes s may each =
+      number_leaves call.name call.label call.key goes s (numbering_of s.keys call.key) refl
+      (λ number t there is. leaves_acts changes no_context (start_of call.path) number call.key t (goes number t).state there is may (each number t))
 
-  -- a step that looks alone
-  looks_leave : (keys : List KeyText) (name : List ℕ) (key : StepKeyText) (goes : ℕ → ValueState → StepEnd) (s : ValueState) → ((number : ℕ) (t : ValueState) → (goes number t).state ≡ t)
-      → Leaves s (number_by enough name (label_of keys key) (key_of_step keys key) goes s (numbering_of s.keys (key_of_step keys key))).state
-  looks_leave keys name key goes s same =
-      let k = key_of_step keys key in
-      number_leaves name (label_of keys key) k goes s (numbering_of s.keys k) refl (λ number t there is. subst (Leaves t) (sym (same number t)) (leaves_itself changes no_context t))
+  computes_leave : (call : CallText) (value : ValueText) (s : ValueState) → changes (start_of call.path) call.key ≡ true
+      → Leaves s (numbered_by enough call.name call.label call.key (compute_numbered enough call.name call.label call.path value) s).state
+  computes_leave call value s may = numbered_leaves call (compute_numbered enough call.name call.label call.path value) s may
+      (λ number t. let place : Place = (start_of call.path, number) in compute_acts place t call.name call.label value t (found_along number call.path t) (acts_itself place t))
+
+  -- one that looks alone
+  looks_leave : (call : CallText) (goes : ℕ → ValueState → StepEnd) (s : ValueState) → ((number : ℕ) (t : ValueState) → (goes number t).state ≡ t) → Leaves s (numbered_by enough call.name call.label call.key goes s).state
+  looks_leave call goes s same =
+      number_leaves call.name call.label call.key goes s (numbering_of s.keys call.key) refl (λ number t there is. subst (Leaves t) (sym (same number t)) (leaves_itself changes no_context t))
 
   step_leaves : (keys : List KeyText) (path : List ℕ) (step : StepText) (s : ValueState)
       → ((key : StepKeyText) (up : ℕ) → changed_by step ≡ Some (key, up) → changes (start_of (drop up path)) (key_of_step keys key) ≡ true) → Leaves s (step_run keys path step s).state
-  step_leaves keys path (put key text up) s may = put_leaves keys (codes "put") key (drop up path) (record { text = text; closeable = false }) s (may key up refl)
-  step_leaves keys path (put_closeable key text up) s may = put_leaves keys (codes "put!") key (drop up path) (record { text = text; closeable = true }) s (may key up refl)
-  step_leaves keys path (want key text up) s may = looks_leave keys (codes "want") key (want_numbered enough (codes "want") (label_of keys key) (drop up path) text) s (λ number t. refl)
-  step_leaves keys path (nothing key up) s may = looks_leave keys (codes "none") key (none_numbered enough (codes "none") (label_of keys key) (drop up path)) s (λ number t. refl)
-  step_leaves keys path (remove key up) s may = keyed_leaves keys (codes "remove") key (drop up path) (remove_numbered enough (codes "remove") (label_of keys key) (drop up path)) s (may key up refl)
-      (λ number t. let place : Place = (start_of (drop up path), number) in acts_more place (Remove place) t t refl (acts_itself place t))
-  step_leaves keys path (compute key text up) s may =
-      let value : ValueText = record { text = text; closeable = false } in
-      keyed_leaves keys (codes "compute") key (drop up path) (compute_numbered enough (codes "compute") (label_of keys key) (drop up path) value) s (may key up refl)
-      (λ number t. let place : Place = (start_of (drop up path), number) in compute_acts place t (codes "compute") (label_of keys key) value t (found_along number (drop up path) t) (acts_itself place t))
-  step_leaves keys path (compute_closeable key text up) s may =
-      let value : ValueText = record { text = text; closeable = true } in
-      keyed_leaves keys (codes "compute!") key (drop up path) (compute_numbered enough (codes "compute!") (label_of keys key) (drop up path) value) s (may key up refl)
-      (λ number t. let place : Place = (start_of (drop up path), number) in compute_acts place t (codes "compute!") (label_of keys key) value t (found_along number (drop up path) t) (acts_itself place t))
-  step_leaves keys path (compute_fail key text up) s may =
-      keyed_leaves keys (codes "computefail") key (drop up path) (computefail_numbered enough (codes "computefail") (label_of keys key) (drop up path) text) s (may key up refl)
-      (λ number t. let place : Place = (start_of (drop up path), number) in fail_acts place t (codes "computefail") (label_of keys key) text t (found_along number (drop up path) t) (acts_itself place t))
+  step_leaves keys path (keyed words.Put key text up) s may = put_leaves (call_of keys path (word_text words.Put) key up) (record { text = text; closeable = false }) s (may key up refl)
+  step_leaves keys path (keyed words.PutCloseable key text up) s may = put_leaves (call_of keys path (word_text words.PutCloseable) key up) (record { text = text; closeable = true }) s (may key up refl)
+  step_leaves keys path (keyed words.Remove key text up) s may =
+      let call = call_of keys path (word_text words.Remove) key up in
+      numbered_leaves call (acts_by enough words.Remove call text) s (may key up refl)
+      (λ number t. let place : Place = (start_of call.path, number) in acts_more place (Remove place) t t refl (acts_itself place t))
+  step_leaves keys path (keyed words.Compute key text up) s may = computes_leave (call_of keys path (word_text words.Compute) key up) (record { text = text; closeable = false }) s (may key up refl)
+  step_leaves keys path (keyed words.ComputeCloseable key text up) s may = computes_leave (call_of keys path (word_text words.ComputeCloseable) key up) (record { text = text; closeable = true }) s (may key up refl)
+  step_leaves keys path (keyed words.ComputeFail key text up) s may =
+      let call = call_of keys path (word_text words.ComputeFail) key up in
+      numbered_leaves call (acts_by enough words.ComputeFail call text) s (may key up refl)
+      (λ number t. let place : Place = (start_of call.path, number) in fail_acts place t call.name call.label text t (found_along number call.path t) (acts_itself place t))
+  step_leaves keys path (keyed word key text up) s may = let call = call_of keys path (word_text word) key up in looks_leave call (acts_by enough word call text) s (λ number t. refl)
   step_leaves keys path (fail text) s may = leaves_itself changes no_context s
   step_leaves keys path (abort text) s may = leaves_itself changes no_context s
 

@@ -1,23 +1,16 @@
 -- Runs of a plan on several lanes that lack nothing: each call and each close finds all memory, numbers, keys and places that it wants, and is shown what stands there.
 -- JUnit 5 User Guide, "Parallel Execution"; what a run of a plan is stands in [ext_parallel ParallelRun].
 use Rattle.ext_one_report.specs.FullRuns.{full_setting, CallsFully}
-use Rattle.std.specs.Prelude.{◌≡◌, ℕ, List, All, Option, Some, None, Result, Ok, Err}
-use Rattle.ext_model.specs.declared.look.Fault.{Fault}
+use Rattle.std.specs.Prelude.{ℕ, Option}
 use Rattle.ext_lifecycle.specs.declared.call.Call.{Call}
 use Rattle.ext_lifecycle.specs.declared.outcome.Outcome.{Outcome}
-use Rattle.ext_lifecycle.specs.FaultTexts.{fault_text}
-use Rattle.ext_lifecycle.specs.Results.{ResultOf}
 use Rattle.ext_plan.specs.Plans.{PlanText}
-use Rattle.ext_plan.specs.PlanCalls.{registered, steps_of_call}
-use Rattle.ext_plan.specs.Values.{close_fault}
-use Rattle.ext_store.specs.Stores.{StoreView, IsLaneOf}
+use Rattle.ext_store.specs.Stores.{IsLaneOf}
 use Rattle.ext_locks.specs.Opening.{LocksView}
 use Rattle.ext_locks.specs.Sets.{HeldView}
-use Rattle.ext_engine.specs.TreeRun.{TreeRun, TreeSetting}
+use Rattle.ext_engine.specs.TreeRun.{TreeSetting}
 use Rattle.ext_parallel.specs.declared.steps.stored_value.StoredValue.{StoredValue}
-use Rattle.ext_parallel.specs.ParallelRun.{IsAction, MakesCall, ParallelRun}
-use Rattle.ext_parallel.specs.PlanSuites.{suite_of}
-use Rattle.ext_parallel.specs.StoreCalls.{PlanLane, stored_view}
+use Rattle.ext_parallel.specs.StoreCalls.{PlanLane}
 use Rattle.ext_one_report.proofs.MatchingWords.{RunView}
 use Rattle.ext_one_report.proofs.StepsWords.{IsLaneIn}
 

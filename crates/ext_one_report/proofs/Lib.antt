@@ -144,5 +144,6 @@ pub mod Views
 pub mod ViewsWords
 pub mod Whole
 pub mod WholeAlone
+pub mod WordCases
 pub mod WorkedPlans
 pub mod WorkedSharing

@@ -1,7 +1,7 @@
 -- What a run on several lanes has in common with a plain run: at some places the same stands in both, by what the numbers of each stand for.
 -- Javadoc `ExtensionContext.Store`; numbers of keys and of values, kept faults and seals are own rules. Both runs number keys in the order in which steps first name them, and
 -- values in the order in which they are kept. So neither numbers are the same in both.
-use Rattle.std.specs.Prelude.{ℕ, ◌≡◌, ◌≤◌, Bool, true, if◌then◌else◌, List, length, Option, None, Some, []}
+use Rattle.std.specs.Prelude.{ℕ, ◌≡◌, ◌≤◌, Bool, true, if◌then◌else◌, List, length, Option, None, Some}
 use Rattle.ext_model.specs.declared.slot.Slot.{Slot}
 use Rattle.ext_model.specs.History.{History, IsQuiet, slots_in}
 use Rattle.ext_tree.specs.Keys.{KeyValue, KnownPlace, AreKeyNotesOf, IsKeyNumber}

@@ -5,10 +5,8 @@ use Rattle.std.proofs.lemmas.List.{length-map}
 use Rattle.std.proofs.lemmas.Option.{slice_get-get_or, slice_get-map, slice_get_within}
 use Rattle.ext_history.proofs.Once.{contains-from_map}
 use Rattle.ext_model.specs.declared.look.Fault.{Fault}
-use Rattle.ext_model.specs.History.{History}
 use Rattle.ext_lifecycle.specs.FaultTexts.{NodeOutcome, fault_text}
 use Rattle.ext_lifecycle.specs.Results.{ResultOf, skipped_result, with_fault_told}
-use Rattle.ext_locks.specs.Opening.{LocksView}
 use Rattle.ext_plan.specs.Plans.{NodeText, PlanText}
 use Rattle.ext_plan.specs.PlanCalls.{test_in}
 use Rattle.ext_plan.specs.ReadPlans.{IsReadPlan}

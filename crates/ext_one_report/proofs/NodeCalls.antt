@@ -1,17 +1,19 @@
 -- Which places the calls of a node touch.
-use Rattle.std.proofs.Common.{◌≡◌, ℕ, zero, suc, ◌<◌, true, List, [], ◌∷◌, drop, length, arith}
+use Rattle.std.proofs.Common.{◌≡◌, ℕ, zero, suc, ◌<◌, Bool, true, false, List, [], ◌∷◌, drop, length, arith}
 use Rattle.std.specs.Prelude.{All, Contains}
 use Rattle.std.proofs.lemmas.List.Elements.{Contains-get_or}
 use Rattle.ext_history.proofs.Lists.{contains_here, contains_later}
 use Rattle.ext_tree.specs.Keys.{KeyValue}
 use Rattle.ext_lifecycle.specs.declared.call.Call.{Call}
-use Rattle.ext_plan.specs.Plans.{KeyText, PlanText, StepKeyText, StepText, put, put_closeable, want, nothing, remove, compute, compute_closeable, compute_fail, fail, abort}
+use Rattle.ext_plan.specs.Plans.{KeyText, PlanText, StepKeyText, StepText, keyed, fail, abort}
 use Rattle.ext_plan.specs.StepCalls.{start_of}
 use Rattle.ext_plan.specs.Steps.{height}
+use Rattle.ext_plan.specs.StepWords.{looks_along}
 use Rattle.ext_plan.specs.StoreKeys.{key_of_step}
 use Rattle.ext_one_report.proofs.CallListsWords.{CallFits}
 use Rattle.ext_one_report.proofs.CallsWords.{StepWithin}
 use Rattle.ext_one_report.proofs.MatchingWords.{Places}
+use Rattle.ext_one_report.proofs.StepsWords.{TouchesWithin}
 
 start_on : (path : List ℕ) (up : ℕ) → up < length path → Contains path (start_of (drop up path))
 start_on [] up less = absurd (omega (arith, less))
@@ -27,21 +29,12 @@ pub each_of : {A : Type 0} (P Q : A → Type 0) (xs : List A) → ((x : A) → P
 each_of P Q xs each all = λ k d within. each _ (all k d within)
 
 module _ (keys : List KeyText) (path : List ℕ) (places more : Places) (each : (context : ℕ) (key : KeyValue) → Contains path context → places context key ≡ true → more context key ≡ true) where
-  acts_more : (key : StepKeyText) (up : ℕ) → up < length path → places (start_of (drop up path)) (key_of_step keys key) ≡ true → more (start_of (drop up path)) (key_of_step keys key) ≡ true
-  acts_more key up less is = each (start_of (drop up path)) (key_of_step keys key) (start_on path up less) is
-
-  looks_more : (key : StepKeyText) (up : ℕ) → All (λ context. places context (key_of_step keys key) ≡ true) (drop up path) → All (λ context. more context (key_of_step keys key) ≡ true) (drop up path)
-  looks_more key up all = λ k d within. each _ (key_of_step keys key) (drop_on path up _ (Contains-get_or (drop up path) k d within)) (all k d within)
+  touches_more : (looks : Bool) (key : StepKeyText) (up : ℕ) → up < length path → TouchesWithin looks keys path places key up → TouchesWithin looks keys path more key up
+  touches_more true key up less all = λ k d within. each _ (key_of_step keys key) (drop_on path up _ (Contains-get_or (drop up path) k d within)) (all k d within)
+  touches_more false key up less is = each (start_of (drop up path)) (key_of_step keys key) (start_on path up less) is
 
   pub step_more : (step : StepText) → height step < length path → StepWithin keys path places step → StepWithin keys path more step
-  step_more (put key text up) less is = acts_more key up less is
-  step_more (put_closeable key text up) less is = acts_more key up less is
-  step_more (want key text up) less is = looks_more key up is
-  step_more (nothing key up) less is = looks_more key up is
-  step_more (remove key up) less is = acts_more key up less is
-  step_more (compute key text up) less is = looks_more key up is
-  step_more (compute_closeable key text up) less is = looks_more key up is
-  step_more (compute_fail key text up) less is = looks_more key up is
+  step_more (keyed word key text up) less is = touches_more (looks_along word) key up less is
   step_more (fail text) less is = tt
   step_more (abort text) less is = tt
 

@@ -1,6 +1,6 @@
 -- What stands in the store of a plain run: each number in one place at most, and each value whose close fails where a step of the plan puts or computes such a one.
 -- Javadoc `ExtensionContext.Store.CloseableResource`; which closes fail is an own rule of [ext_plan Values].
-use Rattle.std.specs.Prelude.{ℕ, ◌≡◌, ◌≤◌, ◌<◌, Bool, true, codes, List, [], Contains, Option, None, Some}
+use Rattle.std.specs.Prelude.{ℕ, ◌≡◌, ◌≤◌, ◌<◌, Bool, true, codes, List, Contains, Option, None, Some}
 use Rattle.ext_model.specs.declared.slot.Slot.{Slot}
 use Rattle.ext_model.specs.declared.slot.Slot.TheVariants as slot
 use Rattle.ext_model.specs.Plain.{Place}

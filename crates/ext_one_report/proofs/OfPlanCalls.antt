@@ -1,58 +1,37 @@
 -- A closeable value that a step of a call leaves is one that the touches of the plan tell, so that each call of a node keeps what stands where the plan may leave it.
-use Rattle.std.proofs.Common.{◌≡◌, ◌<◌, ◌≤◌, ◌+◌, ℕ, zero, suc, true, List, [], ◌∷◌, ◌++◌, length, drop, Contains, All, refl, ap, sym, subst, ◌∙◌, arith, inl, inr}
-use Rattle.std.specs.Prelude.{◌&&◌, codes}
-use Rattle.std.specs.List.{range_with_len}
-use Rattle.std.proofs.lemmas.Bool.{cases_eq}
+use Rattle.std.proofs.Common.{◌≡◌, ◌<◌, ℕ, Bool, true, List, [], ◌∷◌, length, drop, Contains, All, refl, ap, sym, subst, ◌∙◌, arith}
+use Rattle.std.specs.Prelude.{◌&&◌, codes, if◌then◌else◌}
 use Rattle.std.proofs.lemmas.List.{length-drop, length-map}
 use Rattle.std.proofs.lemmas.List.Elements.{All-contains}
 use Rattle.ext_tree.specs.Trees.{IsPathOf}
 use Rattle.ext_lifecycle.specs.declared.call.Call.{Call}
-use Rattle.ext_plan.specs.Plans.{PlanText, StepText, put, put_closeable, want, nothing, remove, compute, compute_closeable, compute_fail, fail, abort}
+use Rattle.ext_plan.specs.Plans.{PlanText, StepText, keyed, fail, abort}
 use Rattle.ext_plan.specs.PlanCalls.{steps_of_call}
 use Rattle.ext_plan.specs.ReadPlans.{IsReadPlan, ids_of_nodes}
 use Rattle.ext_plan.specs.StepCalls.{start_of}
 use Rattle.ext_plan.specs.Steps.{height}
 use Rattle.ext_plan.specs.StoreKeys.{key_of_step, place_of_key}
 use Rattle.ext_plan.specs.Values.{begins_with}
-use Rattle.ext_races.specs.declared.word.Word.TheVariants as words
+use Rattle.ext_plan.specs.declared.word.Word.{Word}
+use Rattle.ext_plan.specs.declared.word.Word.TheVariants as words
 use Rattle.ext_races.specs.Acts.{ActText}
-use Rattle.ext_races.specs.MadeSteps.{MadeText, calls_of, made_after, made_by, made_of_node, plan_path, steps_made}
-use Rattle.ext_races.specs.Touches.{TouchText, keys_named, text_if, touch_of, touches_above, touches_along, touches_made, touches_of}
-use Rattle.ext_races.specs.StepWords.{changes, has_text, leaves_closeable}
-use Rattle.ext_races.proofs.Lists.{all_contained, contains_cases, contains_first, contains_later, contains_nothing, contains-flat_map}
+use Rattle.ext_races.specs.MadeSteps.{MadeText, calls_of, made_by, plan_path, steps_made}
+use Rattle.ext_races.specs.Touches.{TouchText, below_computes, keys_named, text_if, touch_of, touches_above, touches_along, touches_made, touches_of}
+use Rattle.ext_plan.specs.StepWords.{changes, has_text, leaves_closeable}
+use Rattle.ext_races.proofs.Lists.{all_contained, contains_first, contains-flat_map}
 use Rattle.ext_plain.specs.ValueStates.{ValueState}
 use Rattle.ext_plain.specs.NodeCalls.{call_run}
 use Rattle.ext_one_report.proofs.OfPlan.{IsOfPlan, MayBeLeft}
 use Rattle.ext_one_report.proofs.OfPlanSteps.{IsReady, StepLeaves, steps_ready}
 use Rattle.ext_one_report.proofs.OfPlanHeights.{call_stays, is_plan_path, path_inside}
-
--- ---- the steps that are made
-
-in_range : (from count k : ℕ) → from ≤ k → k < from + count → Contains (range_with_len from count) k
-in_range from zero k least most = absurd (omega (arith, least, most))
-in_range from (suc count) k least most = elim (cases_eq k from) [
-  | inl same ↦ subst (λ n. Contains (from ∷ range_with_len (from + 1) count) n) (sym same) (contains_first from (range_with_len (from + 1) count))
-  | inr differ ↦ contains_later from k (range_with_len (from + 1) count) (in_range (from + 1) count k (omega (arith, least, differ)) (omega (arith, most)))
-]
-
-made_there : (node : ℕ) (before steps : List StepText) (step : StepText) → Contains steps step → (b : List StepText) × Contains (made_after node before steps) (made_by node b step)
-made_there node before [] step there = contains_nothing step there
-made_there node before (first ∷ more) step there = elim (contains_cases first step more there) [
-  | inl same ↦ (before, subst (λ s. Contains (made_by node before first ∷ made_after node (before ++ first ∷ []) more) (made_by node before s)) same (contains_first (made_by node before first) (made_after node (before ++ first ∷ []) more)))
-  | inr later ↦ let rest = made_there node (before ++ first ∷ []) more step later in
-      (rest.0, contains_later (made_by node before first) (made_by node rest.0 step) (made_after node (before ++ first ∷ []) more) rest.1)
-]
-
-step_made : (plan : PlanText) (node : ℕ) (call : Call) (step : StepText) → node < length plan.nodes → Contains (calls_of plan node) call → Contains (steps_of_call plan call) step
-    → (b : List StepText) × Contains (steps_made plan) (made_by node b step)
-step_made plan node call step within of_node of_call =
-    let made = made_there node [] (steps_of_call plan call) step of_call in (
-      made.0,
-      contains-flat_map (made_of_node plan) (range_with_len 0 (length plan.nodes)) node (made_by node made.0 step) (in_range 0 (length plan.nodes) node (omega arith) (omega (arith, within)))
-          (contains-flat_map (λ c. made_after node [] (steps_of_call plan c)) (calls_of plan node) call (made_by node made.0 step) of_node made.1),
-    )
+use Rattle.ext_one_report.proofs.CoveredTouches.{is_made}
 
 -- ---- what they touch
+
+closeable_all : (word : Word) → leaves_closeable word ≡ true → (changes word ≡ true) × (has_text word ≡ true)
+closeable_all words.PutCloseable leaves = (refl, refl)
+closeable_all words.ComputeCloseable leaves = (refl, refl)
+closeable_all word leaves = absurd cc
 
 -- an act that leaves a closeable value does so in the first context of its path
 along_left : (plan : PlanText) (node key : ℕ) (act : ActText) (path : List ℕ) → 0 < length path → ((t : TouchText) → Contains (touches_along node key act path) t → Contains (touches_made plan) t)
@@ -87,20 +66,18 @@ module _ (plan : PlanText) (node : ℕ) (path : List ℕ) (read : IsReadPlan pla
   below up less = subst (λ p. 0 < length (drop up p)) (is_plan_path plan node path read is) (longer up path less)
 
   step_leaves : (call : Call) (step : StepText) → Contains (calls_of plan node) call → Contains (steps_of_call plan call) step → height step < length path → StepLeaves plan path step
-  step_leaves call (put key text up) of_node of_call less = tt
-  step_leaves call (put_closeable key text up) of_node of_call less = λ closes bad.
-      let made = step_made plan node call (put_closeable key text up) within of_node of_call in
-      let act : ActText = record { word = words.PutCloseable; key = key; text = text; up = up } in
-      own_path up text (along_left plan node (place_of_key (keys_named plan) (key_of_step plan.keys key)) act (drop up (plan_path plan node)) (below up less) (there (made_by node made.0 (put_closeable key text up)) made.1) refl refl refl bad)
-  step_leaves call (want key text up) of_node of_call less = tt
-  step_leaves call (nothing key up) of_node of_call less = tt
-  step_leaves call (remove key up) of_node of_call less = tt
-  step_leaves call (compute key text up) of_node of_call less = tt
-  step_leaves call (compute_closeable key text up) of_node of_call less = λ closes bad.
-      let made = step_made plan node call (compute_closeable key text up) within of_node of_call in
-      let act : ActText = record { word = words.ComputeCloseable; key = key; text = text; up = up } in
-      own_path up text (along_left plan node (place_of_key (keys_named plan) (key_of_step plan.keys key)) act (drop up (plan_path plan node)) (below up less) (there (made_by node made.0 (compute_closeable key text up)) made.1) refl refl refl bad)
-  step_leaves call (compute_fail key text up) of_node of_call less = tt
+  step_leaves call (keyed word key text up) of_node of_call less = λ leaves closes bad.
+      let step = keyed word key text up in
+      let act : ActText = record { word = word; key = key; text = text; up = up } in
+      let k = key_of_step plan.keys key in
+      let number = place_of_key (keys_named plan) k in
+      let walk = plan_path plan node in
+      let one = is_made plan node call step within of_node of_call in
+      let all = closeable_all word leaves in
+      let along = ap (λ (b : Bool). drop up (if b then walk else below_computes plan.keys k walk one.front)) all.0 in
+      let touches : (t : TouchText) → Contains (touches_along node number act (drop up walk)) t → Contains (touches_made plan) t =
+      λ t held. there (made_by node one.front step) one.made t (subst (λ p. Contains (touches_along node number act p) t) (sym along) held) in
+      own_path up text (along_left plan node number act (drop up walk) (below up less) touches all.0 leaves all.1 bad)
   step_leaves call (fail text) of_node of_call less = tt
   step_leaves call (abort text) of_node of_call less = tt
 

@@ -1,6 +1,6 @@
 -- The steps of a plain run keep that each number stands in one place at most, and each value whose close fails where a step of the plan may leave it.
 use Rattle.std.proofs.Common.{◌≡◌, ℕ, Bool, true, false, List, [], ◌∷◌, drop, Option, Some, None, refl, ap, sym, subst, ◌∙◌}
-use Rattle.std.specs.Prelude.{All, codes, if◌then◌else◌}
+use Rattle.std.specs.Prelude.{All, if◌then◌else◌}
 use Rattle.std.proofs.lemmas.List.Elements.{All-head, All-tail}
 use Rattle.ext_model.specs.declared.event.Act.TheVariants.{Claim, Fail, Abandon}
 use Rattle.ext_model.specs.declared.look.Look.{Look}
@@ -10,12 +10,15 @@ use Rattle.ext_tree.specs.Keys.{KeyValue}
 use Rattle.ext_lifecycle.specs.Endings.{successful, aborted, failed}
 use Rattle.ext_lifecycle.specs.FaultTexts.{VerdictText}
 use Rattle.ext_plan.specs.declared.reason.Reason.{Reason}
-use Rattle.ext_plan.specs.Plans.{KeyText, PlanText, StepKeyText, StepText, put, put_closeable, want, nothing, remove, compute, compute_closeable, compute_fail, fail, abort}
-use Rattle.ext_plan.specs.StepCalls.{label_of, start_of}
-use Rattle.ext_plan.specs.StoreKeys.{key_of_step}
+use Rattle.ext_plan.specs.declared.word.Word.{Word}
+use Rattle.ext_plan.specs.declared.word.Word.TheVariants as words
+use Rattle.ext_plan.specs.Plans.{KeyText, PlanText, StepText, keyed, fail, abort}
+use Rattle.ext_plan.specs.StepWords.{word_text}
+use Rattle.ext_plan.specs.StepCalls.{CallText, call_of, start_of}
+use Rattle.ext_plan.specs.StepWords.{leaves_closeable}
 use Rattle.ext_plan.specs.Values.{ValueText}
 use Rattle.ext_plain.specs.ValueStates.{Numbering, ValueState, after_act, enough, found_later, full, keep_value, known, next, next_found, next_number, numbering_of, why_refused, with_memory, with_number}
-use Rattle.ext_plain.specs.StepRuns.{StepEnd, compute_looked, compute_numbered, computefail_looked, computefail_numbered, ended, factory_failed, factory_gave, found_along, keeping_by, kept_or_refused, next_step, none_numbered, number_by, or_refused, put_in, remove_numbered, step_by, step_run, steps_run, unless_ended, want_numbered}
+use Rattle.ext_plain.specs.StepRuns.{StepEnd, acts_by, call_by, compute_looked, compute_numbered, computefail_looked, ended, factory_failed, factory_gave, found_along, kept_or_refused, next_step, number_by, numbered_by, or_refused, put_by, put_in, step_by, step_run, steps_run, unless_ended}
 use Rattle.ext_plain.proofs.Memories.{step_by-with}
 use Rattle.ext_plain.proofs.Stepping.{steps_run-nil, steps_run-cons}
 use Rattle.ext_one_report.proofs.OfPlan.{IsOfPlan}
@@ -23,14 +26,7 @@ use Rattle.ext_one_report.proofs.OfPlanStates.{IsDrawn, IsLeft, drawn_numbered, 
 
 -- where a step leaves a closeable value, the plan may leave it there
 abbrev pub StepLeaves : PlanText → List ℕ → StepText → Type 0
-StepLeaves plan path (put key text up) = Unit {0}
-StepLeaves plan path (put_closeable key text up) = IsLeft plan (start_of (drop up path)) (record { text = text; closeable = true })
-StepLeaves plan path (want key text up) = Unit {0}
-StepLeaves plan path (nothing key up) = Unit {0}
-StepLeaves plan path (remove key up) = Unit {0}
-StepLeaves plan path (compute key text up) = Unit {0}
-StepLeaves plan path (compute_closeable key text up) = IsLeft plan (start_of (drop up path)) (record { text = text; closeable = true })
-StepLeaves plan path (compute_fail key text up) = Unit {0}
+StepLeaves plan path (keyed word key text up) = leaves_closeable word ≡ true → IsLeft plan (start_of (drop up path)) (record { text = text; closeable = true })
 StepLeaves plan path (fail text) = Unit {0}
 StepLeaves plan path (abort text) = Unit {0}
 
@@ -54,18 +50,20 @@ module _ (plan : PlanText) where
   number_of Q name label key goes s (next number) gets of each h = each number (with_number key s) (gets s h)
   number_of Q name label key goes s full gets of each h = of s h
 
-  keyed_of : (name label : List ℕ) (key : KeyValue) (goes : ℕ → ValueState → StepEnd) (s : ValueState) → ((number : ℕ) (t : ValueState) → IsOfPlan plan t → IsOfPlan plan (goes number t).state) → IsOfPlan plan s
-      → IsOfPlan plan (number_by enough name label key goes s (numbering_of s.keys key)).state
-  keyed_of name label key goes s each h = number_of (IsOfPlan plan) name label key goes s (numbering_of s.keys key) (of_numbered plan key) (λ t p. p) each h
+  -- a call whose key is numbered first
+  numbered_of : (call : CallText) (goes : ℕ → ValueState → StepEnd) (s : ValueState) → ((number : ℕ) (t : ValueState) → IsOfPlan plan t → IsOfPlan plan (goes number t).state) → IsOfPlan plan s
+      → IsOfPlan plan (numbered_by enough call.name call.label call.key goes s).state
+  numbered_of call goes s each h = number_of (IsOfPlan plan) call.name call.label call.key goes s (numbering_of s.keys call.key) (of_numbered plan call.key) (λ t p. p) each h
 
-  put_of : (keys : List KeyText) (name : List ℕ) (key : StepKeyText) (path : List ℕ) (value : ValueText) (s : ValueState) → IsLeft plan (start_of path) value → IsOfPlan plan s → IsOfPlan plan (keeping_by keys enough name key path value s).state
-  put_of keys name key path value s left h =
-      let label = label_of keys key in
-      let k = key_of_step keys key in
+  -- one whose value is kept first
+  put_of : (call : CallText) (value : ValueText) (s : ValueState) → IsLeft plan (start_of call.path) value → IsOfPlan plan s
+      → IsOfPlan plan (put_by enough call.name call.label (start_of call.path) call.key value s).state
+  put_of call value s left h =
       let kept = keep_value value s in
-      let puts : ℕ → ValueState → StepEnd = λ number. put_in enough name label (start_of path, number) in
-      kept_of name label (why_refused (next_number s) s) s (number_by enough name label k puts kept (numbering_of kept.keys k)) h
-      (λ room. number_of (IsDrawn plan value) name label k puts kept (numbering_of kept.keys k) (drawn_numbered plan k value) (λ t d. d.of) (λ number t d. of_put plan (start_of path, number) value t d left) (of_kept plan value s room h))
+      let puts : ℕ → ValueState → StepEnd = λ number. put_in enough call.name call.label (start_of call.path, number) in
+      kept_of call.name call.label (why_refused (next_number s) s) s (numbered_by enough call.name call.label call.key puts kept) h
+      (λ room. number_of (IsDrawn plan value) call.name call.label call.key puts kept (numbering_of kept.keys call.key) (drawn_numbered plan call.key value) (λ t d. d.of)
+      (λ number t d. of_put plan (start_of call.path, number) value t d left) (of_kept plan value s room h))
 
   gave_of : (name label : List ℕ) (place : Place) (value : ValueText) (s : ValueState) → IsLeft plan place.0 value → IsOfPlan plan s → IsOfPlan plan (factory_gave name label place value s).state
   gave_of name label place value s left h =
@@ -99,22 +97,24 @@ module _ (plan : PlanText) where
 
   -- ---- a step of any form
 
+  computes_of : (call : CallText) (value : ValueText) (s : ValueState) → IsLeft plan (start_of call.path) value → IsOfPlan plan s
+      → IsOfPlan plan (numbered_by enough call.name call.label call.key (compute_numbered enough call.name call.label call.path value) s).state
+  computes_of call value s left h = numbered_of call (compute_numbered enough call.name call.label call.path value) s
+      (λ number t p. compute_of call.name call.label (start_of call.path, number) value t (found_along number call.path t) left p) h
+
+  does_of : (word : Word) (call : CallText) (text : List ℕ) (s : ValueState) → (leaves_closeable word ≡ true → IsLeft plan (start_of call.path) (record { text = text; closeable = true })) → IsOfPlan plan s
+      → IsOfPlan plan (call_by enough word call text s).state
+  does_of words.Put call text s left h = put_of call (record { text = text; closeable = false }) s (not_closed plan (start_of call.path) text) h
+  does_of words.PutCloseable call text s left h = put_of call (record { text = text; closeable = true }) s (left refl) h
+  does_of words.Remove call text s left h = numbered_of call (acts_by enough words.Remove call text) s (λ number t p. of_removed plan (start_of call.path, number) t p) h
+  does_of words.Compute call text s left h = computes_of call (record { text = text; closeable = false }) s (not_closed plan (start_of call.path) text) h
+  does_of words.ComputeCloseable call text s left h = computes_of call (record { text = text; closeable = true }) s (left refl) h
+  does_of words.ComputeFail call text s left h = numbered_of call (acts_by enough words.ComputeFail call text) s
+      (λ number t p. computefail_of call.name call.label (start_of call.path, number) text t (found_along number call.path t) p) h
+  does_of word call text s left h = numbered_of call (acts_by enough word call text) s (λ number t p. p) h
+
   step_of : (keys : List KeyText) (path : List ℕ) (step : StepText) (s : ValueState) → StepLeaves plan path step → IsOfPlan plan s → IsOfPlan plan (step_run keys path step s).state
-  step_of keys path (put key text up) s left h = put_of keys (codes "put") key (drop up path) (record { text = text; closeable = false }) s (not_closed plan (start_of (drop up path)) text) h
-  step_of keys path (put_closeable key text up) s left h = put_of keys (codes "put!") key (drop up path) (record { text = text; closeable = true }) s left h
-  step_of keys path (want key text up) s left h = keyed_of (codes "want") (label_of keys key) (key_of_step keys key) (want_numbered enough (codes "want") (label_of keys key) (drop up path) text) s (λ number t p. p) h
-  step_of keys path (nothing key up) s left h = keyed_of (codes "none") (label_of keys key) (key_of_step keys key) (none_numbered enough (codes "none") (label_of keys key) (drop up path)) s (λ number t p. p) h
-  step_of keys path (remove key up) s left h =
-      keyed_of (codes "remove") (label_of keys key) (key_of_step keys key) (remove_numbered enough (codes "remove") (label_of keys key) (drop up path)) s (λ number t p. of_removed plan (start_of (drop up path), number) t p) h
-  step_of keys path (compute key text up) s left h =
-      keyed_of (codes "compute") (label_of keys key) (key_of_step keys key) (compute_numbered enough (codes "compute") (label_of keys key) (drop up path) (record { text = text; closeable = false })) s
-      (λ number t p. compute_of (codes "compute") (label_of keys key) (start_of (drop up path), number) (record { text = text; closeable = false }) t (found_along number (drop up path) t) (not_closed plan (start_of (drop up path)) text) p) h
-  step_of keys path (compute_closeable key text up) s left h =
-      keyed_of (codes "compute!") (label_of keys key) (key_of_step keys key) (compute_numbered enough (codes "compute!") (label_of keys key) (drop up path) (record { text = text; closeable = true })) s
-      (λ number t p. compute_of (codes "compute!") (label_of keys key) (start_of (drop up path), number) (record { text = text; closeable = true }) t (found_along number (drop up path) t) left p) h
-  step_of keys path (compute_fail key text up) s left h =
-      keyed_of (codes "computefail") (label_of keys key) (key_of_step keys key) (computefail_numbered enough (codes "computefail") (label_of keys key) (drop up path) text) s
-      (λ number t p. computefail_of (codes "computefail") (label_of keys key) (start_of (drop up path), number) text t (found_along number (drop up path) t) p) h
+  step_of keys path (keyed word key text up) s left h = does_of word (call_of keys path (word_text word) key up) text s left h
   step_of keys path (fail text) s left h = h
   step_of keys path (abort text) s left h = h
 

@@ -14,8 +14,9 @@ use Rattle.ext_model.specs.History.{History, slots_in}
 use Rattle.ext_tree.specs.Keys.{KeyValue}
 use Rattle.ext_tree.specs.Traits.{key_eq}
 use Rattle.ext_tree.specs.Trees.{IsPathOf}
-use Rattle.ext_plan.specs.Plans.{KeyText, StepText, put, put_closeable, want, nothing, remove, compute, compute_closeable, compute_fail, fail, abort}
+use Rattle.ext_plan.specs.Plans.{KeyText, StepText, keyed, fail, abort}
 use Rattle.ext_plan.specs.StepCalls.{start_of}
+use Rattle.ext_plan.specs.StepWords.{gives_value, leaves_closeable}
 use Rattle.ext_plan.specs.StoreKeys.{key_of_step}
 use Rattle.ext_plan.specs.Values.{ValueText}
 use Rattle.ext_plain.specs.ValueStates.{ValueState}
@@ -102,26 +103,13 @@ still_open settled open_at context key = if settled context key then None else o
 
 -- the step computes the value of an open place
 abbrev pub ComputesOpen : List KeyText → List ℕ → Open → StepText → Type 0
-ComputesOpen keys path open_at (put key text up) = ⊥
-ComputesOpen keys path open_at (put_closeable key text up) = ⊥
-ComputesOpen keys path open_at (want key text up) = ⊥
-ComputesOpen keys path open_at (nothing key up) = ⊥
-ComputesOpen keys path open_at (remove key up) = ⊥
-ComputesOpen keys path open_at (compute key text up) = open_at (start_of (drop up path)) (key_of_step keys key) ≡ Some (record { text = text; closeable = false })
-ComputesOpen keys path open_at (compute_closeable key text up) = open_at (start_of (drop up path)) (key_of_step keys key) ≡ Some (record { text = text; closeable = true })
-ComputesOpen keys path open_at (compute_fail key text up) = ⊥
+ComputesOpen keys path open_at (keyed word key text up) =
+    (gives_value word ≡ true) × (open_at (start_of (drop up path)) (key_of_step keys key) ≡ Some (record { text = text; closeable = leaves_closeable word }))
 ComputesOpen keys path open_at (fail text) = ⊥
 ComputesOpen keys path open_at (abort text) = ⊥
 
 -- the place that it acts on
 abbrev pub place_of_step : List KeyText → List ℕ → StepText → Places
-place_of_step keys path (put key text up) = at_place (start_of (drop up path)) (key_of_step keys key)
-place_of_step keys path (put_closeable key text up) = at_place (start_of (drop up path)) (key_of_step keys key)
-place_of_step keys path (want key text up) = at_place (start_of (drop up path)) (key_of_step keys key)
-place_of_step keys path (nothing key up) = at_place (start_of (drop up path)) (key_of_step keys key)
-place_of_step keys path (remove key up) = at_place (start_of (drop up path)) (key_of_step keys key)
-place_of_step keys path (compute key text up) = at_place (start_of (drop up path)) (key_of_step keys key)
-place_of_step keys path (compute_closeable key text up) = at_place (start_of (drop up path)) (key_of_step keys key)
-place_of_step keys path (compute_fail key text up) = at_place (start_of (drop up path)) (key_of_step keys key)
+place_of_step keys path (keyed word key text up) = at_place (start_of (drop up path)) (key_of_step keys key)
 place_of_step keys path (fail text) = λ context key. false
 place_of_step keys path (abort text) = λ context key. false

@@ -14,8 +14,9 @@ use Rattle.ext_tree.specs.Trees.{IsPathOf}
 use Rattle.ext_tree.proofs.KeyPlacing.{number_stays}
 use Rattle.ext_lifecycle.specs.declared.outcome.Outcome.{Outcome}
 use Rattle.ext_lifecycle.specs.FaultTexts.{verdict_text}
-use Rattle.ext_plan.specs.Plans.{KeyText, StepKeyText, StepText, put, put_closeable, want, nothing, remove, compute, compute_closeable, compute_fail, fail, abort}
-use Rattle.ext_plan.specs.StepCalls.{label_of, start_of}
+use Rattle.ext_plan.specs.declared.word.Word.TheVariants as words
+use Rattle.ext_plan.specs.Plans.{KeyText, StepKeyText, StepText, keyed, fail, abort}
+use Rattle.ext_plan.specs.StepCalls.{call_of, label_of, start_of}
 use Rattle.ext_plan.specs.Steps.{height, step_key}
 use Rattle.ext_plan.specs.StoreKeys.{key_of_step}
 use Rattle.ext_plan.specs.Values.{ValueText}
@@ -26,7 +27,7 @@ use Rattle.ext_plain.specs.ValueStates.{ValueState, value_of}
 use Rattle.ext_plain.specs.StepRuns.{StepEnd, step_run}
 use Rattle.ext_parallel.specs.Saying.{EndsRefused}
 use Rattle.ext_parallel.specs.StoreCalls.{HasFrame, PlanLane}
-use Rattle.ext_parallel.specs.StoreSteps.{PlacesItsKey, StepComputes, StepRun, StepsRun, call_of}
+use Rattle.ext_parallel.specs.StoreSteps.{PlacesItsKey, StepComputes, StepRun, StepsRun}
 use Rattle.ext_one_report.proofs.PlanCells.{changed_by}
 use Rattle.ext_one_report.proofs.CallsWords.{AreComparedAll, StepHasRoom, StepWithin}
 use Rattle.ext_one_report.specs.FullRuns.{StepFinds}
@@ -43,6 +44,7 @@ use Rattle.ext_one_report.proofs.OpenFits.{IsOpenStep, is_at_place, at_itself, o
 use Rattle.ext_one_report.proofs.OpenSingles.{IsChanged, changed_place, changes_within, elsewhere, is_changed, may_change, one_of, only_one, single_is, single_run}
 use Rattle.ext_one_report.proofs.Standing.{computing_keeps_near}
 use Rattle.ext_one_report.proofs.OpenStep.{opens_end_near}
+use Rattle.ext_one_report.proofs.WordCases.{finds_none}
 
 -- how steps end: both say the same, and together have computed and found as many values
 pub record Near (run : RunView) (places : Places) (open_at : Open) (a : PlanLane) (s : ValueState) (o : Outcome) (b : PlanLane) (end : StepEnd) : Type 0 where
@@ -207,18 +209,12 @@ module _ (run : RunView) (keys : List KeyText) (path : List ℕ) (a : PlanLane) 
       (number.0, subst (λ (p : StepKeyText × ℕ). IsKeyNumber b.keys (key_of_step keys p.0) number.0) pair number.1)
 
   key_named : (open_at : Open) (step : StepText) → ComputesOpen keys path open_at step → StepRun run.store keys path step a o b → (it : IsOpenStep keys path open_at step) → (number : ℕ) × IsKeyNumber b.keys (key_of_step keys it.key) number
-  key_named open_at (put key text up) computes ran it = absurd computes
-  key_named open_at (put_closeable key text up) computes ran it = absurd computes
-  key_named open_at (want key text up) computes ran it = absurd computes
-  key_named open_at (nothing key up) computes ran it = absurd computes
-  key_named open_at (remove key up) computes ran it = absurd computes
-  key_named open_at (compute key text up) computes (inl made) it =
-      renamed (compute key text up) key up it.key it.up refl it.changes (computes_named (codes "compute") key up (record { text = text; closeable = false }) made)
-  key_named open_at (compute key text up) computes (inr none) it = absurd (omega (arith, once, none.1.ends.1, none.1.ends.2))
-  key_named open_at (compute_closeable key text up) computes (inl made) it =
-      renamed (compute_closeable key text up) key up it.key it.up refl it.changes (computes_named (codes "compute!") key up (record { text = text; closeable = true }) made)
-  key_named open_at (compute_closeable key text up) computes (inr none) it = absurd (omega (arith, once, none.1.ends.1, none.1.ends.2))
-  key_named open_at (compute_fail key text up) computes ran it = absurd computes
+  key_named open_at (keyed words.Compute key text up) computes (inl made) it =
+      renamed (keyed words.Compute key text up) key up it.key it.up refl it.changes (computes_named (codes "compute") key up (record { text = text; closeable = false }) made)
+  key_named open_at (keyed words.ComputeCloseable key text up) computes (inl made) it =
+      renamed (keyed words.ComputeCloseable key text up) key up it.key it.up refl it.changes (computes_named (codes "compute!") key up (record { text = text; closeable = true }) made)
+  key_named open_at (keyed word key text up) computes (inl made) it = absurd (cc computes.0)
+  key_named open_at (keyed word key text up) computes (inr lacks) it = let none = finds_none keys word key a o b lacks in absurd (omega (arith, once, none.ends.1, none.ends.2))
   key_named open_at (fail text) computes ran it = absurd computes
   key_named open_at (abort text) computes ran it = absurd computes
 

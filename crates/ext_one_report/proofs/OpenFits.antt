@@ -8,17 +8,19 @@ use Rattle.ext_tree.specs.Keys.{KeyValue}
 use Rattle.ext_tree.specs.Traits.{key_eq}
 use Rattle.ext_tree.specs.Trees.{Id, IsPathOf, IsWalk}
 use Rattle.ext_tree.proofs.Equalities.{keys_Decides}
-use Rattle.ext_plan.specs.Plans.{KeyText, StepKeyText, StepText, put, put_closeable, want, nothing, remove, compute, compute_closeable, compute_fail, fail, abort}
+use Rattle.ext_plan.specs.Plans.{KeyText, StepKeyText, StepText, keyed, fail, abort}
 use Rattle.ext_plan.specs.StepCalls.{start_of}
+use Rattle.ext_plan.specs.StepWords.{leaves_closeable, looks_along}
 use Rattle.ext_plan.specs.StoreKeys.{key_of_step}
 use Rattle.ext_plan.specs.Values.{ValueText}
 use Rattle.ext_one_report.proofs.PlanCells.{changed_by}
 use Rattle.ext_one_report.proofs.CallsWords.{StepWithin}
 use Rattle.ext_one_report.proofs.MatchingWords.{Places, RunView}
-use Rattle.ext_one_report.proofs.StepsWords.{ActsWithin, LooksWithin}
+use Rattle.ext_one_report.proofs.StepsWords.{LooksWithin, TouchesWithin}
 use Rattle.ext_one_report.proofs.Open.{AreOpenBeside, ComputesOpen, also, at_place, place_of_step, still_open}
 use Rattle.ext_one_report.specs.Shares.{Open}
 use Rattle.ext_one_report.proofs.OpenCalls.{LeavesAbove, StepsFit, StepsFitLater}
+use Rattle.ext_one_report.proofs.WordCases.{computes_all}
 
 -- ---- places that are settled
 
@@ -136,53 +138,30 @@ pub record IsOpenStep (keys : List KeyText) (path : List ℕ) (open_at : Open) (
   pub within : (places : Places) → LooksWithin keys path places key up → StepWithin keys path places step
 
 pub open_step : (keys : List KeyText) (path : List ℕ) (open_at : Open) (step : StepText) → ComputesOpen keys path open_at step → IsOpenStep keys path open_at step
-open_step keys path open_at (put key text up) is = absurd is
-open_step keys path open_at (put_closeable key text up) is = absurd is
-open_step keys path open_at (want key text up) is = absurd is
-open_step keys path open_at (nothing key up) is = absurd is
-open_step keys path open_at (remove key up) is = absurd is
-open_step keys path open_at (compute key text up) is = record {
-  key = key;
-  up = up;
-  value = record { text = text; closeable = false };
-  changes = refl;
-  is_open = is;
-  at = refl;
-  computes = λ other so. so;
-  within = λ places so. so;
-}
-open_step keys path open_at (compute_closeable key text up) is = record {
-  key = key;
-  up = up;
-  value = record { text = text; closeable = true };
-  changes = refl;
-  is_open = is;
-  at = refl;
-  computes = λ other so. so;
-  within = λ places so. so;
-}
-open_step keys path open_at (compute_fail key text up) is = absurd is
+open_step keys path open_at (keyed word key text up) is =
+    let all = computes_all word is.0 in
+    record {
+      key = key;
+      up = up;
+      value = record { text = text; closeable = leaves_closeable word };
+      changes = ap (λ (b : Bool). if b then Some (key, up) else None) all.0;
+      is_open = is.1;
+      at = refl;
+      computes = λ other so. (is.0, so);
+      within = λ places so. subst (λ (b : Bool). TouchesWithin b keys path places key up) (sym all.1) so;
+    }
 open_step keys path open_at (fail text) is = absurd is
 open_step keys path open_at (abort text) is = absurd is
 
 -- ---- what fits
 
 module _ (keys : List KeyText) (path : List ℕ) (places more : Places) (within : (c : ℕ) (k : KeyValue) → places c k ≡ true → more c k ≡ true) where
-  acts_more : (key : StepKeyText) (up : ℕ) → ActsWithin keys path places key up → ActsWithin keys path more key up
-  acts_more key up is = within (start_of (drop up path)) (key_of_step keys key) is
-
-  looks_more : (key : StepKeyText) (up : ℕ) → LooksWithin keys path places key up → LooksWithin keys path more key up
-  looks_more key up is = λ n d below. within _ (key_of_step keys key) (is n d below)
+  touches_more : (looks : Bool) (key : StepKeyText) (up : ℕ) → TouchesWithin looks keys path places key up → TouchesWithin looks keys path more key up
+  touches_more true key up is = λ n d below. within _ (key_of_step keys key) (is n d below)
+  touches_more false key up is = within (start_of (drop up path)) (key_of_step keys key) is
 
   within_more : (step : StepText) → StepWithin keys path places step → StepWithin keys path more step
-  within_more (put key text up) is = acts_more key up is
-  within_more (put_closeable key text up) is = acts_more key up is
-  within_more (want key text up) is = looks_more key up is
-  within_more (nothing key up) is = looks_more key up is
-  within_more (remove key up) is = acts_more key up is
-  within_more (compute key text up) is = looks_more key up is
-  within_more (compute_closeable key text up) is = looks_more key up is
-  within_more (compute_fail key text up) is = looks_more key up is
+  within_more (keyed word key text up) is = touches_more (looks_along word) key up is
   within_more (fail text) is = tt
   within_more (abort text) is = tt
 

@@ -17,7 +17,7 @@ use Rattle.ext_plan.specs.StoreKeys.{is_there, key_of_step, place_of_key}
 use Rattle.ext_plan.specs.Values.{ValueText}
 use Rattle.ext_plan.proofs.KeyLists.{place_last, not_contained}
 use Rattle.ext_plain.specs.ValueStates.{ValueState, enough, key_limit, run_numbers, with_number}
-use Rattle.ext_plain.specs.StepRuns.{StepEnd, compute_looked, compute_numbered, factory_gave, found_along, keyed_by, number_by, numbered_by, step_run}
+use Rattle.ext_plain.specs.StepRuns.{StepEnd, compute_looked, compute_numbered, factory_gave, found_along, number_by, numbered_by, step_run}
 use Rattle.ext_plain.proofs.Numberings.{is_known, is_next, there_then}
 use Rattle.ext_one_report.proofs.PlanCells.{changed_by}
 use Rattle.ext_one_report.proofs.MatchingWords.{IsNumbered, Places, plain_meaning, plain_slot}
@@ -143,7 +143,7 @@ module _ (name label : List ℕ) (context : ℕ) (above : List ℕ) (key : KeyVa
 -- a step that computes the value where nothing stands above, and at the place itself the value or nothing
 pub plain_ends : (keys : List KeyText) (name : List ℕ) (key : StepKeyText) (context : ℕ) (above : List ℕ) (v : ValueText) (s : ValueState) → HasRoom (key_of_step keys key) s → s.store.drawn ≡ length s.values
     → IsOpen context s → All (λ c. IsOpen c s) above → All (λ c. plain_slot s c (key_of_step keys key) ≡ None) above → StandsOrNot (plain_meaning s.values) v (plain_slot s context (key_of_step keys key))
-    → PlainEnds context (key_of_step keys key) v (keyed_by keys enough name key (λ label. compute_numbered enough name label (context ∷ above) v) s)
+    → PlainEnds context (key_of_step keys key) v (numbered_by enough name (label_of keys key) (key_of_step keys key) (compute_numbered enough name (label_of keys key) (context ∷ above) v) s)
 plain_ends keys name key context above v s room drawn clear clear_above none near =
     let k : KeyValue = key_of_step keys key in
     let it : IsNamedThere k s = named_there k s room.keys in

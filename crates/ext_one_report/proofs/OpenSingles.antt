@@ -1,6 +1,6 @@
 -- One step of a call: as a list of one step, which places it changes, and where its lane makes no events.
-use Rattle.std.proofs.Common.{◌≡◌, ℕ, ◌+◌, ◌<◌, inl, inr, true, false, List, [], ◌∷◌, ◌++◌, length, drop, Contains, Option, None, Some, refl, ap, sym, subst, ◌∙◌, arith, nat_eq}
-use Rattle.std.specs.Prelude.{All, IfSome, ◌≢◌, slice_get}
+use Rattle.std.proofs.Common.{◌≡◌, ℕ, ◌+◌, ◌<◌, inl, inr, Bool, true, false, List, [], ◌∷◌, ◌++◌, length, drop, Contains, Option, None, Some, refl, ap, sym, subst, ◌∙◌, arith, nat_eq}
+use Rattle.std.specs.Prelude.{All, IfSome, ◌≢◌, if◌then◌else◌, slice_get}
 use Rattle.std.proofs.lemmas.Bool.Decides.{nat_tests}
 use Rattle.std.proofs.lemmas.List.{get_or-append-add, length-append, length-drop}
 use Rattle.std.proofs.lemmas.List.Elements.{All-cons}
@@ -17,9 +17,10 @@ use Rattle.ext_lifecycle.specs.declared.outcome.Verdict.TheVariants as verdicts
 use Rattle.ext_lifecycle.specs.Endings.{successful, aborted, failed, is_successful}
 use Rattle.ext_lifecycle.specs.FaultTexts.{VerdictText}
 use Rattle.ext_lifecycle.specs.Lifecycle.{ending_of}
-use Rattle.ext_plan.specs.Plans.{KeyText, StepKeyText, StepText, put, put_closeable, want, nothing, remove, compute, compute_closeable, compute_fail, fail, abort}
+use Rattle.ext_plan.specs.Plans.{KeyText, StepKeyText, StepText, keyed, fail, abort}
 use Rattle.ext_plan.specs.StepCalls.{start_of}
 use Rattle.ext_plan.specs.Steps.{height, step_key}
+use Rattle.ext_plan.specs.StepWords.{changes, looks_along}
 use Rattle.ext_plan.specs.StoreKeys.{key_of_step}
 use Rattle.ext_store.specs.Stores.{StoreView}
 use Rattle.ext_engine.specs.Order.{IsMadeBy}
@@ -32,7 +33,7 @@ use Rattle.ext_one_report.proofs.PlanCells.{IsCellOf, changed_by}
 use Rattle.ext_one_report.proofs.Steps.{steps_on}
 use Rattle.ext_one_report.proofs.CallsWords.{StepWithin}
 use Rattle.ext_one_report.proofs.MatchingWords.{HasNumberIn, IsRunView, Places, RunView, cell_of}
-use Rattle.ext_one_report.proofs.StepsWords.{IsLaneIn, LooksWithin}
+use Rattle.ext_one_report.proofs.StepsWords.{IsLaneIn, LooksWithin, TouchesWithin}
 use Rattle.ext_one_report.proofs.Calls.{plain_goes, plain_stops}
 use Rattle.ext_one_report.proofs.Matching.{cells_apart}
 use Rattle.ext_one_report.proofs.Open.{at_place}
@@ -132,16 +133,15 @@ looks_there keys path places key up below looks =
     let long = length-drop up path in
     begins_within (λ c. places c (key_of_step keys key) ≡ true) (drop up path) (omega (arith, long, below)) looks
 
+changed_there : (changing looks : Bool) (keys : List KeyText) (path : List ℕ) (places : Places) (key : StepKeyText) (up : ℕ) → up < length path → TouchesWithin looks keys path places key up
+    → IfSome (if changing then Some (key, up) else None) (λ (changed : StepKeyText × ℕ). places (start_of (drop changed.1 path)) (key_of_step keys changed.0) ≡ true)
+changed_there false looks keys path places key up below within = tt
+changed_there true true keys path places key up below within = looks_there keys path places key up below within
+changed_there true false keys path places key up below within = within
+
 changed_within : (keys : List KeyText) (path : List ℕ) (places : Places) (step : StepText) → height step < length path → StepWithin keys path places step
     → IfSome (changed_by step) (λ changed. places (start_of (drop changed.1 path)) (key_of_step keys changed.0) ≡ true)
-changed_within keys path places (put key text up) below within = within
-changed_within keys path places (put_closeable key text up) below within = within
-changed_within keys path places (want key text up) below within = tt
-changed_within keys path places (nothing key up) below within = tt
-changed_within keys path places (remove key up) below within = within
-changed_within keys path places (compute key text up) below within = looks_there keys path places key up below within
-changed_within keys path places (compute_closeable key text up) below within = looks_there keys path places key up below within
-changed_within keys path places (compute_fail key text up) below within = looks_there keys path places key up below within
+changed_within keys path places (keyed word key text up) below within = changed_there (changes word) (looks_along word) keys path places key up below within
 changed_within keys path places (fail text) below within = tt
 changed_within keys path places (abort text) below within = tt
 

@@ -3,7 +3,6 @@ use Rattle.std.proofs.Common.{◌≡◌, ℕ, ◌⊎◌, inl, inr, Bool, true, f
 use Rattle.std.specs.List.{slice_index_or}
 use Rattle.std.specs.Prelude.{All, ◌&&◌, ◌||◌, ◌==◌, codes, if◌then◌else◌}
 use Rattle.std.proofs.lemmas.Bool.Decides.{nat_tests}
-use Rattle.std.proofs.lemmas.Bool.{eq-eqb}
 use base.Growing.{prefix_refl}
 use Rattle.ext_history.specs.Histories.{seen_by}
 use Rattle.ext_history.proofs.Lists.{bools}
@@ -16,12 +15,13 @@ use Rattle.ext_tree.specs.Trees.{IsPathOf}
 use Rattle.ext_tree.proofs.Equalities.{keys_Decides}
 use Rattle.ext_tree.proofs.KeyPlacing.{number_stays, one_key, one_number}
 use Rattle.ext_lifecycle.specs.declared.outcome.Outcome.{Outcome}
-use Rattle.ext_plan.specs.Plans.{KeyText, StepKeyText, StepText, put, put_closeable, want, nothing, remove, compute, compute_closeable, compute_fail, fail, abort}
+use Rattle.ext_plan.specs.declared.word.Word.TheVariants as words
+use Rattle.ext_plan.specs.Plans.{KeyText, StepKeyText, StepText, keyed, fail, abort}
 use Rattle.ext_plan.specs.StepCalls.{label_of, start_of}
 use Rattle.ext_plan.specs.StoreKeys.{key_of_step}
 use Rattle.ext_plan.specs.Values.{ValueText}
 use Rattle.ext_plain.specs.ValueStates.{ValueState, enough, value_of}
-use Rattle.ext_plain.specs.StepRuns.{StepEnd, compute_numbered, keyed_by}
+use Rattle.ext_plain.specs.StepRuns.{StepEnd, compute_numbered, numbered_by}
 use Rattle.ext_parallel.specs.StoreCalls.{PlanLane}
 use Rattle.ext_parallel.specs.StoreSteps.{StepComputes}
 use Rattle.ext_one_report.proofs.PlanCells.{changed_by}
@@ -37,9 +37,11 @@ use Rattle.ext_one_report.proofs.PlainFrames.{IsOpen, LeavesElse, no_context}
 use Rattle.ext_one_report.proofs.Open.{AreNear, Stands, StandsOrNot, also, at_place, is_open, still_open}
 use Rattle.ext_one_report.specs.Shares.{Open}
 use Rattle.ext_one_report.proofs.OpenSteps.{AreBesideOpen, OpenComputesEndNear, StandsInBoth, StepEndsNear}
+use Rattle.ext_one_report.proofs.OpenFits.{at_itself}
 use Rattle.ext_one_report.proofs.OpenLane.{LaneEnds, lane_ends}
 use Rattle.ext_one_report.proofs.OpenPlain.{PlainEnds, plain_ends, step_leaves}
 use Rattle.ext_one_report.proofs.OwnEvents.{matches_at, near_at}
+use Rattle.ext_one_report.proofs.WordCases.{finds_none}
 
 -- ---- tests
 
@@ -58,10 +60,7 @@ not_so : (b : Bool) → (b ≡ true → ⊥) → b ≡ false
 not_so true h = absurd (h refl)
 not_so false h = refl
 
--- the place itself, and no other, is at it
-pub at_itself : (context : ℕ) (key : KeyValue) → at_place context key context key ≡ true
-at_itself context key = ap (λ b. b && key_eq key key) (eq-eqb context context refl) ∙ (keys_Decides key key).1 refl
-
+-- no other place is at it
 pub at_one : (context : ℕ) (key : KeyValue) (c : ℕ) (k : KeyValue) → at_place context key c k ≡ true → (context ≡ c) × (key ≡ k)
 at_one context key c k is = let parts = both_true (c == context) (key_eq k key) is in (sym (number_is c context parts.0), sym ((keys_Decides k key).0 parts.1))
 
@@ -228,8 +227,8 @@ module _ (run : RunView) (keys : List KeyText) (path : List ℕ) (places : Place
   -- along a path of the store's tree
   open_along : (below : List ℕ) → IsPathOf run.store.tree (start_of below) below → open_at (start_of below) (key_of_step keys key) ≡ Some v
       → StepComputes run.store (record { name = name; label = label_of keys key; path = below; key = key_of_step keys key }) v a o b
-      → LeavesElse (at_place (start_of below) (key_of_step keys key)) no_context s (keyed_by keys enough name key (λ label. compute_numbered enough name label below v) s).state
-      → StepEndsNear run places open_at (at_place (start_of below) (key_of_step keys key)) s o b (keyed_by keys enough name key (λ label. compute_numbered enough name label below v) s)
+      → LeavesElse (at_place (start_of below) (key_of_step keys key)) no_context s (numbered_by enough name (label_of keys key) (key_of_step keys key) (compute_numbered enough name (label_of keys key) below v) s).state
+      → StepEndsNear run places open_at (at_place (start_of below) (key_of_step keys key)) s o b (numbered_by enough name (label_of keys key) (key_of_step keys key) (compute_numbered enough name (label_of keys key) below v) s)
   open_along [] is_path is made leaves = absurd is_path
   open_along (context ∷ above) is_path is (inr (why, refused_key, (same, ends))) leaves = absurd (key_found name (label_of keys key) o a b (key_of_step keys key) why finds refused_key ends)
   open_along (context ∷ above) is_path is (inl (number, has, made)) leaves =
@@ -240,7 +239,7 @@ module _ (run : RunView) (keys : List KeyText) (path : List ℕ) (places : Place
       let ours : LaneEnds run context number v a o b =
       lane_ends run places open_at both.view both.tree both.beside name (label_of keys key) context above k number is_path has_in v is s none a b o both.lane finds both.alone both.computed both.legal both.matches
       (both.near.lanes context k number v is has_in) made in
-      let theirs : PlainEnds context k v (keyed_by keys enough name key (λ label. compute_numbered enough name label (context ∷ above) v) s) =
+      let theirs : PlainEnds context k v (numbered_by enough name (label_of keys key) (key_of_step keys key) (compute_numbered enough name (label_of keys key) (context ∷ above) v) s) =
       plain_ends keys name key context above v s room both.numbered.drawn (clear_open run path places open_at a b s both context k v is)
       (λ i d less. clear_within run path places open_at a b s both (slice_index_or above i d) k (within i d less)) none (both.near.plain context k v is) in
       ends_near run path places open_at a b s both context k number v is has_in o _ ours theirs leaves
@@ -256,21 +255,15 @@ may_change keys path step key up is other more so =
 
 -- any step that computes the value of an open place
 pub opens_end_near : OpenComputesEndNear
-opens_end_near run keys path places open_at (put key text up) a o b s opens less both finds room ran = absurd opens
-opens_end_near run keys path places open_at (put_closeable key text up) a o b s opens less both finds room ran = absurd opens
-opens_end_near run keys path places open_at (want key text up) a o b s opens less both finds room ran = absurd opens
-opens_end_near run keys path places open_at (nothing key up) a o b s opens less both finds room ran = absurd opens
-opens_end_near run keys path places open_at (remove key up) a o b s opens less both finds room ran = absurd opens
-opens_end_near run keys path places open_at (compute key text up) a o b s opens less both finds room (inr (made, none)) = absurd (finds.0 none.ends.0)
-opens_end_near run keys path places open_at (compute key text up) a o b s opens less both finds room (inl made) =
+opens_end_near run keys path places open_at (keyed words.Compute key text up) a o b s opens less both finds room (inl made) =
     open_along run keys path places open_at (codes "compute") key (record { text = text; closeable = false }) a o b s both finds.1 room (drop up path)
-    (path_above run.store.tree path (start_of path) up both.path_is less) opens made
-    (step_leaves keys path (compute key text up) (at_place (start_of (drop up path)) (key_of_step keys key)) s (may_change keys path (compute key text up) key up refl) both.memory)
-opens_end_near run keys path places open_at (compute_closeable key text up) a o b s opens less both finds room (inr (made, none)) = absurd (finds.0 none.ends.0)
-opens_end_near run keys path places open_at (compute_closeable key text up) a o b s opens less both finds room (inl made) =
+    (path_above run.store.tree path (start_of path) up both.path_is less) opens.1 made
+    (step_leaves keys path (keyed words.Compute key text up) (at_place (start_of (drop up path)) (key_of_step keys key)) s (may_change keys path (keyed words.Compute key text up) key up refl) both.memory)
+opens_end_near run keys path places open_at (keyed words.ComputeCloseable key text up) a o b s opens less both finds room (inl made) =
     open_along run keys path places open_at (codes "compute!") key (record { text = text; closeable = true }) a o b s both finds.1 room (drop up path)
-    (path_above run.store.tree path (start_of path) up both.path_is less) opens made
-    (step_leaves keys path (compute_closeable key text up) (at_place (start_of (drop up path)) (key_of_step keys key)) s (may_change keys path (compute_closeable key text up) key up refl) both.memory)
-opens_end_near run keys path places open_at (compute_fail key text up) a o b s opens less both finds room ran = absurd opens
+    (path_above run.store.tree path (start_of path) up both.path_is less) opens.1 made
+    (step_leaves keys path (keyed words.ComputeCloseable key text up) (at_place (start_of (drop up path)) (key_of_step keys key)) s (may_change keys path (keyed words.ComputeCloseable key text up) key up refl) both.memory)
+opens_end_near run keys path places open_at (keyed word key text up) a o b s opens less both finds room (inl made) = absurd (cc opens.0)
+opens_end_near run keys path places open_at (keyed word key text up) a o b s opens less both finds room (inr lacks) = absurd (finds.0 (finds_none keys word key a o b lacks).ends.0)
 opens_end_near run keys path places open_at (fail text) a o b s opens less both finds room ran = absurd opens
 opens_end_near run keys path places open_at (abort text) a o b s opens less both finds room ran = absurd opens

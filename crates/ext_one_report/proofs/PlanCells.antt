@@ -8,11 +8,10 @@ use Rattle.ext_locks.specs.Opening.{LocksView}
 use Rattle.ext_locks.specs.Sets.{HeldView}
 use Rattle.ext_model.specs.declared.look.Fault.{Fault}
 use Rattle.ext_plan.specs.PlanCalls.{steps_of_call}
-use Rattle.ext_plan.specs.Plans.{KeyText, PlanText, StepKeyText, StepText}
+use Rattle.ext_plan.specs.Plans.{KeyText, PlanText, StepKeyText, StepText, keyed, fail, abort}
 use Rattle.ext_plan.specs.StepCalls.{start_of}
 use Rattle.ext_plan.specs.StoreKeys.{key_of_step}
-use Rattle.ext_races.specs.Acts.{ActText, act_of}
-use Rattle.ext_races.specs.StepWords.{changes}
+use Rattle.ext_plan.specs.StepWords.{changes}
 use Rattle.ext_store.specs.Stores.{StoreLane, StoreView, cell_in}
 use Rattle.ext_tree.specs.Keys.{IsKeyNumber, KeepsKeys, KnownPlace}
 use Rattle.ext_tree.specs.Trees.{IsPathOf}
@@ -25,13 +24,11 @@ use Rattle.ext_parallel.specs.StoreSteps.{StepsRun}
 
 -- ---- steps
 
--- the key under which an act may change something, and how many contexts up; a look-up changes nothing
-abbrev pub changed_of : Option ActText → Option (StepKeyText × ℕ)
-changed_of None = None
-changed_of (Some act) = if changes act.word then Some (act.key, act.up) else None
-
+-- the key under which a step may change something, and how many contexts up; a look-up changes nothing
 abbrev pub changed_by : StepText → Option (StepKeyText × ℕ)
-changed_by step = changed_of (act_of step)
+changed_by (keyed word key text up) = if changes word then Some (key, up) else None
+changed_by (fail text) = None
+changed_by (abort text) = None
 
 -- the cell that a step changes that runs in the first context of the path, where keys have these numbers
 pub record IsCellOf (store : StoreView) (keys : List KeyText) (numbering : List KnownPlace) (path : List ℕ) (step : StepText) (cell : ℕ) : Type 0 where

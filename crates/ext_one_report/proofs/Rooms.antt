@@ -1,6 +1,6 @@
 -- Each step of a plain run draws one number at most, and numbers one key at most.
-use Rattle.std.proofs.Common.{◌≡◌, ◌≤◌, ◌<◌, ℕ, ◌+◌, suc, inl, inr, Bool, true, false, List, [], ◌∷◌, ◌++◌, length, length-append, drop, Option, None, Some, Contains, refl, sym, subst, arith}
-use Rattle.std.specs.Prelude.{All, IfSome, if◌then◌else◌, codes, nat_lt}
+use Rattle.std.proofs.Common.{◌≡◌, ◌≤◌, ◌<◌, ℕ, ◌+◌, suc, inl, inr, Bool, true, false, List, [], ◌∷◌, ◌++◌, length, length-append, Option, None, Some, Contains, refl, sym, subst, arith}
+use Rattle.std.specs.Prelude.{All, IfSome, if◌then◌else◌, nat_lt}
 use Rattle.std.proofs.lemmas.Bool.{ltb-true}
 use Rattle.std.proofs.lemmas.List.Elements.{All-push}
 use Rattle.ext_history.proofs.Lists.{bools}
@@ -11,14 +11,17 @@ use Rattle.ext_model.specs.Plain.{Place}
 use Rattle.ext_tree.specs.Keys.{KeyValue}
 use Rattle.ext_lifecycle.specs.Endings.{successful, is_successful}
 use Rattle.ext_plan.specs.declared.reason.Reason.{Reason}
-use Rattle.ext_plan.specs.Plans.{KeyText, StepKeyText, StepText, put, put_closeable, want, nothing, remove, compute, compute_closeable, compute_fail, fail, abort}
-use Rattle.ext_plan.specs.StepCalls.{label_of, start_of}
+use Rattle.ext_plan.specs.declared.word.Word.{Word}
+use Rattle.ext_plan.specs.declared.word.Word.TheVariants as words
+use Rattle.ext_plan.specs.Plans.{KeyText, StepKeyText, StepText, keyed, fail, abort}
+use Rattle.ext_plan.specs.StepWords.{word_text}
+use Rattle.ext_plan.specs.StepCalls.{CallText, call_of, start_of}
 use Rattle.ext_plan.specs.Steps.{step_key}
 use Rattle.ext_plan.specs.StoreKeys.{is_there, key_of_step}
 use Rattle.ext_plan.specs.Values.{ValueText}
 use Rattle.ext_plan.proofs.KeyLists.{not_contained}
 use Rattle.ext_plain.specs.ValueStates.{Numbering, ValueState, after_act, enough, full, keep_value, key_limit, known, next, next_number, numbering_of, run_numbers, why_refused, with_number}
-use Rattle.ext_plain.specs.StepRuns.{StepEnd, claim_and, compute_looked, compute_numbered, computefail_looked, computefail_numbered, ended, factory_failed, factory_gave, found_along, kept_or_refused, none_numbered, number_by, numbered_by, or_refused, put_in, remove_numbered, step_run, steps_run, want_numbered}
+use Rattle.ext_plain.specs.StepRuns.{StepEnd, acts_by, call_by, claim_and, compute_looked, compute_numbered, computefail_looked, ended, factory_failed, factory_gave, found_along, kept_or_refused, number_by, numbered_by, or_refused, put_by, put_in, step_run, steps_run}
 use Rattle.ext_plain.specs.PlainRunLaws.{HasValues, NamesOneOf, NumbersKeys}
 use Rattle.ext_plain.proofs.Kept.{IsKept, IsKeptNaming, step-kept-by, steps-kept-by}
 use Rattle.ext_plain.proofs.Named.{OfKeys, numbers-once, of-keys}
@@ -96,34 +99,39 @@ module _ (n : ℕ) where
   fail_few name label place text s (look.Busy at) room = omega (arith, room)
   fail_few name label place text s (look.Closed at) room = omega (arith, room)
 
-  same_room : (s t : ValueState) → length s.values + 1 ≤ n → t.values ≡ s.values → length t.values + 1 ≤ n
-  same_room s t room same = subst (λ v. length v + 1 ≤ n) (sym same) room
+  -- a call whose key is numbered first
+  numbered_few : (call : CallText) (goes : ℕ → ValueState → StepEnd) (s : ValueState) → length s.values + 1 ≤ n → ((number : ℕ) (t : ValueState) → length t.values + 1 ≤ n → Few (goes number t).state)
+      → Few (numbered_by enough call.name call.label call.key goes s).state
+  numbered_few call goes s room each =
+      number_few call.name call.label call.key goes s (numbering_of s.keys call.key) (omega (arith, room)) (λ number t same. each number t (subst (λ v. length v + 1 ≤ n) (sym same) room))
 
-  same_few : (s t : ValueState) → length s.values + 1 ≤ n → t.values ≡ s.values → Few t
-  same_few s t room same = let r = same_room s t room same in omega (arith, r)
-
-  put_few : (keys : List KeyText) (name : List ℕ) (key : StepKeyText) (path : List ℕ) (value : ValueText) (s : ValueState) → length s.values + 1 ≤ n
-      → Few (kept_or_refused enough name (label_of keys key) (why_refused (next_number s) s) s (numbered_by enough name (label_of keys key) (key_of_step keys key) (λ number. put_in enough name (label_of keys key) (start_of path, number)) (keep_value value s))).state
-  put_few keys name key path value s room =
-      let label = label_of keys key in
-      let k = key_of_step keys key in
+  -- one whose value is kept first
+  put_few : (call : CallText) (value : ValueText) (s : ValueState) → length s.values + 1 ≤ n → Few (put_by enough call.name call.label (start_of call.path) call.key value s).state
+  put_few call value s room =
       let kept = keep_value value s in
       let more : Few kept = omega (arith, room, one_longer s.values value) in
-      kept_few name label (why_refused (next_number s) s) s _ (omega (arith, room))
-      (number_few name label k (λ number. put_in enough name label (start_of path, number)) kept (numbering_of kept.keys k) more (λ number t same. subst (λ v. length v ≤ n) (sym same) more))
+      kept_few call.name call.label (why_refused (next_number s) s) s _ (omega (arith, room))
+      (number_few call.name call.label call.key (λ number. put_in enough call.name call.label (start_of call.path, number)) kept (numbering_of kept.keys call.key) more (λ number t same. subst (λ v. length v ≤ n) (sym same) more))
+
+  computes_few : (call : CallText) (value : ValueText) (s : ValueState) → length s.values + 1 ≤ n → Few (numbered_by enough call.name call.label call.key (compute_numbered enough call.name call.label call.path value) s).state
+  computes_few call value s room =
+      numbered_few call (compute_numbered enough call.name call.label call.path value) s room
+      (λ number t more. compute_few call.name call.label (start_of call.path, number) value t (found_along number call.path t) more)
+
+  fewer : (t : ValueState) → length t.values + 1 ≤ n → Few t
+  fewer t more = omega (arith, more)
+
+  call_few : (word : Word) (call : CallText) (text : List ℕ) (s : ValueState) → length s.values + 1 ≤ n → Few (call_by enough word call text s).state
+  call_few words.Put call text s room = put_few call (record { text = text; closeable = false }) s room
+  call_few words.PutCloseable call text s room = put_few call (record { text = text; closeable = true }) s room
+  call_few words.Compute call text s room = computes_few call (record { text = text; closeable = false }) s room
+  call_few words.ComputeCloseable call text s room = computes_few call (record { text = text; closeable = true }) s room
+  call_few words.ComputeFail call text s room =
+      numbered_few call (acts_by enough words.ComputeFail call text) s room (λ number t more. fail_few call.name call.label (start_of call.path, number) text t (found_along number call.path t) more)
+  call_few word call text s room = numbered_few call (acts_by enough word call text) s room (λ number t more. fewer t more)
 
   step_few : (keys : List KeyText) (path : List ℕ) (step : StepText) (s : ValueState) → length s.values + 1 ≤ n → Few (step_run keys path step s).state
-  step_few keys path (put key text up) s room = put_few keys (codes "put") key (drop up path) (record { text = text; closeable = false }) s room
-  step_few keys path (put_closeable key text up) s room = put_few keys (codes "put!") key (drop up path) (record { text = text; closeable = true }) s room
-  step_few keys path (want key text up) s room = number_few (codes "want") (label_of keys key) (key_of_step keys key) (want_numbered enough (codes "want") (label_of keys key) (drop up path) text) s (numbering_of s.keys (key_of_step keys key)) (omega (arith, room)) (λ number t same. same_few s t room same)
-  step_few keys path (nothing key up) s room = number_few (codes "none") (label_of keys key) (key_of_step keys key) (none_numbered enough (codes "none") (label_of keys key) (drop up path)) s (numbering_of s.keys (key_of_step keys key)) (omega (arith, room)) (λ number t same. same_few s t room same)
-  step_few keys path (remove key up) s room = number_few (codes "remove") (label_of keys key) (key_of_step keys key) (remove_numbered enough (codes "remove") (label_of keys key) (drop up path)) s (numbering_of s.keys (key_of_step keys key)) (omega (arith, room)) (λ number t same. same_few s t room same)
-  step_few keys path (compute key text up) s room = number_few (codes "compute") (label_of keys key) (key_of_step keys key) (compute_numbered enough (codes "compute") (label_of keys key) (drop up path) (record { text = text; closeable = false })) s (numbering_of s.keys (key_of_step keys key)) (omega (arith, room))
-      (λ number t same. compute_few (codes "compute") (label_of keys key) (start_of (drop up path), number) (record { text = text; closeable = false }) t (found_along number (drop up path) t) (same_room s t room same))
-  step_few keys path (compute_closeable key text up) s room = number_few (codes "compute!") (label_of keys key) (key_of_step keys key) (compute_numbered enough (codes "compute!") (label_of keys key) (drop up path) (record { text = text; closeable = true })) s (numbering_of s.keys (key_of_step keys key)) (omega (arith, room))
-      (λ number t same. compute_few (codes "compute!") (label_of keys key) (start_of (drop up path), number) (record { text = text; closeable = true }) t (found_along number (drop up path) t) (same_room s t room same))
-  step_few keys path (compute_fail key text up) s room = number_few (codes "computefail") (label_of keys key) (key_of_step keys key) (computefail_numbered enough (codes "computefail") (label_of keys key) (drop up path) text) s (numbering_of s.keys (key_of_step keys key)) (omega (arith, room))
-      (λ number t same. fail_few (codes "computefail") (label_of keys key) (start_of (drop up path), number) text t (found_along number (drop up path) t) (same_room s t room same))
+  step_few keys path (keyed word key text up) s room = call_few word (call_of keys path (word_text word) key up) text s room
   step_few keys path (fail text) s room = omega (arith, room)
   step_few keys path (abort text) s room = omega (arith, room)
 

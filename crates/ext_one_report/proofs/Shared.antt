@@ -11,11 +11,7 @@ use Rattle.ext_plan.specs.ReadPlans.{ids_of_nodes}
 use Rattle.ext_plan.specs.StepCalls.{start_of}
 use Rattle.ext_plan.specs.StoreKeys.{key_of_step}
 use Rattle.ext_plan.specs.Values.{ValueText}
-use Rattle.ext_races.specs.Beside.{IsBeside}
-use Rattle.ext_races.specs.Clashes.{agree}
 use Rattle.ext_races.specs.MadeSteps.{calls_of}
-use Rattle.ext_races.specs.Touches.{TouchText, touches_made}
-use Rattle.ext_races.specs.StepWords.{gives_value}
 use Rattle.ext_one_report.proofs.PlanCells.{changed_by}
 use Rattle.ext_one_report.proofs.MatchingWords.{Places, RunView}
 use Rattle.ext_one_report.specs.Apart.{is_within}

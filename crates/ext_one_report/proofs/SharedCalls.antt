@@ -1,46 +1,41 @@
 -- The calls of nodes that share values: step by step, what a step touches is not shared or is settled by a compute before it, or the step computes the value itself.
-use Rattle.std.proofs.Common.{◌≡◌, ◌<◌, ◌≤◌, ◌⊎◌, ℕ, Bool, true, false, List, [], ◌∷◌, ◌++◌, length, get_or, Contains, drop, Option, Some, None, refl, ap, sym, subst, ◌∙◌, inl, inr, append_assoc, eq-eqb}
-use Rattle.std.specs.Prelude.{if◌then◌else◌, ◌==◌}
-use Rattle.std.proofs.lemmas.Bool.{and_from, cases_Bool, or_left, or_right, true≢false}
+use Rattle.std.proofs.Common.{◌≡◌, ◌<◌, ◌≤◌, ◌⊎◌, ℕ, Bool, true, false, List, [], ◌∷◌, ◌++◌, length, get_or, Contains, drop, Option, Some, None, refl, ap, sym, subst, ◌∙◌, inl, inr, append_assoc}
+use Rattle.std.specs.Prelude.{if◌then◌else◌}
+use Rattle.std.proofs.lemmas.Bool.{cases_Bool, or_left, or_right, true≢false}
 use Rattle.std.proofs.lemmas.List.Elements.{All-contains, Contains-append_right, Contains-push_cases}
 use Rattle.ext_tree.specs.Keys.{KeyValue}
-use Rattle.ext_tree.specs.Traits.{key_eq}
-use Rattle.ext_tree.proofs.Equalities.{keys_Decides}
 use Rattle.ext_lifecycle.specs.declared.call.Call.{Call}
-use Rattle.ext_plan.specs.Plans.{PlanText, StepKeyText, StepText, put, put_closeable, want, nothing, remove, compute, compute_closeable, compute_fail, fail, abort}
+use Rattle.ext_plan.specs.Plans.{PlanText, StepKeyText, StepText, keyed, fail, abort}
 use Rattle.ext_plan.specs.PlanCalls.{steps_of_call}
 use Rattle.ext_plan.specs.ReadPlans.{IsReadPlan, ids_of_nodes}
 use Rattle.ext_plan.specs.StepCalls.{start_of}
 use Rattle.ext_plan.specs.StoreKeys.{key_of_step, place_of_key}
 use Rattle.ext_plan.specs.Values.{ValueText}
-use Rattle.ext_races.specs.declared.word.Word.{Word}
-use Rattle.ext_races.specs.declared.word.Word.TheVariants as words
+use Rattle.ext_plan.specs.declared.word.Word.{Word}
 use Rattle.ext_races.specs.Acts.{ActText, act_of}
 use Rattle.ext_races.specs.MadeSteps.{calls_of, plan_path}
 use Rattle.ext_races.specs.Touches.{TouchText, below_computes, keys_named, touch_of, touches_above, touches_along, touches_made}
-use Rattle.ext_races.specs.StepWords.{changes, gives_value, looks_along}
+use Rattle.ext_plan.specs.StepWords.{changes, gives_value, looks_along}
 use Rattle.ext_races.proofs.Lists.{all_contained, contains_cases, contains_first, contains_nothing}
 use Rattle.ext_races.proofs.StepTouches.{reach_below}
-use Rattle.ext_one_report.proofs.PlanCells.{changed_of}
 use Rattle.ext_one_report.proofs.CallsWords.{StepWithin}
 use Rattle.ext_one_report.proofs.MatchingWords.{Places, RunView}
-use Rattle.ext_one_report.proofs.StepsWords.{LooksWithin}
+use Rattle.ext_one_report.proofs.StepsWords.{LooksWithin, TouchesWithin}
 use Rattle.ext_one_report.proofs.Covered.{touched_in}
 use Rattle.ext_one_report.proofs.CoveredCalls.{call_stays}
-use Rattle.ext_one_report.proofs.CoveredPlans.{IsTouchedBelow, an_act, from_drop, touched_by, within_itself}
-use Rattle.ext_one_report.proofs.CoveredTouches.{computes_all, contains_drop, kept_or_computed}
+use Rattle.ext_one_report.proofs.CoveredPlans.{IsTouchedBelow, an_act, from_drop, touched_by, within_by, within_itself}
+use Rattle.ext_one_report.proofs.CoveredTouches.{contains_drop, kept_or_computed, step_is, step_of}
 use Rattle.ext_one_report.proofs.Open.{ComputesOpen, also, at_place, place_of_step, still_open}
 use Rattle.ext_one_report.specs.Shares.{Open, SharesValues, shares_in}
 use Rattle.ext_one_report.proofs.OpenCalls.{CallFitsOpen, LeavesAbove, StepsFit}
+use Rattle.ext_one_report.proofs.OpenFits.{at_itself}
 use Rattle.ext_one_report.proofs.Shared.{unshared}
 use Rattle.ext_one_report.proofs.SharedNodes.{some_or_none, still_is_unshared, unshared_is}
 use Rattle.ext_one_report.proofs.SharedSteps.{acts_there, computes_there, from_start, goes_up, leaves_above, path_is, within}
 use Rattle.ext_one_report.proofs.SharedTouches.{changes_there, looked_above, touches_there}
+use Rattle.ext_one_report.proofs.WordCases.{computes_all, still_looks}
 
 -- ---- places
-
-at_itself : (context : ℕ) (key : KeyValue) → at_place context key context key ≡ true
-at_itself context key = and_from (context == context) (key_eq key key) (eq-eqb context context refl) ((keys_Decides key key).1 refl)
 
 open_before : {A : Type 0} (b : Bool) (o : Option A) (v : A) → (if b then None else o) ≡ Some v → o ≡ Some v
 open_before true o v e = absurd (cc e)
@@ -94,13 +89,12 @@ module _ (plan : PlanText) (read : IsReadPlan plan) (shares : SharesValues plan)
       unshared_is plan node context key (touched_by plan node context key one) (still_is_unshared plan read shares node context key false one refl)
 
   -- nor is the place that it changes, where this is not shared
-  acts_alone : (step : StepText) (act : ActText) → Contains (steps_of_call plan call) step → act_of step ≡ Some act → changes act.word ≡ true → shared (start act) (key_of act) ≡ None
-      → alone (start act) (key_of act) ≡ true
-  acts_alone step act there acts changing none =
+  acts_alone : (act : ActText) → Contains (steps_of_call plan call) (step_of act) → changes act.word ≡ true → shared (start act) (key_of act) ≡ None → alone (start act) (key_of act) ≡ true
+  acts_alone act there changing none =
       let key = key_of act in
       let one : IsTouchedBelow plan node (start act) key false = record {
         touch = touch_of node (place_of_key (keys_named plan) key) act (changes act.word) (start act);
-        made = acts_there plan read shares node call less among step act there acts changing;
+        made = acts_there plan read shares node call less among act there changing;
         below = within_itself plan read node (within plan read shares node call less among);
         context_is = refl;
         key_is = refl;
@@ -115,72 +109,71 @@ module _ (plan : PlanText) (read : IsReadPlan plan) (shares : SharesValues plan)
     unshared_in : (context : ℕ) (key : KeyValue) → alone context key ≡ true → places context key ≡ true
     shared_in : (context : ℕ) (key : KeyValue) (v : ValueText) → shared context key ≡ Some v → (places context key ≡ true) ⊎ (open_at context key ≡ Some v)
     open_in : (context : ℕ) (key : KeyValue) (v : ValueText) → open_at context key ≡ Some v → shared context key ≡ Some v
-    looked : (step : StepText) (act : ActText) → Contains front step → act_of step ≡ Some act → gives_value act.word ≡ true → LooksWithin plan.keys (plan_path plan node) places act.key act.up
+    looked : (act : ActText) → Contains front (step_of act) → gives_value act.word ≡ true → LooksWithin plan.keys (plan_path plan node) places act.key act.up
 
   -- what a compute looks at is among these places
   abbrev Settles : Places → StepText → Type 0
-  Settles places step = (act : ActText) → act_of step ≡ Some act → gives_value act.word ≡ true → LooksWithin plan.keys (plan_path plan node) places act.key act.up
+  Settles places step = (act : ActText) → step ≡ step_of act → gives_value act.word ≡ true → LooksWithin plan.keys (plan_path plan node) places act.key act.up
 
-  module _ (front : List StepText) (step : StepText) (more : List StepText) (whole : steps_of_call plan call ≡ front ++ step ∷ more) (places : Places) (open_at : Open) (behind : AreBehind front places open_at)
-      (there : Contains (steps_of_call plan call) step) where
-    abbrev Fits : Type 0
-    Fits =
-        (StepWithin plan.keys (plan_path plan node) places step × LeavesAbove run plan.keys (plan_path plan node) open_at step × Settles places step)
-        ⊎ (ComputesOpen plan.keys (plan_path plan node) open_at step × Settles (also (place_of_step plan.keys (plan_path plan node) step) places) step)
+  -- what the step touches is settled, or it settles its own place
+  abbrev Fits : StepText → Places → Open → Type 0
+  Fits step places open_at =
+      (StepWithin plan.keys (plan_path plan node) places step × LeavesAbove run plan.keys (plan_path plan node) open_at step × Settles places step)
+      ⊎ (ComputesOpen plan.keys (plan_path plan node) open_at step × Settles (also (place_of_step plan.keys (plan_path plan node) step) places) step)
 
-    leaves : LeavesAbove run plan.keys (plan_path plan node) open_at step
-    leaves = leaves_above plan read shares node call less among run tree step there open_at behind.open_in
+  leaves : (step : StepText) → Contains (steps_of_call plan call) step → (front : List StepText) (places : Places) (open_at : Open) → AreBehind front places open_at → LeavesAbove run plan.keys (plan_path plan node) open_at step
+  leaves step there front places open_at behind = leaves_above plan read shares node call less among run tree step there open_at behind.open_in
 
+  module _ (front : List StepText) (act : ActText) (more : List StepText) (whole : steps_of_call plan call ≡ front ++ step_of act ∷ more) (places : Places) (open_at : Open) (behind : AreBehind front places open_at)
+      (there : Contains (steps_of_call plan call) (step_of act)) where
     -- a step that changes the place it acts on, and looks at those above
-    changing_looks : (act : ActText) → act_of step ≡ Some act → changes act.word ≡ true → looks_along act.word ≡ true → (settled : Places)
+    changing_looks : changes act.word ≡ true → looks_along act.word ≡ true → (settled : Places)
         → ((context : ℕ) (key : KeyValue) → alone context key ≡ true → settled context key ≡ true) → settled (start act) (key_of act) ≡ true → LooksWithin plan.keys (plan_path plan node) settled act.key act.up
-    changing_looks act acts changing looks settled has here =
+    changing_looks changing looks settled has here =
         let key = key_of act in
         let number = place_of_key (keys_named plan) key in
-        let rest = from_start (drop act.up path) (goes_up plan read shares node call less among step act there acts) in
+        let rest = from_start (drop act.up path) (goes_up plan read shares node call less among act there) in
         all_contained (λ c. settled c key ≡ true) (drop act.up path) (λ c held. elim (contains_cases (start act) c rest.0 (subst (λ p. Contains p c) rest.1 held)) [
           | inl same ↦ subst (λ x. settled x key ≡ true) same here
           | inr later ↦
               let touch = touch_of node number act false c in
               let along = subst (λ p. Contains (touches_along node number act p) touch) (sym rest.1) (looked_above node number act (start act) rest.0 c looks later) in
-              has c key (looked_alone c act (changes_there plan node call (within plan read shares node call less among) among front step more whole act acts changing touch along))
+              has c key (looked_alone c act (changes_there plan node call (within plan read shares node call less among) among front act more whole changing touch along))
         ])
 
-    settles : (act : ActText) → act_of step ≡ Some act → changes act.word ≡ true → (settled : Places) → ((context : ℕ) (key : KeyValue) → alone context key ≡ true → settled context key ≡ true)
-        → settled (start act) (key_of act) ≡ true → Settles settled step
-    settles act acts changing settled has here = λ other acts' gives.
-        let same = one_act act other (sym acts ∙ acts') in
+    settles : changes act.word ≡ true → (settled : Places) → ((context : ℕ) (key : KeyValue) → alone context key ≡ true → settled context key ≡ true)
+        → settled (start act) (key_of act) ≡ true → Settles settled (step_of act)
+    settles changing settled has here = λ other is gives.
+        let same = one_act act other (ap act_of is) in
         subst (λ (a : ActText). LooksWithin plan.keys path settled a.key a.up) same
-        (changing_looks act acts changing (computes_all act.word (ap (λ (a : ActText). gives_value a.word) same ∙ gives)).1 settled has here)
+        (changing_looks changing (computes_all act.word (ap (λ (a : ActText). gives_value a.word) same ∙ gives)).1 settled has here)
 
     -- it is at a place where the same stands, or computes the value of an open one
-    changing_fits : (act : ActText) → act_of step ≡ Some act → changes act.word ≡ true → place_of_step plan.keys (plan_path plan node) step ≡ at_place (start act) (key_of act)
-        → ((places (start act) (key_of act) ≡ true) → (looks_along act.word ≡ true → LooksWithin plan.keys (plan_path plan node) places act.key act.up) → StepWithin plan.keys (plan_path plan node) places step) → Fits
-    changing_fits act acts changing place step_within =
+    changing_fits : changes act.word ≡ true → Fits (step_of act) places open_at
+    changing_fits changing =
         let key = key_of act in
-        let stands : places (start act) key ≡ true → Fits = λ here. inl (
-          step_within here (λ looks. changing_looks act acts changing looks places behind.unshared_in here),
-          leaves,
-          settles act acts changing places behind.unshared_in here,
+        let stands : places (start act) key ≡ true → Fits (step_of act) places open_at = λ here. inl (
+          within_by plan.keys path places act.key act.up (looks_along act.word) (λ looks. changing_looks changing looks places behind.unshared_in here) (λ acts. here),
+          leaves (step_of act) there front places open_at behind,
+          settles changing places behind.unshared_in here,
         ) in
         elim (some_or_none (shared (start act) key)) [
-          | inl none ↦ stands (behind.unshared_in (start act) key (acts_alone step act there acts changing none))
+          | inl none ↦ stands (behind.unshared_in (start act) key (acts_alone act there changing none))
           | inr some ↦ elim (behind.shared_in (start act) key some.0 some.1) [
             | inl here ↦ stands here
             | inr open_is ↦
-                let settled = also (place_of_step plan.keys path step) places in
+                let at : Places = at_place (start act) key in
                 inr (
-                  computes_there plan read shares node call less among step there open_at act.key act.up some.0 (ap changed_of acts ∙ ap (λ (b : Bool). if b then Some (act.key, act.up) else None) changing) some.1 open_is,
-                  settles act acts changing settled (λ context k is. or_left (places context k) (place_of_step plan.keys path step context k) (behind.unshared_in context k is))
-                      (or_right (places (start act) key) (place_of_step plan.keys path step (start act) key) (ap (λ (p : Places). p (start act) key) place ∙ at_itself (start act) key)),
+                  computes_there plan read shares node call less among (step_of act) there open_at act.key act.up some.0 (ap (λ (b : Bool). if b then Some (act.key, act.up) else None) changing) some.1 open_is,
+                  settles changing (also at places) (λ context k is. or_left (places context k) (at context k) (behind.unshared_in context k is)) (or_right (places (start act) key) (at (start act) key) (at_itself (start act) key)),
                 )
           ]
         ]
 
     -- a look-up is where nothing is shared, or behind a compute of its call
-    looked_at : (act : ActText) → act_of step ≡ Some act → changes act.word ≡ false → looks_along act.word ≡ true → (at : ℕ) → act.up ≤ at → at < length (plan_path plan node)
+    looked_at : changes act.word ≡ false → looks_along act.word ≡ true → (at : ℕ) → act.up ≤ at → at < length (plan_path plan node)
         → places (get_or (plan_path plan node) at 0) (key_of act) ≡ true
-    looked_at act acts still looks at low inside =
+    looked_at still looks at low inside =
         let key = key_of act in
         let number = place_of_key (keys_named plan) key in
         let c = get_or path at 0 in
@@ -191,44 +184,34 @@ module _ (plan : PlanText) (read : IsReadPlan plan) (shares : SharesValues plan)
               let held = subst (Contains (drop act.up below)) kept.1 (contains_drop act.up at below low kept.0) in
               let along = subst (λ p. Contains (touches_along node number act (drop act.up p)) touch) (reach_below plan.keys front path act still) (looked_along node number act (drop act.up below) c still looks held) in
               behind.unshared_in c key
-              (looked_alone c act (touches_there plan node call (within plan read shares node call less among) among front step more whole act acts touch along))
+              (looked_alone c act (touches_there plan node call (within plan read shares node call less among) among front act more whole touch along))
           | inr computed ↦
               let one = computed.2 in
-              let all = behind.looked computed.0 one.one computed.1 one.is one.gives in
+              let all = behind.looked one.one (subst (Contains front) (step_is computed.0 one.one one.is) computed.1) one.gives in
               subst (λ k. places c k ≡ true) one.same
               (All-contains (λ x. places x (key_of_step plan.keys one.one.key) ≡ true) (drop one.one.up path) c all (contains_drop one.one.up at path one.low inside))
         ]
 
-    looking_fits : (act : ActText) → act_of step ≡ Some act → changes act.word ≡ false → looks_along act.word ≡ true
-        → (LooksWithin plan.keys (plan_path plan node) places act.key act.up → StepWithin plan.keys (plan_path plan node) places step) → Fits
-    looking_fits act acts still looks step_within = inl (
-      step_within (from_drop (λ c. places c (key_of act) ≡ true) act.up path (looked_at act acts still looks)),
-      leaves,
-      λ other acts' gives. absurd (still_changes act.word still (ap (λ (a : ActText). gives_value a.word) (one_act act other (sym acts ∙ acts')) ∙ gives)),
-    )
+    looking_fits : changes act.word ≡ false → Fits (step_of act) places open_at
+    looking_fits still =
+        let looks = still_looks act.word still in inl (
+          subst (λ (b : Bool). TouchesWithin b plan.keys path places act.key act.up) (sym looks) (from_drop (λ c. places c (key_of act) ≡ true) act.up path (looked_at still looks)),
+          leaves (step_of act) there front places open_at behind,
+          λ other is gives. absurd (still_changes act.word still (ap (λ (a : ActText). gives_value a.word) (one_act act other (ap act_of is)) ∙ gives)),
+        )
 
   -- ---- each step, by its form
 
   fits : (front : List StepText) (step : StepText) (more : List StepText) (whole : steps_of_call plan call ≡ front ++ step ∷ more) (places : Places) (open_at : Open) (behind : AreBehind front places open_at)
-      (there : Contains (steps_of_call plan call) step) → Fits front step more whole places open_at behind there
-  fits front (put key text up) more whole places open_at behind there =
-      changing_fits front (put key text up) more whole places open_at behind there (an_act words.Put key text up) refl refl refl (λ here looks. here)
-  fits front (put_closeable key text up) more whole places open_at behind there =
-      changing_fits front (put_closeable key text up) more whole places open_at behind there (an_act words.PutCloseable key text up) refl refl refl (λ here looks. here)
-  fits front (want key text up) more whole places open_at behind there =
-      looking_fits front (want key text up) more whole places open_at behind there (an_act words.Want key text up) refl refl refl (λ all. all)
-  fits front (nothing key up) more whole places open_at behind there =
-      looking_fits front (nothing key up) more whole places open_at behind there (an_act words.None key [] up) refl refl refl (λ all. all)
-  fits front (remove key up) more whole places open_at behind there =
-      changing_fits front (remove key up) more whole places open_at behind there (an_act words.Remove key [] up) refl refl refl (λ here looks. here)
-  fits front (compute key text up) more whole places open_at behind there =
-      changing_fits front (compute key text up) more whole places open_at behind there (an_act words.Compute key text up) refl refl refl (λ here looks. looks refl)
-  fits front (compute_closeable key text up) more whole places open_at behind there =
-      changing_fits front (compute_closeable key text up) more whole places open_at behind there (an_act words.ComputeCloseable key text up) refl refl refl (λ here looks. looks refl)
-  fits front (compute_fail key text up) more whole places open_at behind there =
-      changing_fits front (compute_fail key text up) more whole places open_at behind there (an_act words.ComputeFail key text up) refl refl refl (λ here looks. looks refl)
-  fits front (fail text) more whole places open_at behind there = inl (tt, leaves front (fail text) more whole places open_at behind there, λ act acts gives. absurd (cc acts))
-  fits front (abort text) more whole places open_at behind there = inl (tt, leaves front (abort text) more whole places open_at behind there, λ act acts gives. absurd (cc acts))
+      (there : Contains (steps_of_call plan call) step) → Fits step places open_at
+  fits front (keyed word key text up) more whole places open_at behind there =
+      let act = an_act word key text up in
+      elim (cases_Bool (changes word)) [
+        | inl changing ↦ changing_fits front act more whole places open_at behind there changing
+        | inr still ↦ looking_fits front act more whole places open_at behind there still
+      ]
+  fits front (fail text) more whole places open_at behind there = inl (tt, leaves (fail text) there front places open_at behind, λ act is gives. absurd (cc is))
+  fits front (abort text) more whole places open_at behind there = inl (tt, leaves (abort text) there front places open_at behind, λ act is gives. absurd (cc is))
 
   -- ---- one step after another
 
@@ -237,9 +220,9 @@ module _ (plan : PlanText) (read : IsReadPlan plan) (shares : SharesValues plan)
     unshared_in = behind.unshared_in;
     shared_in = behind.shared_in;
     open_in = behind.open_in;
-    looked = λ one act held acts gives. elim (Contains-push_cases front step one held) [
-      | inl old ↦ behind.looked one act old acts gives
-      | inr same ↦ settled act (ap act_of same ∙ acts) gives
+    looked = λ act held gives. elim (Contains-push_cases front step (step_of act) held) [
+      | inl old ↦ behind.looked act old gives
+      | inr same ↦ settled act same gives
     ];
   }
 
@@ -258,9 +241,9 @@ module _ (plan : PlanText) (read : IsReadPlan plan) (shares : SharesValues plan)
       ]
     ];
     open_in = λ context key v is. behind.open_in context key v (open_before (at context key) (open_at context key) v is);
-    looked = λ one act held acts gives. elim (Contains-push_cases front step one held) [
-      | inl old ↦ more_settled at places act.key act.up (behind.looked one act old acts gives)
-      | inr same ↦ settled act (ap act_of same ∙ acts) gives
+    looked = λ act held gives. elim (Contains-push_cases front step (step_of act) held) [
+      | inl old ↦ more_settled at places act.key act.up (behind.looked act old gives)
+      | inr same ↦ settled act same gives
     ];
   }
 
@@ -283,6 +266,6 @@ module _ (plan : PlanText) (read : IsReadPlan plan) (shares : SharesValues plan)
       unshared_in = λ context key is. is;
       shared_in = λ context key v is. inr is;
       open_in = λ context key v is. is;
-      looked = λ step act held acts gives. contains_nothing step held;
+      looked = λ act held gives. contains_nothing (step_of act) held;
     }),
   )

@@ -26,8 +26,9 @@ use Rattle.ext_lifecycle.specs.declared.outcome.Outcome.{Outcome}
 use Rattle.ext_lifecycle.specs.Endings.{is_successful}
 use Rattle.ext_lifecycle.specs.Lifecycle.{ending_of}
 use Rattle.ext_lifecycle.specs.FaultTexts.{VerdictText}
-use Rattle.ext_plan.specs.Plans.{KeyText, StepKeyText, StepText, put, put_closeable, want, nothing, remove, compute, compute_closeable, compute_fail, fail, abort}
-use Rattle.ext_plan.specs.StepCalls.{CallText, start_of}
+use Rattle.ext_plan.specs.declared.word.Word.TheVariants as words
+use Rattle.ext_plan.specs.Plans.{KeyText, StepKeyText, StepText, keyed, fail, abort}
+use Rattle.ext_plan.specs.StepCalls.{CallText, call_of, start_of}
 use Rattle.ext_plan.specs.StoreKeys.{key_of_step}
 use Rattle.ext_plan.specs.Values.{ValueText}
 use Rattle.ext_plan.specs.Verdicts.{SeenText}
@@ -47,7 +48,7 @@ use Rattle.ext_one_report.proofs.Events.{among_more, in_part, one_of_acts}
 use Rattle.ext_one_report.proofs.StoreCalls.{Only, gets_only, keep_fails, keeps_only, only_makes, only_same, puts_only, removes_only, waits_only}
 use Rattle.ext_parallel.specs.declared.steps.stored_value.StoredValue.{StoredValue}
 use Rattle.ext_parallel.specs.StoreCalls.{ComputesValue, EndsCompute, PlanLane, stored_view}
-use Rattle.ext_parallel.specs.StoreSteps.{PutsKept, StepComputes, StepFails, StepLooks, StepPuts, StepRemoves, StepRun, StepsRun, call_of}
+use Rattle.ext_parallel.specs.StoreSteps.{PutsKept, StepComputes, StepFails, StepLooks, StepPuts, StepRemoves, StepRun, StepsRun}
 use Rattle.ext_one_report.proofs.PlanCells.{changed_by}
 use Rattle.ext_one_report.proofs.Going.{steps_go}
 use Rattle.ext_one_report.proofs.MatchingWords.{HasNumberIn, IsRunView, Places, RunView, cell_of}
@@ -58,6 +59,7 @@ use Rattle.ext_one_report.proofs.Open as values
 use Rattle.ext_one_report.proofs.Open.{ComputesOpen}
 use Rattle.ext_one_report.specs.Shares.{Open}
 use Rattle.ext_one_report.proofs.SharedEventsWords.{IsLookedFor}
+use Rattle.ext_one_report.proofs.WordCases.{finds_none}
 
 -- ---- the events of a lane
 
@@ -395,22 +397,15 @@ module _ (run : RunView) (view : IsRunView run) (tree : IsTree run.store.tree) (
       computing v is_value low high (inr refused) = still a b refused.1.still
 
     step_does : (step : StepText) (a : PlanLane) (o : Outcome) (b : PlanLane) → StepRun run.store keys path step a o b → IsFit step → IsLaneIn run b → IsPrefix g (seen_by a.cells.view) → IsPrefix (seen_by b.cells.view) h → DoesAsShared a b
-    step_does (put key text up) a o b (inl made) fit lane low high = puts (put key text up) fit key up refl (codes "put") a o b lane (λ never. never) _ made
-    step_does (put key text up) a o b (inr none) fit lane low high = unchanged a b none.1.unchanged
-    step_does (put_closeable key text up) a o b (inl made) fit lane low high = puts (put_closeable key text up) fit key up refl (codes "put!") a o b lane (λ never. never) _ made
-    step_does (put_closeable key text up) a o b (inr none) fit lane low high = unchanged a b none.1.unchanged
-    step_does (want key text up) a o b (inl made) fit lane low high = looks (call_of keys path (codes "want") key up) _ a o b made
-    step_does (want key text up) a o b (inr none) fit lane low high = unchanged a b none.1.unchanged
-    step_does (nothing key up) a o b (inl made) fit lane low high = looks (call_of keys path (codes "none") key up) _ a o b made
-    step_does (nothing key up) a o b (inr none) fit lane low high = unchanged a b none.1.unchanged
-    step_does (remove key up) a o b (inl made) fit lane low high = removes (remove key up) fit key up refl (codes "remove") a o b lane (λ never. never) made
-    step_does (remove key up) a o b (inr none) fit lane low high = unchanged a b none.1.unchanged
-    step_does (compute key text up) a o b (inl made) fit lane low high = computing (compute key text up) fit key up refl (codes "compute") a o b lane _ (λ is. is) low high made
-    step_does (compute key text up) a o b (inr none) fit lane low high = unchanged a b none.1.unchanged
-    step_does (compute_closeable key text up) a o b (inl made) fit lane low high = computing (compute_closeable key text up) fit key up refl (codes "compute!") a o b lane _ (λ is. is) low high made
-    step_does (compute_closeable key text up) a o b (inr none) fit lane low high = unchanged a b none.1.unchanged
-    step_does (compute_fail key text up) a o b (inl made) fit lane low high = fails (compute_fail key text up) fit key up refl (codes "computefail") a o b lane (λ never. never) text made
-    step_does (compute_fail key text up) a o b (inr none) fit lane low high = unchanged a b none.unchanged
+    step_does (keyed words.Put key text up) a o b (inl made) fit lane low high = puts (keyed words.Put key text up) fit key up refl (codes "put") a o b lane (λ never. cc never.0) _ made
+    step_does (keyed words.PutCloseable key text up) a o b (inl made) fit lane low high = puts (keyed words.PutCloseable key text up) fit key up refl (codes "put!") a o b lane (λ never. cc never.0) _ made
+    step_does (keyed words.Want key text up) a o b (inl made) fit lane low high = looks (call_of keys path (codes "want") key up) _ a o b made
+    step_does (keyed words.None key text up) a o b (inl made) fit lane low high = looks (call_of keys path (codes "none") key up) _ a o b made
+    step_does (keyed words.Remove key text up) a o b (inl made) fit lane low high = removes (keyed words.Remove key text up) fit key up refl (codes "remove") a o b lane (λ never. cc never.0) made
+    step_does (keyed words.Compute key text up) a o b (inl made) fit lane low high = computing (keyed words.Compute key text up) fit key up refl (codes "compute") a o b lane _ (λ is. is.1) low high made
+    step_does (keyed words.ComputeCloseable key text up) a o b (inl made) fit lane low high = computing (keyed words.ComputeCloseable key text up) fit key up refl (codes "compute!") a o b lane _ (λ is. is.1) low high made
+    step_does (keyed words.ComputeFail key text up) a o b (inl made) fit lane low high = fails (keyed words.ComputeFail key text up) fit key up refl (codes "computefail") a o b lane (λ never. cc never.0) text made
+    step_does (keyed word key text up) a o b (inr lacks) fit lane low high = unchanged a b (finds_none keys word key a o b lacks).unchanged
     step_does (fail text) a o b made fit lane low high = unchanged a b made.0
     step_does (abort text) a o b made fit lane low high = unchanged a b made.0
 

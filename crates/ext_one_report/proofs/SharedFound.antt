@@ -12,12 +12,12 @@ use Rattle.ext_plan.specs.Plans.{PlanText}
 use Rattle.ext_plan.specs.ReadPlans.{IsReadPlan, ids_of_nodes}
 use Rattle.ext_plan.specs.StoreKeys.{place_of_key}
 use Rattle.ext_plan.specs.Values.{ValueText}
-use Rattle.ext_races.specs.declared.word.Word.TheVariants as words
+use Rattle.ext_plan.specs.declared.word.Word.TheVariants as words
 use Rattle.ext_races.specs.Clashes.{agree}
 use Rattle.ext_races.specs.Beside.{nodes_beside}
 use Rattle.ext_races.specs.MadeSteps.{plan_path}
 use Rattle.ext_races.specs.Touches.{TouchText, keys_named, touches_made}
-use Rattle.ext_races.specs.StepWords.{computes, gives_value, word_eq}
+use Rattle.ext_plan.specs.StepWords.{computes, gives_value, word_eq}
 use Rattle.ext_races.proofs.Equalities.{word_is}
 use Rattle.ext_races.proofs.Lists.{contains_first, contains_later}
 use Rattle.ext_races.proofs.Sides.{nodes_found, nodes_told}

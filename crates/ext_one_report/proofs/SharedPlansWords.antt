@@ -1,20 +1,9 @@
 -- Which places the nodes of a plan share, by the touches of its steps; and plans without races, whose nodes share values.
 -- Javadoc `ExtensionContext.Store`, `getOrComputeIfAbsent`; what a step touches, and when two touches agree, are definitions of [ext_races].
 use Rattle.ext_one_report.specs.Shares.{shares_in, SharesNothing, SharesValues}
-use Rattle.std.specs.Prelude.{ℕ, ◌≡◌, ◌==◌, Bool, true, ◌&&◌, if◌then◌else◌, Contains, None, find, option_map}
-use Rattle.std.specs.List.{list_any}
-use Rattle.ext_tree.specs.Keys.{KeyValue}
+use Rattle.std.specs.Prelude.{ℕ, ◌≡◌}
 use Rattle.ext_plan.specs.Plans.{PlanText}
 use Rattle.ext_plan.specs.ReadPlans.{IsReadPlan, ids_of_nodes}
-use Rattle.ext_plan.specs.StoreKeys.{place_of_key}
-use Rattle.ext_plan.specs.Values.{ValueText}
-use Rattle.ext_races.specs.declared.race.Race.{Race}
-use Rattle.ext_races.specs.declared.word.Word.TheVariants as words
-use Rattle.ext_races.specs.Beside.{IsBeside, nodes_beside}
-use Rattle.ext_races.specs.Clashes.{agree}
-use Rattle.ext_races.specs.Races.{IsRace}
-use Rattle.ext_races.specs.Touches.{TouchText, keys_named, touches_made}
-use Rattle.ext_races.specs.StepWords.{gives_value, word_eq}
 use Rattle.ext_one_report.proofs.MatchingWords.{RunView}
 use Rattle.ext_one_report.proofs.Covered.{changed_in, touched_in}
 use Rattle.ext_one_report.specs.Apart.{KeepsApart}

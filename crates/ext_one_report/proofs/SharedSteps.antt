@@ -1,36 +1,40 @@
 -- A step of a call at places that its node shares: where it changes one it computes the value, and it changes none above one.
 use Rattle.std.proofs.Common.{◌≡◌, ◌<◌, ℕ, true, false, List, [], ◌∷◌, ◌++◌, length, Contains, drop, Some, None, refl, ap, sym, subst, ◌∙◌, arith, inl, inr}
-use Rattle.std.proofs.lemmas.Bool.{true≢false}
+use Rattle.std.specs.Prelude.{◌&&◌}
+use Rattle.std.proofs.lemmas.Bool.{cases_Bool, true≢false}
 use Rattle.std.proofs.lemmas.List.{length-drop}
 use Rattle.std.proofs.lemmas.List.Elements.{All-contains}
 use Rattle.ext_tree.specs.Keys.{KeyValue}
 use Rattle.ext_tree.specs.Trees.{IsPathOf}
 use Rattle.ext_lifecycle.specs.declared.call.Call.{Call}
-use Rattle.ext_plan.specs.Plans.{PlanText, StepKeyText, StepText, put, put_closeable, want, nothing, remove, compute, compute_closeable, compute_fail, fail, abort}
+use Rattle.ext_plan.specs.Plans.{PlanText, StepKeyText, StepText, keyed, fail, abort}
 use Rattle.ext_plan.specs.PlanCalls.{steps_of_call}
 use Rattle.ext_plan.specs.ReadPlans.{IsReadPlan, ids_of_nodes}
 use Rattle.ext_plan.specs.StepCalls.{start_of}
 use Rattle.ext_plan.specs.Steps.{height}
 use Rattle.ext_plan.specs.StoreKeys.{key_of_step, place_of_key}
 use Rattle.ext_plan.specs.Values.{ValueText}
-use Rattle.ext_races.specs.declared.word.Word.TheVariants as words
-use Rattle.ext_races.specs.Acts.{ActText, act_of}
+use Rattle.ext_plan.specs.declared.word.Word.{Word}
+use Rattle.ext_plan.specs.declared.word.Word.TheVariants as words
+use Rattle.ext_races.specs.Acts.{ActText}
 use Rattle.ext_races.specs.MadeSteps.{calls_of, plan_path}
-use Rattle.ext_races.specs.Touches.{keys_named, touch_of, touches_above, touches_along, touches_made}
-use Rattle.ext_races.specs.StepWords.{changes}
-use Rattle.ext_races.proofs.Lists.{contains_cases, contains_first, contains_nothing}
-use Rattle.ext_one_report.proofs.PlanCells.{changed_by, changed_of}
+use Rattle.ext_races.specs.Touches.{keys_named, text_if, touch_of, touches_made}
+use Rattle.ext_plan.specs.StepWords.{changes, gives_value, has_text, leaves_closeable, word_eq}
+use Rattle.ext_races.proofs.Lists.{contains_cases, contains_nothing}
+use Rattle.ext_one_report.proofs.PlanCells.{changed_by}
 use Rattle.ext_one_report.proofs.MatchingWords.{RunView}
 use Rattle.ext_one_report.proofs.Covered.{changed_in, touched_in}
 use Rattle.ext_one_report.proofs.CoveredCalls.{call_stays}
 use Rattle.ext_one_report.proofs.CoveredPaths.{path_there}
-use Rattle.ext_one_report.proofs.CoveredPlans.{IsTouchedBelow, an_act, changed_by_touch, height_is, step_changes, within_itself}
+use Rattle.ext_one_report.proofs.CoveredTouches.{along_first, step_of}
+use Rattle.ext_one_report.proofs.CoveredPlans.{IsTouchedBelow, an_act, changed_by_touch, none_is, step_changes, within_itself}
 use Rattle.ext_one_report.proofs.Open.{ComputesOpen}
 use Rattle.ext_one_report.specs.Shares.{Open, SharesValues, shares_in}
 use Rattle.ext_one_report.proofs.OpenCalls.{LeavesAbove}
 use Rattle.ext_one_report.proofs.SharedFound.{Gives, all_give, same_count, shares_found}
 use Rattle.ext_one_report.proofs.SharedNodes.{above}
 use Rattle.ext_one_report.proofs.SharedTouches.{changes_there}
+use Rattle.ext_one_report.proofs.WordCases.{of_computes}
 
 -- ---- lists
 
@@ -46,9 +50,10 @@ pub from_start : (path : List ℕ) → 0 < length path → (above : List ℕ) ×
 from_start [] some = absurd (omega (arith, some))
 from_start (context ∷ above) some = (above, refl)
 
-first_there : (node key : ℕ) (act : ActText) (path : List ℕ) → 0 < length path → Contains (touches_along node key act path) (touch_of node key act (changes act.word) (start_of path))
-first_there node key act [] some = absurd (omega (arith, some))
-first_there node key act (context ∷ above) some = contains_first (touch_of node key act (changes act.word) context) (touches_above node key act above)
+-- the value that a compute gives is that of its touch
+value_is : (word : Word) (text : List ℕ) → gives_value word ≡ true
+    → ◌≡◌ {A = ValueText} (record { text = text; closeable = leaves_closeable word }) (record { text = text_if (changes word && has_text word) text; closeable = word_eq word words.ComputeCloseable })
+value_is word text = of_computes (λ w. ◌≡◌ {A = ValueText} (record { text = text; closeable = leaves_closeable w }) (record { text = text_if (changes w && has_text w) text; closeable = word_eq w words.ComputeCloseable })) refl refl word
 
 -- ---- steps of a call
 
@@ -62,33 +67,32 @@ module _ (plan : PlanText) (read : IsReadPlan plan) (shares : SharesValues plan)
   pub within : node < length plan.nodes
   within = let count = same_count plan in omega (arith, less, count)
 
-  pub goes_up : (step : StepText) (act : ActText) → Contains (steps_of_call plan call) step → act_of step ≡ Some act → 0 < length (drop act.up (plan_path plan node))
-  goes_up step act there acts =
-      let up_is = height_is step act acts in
-      let low = All-contains (λ s. height s < length path) (steps_of_call plan call) step (call_stays plan read node path path_is call among) there in
+  pub goes_up : (act : ActText) → Contains (steps_of_call plan call) (step_of act) → 0 < length (drop act.up (plan_path plan node))
+  goes_up act there =
+      let low : act.up < length path = All-contains (λ s. height s < length path) (steps_of_call plan call) (step_of act) (call_stays plan read node path path_is call among) there in
       let long = length-drop act.up path in
-      omega (arith, up_is, low, long)
+      omega (arith, low, long)
 
   -- the touch of the place that a step changes
-  pub acts_there : (step : StepText) (act : ActText) → Contains (steps_of_call plan call) step → act_of step ≡ Some act → changes act.word ≡ true
+  pub acts_there : (act : ActText) → Contains (steps_of_call plan call) (step_of act) → changes act.word ≡ true
       → Contains (touches_made plan) (touch_of node (place_of_key (keys_named plan) (key_of_step plan.keys act.key)) act (changes act.word) (start_of (drop act.up (plan_path plan node))))
-  acts_there step act there acts changing =
+  acts_there act there changing =
       let number = place_of_key (keys_named plan) (key_of_step plan.keys act.key) in
-      let split = split_at (steps_of_call plan call) step there in
-      changes_there plan node call within among split.0 step split.1 split.2 act acts changing (touch_of node number act (changes act.word) (start_of (drop act.up path)))
-      (first_there node number act (drop act.up path) (goes_up step act there acts))
+      let split = split_at (steps_of_call plan call) (step_of act) there in
+      changes_there plan node call within among split.0 act split.1 split.2 changing (touch_of node number act (changes act.word) (start_of (drop act.up path)))
+      (along_first node number act (drop act.up path) (goes_up act there))
 
   -- where the place is shared, it computes the value
-  gives_there : (step : StepText) (act : ActText) → Contains (steps_of_call plan call) step → act_of step ≡ Some act → changes act.word ≡ true → (v : ValueText)
+  gives_there : (act : ActText) → Contains (steps_of_call plan call) (step_of act) → changes act.word ≡ true → (v : ValueText)
       → shares_in plan node (start_of (drop act.up (plan_path plan node))) (key_of_step plan.keys act.key) ≡ Some v
       → Gives (touch_of node (place_of_key (keys_named plan) (key_of_step plan.keys act.key)) act (changes act.word) (start_of (drop act.up (plan_path plan node)))) v
-  gives_there step act there acts changing v e =
+  gives_there act there changing v e =
       let key = key_of_step plan.keys act.key in
       let context = start_of (drop act.up path) in
       let t = touch_of node (place_of_key (keys_named plan) key) act (changes act.word) context in
       let one : IsTouchedBelow plan node context key true = record {
         touch = touch_of node (place_of_key (keys_named plan) key) act (changes act.word) context;
-        made = acts_there step act there acts changing;
+        made = acts_there act there changing;
         below = within_itself plan read node within;
         context_is = refl;
         key_is = refl;
@@ -100,34 +104,18 @@ module _ (plan : PlanText) (read : IsReadPlan plan) (shares : SharesValues plan)
   moved : (o : Open) (v : ValueText) (a b : StepKeyText × ℕ) → a ≡ b → o (start_of (drop b.1 (plan_path plan node))) (key_of_step plan.keys b.0) ≡ Some v → o (start_of (drop a.1 (plan_path plan node))) (key_of_step plan.keys a.0) ≡ Some v
   moved o v a b same is = subst (λ (p : StepKeyText × ℕ). o (start_of (drop p.1 path)) (key_of_step plan.keys p.0) ≡ Some v) (sym same) is
 
-  given : (step : StepText) (act : ActText) → Contains (steps_of_call plan call) step → act_of step ≡ Some act → changes act.word ≡ true → (key : StepKeyText) (up : ℕ) (v : ValueText)
-      → changed_of (Some act) ≡ Some (key, up) → shares_in plan node (start_of (drop up (plan_path plan node))) (key_of_step plan.keys key) ≡ Some v
-      → Gives (touch_of node (place_of_key (keys_named plan) (key_of_step plan.keys act.key)) act (changes act.word) (start_of (drop act.up (plan_path plan node)))) v
-  given step act there acts changing key up v changed e =
-      let is_some : Some (act.key, act.up) ≡ Some (key, up) = rw changing at changed in
-      let same : (act.key, act.up) ≡ (key, up) = cc is_some in
-      gives_there step act there acts changing v (moved (shares_in plan node) v (act.key, act.up) (key, up) same e)
-
   -- A step that changes a shared place computes its value, where this is open
   pub computes_there : (step : StepText) → Contains (steps_of_call plan call) step → (o : Open) (key : StepKeyText) (up : ℕ) (v : ValueText) → changed_by step ≡ Some (key, up)
       → shares_in plan node (start_of (drop up (plan_path plan node))) (key_of_step plan.keys key) ≡ Some v → o (start_of (drop up (plan_path plan node))) (key_of_step plan.keys key) ≡ Some v
       → ComputesOpen plan.keys (plan_path plan node) o step
-  computes_there (put k text u) there o key up v changed e open_is = let gives = given (put k text u) (an_act words.Put k text u) there refl refl key up v changed e in absurd (true≢false (sym gives.word))
-  computes_there (put_closeable k text u) there o key up v changed e open_is =
-      let gives = given (put_closeable k text u) (an_act words.PutCloseable k text u) there refl refl key up v changed e in absurd (true≢false (sym gives.word))
-  computes_there (want k text u) there o key up v changed e open_is = absurd (cc changed)
-  computes_there (nothing k u) there o key up v changed e open_is = absurd (cc changed)
-  computes_there (remove k u) there o key up v changed e open_is = let gives = given (remove k u) (an_act words.Remove k [] u) there refl refl key up v changed e in absurd (true≢false (sym gives.word))
-  computes_there (compute k text u) there o key up v changed e open_is =
-      let gives = given (compute k text u) (an_act words.Compute k text u) there refl refl key up v changed e in
-      let same : (k, u) ≡ (key, up) = cc changed in
-      moved o v (k, u) (key, up) same open_is ∙ ap (λ w. Some w) (sym gives.value)
-  computes_there (compute_closeable k text u) there o key up v changed e open_is =
-      let gives = given (compute_closeable k text u) (an_act words.ComputeCloseable k text u) there refl refl key up v changed e in
-      let same : (k, u) ≡ (key, up) = cc changed in
-      moved o v (k, u) (key, up) same open_is ∙ ap (λ w. Some w) (sym gives.value)
-  computes_there (compute_fail k text u) there o key up v changed e open_is =
-      let gives = given (compute_fail k text u) (an_act words.ComputeFail k text u) there refl refl key up v changed e in absurd (true≢false (sym gives.word))
+  computes_there (keyed word k text u) there o key up v changed e open_is = elim (cases_Bool (changes word)) [
+    | inl changing ↦
+        let some : Some (k, u) ≡ Some (key, up) = rw changing at changed in
+        let same : (k, u) ≡ (key, up) = cc some in
+        let gives = gives_there (an_act word k text u) there changing v (moved (shares_in plan node) v (k, u) (key, up) same e) in
+        (gives.word, moved o v (k, u) (key, up) same open_is ∙ ap (λ w. Some w) (sym (value_is word text gives.word ∙ gives.value)))
+    | inr still ↦ absurd (none_is (rw still at changed))
+  ]
   computes_there (fail text) there o key up v changed e open_is = absurd (cc changed)
   computes_there (abort text) there o key up v changed e open_is = absurd (cc changed)
 

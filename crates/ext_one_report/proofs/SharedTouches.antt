@@ -14,12 +14,13 @@ use Rattle.ext_plan.specs.StoreKeys.{key_of_step, place_of_key}
 use Rattle.ext_races.specs.Acts.{ActText, act_of}
 use Rattle.ext_races.specs.MadeSteps.{MadeText, calls_of, made_after, made_by, made_of_node, path_of, plan_path, steps_made}
 use Rattle.ext_races.specs.Touches.{TouchText, below_computes, keys_named, reach, touch_of, touches_above, touches_along, touches_made, touches_of, touches_of_act}
-use Rattle.ext_races.specs.StepWords.{changes, gives_value, looks_along}
+use Rattle.ext_plan.specs.StepWords.{changes, gives_value, looks_along}
 use Rattle.ext_races.proofs.Lists.{contains-flat_map, contains-flat_map_back, contains-map, contains-map_back, contains_cases, contains_first, contains_later, contains_nothing}
 use Rattle.ext_races.proofs.Within.{nodes_within}
 use Rattle.ext_one_report.proofs.CoveredPaths.{path_there}
-use Rattle.ext_one_report.proofs.CoveredTouches.{computes_all, in_range}
+use Rattle.ext_one_report.proofs.CoveredTouches.{in_range, step_of}
 use Rattle.ext_one_report.proofs.SharedFound.{same_count}
+use Rattle.ext_one_report.proofs.WordCases.{computes_all}
 
 -- ---- what a touch looks at above its own context
 
@@ -130,22 +131,23 @@ made_split node before (first ∷ front) step more =
     contains_later (made_by node before first) (made_by node (before ++ first ∷ front) step) (made_after node (before ++ first ∷ []) (front ++ step ∷ more))
     (subst (λ b. Contains (made_after node (before ++ first ∷ []) (front ++ step ∷ more)) (made_by node b step)) (append_assoc before (first ∷ []) front) rest)
 
-module _ (plan : PlanText) (node : ℕ) (call : Call) (within : node < length plan.nodes) (among : Contains (calls_of plan node) call) (front : List StepText) (step : StepText) (more : List StepText)
-    (whole : steps_of_call plan call ≡ front ++ step ∷ more) (act : ActText) (acts : act_of step ≡ Some act) where
+module _ (plan : PlanText) (node : ℕ) (call : Call) (within : node < length plan.nodes) (among : Contains (calls_of plan node) call) (front : List StepText) (act : ActText) (more : List StepText)
+    (whole : steps_of_call plan call ≡ front ++ step_of act ∷ more) where
   abbrev number_in : ℕ
   number_in = place_of_key (keys_named plan) (key_of_step plan.keys act.key)
 
-  is_made : Contains (steps_made plan) (made_by node front step)
+  abbrev made : MadeText
+  made = made_by node front (step_of act)
+
+  is_made : Contains (steps_made plan) made
   is_made =
-      contains-flat_map (made_of_node plan) (range_with_len 0 (length plan.nodes)) node (made_by node front step) (in_range (length plan.nodes) node within)
-      (contains-flat_map (λ c. made_after node [] (steps_of_call plan c)) (calls_of plan node) call (made_by node front step) among
-      (subst (λ steps. Contains (made_after node [] steps) (made_by node front step)) (sym whole) (made_split node [] front step more)))
+      contains-flat_map (made_of_node plan) (range_with_len 0 (length plan.nodes)) node made (in_range (length plan.nodes) node within)
+      (contains-flat_map (λ c. made_after node [] (steps_of_call plan c)) (calls_of plan node) call made among
+      (subst (λ steps. Contains (made_after node [] steps) made) (sym whole) (made_split node [] front (step_of act) more)))
 
   -- what a step touches by its act
   pub touches_there : (t : TouchText) → Contains (touches_along node number_in act (drop act.up (reach plan.keys front (plan_path plan node) act))) t → Contains (touches_made plan) t
-  touches_there t there =
-      contains-flat_map (touches_of (ids_of_nodes plan.nodes) plan.keys (keys_named plan)) (steps_made plan) (made_by node front step) t is_made
-      (subst (λ a. Contains (touches_of_act plan.keys (keys_named plan) node (plan_path plan node) front a) t) (sym acts) there)
+  touches_there t there = contains-flat_map (touches_of (ids_of_nodes plan.nodes) plan.keys (keys_named plan)) (steps_made plan) made t is_made there
 
   -- where it changes the place that it acts on, that is all of the path from there
   pub changes_there : changes act.word ≡ true → (t : TouchText) → Contains (touches_along node number_in act (drop act.up (plan_path plan node))) t → Contains (touches_made plan) t

@@ -23,8 +23,9 @@ use Rattle.ext_lifecycle.specs.Endings.{successful, aborted, failed}
 use Rattle.ext_lifecycle.specs.FaultTexts.{VerdictText, verdict_text}
 use Rattle.ext_plan.specs.declared.reason.Reason.{Reason}
 use Rattle.ext_plan.specs.declared.reason.Reason.TheVariants as reasons
-use Rattle.ext_plan.specs.Plans.{KeyText, StepKeyText, want, nothing}
-use Rattle.ext_plan.specs.StepCalls.{label_of, start_of}
+use Rattle.ext_plan.specs.declared.word.Word.TheVariants as words
+use Rattle.ext_plan.specs.Plans.{KeyText, StepKeyText}
+use Rattle.ext_plan.specs.StepCalls.{call_of, label_of, start_of}
 use Rattle.ext_plan.specs.StoreKeys.{is_there, key_of_step, place_of_key}
 use Rattle.ext_plan.specs.Values.{ValueText}
 use Rattle.ext_plan.specs.Verdicts.{SeenText, seen_value, seen_fault, seen_nothing, seen_refused, refused, want_verdict, none_verdict}
@@ -37,10 +38,10 @@ use Rattle.ext_plain.specs.ValueStates.{ValueState, enough, value_of}
 use Rattle.ext_plain.specs.StepRuns.{StepEnd, ended, found_along, seen_by as plain_seen, shown, shown_fault, want_numbered, none_numbered}
 use Rattle.ext_parallel.specs.Saying.{Says, Ends, EndsRefused, no_memory}
 use Rattle.ext_parallel.specs.StoreCalls.{PlanLane, Sees, Shows, fault_seen, stored_view}
-use Rattle.ext_parallel.specs.StoreSteps.{StepLooks, call_of}
+use Rattle.ext_parallel.specs.StoreSteps.{StepLooks}
 use Rattle.ext_one_report.proofs.StandingsWords.{Shown, absent, found, met, closed, fault_shown, value_shown, shown_of, AreMatched, ShowTheSame}
 use Rattle.ext_one_report.proofs.MatchingWords.{RunView, HasNumberIn, Places, Matches, cell_of, plain_meaning, text_of}
-use Rattle.ext_one_report.proofs.StepsWords.{IsLaneIn, AreCompared, LooksWithin, EndAlike, StepEndsAlike, words_of}
+use Rattle.ext_one_report.proofs.StepsWords.{IsLaneIn, AreCompared, LooksWithin, EndAlike, WordEndsAlike, words_of}
 use Rattle.ext_one_report.specs.FullRuns.{IsForRoom, FindsAll}
 use Rattle.ext_one_report.proofs.Standings.{matched_looks}
 use Rattle.ext_one_report.proofs.Matching.{plain_there}
@@ -190,17 +191,15 @@ module _ (run : RunView) (keys : List KeyText) (path : List ℕ) (places : Place
   looks_end_alike (inl (number, has, (seen, sees, ends))) = look_alike number has seen sees ends
   looks_end_alike (inr (why, refused_key, (same, ends))) = absurd (key_found name (label_of keys key) o a b (key_of_step keys key) why both.finds refused_key ends)
 
-pub wants_end_alike : (key : StepKeyText) (text : List ℕ) (up : ℕ) → StepEndsAlike (codes "want") key up LooksWithin (want key text up)
-wants_end_alike key text up run keys path places a o b s within both (inr (made, none)) = absurd (both.finds.memory none.ends.0)
-wants_end_alike key text up run keys path places a o b s within both (inl looks) =
+pub wants_end_alike : WordEndsAlike words.Want
+wants_end_alike key text up run keys path places a o b s within both looks =
     let label = label_of keys key in
     let it : IsNamed places (key_of_step keys key) s = named places (key_of_step keys key) s both.room.keys both.numbered in
     subst (λ (end : StepEnd). EndAlike run places o b end) (sym (it.goes (codes "want") label (want_numbered enough (codes "want") label (drop up path) text)))
     (looks_end_alike run keys path places (codes "want") key up a o b s (want_verdict (codes "want") label text) (λ why. refl) within both looks)
 
-pub nones_end_alike : (key : StepKeyText) (up : ℕ) → StepEndsAlike (codes "none") key up LooksWithin (nothing key up)
-nones_end_alike key up run keys path places a o b s within both (inr (made, none)) = absurd (both.finds.memory none.ends.0)
-nones_end_alike key up run keys path places a o b s within both (inl looks) =
+pub nones_end_alike : WordEndsAlike words.None
+nones_end_alike key text up run keys path places a o b s within both looks =
     let label = label_of keys key in
     let it : IsNamed places (key_of_step keys key) s = named places (key_of_step keys key) s both.room.keys both.numbered in
     subst (λ (end : StepEnd). EndAlike run places o b end) (sym (it.goes (codes "none") label (none_numbered enough (codes "none") label (drop up path))))

@@ -12,8 +12,9 @@ use Rattle.ext_lifecycle.specs.FaultTexts.{VerdictText}
 use Rattle.ext_lifecycle.specs.Lifecycle.{ending_of}
 use Rattle.ext_model.specs.Events.{place_of}
 use Rattle.ext_model.specs.History.{History}
-use Rattle.ext_plan.specs.Plans.{KeyText, StepKeyText, StepText, put, put_closeable, want, nothing, remove, compute, compute_closeable, compute_fail, fail, abort}
-use Rattle.ext_plan.specs.StepCalls.{CallText, start_of}
+use Rattle.ext_plan.specs.declared.word.Word.TheVariants as words
+use Rattle.ext_plan.specs.Plans.{KeyText, StepKeyText, StepText, keyed, fail, abort}
+use Rattle.ext_plan.specs.StepCalls.{CallText, call_of, start_of}
 use Rattle.ext_plan.specs.StoreKeys.{key_of_step}
 use Rattle.ext_plan.specs.Values.{ValueText}
 use Rattle.ext_plan.specs.Verdicts.{SeenText}
@@ -24,9 +25,10 @@ use Rattle.ext_engine.specs.Order.{IsMadeBy, LaneGoesOn}
 use Rattle.ext_one_report.proofs.Events.{in_part}
 use Rattle.ext_one_report.proofs.StoreCalls.{Only, gets_only, keep_fails, keeps_only, only_makes, only_same, puts_only, removes_only, waits_only}
 use Rattle.ext_parallel.specs.StoreCalls.{PlanLane}
-use Rattle.ext_parallel.specs.StoreSteps.{PutsKept, StepComputes, StepFails, StepLooks, StepPuts, StepRemoves, StepRun, StepsRun, call_of}
+use Rattle.ext_parallel.specs.StoreSteps.{PutsKept, StepComputes, StepFails, StepLooks, StepPuts, StepRemoves, StepRun, StepsRun}
 use Rattle.ext_one_report.proofs.PlanCells.{IsCellOf, changed_by}
 use Rattle.ext_one_report.proofs.Going.{steps_go}
+use Rattle.ext_one_report.proofs.WordCases.{finds_none}
 
 module _ (store : StoreView) (keys : List KeyText) (numbering : List KnownPlace) (Such : ℕ → Type 0) where
   -- between these two states the lane made events on such cells alone
@@ -112,22 +114,15 @@ module _ (store : StoreView) (keys : List KeyText) (numbering : List KnownPlace)
         (record { key = key; up = up; changes = changes; number = number; named = number_stays b.keys numbering (key_of_step keys key) number so named; cell_is = refl })
 
     step_on : (step : StepText) (a : PlanLane) (o : Outcome) (b : PlanLane) → StepRun store keys path step a o b → KeepsKeys b.keys numbering → Has step → On a b
-    step_on (put key text up) a o b (inl made) so has = puts_on (call_of keys path (codes "put") key up) a o b (cell_has (put key text up) key up refl has b so) _ made
-    step_on (put key text up) a o b (inr none) so has = unchanged a b none.1.unchanged
-    step_on (put_closeable key text up) a o b (inl made) so has = puts_on (call_of keys path (codes "put!") key up) a o b (cell_has (put_closeable key text up) key up refl has b so) _ made
-    step_on (put_closeable key text up) a o b (inr none) so has = unchanged a b none.1.unchanged
-    step_on (want key text up) a o b (inl made) so has = looks_on (call_of keys path (codes "want") key up) _ a o b made
-    step_on (want key text up) a o b (inr none) so has = unchanged a b none.1.unchanged
-    step_on (nothing key up) a o b (inl made) so has = looks_on (call_of keys path (codes "none") key up) _ a o b made
-    step_on (nothing key up) a o b (inr none) so has = unchanged a b none.1.unchanged
-    step_on (remove key up) a o b (inl made) so has = removes_on (call_of keys path (codes "remove") key up) a o b (cell_has (remove key up) key up refl has b so) made
-    step_on (remove key up) a o b (inr none) so has = unchanged a b none.1.unchanged
-    step_on (compute key text up) a o b (inl made) so has = computes_on (call_of keys path (codes "compute") key up) a o b (cell_has (compute key text up) key up refl has b so) _ made
-    step_on (compute key text up) a o b (inr none) so has = unchanged a b none.1.unchanged
-    step_on (compute_closeable key text up) a o b (inl made) so has = computes_on (call_of keys path (codes "compute!") key up) a o b (cell_has (compute_closeable key text up) key up refl has b so) _ made
-    step_on (compute_closeable key text up) a o b (inr none) so has = unchanged a b none.1.unchanged
-    step_on (compute_fail key text up) a o b (inl made) so has = fails_on (call_of keys path (codes "computefail") key up) a o b (cell_has (compute_fail key text up) key up refl has b so) text made
-    step_on (compute_fail key text up) a o b (inr none) so has = unchanged a b none.unchanged
+    step_on (keyed words.Put key text up) a o b (inl made) so has = puts_on (call_of keys path (codes "put") key up) a o b (cell_has (keyed words.Put key text up) key up refl has b so) _ made
+    step_on (keyed words.PutCloseable key text up) a o b (inl made) so has = puts_on (call_of keys path (codes "put!") key up) a o b (cell_has (keyed words.PutCloseable key text up) key up refl has b so) _ made
+    step_on (keyed words.Want key text up) a o b (inl made) so has = looks_on (call_of keys path (codes "want") key up) _ a o b made
+    step_on (keyed words.None key text up) a o b (inl made) so has = looks_on (call_of keys path (codes "none") key up) _ a o b made
+    step_on (keyed words.Remove key text up) a o b (inl made) so has = removes_on (call_of keys path (codes "remove") key up) a o b (cell_has (keyed words.Remove key text up) key up refl has b so) made
+    step_on (keyed words.Compute key text up) a o b (inl made) so has = computes_on (call_of keys path (codes "compute") key up) a o b (cell_has (keyed words.Compute key text up) key up refl has b so) _ made
+    step_on (keyed words.ComputeCloseable key text up) a o b (inl made) so has = computes_on (call_of keys path (codes "compute!") key up) a o b (cell_has (keyed words.ComputeCloseable key text up) key up refl has b so) _ made
+    step_on (keyed words.ComputeFail key text up) a o b (inl made) so has = fails_on (call_of keys path (codes "computefail") key up) a o b (cell_has (keyed words.ComputeFail key text up) key up refl has b so) text made
+    step_on (keyed word key text up) a o b (inr lacks) so has = unchanged a b (finds_none keys word key a o b lacks).unchanged
     step_on (fail text) a o b made so has = unchanged a b made.0
     step_on (abort text) a o b made so has = unchanged a b made.0
 

@@ -2,7 +2,7 @@
 -- Javadoc `ExtensionContext.Store`. What a step does on a lane is a definition of [ext_parallel StoreSteps], and what it does in a plain run one of [ext_plain StepRuns].
 -- That memory, places, numbers and keys suffice is asked of what the step says, and of the plain run.
 use Rattle.ext_one_report.specs.FullRuns.{FindsAll}
-use Rattle.std.specs.Prelude.{ℕ, ◌≡◌, ◌≢◌, ◌<◌, ◌++◌, true, false, nat_eq, List, All, Contains, length, drop, Option, None, Some, string_bytes}
+use Rattle.std.specs.Prelude.{ℕ, ◌≡◌, ◌≢◌, ◌<◌, ◌++◌, Bool, true, false, nat_eq, List, All, Contains, length, drop, Option, None, Some, string_bytes}
 use Rattle.ext_history.specs.Histories.{seen_by}
 use Rattle.ext_model.specs.declared.event.Event.{Event}
 use Rattle.ext_model.specs.declared.look.Fault.{Fault}
@@ -15,18 +15,17 @@ use Rattle.ext_tree.specs.Trees.{IsTree, IsPathOf}
 use Rattle.ext_values.specs.Known.{known_at}
 use Rattle.ext_lifecycle.specs.declared.outcome.Outcome.{Outcome}
 use Rattle.ext_lifecycle.specs.FaultTexts.{verdict_text}
-use Rattle.ext_plan.specs.declared.reason.Reason.{Reason}
-use Rattle.ext_plan.specs.declared.reason.Reason.TheVariants as reasons
-use Rattle.ext_plan.specs.Plans.{KeyText, StepKeyText, StepText}
-use Rattle.ext_plan.specs.StepCalls.{label_of, start_of}
+use Rattle.ext_plan.specs.declared.word.Word.{Word}
+use Rattle.ext_plan.specs.Plans.{KeyText, StepKeyText, StepText, keyed}
+use Rattle.ext_plan.specs.StepCalls.{call_of, label_of, start_of}
+use Rattle.ext_plan.specs.StepWords.{looks_along, word_text}
 use Rattle.ext_plan.specs.StoreKeys.{is_there, key_of_step}
-use Rattle.ext_plan.specs.Verdicts.{refused}
 use Rattle.ext_plain.specs.ValueStates.{ValueState, key_limit, run_numbers}
 use Rattle.ext_plain.specs.StepRuns.{StepEnd, step_run}
 use Rattle.ext_parallel.specs.declared.steps.stored_value.StoredValue.{StoredValue}
 use Rattle.ext_parallel.specs.Saying.{no_memory}
 use Rattle.ext_parallel.specs.StoreCalls.{PlanLane, stored_view}
-use Rattle.ext_parallel.specs.StoreSteps.{StepRun}
+use Rattle.ext_parallel.specs.StoreSteps.{StepDoes, StepRun}
 use Rattle.ext_one_report.proofs.MatchingWords.{RunView, IsRunView, HasNumberIn, Places, Matches, IsNumbered, cell_of}
 
 -- ---- the lane
@@ -84,6 +83,11 @@ LooksWithin keys path places key up = All (λ context. places context (key_of_st
 abbrev pub ActsWithin : List KeyText → List ℕ → Places → StepKeyText → ℕ → Type 0
 ActsWithin keys path places key up = places (start_of (drop up path)) (key_of_step keys key) ≡ true
 
+-- what a step touches, which looks along its path or does not
+abbrev pub TouchesWithin : Bool → List KeyText → List ℕ → Places → StepKeyText → ℕ → Type 0
+TouchesWithin true keys path places key up = LooksWithin keys path places key up
+TouchesWithin false keys path places key up = ActsWithin keys path places key up
+
 -- Both say the same and count the same, and the same stands at the places after them. After `put a x` a lane may have x under number 7 where the plain run has it under 2;
 -- a lane that had put y, had found no memory, or had left the place empty would not end alike
 pub record EndAlike (run : RunView) (places : Places) (outcome : Outcome) (after : PlanLane) (end : StepEnd) : Type 0 where
@@ -93,12 +97,13 @@ pub record EndAlike (run : RunView) (places : Places) (outcome : Outcome) (after
   pub matches : Matches run places (seen_by after.cells.view) end.state
   pub numbered : IsNumbered places end.state
 
--- A step of this name, key and height, where what it touches is within the places: on a lane that is alone there it ends as in the plain run
-abbrev pub StepEndsAlike : List ℕ → StepKeyText → ℕ → (List KeyText → List ℕ → Places → StepKeyText → ℕ → Type 0) → StepText → Type 0
-StepEndsAlike name key up TouchesWithin step =
-    (run : RunView) (keys : List KeyText) (path : List ℕ) (places : Places) (before : PlanLane) (outcome : Outcome) (after : PlanLane) (s : ValueState)
-    → TouchesWithin keys path places key up → AreCompared run keys path places name key up before outcome after s
-    → StepRun run.store keys path step before outcome after → EndAlike run places outcome after (step_run keys path step s)
+-- A step of this word that makes its call, where what it touches is within the places: on a lane that is alone there it
+-- ends as in the plain run
+abbrev pub WordEndsAlike : Word → Type 0
+WordEndsAlike word =
+    (key : StepKeyText) (text : List ℕ) (up : ℕ) (run : RunView) (keys : List KeyText) (path : List ℕ) (places : Places) (before : PlanLane) (outcome : Outcome) (after : PlanLane) (s : ValueState)
+    → TouchesWithin (looks_along word) keys path places key up → AreCompared run keys path places (word_text word) key up before outcome after s
+    → StepDoes run.store (call_of keys path (word_text word) key up) word text before outcome after → EndAlike run places outcome after (step_run keys path (keyed word key text up) s)
 
 -- a step that touches nothing ends alike on any lane
 abbrev pub EndsAnywhere : StepText → Type 0

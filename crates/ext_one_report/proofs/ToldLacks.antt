@@ -1,29 +1,29 @@
 -- A run whose results tell of no step that may have lacked something lacks nothing: each node tells so of its own calls and closes, and each node that ran has its result.
-use Rattle.std.proofs.Common.{◌≡◌, ◌∙◌, inl, inr, ℕ, zero, suc, Bool, true, false, List, [], ◌∷◌, ◌++◌, Contains, map, map-id, min, length, Option, Some, None, refl, ap, sym, subst}
-use Rattle.std.specs.Prelude.{Result, Ok, Err, option_map, slice_get, slice_index_or, ◌||◌}
-use Rattle.std.specs.List.{AllByRecursion, FoldsTo, flat_map, list_any}
+use Rattle.std.proofs.Common.{◌≡◌, ◌∙◌, ℕ, zero, suc, Bool, true, false, List, [], ◌∷◌, ◌++◌, Contains, map, map-id, min, length, Option, Some, None, refl, ap, sym, subst}
+use Rattle.std.specs.Prelude.{option_map, slice_get, slice_index_or, ◌||◌}
+use Rattle.std.specs.List.{AllByRecursion, FoldsTo, flat_map}
 use Rattle.std.proofs.lemmas.List.{length-map}
 use Rattle.std.proofs.lemmas.List.Sorted.{Contains-permutation}
-use Rattle.ext_history.proofs.Lists.{bools, contains_here, contains_later}
+use Rattle.ext_history.proofs.Lists.{contains_here, contains_later}
 use Rattle.ext_model.specs.declared.look.Fault.{Fault}
 use Rattle.ext_tree.specs.Trees.{IsTree}
 use Rattle.ext_lifecycle.specs.declared.call.Call.{Call}
 use Rattle.ext_lifecycle.specs.declared.outcome.Outcome.{Outcome}
-use Rattle.ext_lifecycle.specs.Endings.{all_successful, is_successful}
-use Rattle.ext_lifecycle.specs.FaultTexts.{NodeOutcome, fault_text}
-use Rattle.ext_lifecycle.specs.Lifecycle.{MakesAll, MakesBefores, MakesCalls, MakesIf, computed_in, ending_of, endings_of, found_in}
-use Rattle.ext_lifecycle.specs.Results.{ResultOf, close_ending, result_of, with_fault_told}
+use Rattle.ext_lifecycle.specs.Endings.{all_successful}
+use Rattle.ext_lifecycle.specs.FaultTexts.{fault_text}
+use Rattle.ext_lifecycle.specs.Lifecycle.{MakesAll, MakesBefores, MakesCalls, MakesIf, computed_in, endings_of, found_in}
+use Rattle.ext_lifecycle.specs.Results.{ResultOf, close_ending, with_fault_told}
 use Rattle.ext_locks.specs.Opening.{LocksView}
 use Rattle.ext_locks.specs.Sets.{HeldView}
 use Rattle.ext_plan.specs.LockNames.{lock_names}
 use Rattle.ext_plan.specs.Plans.{PlanText}
 use Rattle.ext_plan.specs.ReadPlans.{IsReadPlan}
-use Rattle.ext_store.specs.Stores.{StoreView, StoreLane}
-use Rattle.ext_closing.specs.Closing.{Answer, CallIf, Closing, ClosesNumbers, ClosesOne}
+use Rattle.ext_store.specs.Stores.{StoreView}
+use Rattle.ext_closing.specs.Closing.{CallIf, Closing, ClosesOne}
 use Rattle.ext_crew.specs.Dealing.{RunByDealing}
 use Rattle.ext_crew.proofs.Runs.{run-map}
 use Rattle.ext_engine.specs.RunLaws.{IsOneEach}
-use Rattle.ext_engine.specs.TreeRun.{BodyMade, BodyRun, ClosesNode, ContainerRun, EndsContainer, Lanes, MakesOn, OnFirst, Ran, TestRun, TreeRun, TreeSetting, all_results, concurrent_children, with_lanes}
+use Rattle.ext_engine.specs.TreeRun.{BodyRun, ClosesNode, ContainerRun, Lanes, MakesOn, OnFirst, Ran, TestRun, TreeRun, TreeSetting, all_results, concurrent_children, with_lanes}
 use Rattle.ext_engine.proofs.Grown.{Entry}
 use Rattle.ext_engine.proofs.RunLaws.{one_result_each}
 use Rattle.ext_engine.proofs.Told.{grown}

@@ -1,7 +1,7 @@
 -- Calls and closes of a node whose result does not tell that it may have lacked something found all that they asked for.
 use Rattle.std.proofs.Common.{◌≡◌, ◌≢◌, ◌-◌, ◌∙◌, inl, inr, ℕ, Bool, true, false, codes, List, [], ◌∷◌, ◌++◌, map, get_or, Option, Some, None, refl, ap, sym, subst, append_assoc, ⊎_elim, ◌⊎◌}
-use Rattle.std.specs.Prelude.{All, IfSome, Result, Ok, Err, nat_lt, nat_eq, option_map, ◌||◌}
-use Rattle.std.specs.List.{AllByRecursion, FoldsTo, ends_with}
+use Rattle.std.specs.Prelude.{IfSome, Ok, Err, nat_lt, option_map, ◌||◌}
+use Rattle.std.specs.List.{AllByRecursion}
 use Rattle.std.specs.Str.{bytes_eq}
 use Rattle.std.proofs.lemmas.Bool.Decides.{Decides-eqb}
 use Rattle.std.proofs.lemmas.Slice.Eq.{ends_is}
@@ -10,10 +10,9 @@ use Rattle.ext_model.specs.declared.look.Fault.TheVariants as faults
 use Rattle.ext_lifecycle.specs.declared.call.Call.{Call}
 use Rattle.ext_lifecycle.specs.declared.outcome.Outcome.{Outcome}
 use Rattle.ext_lifecycle.specs.declared.outcome.Verdict.{Verdict}
-use Rattle.ext_lifecycle.specs.declared.outcome.Verdict.TheVariants as verdicts
 use Rattle.ext_lifecycle.specs.Endings.{Ending, first_abort, first_fault, successful, aborted, failed, total_by, unsuccessful, with_fault}
-use Rattle.ext_lifecycle.specs.FaultTexts.{fault_text, verdict_text}
-use Rattle.ext_lifecycle.specs.Lifecycle.{ending_of, endings_of}
+use Rattle.ext_lifecycle.specs.FaultTexts.{fault_text}
+use Rattle.ext_lifecycle.specs.Lifecycle.{ending_of}
 use Rattle.ext_lifecycle.specs.Results.{ResultOf, close_ending, result_of}
 use Rattle.ext_locks.specs.Sets.{HeldView}
 use Rattle.ext_plan.specs.declared.reason.Reason.{Reason}
@@ -23,13 +22,11 @@ use Rattle.ext_plan.specs.PlanCalls.{steps_of_call}
 use Rattle.ext_plan.specs.StepCalls.{label_of}
 use Rattle.ext_plan.specs.Steps.{step_key}
 use Rattle.ext_plan.specs.StepTexts.{refused_text, words}
-use Rattle.ext_plan.specs.Values.{close_fault}
 use Rattle.ext_plan.specs.Verdicts.{refused}
 use Rattle.ext_plain.proofs.FaultsTold.{TellsFault, either-true, fault-told, some-more}
 use Rattle.ext_store.specs.Stores.{StoreView}
 use Rattle.ext_closing.specs.Closing.{Answer, fault_in}
-use Rattle.ext_parallel.specs.declared.steps.stored_value.StoredValue.{StoredValue}
-use Rattle.ext_parallel.specs.Lacking.{ends_as_refused, fault_tells_lack, may_lack, tells_lack}
+use Rattle.ext_parallel.specs.Lacking.{ends_as_refused, may_lack, tells_lack}
 use Rattle.ext_parallel.specs.ParallelRun.{MakesCall}
 use Rattle.ext_parallel.specs.PlanActions.{AnswersClose}
 use Rattle.ext_parallel.specs.Saying.{no_memory}

@@ -12,7 +12,8 @@ use Rattle.ext_lifecycle.specs.declared.mode.Mode.TheVariants as modes
 use Rattle.ext_ids.specs.Ids.{pair_eq}
 use Rattle.ext_tree.specs.Trees.{HasParentBefore, Id, IsTree, StandsBefore, id_at}
 use Rattle.ext_plan.specs.Labels.{is_word}
-use Rattle.ext_plan.specs.Plans.{NodeText, PlanText, StepText, callbacks_of, put, put_closeable, want}
+use Rattle.ext_plan.specs.declared.word.Word.TheVariants as words
+use Rattle.ext_plan.specs.Plans.{NodeText, PlanText, StepText, callbacks_of, keyed}
 use Rattle.ext_plan.specs.ReadPlans.{CallbacksAreFew, HasNoContainerCallbacks, IsRunnablePlan, NamesLabelBelow, OfAllSteps, StayOnPath, StaysOnOwnPath, StaysOnPathOf, StepsStayBelowRoot, TestsHaveNoChildren}
 use Rattle.ext_plan.specs.Steps.{callback_limit, height, step_limit}
 use Rattle.ext_plan.specs.StoreKeys.{HasParts}
@@ -86,23 +87,23 @@ meets plan some keeps = true≢false (sym (kept_apart plan keeps) ∙ some)
 
 pub own_puts_keep_apart : OwnPutsKeepApart
 unfolding path_from
-own_puts_keep_apart text other = keeps_apart (two_tests [] (put a text 0 ∷ []) (put a other 0 ∷ [])) refl
+own_puts_keep_apart text other = keeps_apart (two_tests [] (keyed words.Put a text 0 ∷ []) (keyed words.Put a other 0 ∷ [])) refl
 
 pub looks_keep_apart : LooksKeepApart
 unfolding path_from
-looks_keep_apart text wanted other = keeps_apart (two_tests (put a text 0 ∷ []) (want a wanted 0 ∷ []) (want a other 0 ∷ [])) refl
+looks_keep_apart text wanted other = keeps_apart (two_tests (keyed words.Put a text 0 ∷ []) (keyed words.Want a wanted 0 ∷ []) (keyed words.Want a other 0 ∷ [])) refl
 
 pub two_keys_keep_apart : TwoKeysKeepApart
 unfolding path_from
-two_keys_keep_apart text other = keeps_apart (two_tests [] (put a text 1 ∷ []) (put b other 1 ∷ [])) refl
+two_keys_keep_apart text other = keeps_apart (two_tests [] (keyed words.Put a text 1 ∷ []) (keyed words.Put b other 1 ∷ [])) refl
 
 pub puts_above_do_not : PutsAboveDoNot
 unfolding path_from
-puts_above_do_not text other = meets (two_tests [] (put a text 1 ∷ []) (put a other 1 ∷ [])) refl
+puts_above_do_not text other = meets (two_tests [] (keyed words.Put a text 1 ∷ []) (keyed words.Put a other 1 ∷ [])) refl
 
 pub look_and_put_do_not : LookAndPutDoNot
 unfolding path_from
-look_and_put_do_not wanted text = meets (two_tests [] (want a wanted 0 ∷ []) (put a text 1 ∷ [])) refl
+look_and_put_do_not wanted text = meets (two_tests [] (keyed words.Want a wanted 0 ∷ []) (keyed words.Put a text 1 ∷ [])) refl
 
 pub computes_do_not : ComputesDoNot
 unfolding path_from
@@ -164,19 +165,19 @@ tells_two plan some tells = true≢false (sym (told_one plan tells) ∙ some)
 
 pub two_faults_do_not_tell_one : TwoFaultsDoNotTellOne
 unfolding path_from
-two_faults_do_not_tell_one = tells_two (two_tests [] (put_closeable a (codes "bad1") 0 ∷ put_closeable b (codes "bad2") 0 ∷ []) []) refl
+two_faults_do_not_tell_one = tells_two (two_tests [] (keyed words.PutCloseable a (codes "bad1") 0 ∷ keyed words.PutCloseable b (codes "bad2") 0 ∷ []) []) refl
 
 pub replaced_does_not_tell_one : ReplacedDoesNotTellOne
 unfolding path_from
-replaced_does_not_tell_one = tells_two (two_tests [] (put_closeable a (codes "bad1") 0 ∷ put_closeable a (codes "bad2") 0 ∷ []) []) refl
+replaced_does_not_tell_one = tells_two (two_tests [] (keyed words.PutCloseable a (codes "bad1") 0 ∷ keyed words.PutCloseable a (codes "bad2") 0 ∷ []) []) refl
 
 pub one_text_tells_one : OneTextTellsOne
 unfolding path_from
-one_text_tells_one = tells_one (two_tests [] (put_closeable a (codes "bad1") 0 ∷ put_closeable b (codes "bad1") 0 ∷ []) []) refl
+one_text_tells_one = tells_one (two_tests [] (keyed words.PutCloseable a (codes "bad1") 0 ∷ keyed words.PutCloseable b (codes "bad1") 0 ∷ []) []) refl
 
 pub two_contexts_tell_one : TwoContextsTellOne
 unfolding path_from
-two_contexts_tell_one = tells_one (two_tests [] (put_closeable a (codes "bad1") 0 ∷ put_closeable b (codes "good") 0 ∷ []) (put_closeable a (codes "bad2") 0 ∷ [])) refl
+two_contexts_tell_one = tells_one (two_tests [] (keyed words.PutCloseable a (codes "bad1") 0 ∷ keyed words.PutCloseable b (codes "good") 0 ∷ []) (keyed words.PutCloseable a (codes "bad2") 0 ∷ [])) refl
 
 -- ---- all that is asked
 
@@ -373,6 +374,6 @@ two_steps count step other named up other_named other_up = record {
 }
 
 pub worked_is_read : WorkedIsRead
-worked_is_read = tests_are_read modes.Concurrent (put a (codes "x") 0 ∷ []) (want a (codes "x") 0 ∷ put_closeable b (codes "bad1") 0 ∷ []) (want a (codes "x") 0 ∷ put_closeable b (codes "bad2") 0 ∷ [])
-    (one_step 2 (put a (codes "x") 0) tt (omega arith)) (two_steps 3 (want a (codes "x") 0) (put_closeable b (codes "bad1") 0) tt (omega arith) tt (omega arith))
-    (two_steps 3 (want a (codes "x") 0) (put_closeable b (codes "bad2") 0) tt (omega arith) tt (omega arith))
+worked_is_read = tests_are_read modes.Concurrent (keyed words.Put a (codes "x") 0 ∷ []) (keyed words.Want a (codes "x") 0 ∷ keyed words.PutCloseable b (codes "bad1") 0 ∷ []) (keyed words.Want a (codes "x") 0 ∷ keyed words.PutCloseable b (codes "bad2") 0 ∷ [])
+    (one_step 2 (keyed words.Put a (codes "x") 0) tt (omega arith)) (two_steps 3 (keyed words.Want a (codes "x") 0) (keyed words.PutCloseable b (codes "bad1") 0) tt (omega arith) tt (omega arith))
+    (two_steps 3 (keyed words.Want a (codes "x") 0) (keyed words.PutCloseable b (codes "bad2") 0) tt (omega arith) tt (omega arith))

@@ -3,7 +3,7 @@ use Rattle.std.proofs.Common.{◌≡◌, ℕ, true, List, refl}
 use Rattle.std.specs.List.{list_all}
 use Rattle.ext_races.specs.MadeSteps.{path_from}
 use Rattle.ext_races.specs.Touches.{touches_made}
-use Rattle.ext_races.specs.StepWords.{gives_value}
+use Rattle.ext_plan.specs.StepWords.{gives_value}
 use Rattle.ext_one_report.specs.WorkedPlans.{computing, ClassSharesNone, ComputesShareValues, FirstShares, SecondShares}
 use Rattle.ext_one_report.proofs.WorkedPlans.{computes_are_no_race, passes}
 use Rattle.ext_one_report.specs.Shares.{NoFailedComputesAgree, shares_in}

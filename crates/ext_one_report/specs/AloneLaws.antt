@@ -1,6 +1,6 @@
--- Laws of who made the events that are seen while nodes run, which `alone_laws` proves: where a node runs alone but for nodes beside it, so do its children, its calls are such,
--- and so is the close of its context; and a run whose lanes are all lanes of the store is alone.
--- Own rule, for JUnit 5 User Guide, "Parallel Execution".
+-- Laws of who made the events that are seen while nodes run, each proved by `alone_laws`. If a node runs alone except
+-- for nodes beside it, so do its children, its calls and the close of its context. A run with all lanes of the store is
+-- alone (JUnit 5 User Guide, "Parallel Execution"; JUnit has no such laws).
 use Rattle.std.specs.Prelude.{◌≡◌, ℕ, true, List, [], ◌∷◌, length, Option, All, map, min, slice_index_or}
 use Rattle.std.specs.List.{FoldsTo}
 use Rattle.ext_model.specs.History.{History, IsLegal, Limits}
@@ -21,8 +21,9 @@ use Rattle.ext_one_report.specs.Alone.{AreAllLanes, HasJustItsOwn, IsAloneButBes
 module _ {V A : Type 0} (t : TreeSetting V A) where
   -- ---- parts of a node
 
-  -- Of a container: `opened` are its lanes after the before-callbacks, `after` those after its body, where that is run, `called` those after the after-callbacks, and `closed`
-  -- those at its end. It is alone, but for nodes beside it, in its before-callbacks, in its after-callbacks, and in the close
+  -- A container is alone, except for nodes beside it, in its before-callbacks, its after-callbacks and its close.
+  -- `opened` are its lanes after the before-callbacks, `after` those after its body, if that is run, `called` those
+  -- after the after-callbacks, and `closed` those at its end.
   pub record IsAloneItself (h : History) (node : ℕ) (before opened after called closed : List (StoreLane V)) : Type 0 where
     pub befores : IsAloneButBeside t h node before opened
     pub afters : IsAloneButBeside t h node after called
@@ -33,8 +34,9 @@ module _ {V A : Type 0} (t : TreeSetting V A) where
       → (h : History) → All (HasSeenWithin h) after.first → IsAloneButBeside t h node before.first after.first
       → IsAloneItself h node before.first run.opened run.body.first run.ends.called after.first
 
-  -- Where its body is run, each of its concurrent children is run alone, but for nodes beside that child: those beside the container, and the other concurrent children. And so
-  -- is each of the other children, but for nodes beside the container
+  -- If its body is run, each of its concurrent children runs alone except for nodes beside that child: those beside the
+  -- container, and the other concurrent children. Each of the other children runs alone except for nodes beside the
+  -- container.
   pub record HasChildrenAlone (h : History) (depth node : ℕ) (opened : Lanes V) (below : List Ran) (after : Lanes V) (body : BodyRun t (ChildRun t depth) node opened below after) : Type 0 where
     pub concurrent : RunByDealing (λ i s ran u. RunsAlone t h depth (slice_index_or (concurrent_children t node) i 0) s ran u)
         (length (concurrent_children t node)) (min (length body.forked) (length (concurrent_children t node))) (with_lanes body.forked opened) body.beside body.between
@@ -45,32 +47,33 @@ module _ {V A : Type 0} (t : TreeSetting V A) where
       → (on : all_successful (endings_of run.befores) ≡ true) → IsTree t.store.tree → IsPathOf t.store.tree node path → (h : History) → All (HasSeenWithin h) after.first
       → IsAloneButBeside t h node before.first after.first → HasChildrenAlone h depth node (record { first = run.opened; second = before.second }) run.below run.body (run.body_made.made on)
 
-  -- a test is alone so in its calls, and in the close of its context
+  -- A test is alone in the same sense in its calls and in the close of its context.
   abbrev pub TestsAreAlone : Type 0
   TestsAreAlone = (node : ℕ) (path : List ℕ) (before : Lanes V) (ran : List Ran) (after : Lanes V) → (run : TestRun t node path before ran after) → (h : History)
       → IsAloneButBeside t h node before.first after.first → IsAloneButBeside t h node before.first run.called × IsAloneButBeside t h node run.called after.first
 
   -- ---- calls
 
-  -- what a call of a node does to a lane, which is alone meanwhile, but for nodes beside this one
+  -- What a call of a node does to a lane that is alone meanwhile, except for nodes beside this one.
   pub record CallsAlone (h : History) (node : ℕ) (call : Call) (held : Option HeldView) (before : StoreLane V) (outcome : Outcome) (after : StoreLane V) : Type 0 where
     pub makes : t.call_gives node call held before outcome after
     pub within : HasSeenWithin h after
     pub alone : IsAloneButBeside t h node (before ∷ []) (after ∷ [])
 
-  -- where a node is run alone, it is run with calls that are such, and so are the nodes below it
+  -- A node that runs alone is run with such calls, and so are the nodes below it.
   abbrev pub CallsAreAlone : Type 0
   CallsAreAlone = IsTree t.store.tree → (h : History) (depth node : ℕ) (before : Lanes V) (ran : List Ran) (after : Lanes V) → RunsAlone t h depth node before ran after
       → TreeRun (with_calls (CallsAlone h) t) depth node before ran after
 
   -- ---- whole runs
 
-  -- in a run with all lanes of a store, these make all events that are seen meanwhile; so it runs alone
+  -- In a run with all lanes of a store, these make all events that are seen meanwhile, so the run is alone.
   abbrev pub WholeRunsAreAlone : Type 0
   WholeRunsAreAlone = (depth node : ℕ) (before : Lanes V) (ran : List Ran) (after : Lanes V) → ChildRun t depth node before ran after → (h : History)
       → AreAllLanes h before.first after.first → IsTheirsOr h (λ place. ⊥) before.first after.first × RunsAlone t h depth node before ran after
 
--- lanes of a store that was opened for so many are all its lanes, where afterwards all have seen parts of one legal history, which has of each just its own events
+-- The lanes with which a store was opened are all its lanes, if afterwards all have seen beginnings of one legal
+-- history that has exactly each lane's own events.
 abbrev pub FreshLanesAreAll : Type 0 → Type 0
 FreshLanesAreAll V = (limits : Limits) (cells : CellsId) (places fault_places keys : List ℕ) (h : History) (before after : List (StoreLane V))
     → before ≡ map (fresh_store_lane places fault_places keys) (fresh_lanes cells 0 limits.lanes) → IsLegal limits h → All (HasSeenWithin h) after → All (HasJustItsOwn h) after → AreAllLanes h before after

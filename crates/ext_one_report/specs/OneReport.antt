@@ -1,5 +1,5 @@
--- One report: a plan whose nodes keep apart, and whose closes tell no order, is told the same by each run on several lanes that lacks nothing, and by the plain run.
--- JUnit 5 User Guide, "Parallel Execution".
+-- One report: for a plan whose nodes keep apart, and whose report doesn't depend on the order of closes, each run on
+-- several lanes that lacks nothing reports the same as the plain run (JUnit 5 User Guide, "Parallel Execution").
 use Rattle.std.specs.Prelude.{◌≡◌, ℕ, ◌<◌, ◌≤◌, List, length, map, Some, slice_get}
 use Rattle.ext_model.specs.declared.look.Fault.{Fault}
 use Rattle.ext_lifecycle.specs.FaultTexts.{NodeOutcome, fault_text}
@@ -14,33 +14,37 @@ use Rattle.ext_one_report.specs.Apart.{KeepsApart, ClosesTellOne}
 use Rattle.ext_one_report.specs.Shares.{Open, SharesValues, shares_in, AreToldNear}
 use Rattle.ext_one_report.specs.FullRuns.{LacksNothing}
 
--- What is asked of a plan: nodes that may run beside one another touch no place that one of them may change; values whose closes fail have one text in each context; and there are
--- keys for all that its steps name, and more numbers than they may draw
+-- What the theorem asks of a plan: nodes that may run beside one another touch no place that one of them may change;
+-- values whose closes fail have one text in each context; and there are keys for all that its steps name, and more
+-- numbers than they may draw.
 pub record HasOneReport (plan : PlanText) : Type 0 where
   pub apart : KeepsApart plan
   pub closes : ClosesTellOne plan
   pub keys : length (keys_named plan) ≤ key_limit
   pub numbers : numbers_drawn plan < number_limit
 
--- Each run of such a plan that lacks nothing tells of each node what the plain run does, however many lanes it has and in whatever order they go
+-- Each run of such a plan that lacks nothing reports of each node what the plain run does, on however many lanes and in
+-- whatever order they go.
 abbrev pub OneReport : Type 0
 OneReport =
     (plan : PlanText) (lanes : ℕ) (results : List (ResultOf Fault)) → IsReadPlan plan → HasOneReport plan → (run : ParallelRun plan lanes results) → LacksNothing plan lanes results run
     → map (with_fault_told fault_text) results ≡ plain_run plan
 
--- What is asked of a plan whose nodes may compute the same beside one another: where they touch one place that one of them may change, both compute the same value there; and the rest as above
+-- What the second theorem asks of a plan whose nodes may compute the same value beside one another: if they touch one
+-- place that one of them may change, both compute the same value there. The rest is as above.
 pub record HasNearReport (plan : PlanText) : Type 0 where
   pub alike : SharesValues plan
   pub closes : ClosesTellOne plan
   pub keys : length (keys_named plan) ≤ key_limit
   pub numbers : numbers_drawn plan < number_limit
 
--- the same is told of each node, but for which values it computed and which it found, of those that it shares
+-- The reports are the same for each node, except for which shared values it computed and which it found.
 pub record AreNearReports (shares : ℕ → Open) (here there : List NodeOutcome) : Type 0 where
   pub count : length here ≡ length there
   pub near : (node : ℕ) (one other : NodeOutcome) → slice_get here node ≡ Some one → slice_get there node ≡ Some other → AreToldNear (shares node) one other
 
--- Each run of such a plan that lacks nothing tells of each node what the plain run does, but for that: so all lines of nodes in its report are the same
+-- Each run of such a plan that lacks nothing reports of each node what the plain run does, with this exception. So all
+-- lines of nodes in its report are the same.
 abbrev pub NearReport : Type 0
 NearReport =
     (plan : PlanText) (lanes : ℕ) (results : List (ResultOf Fault)) → IsReadPlan plan → HasNearReport plan → (run : ParallelRun plan lanes results) → LacksNothing plan lanes results run

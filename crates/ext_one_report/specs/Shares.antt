@@ -1,8 +1,8 @@
--- Plans whose nodes compute the same value beside one another, which places they share, and what is told of them. Javadoc `ExtensionContext.Store`, `getOrComputeIfAbsent`.
-use Rattle.std.specs.Prelude.{ℕ, ◌≡◌, Bool, true, ◌&&◌, ◌==◌, Contains, Option, None, [], find, option_map, ◌+◌, if◌then◌else◌}
-use Rattle.ext_model.specs.declared.slot.Slot.TheVariants as slot
+-- Plans whose nodes compute the same value beside one another, which places they share, and what is reported of them
+-- (Javadoc `ExtensionContext.Store`, `getOrComputeIfAbsent`).
+use Rattle.std.specs.Prelude.{ℕ, ◌≡◌, Bool, true, ◌&&◌, ◌==◌, Contains, Option, None, find, option_map, ◌+◌, if◌then◌else◌}
 use Rattle.ext_tree.specs.Keys.{KeyValue}
-use Rattle.ext_plan.specs.Plans.{nothing, compute, fail, PlanText}
+use Rattle.ext_plan.specs.Plans.{PlanText}
 use Rattle.ext_plan.specs.StoreKeys.{place_of_key}
 use Rattle.ext_plan.specs.Values.{ValueText}
 use Rattle.std.specs.List.{list_any}
@@ -12,56 +12,58 @@ use Rattle.ext_races.specs.Clashes.{agree}
 use Rattle.ext_races.specs.Races.{IsRace}
 use Rattle.ext_races.specs.Touches.{TouchText, keys_named, touches_made}
 use Rattle.ext_one_report.specs.Apart.{is_within}
-use Rattle.ext_races.specs.declared.word.Word.TheVariants as words
-use Rattle.ext_races.specs.StepWords.{gives_value, word_eq}
+use Rattle.ext_plan.specs.declared.word.Word.TheVariants as words
+use Rattle.ext_plan.specs.StepWords.{gives_value, word_eq}
 use Rattle.ext_lifecycle.specs.FaultTexts.{NodeOutcome}
 
--- some places, and which value is computed at each of them
+-- Some places, and the value that is computed at each of them.
 abbrev pub Open : Type 0
 Open = ℕ → KeyValue → Option ValueText
 
--- the touch is of this place, by this node or by one below it
+-- The touch is of this place, by this node or one below it.
 abbrev pub is_at : PlanText → ℕ → ℕ → KeyValue → TouchText → Bool
 is_at plan node context key touch = is_within plan node touch.node && (touch.context == context) && (touch.key == place_of_key (keys_named plan) key)
 
--- and may change it
+-- The same, and the touch may change the place.
 abbrev pub may_change_at : PlanText → ℕ → ℕ → KeyValue → TouchText → Bool
 may_change_at plan node context key touch = touch.changes && is_at plan node context key touch
 
--- the touch is of this place, by a node that may run beside this one
+-- The touch is of this place, by a node that may run beside this one.
 abbrev pub is_beside_at : PlanText → ℕ → ℕ → KeyValue → TouchText → Bool
 is_beside_at plan node context key touch = nodes_beside plan node touch.node && (touch.context == context) && (touch.key == place_of_key (keys_named plan) key)
 
--- the value that a compute gives
+-- The value that a compute gives.
 abbrev pub value_given : TouchText → ValueText
 value_given touch = record { text = touch.text; closeable = word_eq touch.word words.ComputeCloseable }
 
--- The places that a node may change, itself or by the nodes below it, and that a node beside it touches, with the value that is given there first: of a plan
--- whose nodes share values, all of them compute this value there
+-- The places that a node or the nodes below it may change, and that a node beside it touches, each with the value that
+-- is given there first. In a plan whose nodes share values, all of them compute this value there.
 unfoldable pub shares_in : PlanText → ℕ → Open
 shares_in plan node context key =
     if list_any (is_beside_at plan node context key) (touches_made plan) then option_map value_given (find (may_change_at plan node context key) (touches_made plan)) else None
 
--- Where two touches of one place agree, whose nodes may run beside one another, the first gives a value: they are no two computes that fail alike
+-- If two touches of one place agree, and their nodes may run beside one another, the first gives a value: they are not
+-- two computes that fail alike.
 pub record NoFailedComputesAgree (plan : PlanText) : Type 0 where
   pub none : (first second : TouchText) → Contains (touches_made plan) first → Contains (touches_made plan) second → IsBeside plan first.node second.node → first.changes ≡ true
       → first.context ≡ second.context → first.key ≡ second.key → agree first second ≡ true → gives_value first.word ≡ true
 
--- Where nodes that may run beside one another touch one place that one of them may change, both compute the same value there
+-- If nodes that may run beside one another touch one place that one of them may change, both compute the same value
+-- there.
 pub record SharesValues (plan : PlanText) : Type 0 where
   pub alike : (first second : TouchText) → Contains (touches_made plan) first → Contains (touches_made plan) second → IsBeside plan first.node second.node → first.changes ≡ true
       → first.context ≡ second.context → first.key ≡ second.key → (agree first second ≡ true) × (gives_value first.word ≡ true)
 
--- so the nodes of such a plan share values where it has no race
+-- In a plan without races, in which no two failing computes agree, nodes share values.
 abbrev pub RaceFreeSharesValues : Type 0
 RaceFreeSharesValues = (plan : PlanText) → ((race : Race) → ¬ IsRace plan race) → NoFailedComputesAgree plan → SharesValues plan
 
--- no place is shared
+-- No place is shared.
 abbrev pub SharesNothing : Open → Type 0
 SharesNothing shared = (context : ℕ) (key : KeyValue) → shared context key ≡ None
 
--- The same is told of a node, but for which values it computed and which it found, of those that it shares: of both together there are as many, and where it shares nothing the
--- two are exactly the same
+-- The results of a node are the same, except for which of its shared values it computed and which it found. Both counts
+-- together are equal, and if it shares nothing the results are exactly the same.
 pub record AreToldNear (shared : Open) (here there : NodeOutcome) : Type 0 where
   pub same : record here { computed = 0; found = 0 } ≡ record there { computed = 0; found = 0 }
   pub counts : here.computed + here.found ≡ there.computed + there.found

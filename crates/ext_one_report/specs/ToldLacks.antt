@@ -1,5 +1,6 @@
--- What the results of a run on several lanes tell of what it lacked: so that what is true of runs that lack nothing can be said of a run by its report.
--- JUnit 5 User Guide, "Parallel Execution". What results tell of is a definition of [ext_parallel Lacking].
+-- What the results of a run on several lanes show of what it lacked, so that laws of runs that lack nothing can be
+-- applied to a run by its report (JUnit 5 User Guide, "Parallel Execution"). `Lacking` of ext_parallel says which
+-- results show a lack.
 use Rattle.std.specs.Prelude.{◌≡◌, ℕ, false, List, map}
 use Rattle.ext_model.specs.declared.look.Fault.{Fault}
 use Rattle.ext_lifecycle.specs.FaultTexts.{fault_text}
@@ -12,14 +13,14 @@ use Rattle.ext_plain.specs.PlainRun.{plain_run}
 use Rattle.ext_one_report.specs.FullRuns.{LacksNothing}
 use Rattle.ext_one_report.specs.OneReport.{HasOneReport}
 
--- Where no result tells that a step may have lacked something, the run lacks nothing: a call or a close that lacks something fails its node, which tells that, or a fault that it
--- had before and that there are further ones
+-- If no result shows that a step may have lacked something, the run lacks nothing. A call or a close that lacks
+-- something fails its node, whose result shows that, or shows an earlier fault and that there are more.
 abbrev pub TellsLacks : Type 0
 TellsLacks =
     (plan : PlanText) (lanes : ℕ) (results : List (ResultOf Fault)) → IsReadPlan plan → (run : ParallelRun plan lanes results)
     → may_have_lacked (map (with_fault_told fault_text) results) ≡ false → LacksNothing plan lanes results run
 
--- so such a run of a plan that has one report tells of each node what the plain run does
+-- Such a run of a plan that has one report reports of each node what the plain run does.
 abbrev pub OneReportTold : Type 0
 OneReportTold =
     (plan : PlanText) (lanes : ℕ) (results : List (ResultOf Fault)) → IsReadPlan plan → HasOneReport plan → ParallelRun plan lanes results

@@ -1,11 +1,14 @@
--- Worked plans: which plans keep apart and whose closes tell one text, and which do not, by a class with two tests. Each sentence is proved, most by computing it, as `worked_plans` says.
--- JUnit 5 User Guide, "Parallel Execution"; docs/PLANS.md, 'Races', has such plans in its table.
--- Context 0 is the root `[e:x]`, 1 the class `[c:A]`, and 2 and 3 are its tests `[t:m]` and `[t:n]`. A step that ends with 1 goes up one context: from a test to the class.
+-- Worked plans: which plans keep apart and have one text for failing closes, and which do not, with a class and two
+-- tests. Each sentence is proved by `worked_plans`, most of them by computing (JUnit 5 User Guide, "Parallel
+-- Execution"). The table in docs/PLANS.md, 'Races', has such plans. Context 0 is the root `[e:x]`, 1 the class `[c:A]`,
+-- and 2 and 3 are its tests `[t:m]` and `[t:n]`. A step that ends with 1 acts one context up: a test's step on the
+-- class.
 use Rattle.std.specs.Prelude.{ℕ, ◌≤◌, ◌<◌, All, codes, false, List, [], ◌∷◌, ◌++◌, length, Some, None, ◌≡◌}
 use Rattle.ext_lifecycle.specs.declared.mode.Mode.{Mode}
 use Rattle.ext_lifecycle.specs.declared.mode.Mode.TheVariants as modes
 use Rattle.ext_tree.specs.Trees.{Id}
-use Rattle.ext_plan.specs.Plans.{NodeText, PlanText, StepKeyText, StepText, named, put, put_closeable, want, compute}
+use Rattle.ext_plan.specs.declared.word.Word.TheVariants as words
+use Rattle.ext_plan.specs.Plans.{NodeText, PlanText, StepKeyText, StepText, named, keyed}
 use Rattle.ext_plan.specs.ReadPlans.{IsReadPlan, NamesLabelBelow, StayOnPath}
 use Rattle.ext_plan.specs.Steps.{step_limit}
 use Rattle.ext_races.specs.declared.race.Race.{Race}
@@ -22,7 +25,7 @@ root_id = (codes "e", codes "x") ∷ []
 abbrev pub class_id : Id
 class_id = root_id ++ (codes "c", codes "A") ∷ []
 
--- a container that has these callbacks before all its children
+-- A container with these callbacks before all its children.
 abbrev pub container : Id → List (List StepText) → NodeText
 container id before_all = record {
   id = id;
@@ -36,7 +39,7 @@ container id before_all = record {
   test = None;
 }
 
--- a test of the class, by its name
+-- A test of the class, by its name.
 abbrev pub test_of_class : Mode → List ℕ → List StepText → NodeText
 test_of_class mode name steps = record {
   id = class_id ++ (codes "t", name) ∷ [];
@@ -50,7 +53,7 @@ test_of_class mode name steps = record {
   test = Some steps;
 }
 
--- a class that makes these steps before all, and whose two tests, which are of this mode, make these
+-- A class that makes these steps before all, with two tests that run in this mode and make these.
 abbrev pub tests_of_mode : Mode → List StepText → List StepText → List StepText → PlanText
 tests_of_mode mode before first second = record {
   keep_faults = false;
@@ -58,120 +61,121 @@ tests_of_mode mode before first second = record {
   nodes = container root_id [] ∷ container class_id (before ∷ []) ∷ test_of_class mode (codes "m") first ∷ test_of_class mode (codes "n") second ∷ [];
 }
 
--- one whose tests are concurrent
+-- The same with concurrent tests.
 abbrev pub two_tests : List StepText → List StepText → List StepText → PlanText
 two_tests before first second = tests_of_mode modes.Concurrent before first second
 
--- these may run beside one another, whatever they do
+-- The two tests may run beside one another, whatever they do.
 abbrev pub TestsAreBeside : Type 0
 TestsAreBeside = (before first second : List StepText) → IsBeside (two_tests before first second) 2 3
 
--- two keys
+-- Two keys.
 abbrev pub a : StepKeyText
 a = named (codes "a")
 
 abbrev pub b : StepKeyText
 b = named (codes "b")
 
--- tests that put into their own contexts keep apart, whatever they put
+-- Tests that put into their own contexts keep apart, whatever they put.
 abbrev pub OwnPutsKeepApart : Type 0
-OwnPutsKeepApart = (text other : List ℕ) → KeepsApart (two_tests [] (put a text 0 ∷ []) (put a other 0 ∷ []))
+OwnPutsKeepApart = (text other : List ℕ) → KeepsApart (two_tests [] (keyed words.Put a text 0 ∷ []) (keyed words.Put a other 0 ∷ []))
 
--- tests that look at a value which the class put before all keep apart,
+-- Tests that look at a value that the class put before all keep apart.
 abbrev pub LooksKeepApart : Type 0
-LooksKeepApart = (text wanted other : List ℕ) → KeepsApart (two_tests (put a text 0 ∷ []) (want a wanted 0 ∷ []) (want a other 0 ∷ []))
+LooksKeepApart = (text wanted other : List ℕ) → KeepsApart (two_tests (keyed words.Put a text 0 ∷ []) (keyed words.Want a wanted 0 ∷ []) (keyed words.Want a other 0 ∷ []))
 
--- and so do tests that put under two keys into the class's context
+-- Tests that put under two keys into the class's context keep apart.
 abbrev pub TwoKeysKeepApart : Type 0
-TwoKeysKeepApart = (text other : List ℕ) → KeepsApart (two_tests [] (put a text 1 ∷ []) (put b other 1 ∷ []))
+TwoKeysKeepApart = (text other : List ℕ) → KeepsApart (two_tests [] (keyed words.Put a text 1 ∷ []) (keyed words.Put b other 1 ∷ []))
 
--- Tests that run one after the other keep apart, whatever they do
+-- Tests that run one after the other keep apart, whatever they do.
 abbrev pub OneByOneKeepsApart : Type 0
 OneByOneKeepsApart = (before first second : List StepText) → KeepsApart (tests_of_mode modes.SameThread before first second)
 
--- tests that both put into the class's context do not keep apart, be it one text or two,
+-- Tests that both put into the class's context do not keep apart, even with one text.
 abbrev pub PutsAboveDoNot : Type 0
-PutsAboveDoNot = (text other : List ℕ) → ¬ KeepsApart (two_tests [] (put a text 1 ∷ []) (put a other 1 ∷ []))
+PutsAboveDoNot = (text other : List ℕ) → ¬ KeepsApart (two_tests [] (keyed words.Put a text 1 ∷ []) (keyed words.Put a other 1 ∷ []))
 
--- nor does a test that looks up what the other puts there
+-- Nor do a test that looks up and one that puts there.
 abbrev pub LookAndPutDoNot : Type 0
-LookAndPutDoNot = (wanted text : List ℕ) → ¬ KeepsApart (two_tests [] (want a wanted 0 ∷ []) (put a text 1 ∷ []))
+LookAndPutDoNot = (wanted text : List ℕ) → ¬ KeepsApart (two_tests [] (keyed words.Want a wanted 0 ∷ []) (keyed words.Put a text 1 ∷ []))
 
--- two tests that compute the same in the class's context
+-- Two tests that compute the same in the class's context.
 abbrev pub computing : List ℕ → PlanText
-computing text = two_tests [] (compute a text 1 ∷ []) (compute a text 1 ∷ [])
+computing text = two_tests [] (keyed words.Compute a text 1 ∷ []) (keyed words.Compute a text 1 ∷ [])
 
--- are no race, as either may run its factory,
+-- They are no race, as either may run its factory.
 abbrev pub ComputesAreNoRace : Type 0
 ComputesAreNoRace = (text : List ℕ) (race : Race) → ¬ IsRace (computing text) race
 
--- but they do not keep apart
+-- But they do not keep apart.
 abbrev pub ComputesDoNot : Type 0
 ComputesDoNot = (text : List ℕ) → ¬ KeepsApart (computing text)
 
--- two closeable values in one context whose closes fail with two texts do not tell one: the fault of the one that was kept last is told first,
+-- Two closeable values in one context, whose closes fail with two texts, don't have one text: the fault of the one kept
+-- last is reported first.
 abbrev pub TwoFaultsDoNotTellOne : Type 0
-TwoFaultsDoNotTellOne = ¬ ClosesTellOne (two_tests [] (put_closeable a (codes "bad1") 0 ∷ put_closeable b (codes "bad2") 0 ∷ []) [])
+TwoFaultsDoNotTellOne = ¬ ClosesTellOne (two_tests [] (keyed words.PutCloseable a (codes "bad1") 0 ∷ keyed words.PutCloseable b (codes "bad2") 0 ∷ []) [])
 
--- also where the second is put over the first, as each step counts,
+-- Nor do they if the second is put over the first, as each step counts.
 abbrev pub ReplacedDoesNotTellOne : Type 0
-ReplacedDoesNotTellOne = ¬ ClosesTellOne (two_tests [] (put_closeable a (codes "bad1") 0 ∷ put_closeable a (codes "bad2") 0 ∷ []) [])
+ReplacedDoesNotTellOne = ¬ ClosesTellOne (two_tests [] (keyed words.PutCloseable a (codes "bad1") 0 ∷ keyed words.PutCloseable a (codes "bad2") 0 ∷ []) [])
 
--- but with one text they do,
+-- With one text they do.
 abbrev pub OneTextTellsOne : Type 0
-OneTextTellsOne = ClosesTellOne (two_tests [] (put_closeable a (codes "bad1") 0 ∷ put_closeable b (codes "bad1") 0 ∷ []) [])
+OneTextTellsOne = ClosesTellOne (two_tests [] (keyed words.PutCloseable a (codes "bad1") 0 ∷ keyed words.PutCloseable b (codes "bad1") 0 ∷ []) [])
 
--- and so do two texts in two contexts, and one beside a close that passes
+-- So do two texts in two contexts, and one beside a close that succeeds.
 abbrev pub TwoContextsTellOne : Type 0
-TwoContextsTellOne = ClosesTellOne (two_tests [] (put_closeable a (codes "bad1") 0 ∷ put_closeable b (codes "good") 0 ∷ []) (put_closeable a (codes "bad2") 0 ∷ []))
+TwoContextsTellOne = ClosesTellOne (two_tests [] (keyed words.PutCloseable a (codes "bad1") 0 ∷ keyed words.PutCloseable b (codes "good") 0 ∷ []) (keyed words.PutCloseable a (codes "bad2") 0 ∷ []))
 
--- a plan with a value that both tests look at, and a closeable one of its own for each
+-- A plan with a value at which both tests look, and a closeable one of its own for each.
 abbrev pub worked_plan : PlanText
 worked_plan =
-    two_tests (put a (codes "x") 0 ∷ []) (want a (codes "x") 0 ∷ put_closeable b (codes "bad1") 0 ∷ []) (want a (codes "x") 0 ∷ put_closeable b (codes "bad2") 0 ∷ [])
+    two_tests (keyed words.Put a (codes "x") 0 ∷ []) (keyed words.Want a (codes "x") 0 ∷ keyed words.PutCloseable b (codes "bad1") 0 ∷ []) (keyed words.Want a (codes "x") 0 ∷ keyed words.PutCloseable b (codes "bad2") 0 ∷ [])
 
--- All that is asked of a plan that has one report holds of it: its nodes keep apart,
+-- All that the theorem asks holds of it: its nodes keep apart.
 abbrev pub WorkedKeepsApart : Type 0
 WorkedKeepsApart = KeepsApart worked_plan
 
--- its closes tell one text in each context,
+-- Its failing closes have one text in each context.
 abbrev pub WorkedTellsOne : Type 0
 WorkedTellsOne = ClosesTellOne worked_plan
 
--- there are keys for all that its steps name,
+-- There are keys for all that its steps name.
 abbrev pub WorkedHasKeys : Type 0
 WorkedHasKeys = length (keys_named worked_plan) ≤ key_limit
 
--- there are more numbers than they may draw,
+-- There are more numbers than they may draw.
 abbrev pub WorkedHasNumbers : Type 0
 WorkedHasNumbers = numbers_drawn worked_plan < number_limit
 
--- and it is a plan as one that was read
+-- It is a plan like one that was read.
 abbrev pub WorkedIsRead : Type 0
 WorkedIsRead = IsReadPlan worked_plan
 
--- the steps name their keys by names, go up to contexts on a path of so many, and are not too many
+-- The steps name their keys by names, act within a path of `count` contexts, and are not too many.
 pub record AreSteps (count : ℕ) (steps : List StepText) : Type 0 where
   pub names : All (NamesLabelBelow 0) steps
   pub up : StayOnPath count steps
   pub few : length steps ≤ step_limit
 
--- each of the plans above is one, where its steps are such
+-- Each of the plans above is like one that was read, if its steps are like this.
 abbrev pub TestsAreRead : Type 0
 TestsAreRead =
     (mode : Mode) (before first second : List StepText) → AreSteps 2 before → AreSteps 3 first → AreSteps 3 second → IsReadPlan (tests_of_mode mode before first second)
 
--- wherever nodes of it that may run beside one another touch one place, both compute one value
+-- Wherever its nodes that may run beside one another touch one place, both compute one value.
 abbrev pub ComputesShareValues : Type 0
 ComputesShareValues = (text : List ℕ) → SharesValues (computing text)
 
--- both tests share it in the class's context,
+-- Both tests share it in the class's context.
 abbrev pub FirstShares : Type 0
 FirstShares = (text : List ℕ) → shares_in (computing text) 2 1 (key_of_step (computing text).keys a) ≡ Some (record { text = text; closeable = false })
 
 abbrev pub SecondShares : Type 0
 SecondShares = (text : List ℕ) → shares_in (computing text) 3 1 (key_of_step (computing text).keys a) ≡ Some (record { text = text; closeable = false })
 
--- and the class shares nothing there, since no node runs beside it
+-- The class shares nothing there, since no node runs beside it.
 abbrev pub ClassSharesNone : Type 0
 ClassSharesNone = (text : List ℕ) → shares_in (computing text) 1 1 (key_of_step (computing text).keys a) ≡ None

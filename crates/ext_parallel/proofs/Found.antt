@@ -1,9 +1,9 @@
 -- In a run of a plan on several lanes a step that sees a value or a kept fault sees one that a step of the plan keeps under that key.
-use Rattle.std.proofs.Common.{◌≡◌, ◌⊎◌, inl, inr, ℕ, zero, suc, ◌+◌, ◌*◌, ◌%◌, ◌==◌, ◌<◌, ◌≤◌, true, false, List, [], ◌∷◌, ◌++◌, Contains, Option, Some, None, length, get_or, map, codes, refl, ap, sym, subst, ◌∙◌, arith, eq-eqb}
-use Rattle.std.specs.Prelude.{All, AllPairs, IfSome, IsTrue, Result, Ok, Err}
+use Rattle.std.proofs.Common.{◌≡◌, inl, inr, ℕ, zero, suc, ◌+◌, ◌%◌, ◌==◌, ◌<◌, ◌≤◌, true, false, List, [], ◌∷◌, Contains, Option, Some, length, get_or, map, refl, ap, sym, subst, ◌∙◌, arith, eq-eqb}
+use Rattle.std.specs.Prelude.{All, AllPairs, IfSome, IsTrue, Ok}
 use Rattle.std.specs.List.{AllZip}
 use mathlib.Core.List.{IsPrefix}
-use base.Growing.{prefix_refl, prefix_trans}
+use base.Growing.{prefix_trans}
 use Rattle.std.proofs.lemmas.List.Elements.{All-nil, All-cons, All-head, All-tail, All-contains, Contains-append_left, Contains-get_or}
 use Rattle.std.proofs.lemmas.Nat.{mod-mul-add}
 use Rattle.std.proofs.lemmas.Bool.Decides.{nat_tests}
@@ -32,11 +32,14 @@ use Rattle.ext_locks.specs.Sets.{HeldView}
 use Rattle.ext_tree.specs.Keys.{KeyValue, IsKeyNumber, KeepsKeys, OneKey, OneNumber, key_at}
 use Rattle.ext_tree.proofs.KeyPlaceLaws.{shared_notes_agree}
 use Rattle.ext_plan.specs.Values.{ValueText}
-use Rattle.ext_plan.specs.Plans.{PlanText, StepText, put, put_closeable, want, nothing, remove, compute, compute_closeable, compute_fail, fail, abort}
+use Rattle.ext_plan.specs.declared.word.Word.{Word}
+use Rattle.ext_plan.specs.declared.word.Word.TheVariants as words
+use Rattle.ext_plan.specs.Plans.{PlanText, StepText, keyed, fail, abort}
+use Rattle.ext_plan.specs.StepWords.{word_text}
 use Rattle.ext_plan.specs.PlanCalls.{steps_of_call}
 use Rattle.ext_values.specs.Known.{Known, AllAgree, known_at}
 use Rattle.ext_cells.specs.Lanes.{CellsId, Lane, fresh_lanes}
-use Rattle.ext_store.specs.Stores.{StoreView, StoreLane, IsLaneOf, cell_in, fresh_store_lane}
+use Rattle.ext_store.specs.Stores.{StoreView, IsLaneOf, cell_in, fresh_store_lane}
 use Rattle.ext_store.specs.declared.computed.Compute.{Compute}
 use Rattle.ext_store.specs.declared.computed.Compute.TheVariants as computes
 use Rattle.ext_store.specs.LaneCalls.{Gets}
@@ -44,17 +47,16 @@ use Rattle.ext_store.specs.Computing.{Computes, ComputesFrom, Meets}
 use Rattle.ext_store.specs.Waiting.{ComputesAfterWaits}
 use Rattle.ext_store_core.specs.ContextCalls as store_core
 use Rattle.ext_store_core.specs.Claiming as claiming
-use Rattle.ext_plan.specs.StepCalls.{CallText, label_of, start_of}
-use Rattle.ext_plan.specs.Verdicts.{SeenText, none_verdict, seen_fault, seen_nothing, seen_no_memory, seen_refused, seen_value, want_verdict}
+use Rattle.ext_plan.specs.StepCalls.{CallText, call_of, start_of}
+use Rattle.ext_plan.specs.Verdicts.{SeenText, none_verdict, want_verdict}
 use Rattle.ext_parallel.specs.declared.steps.stored_value.StoredValue.{StoredValue}
-use Rattle.ext_parallel.specs.StoreCalls.{EndsCompute, EndsComputeFail, PlanLane, PlanNotes, Sees, Shows, ShowsFault, ShowsNumber, fault_seen, stored_view}
-use Rattle.ext_parallel.specs.StoreSteps.{StepComputes, StepFails, StepLooks, StepRun, StepsRun, call_of}
-use Rattle.ext_parallel.specs.PlanSuites.{RunsCall}
+use Rattle.ext_parallel.specs.StoreCalls.{EndsCompute, EndsComputeFail, PlanLane, PlanNotes, Shows, ShowsFault, ShowsNumber, fault_seen, stored_view}
+use Rattle.ext_parallel.specs.StoreSteps.{StepComputes, StepDoes, StepFails, StepLooks, StepRun, StepsRun}
 use Rattle.ext_engine.specs.Order.{LaneGoesOn}
 use Rattle.ext_engine.proofs.Finer.{tree_finer}
 use Rattle.ext_engine.proofs.Going.{goes_met, goes_same, goes_sealed, goes_then}
 use Rattle.ext_engine.proofs.Relates.{tree_relates}
-use Rattle.ext_parallel.specs.Finding.{CallFinds, ComputeFinds, IsFaultOfPlan, IsKeptByPlan, IsMetOfPlan, IsSeenOfPlan, LanesNumberAlike, LookFinds, RunsFindWhatIsKept, StepFinds, StepsFind, ValueFinds}
+use Rattle.ext_parallel.specs.Finding.{CallFinds, ComputeFinds, IsFaultOfPlan, IsKeptByPlan, IsMetOfPlan, IsSeenOfPlan, LanesNumberAlike, LookFinds, RunsFindWhatIsKept, StepFinds, StepsFind, ValueFinds, WordFinds}
 use Rattle.ext_parallel.specs.Opened.{all_faults, all_known}
 use Rattle.ext_parallel.specs.ParallelRun.{MakesCall, ParallelRun, setting_of_plan}
 use Rattle.ext_parallel.proofs.Moves.{IsKnownOwn, IsOwn, Moves, OwnKept, call_moves, lane_framed, moves_met, moves_same, moves_sealed, moves_then, number_within, plans_go_on, steps_go}
@@ -358,22 +360,17 @@ module _ (plan : PlanText) (lanes : ℕ) (results : List (ResultOf Fault)) (run 
 
   -- ---- steps
 
+  word_finds : (call : CallText) (word : Word) (text : List ℕ) (a : PlanLane) (o : Outcome) (b : PlanLane) → IsLaneOf store.id b → StepDoes store call word text a o b → Leads b → WordFinds plan store call word text a o b
+  word_finds call words.Want text a o b mine made leads = look_finds call (want_verdict call.name call.label text) a o b mine made leads
+  word_finds call words.None text a o b mine made leads = look_finds call (none_verdict call.name call.label) a o b mine made leads
+  word_finds call words.Compute text a o b mine made leads = value_finds call (record { text = text; closeable = false }) a o b mine made leads
+  word_finds call words.ComputeCloseable text a o b mine made leads = value_finds call (record { text = text; closeable = true }) a o b mine made leads
+  word_finds call words.ComputeFail text a o b mine made leads = fail_finds call text a o b mine made leads
+  word_finds call word text a o b mine made leads = made
+
   step_finds : (path : List ℕ) (step : StepText) (a : PlanLane) (o : Outcome) (b : PlanLane) → IsLaneOf store.id b → StepRun store plan.keys path step a o b → Leads b → StepFinds plan store path step a o b
-  step_finds path (put key text up) a o b mine made leads = made
-  step_finds path (put_closeable key text up) a o b mine made leads = made
-  step_finds path (want key text up) a o b mine (inl made) leads =
-      inl (look_finds (call_of plan.keys path (codes "want") key up) (want_verdict (codes "want") (label_of plan.keys key) text) a o b mine made leads)
-  step_finds path (want key text up) a o b mine (inr none) leads = inr none
-  step_finds path (nothing key up) a o b mine (inl made) leads =
-      inl (look_finds (call_of plan.keys path (codes "none") key up) (none_verdict (codes "none") (label_of plan.keys key)) a o b mine made leads)
-  step_finds path (nothing key up) a o b mine (inr none) leads = inr none
-  step_finds path (remove key up) a o b mine made leads = made
-  step_finds path (compute key text up) a o b mine (inl made) leads = inl (value_finds (call_of plan.keys path (codes "compute") key up) (record { text = text; closeable = false }) a o b mine made leads)
-  step_finds path (compute key text up) a o b mine (inr none) leads = inr none
-  step_finds path (compute_closeable key text up) a o b mine (inl made) leads = inl (value_finds (call_of plan.keys path (codes "compute!") key up) (record { text = text; closeable = true }) a o b mine made leads)
-  step_finds path (compute_closeable key text up) a o b mine (inr none) leads = inr none
-  step_finds path (compute_fail key text up) a o b mine (inl made) leads = inl (fail_finds (call_of plan.keys path (codes "computefail") key up) text a o b mine made leads)
-  step_finds path (compute_fail key text up) a o b mine (inr none) leads = inr none
+  step_finds path (keyed word key text up) a o b mine (inl made) leads = inl (word_finds (call_of plan.keys path (word_text word) key up) word text a o b mine made leads)
+  step_finds path (keyed word key text up) a o b mine (inr lacks) leads = inr lacks
   step_finds path (fail text) a o b mine made leads = made
   step_finds path (abort text) a o b mine made leads = made
 

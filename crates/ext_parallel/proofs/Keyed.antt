@@ -1,6 +1,6 @@
 -- What a step does by its call, from what the store answers a call by a key.
-use Rattle.std.proofs.Common.{◌≡◌, ◌⊎◌, inl, inr, ℕ, List, Option, codes, drop, refl, ap, ◌∙◌, subst, sym}
-use Rattle.std.specs.Prelude.{Some, None, Result, Ok, Err, String, string_bytes}
+use Rattle.std.proofs.Common.{◌≡◌, inl, inr, ℕ, List, Option, refl, ap, ◌∙◌, subst, sym}
+use Rattle.std.specs.Prelude.{Result, Ok, Err, String, string_bytes}
 use Rattle.ext_model.specs.declared.look.Fault.{Fault}
 use Rattle.ext_model.specs.declared.look.Fault.TheVariants as faults
 use Rattle.ext_lifecycle.specs.declared.outcome.Outcome.{Outcome}
@@ -16,16 +16,13 @@ use Rattle.ext_store.proofs.Numbered.{placed_still}
 use Rattle.ext_store.specs.LaneCalls.{Puts, Removes, KeepsAs, IsKeyRefused, OfKey}
 use Rattle.ext_store.specs.Computing.{Uses}
 use Rattle.ext_store.specs.Waiting.{ComputesAfterWaits}
-use Rattle.ext_plan.specs.Plans.{KeyText, StepKeyText}
-use Rattle.ext_plan.specs.StoreKeys.{key_of_step}
-use Rattle.ext_plan.specs.StepCalls.{CallText, label_of, start_of}
-use Rattle.ext_plan.specs.Values.{ValueText}
+use Rattle.ext_plan.specs.StepCalls.{CallText, start_of}
 use Rattle.ext_plan.specs.Verdicts.{SeenText}
 use Rattle.std.specs.declared.alloc.Global.{Global}
 use Rattle.ext_parallel.specs.declared.steps.stored_value.StoredValue.{StoredValue}
 use Rattle.ext_parallel.specs.Saying.{Ends, EndsRefused}
 use Rattle.ext_parallel.specs.StoreCalls.{KnowsTheSame, PlanLane, EndsChange, EndsCompute, EndsComputeFail, EndsPut, Sees, stored_view}
-use Rattle.ext_parallel.specs.StoreSteps.{FindsNoMemory, PlacesItsKey, PutsKept, StepComputes, StepFails, StepLooks, StepRemoves, call_of}
+use Rattle.ext_parallel.specs.StoreSteps.{PutsKept, StepComputes, StepFails, StepLooks, StepRemoves}
 
 -- what is said of a number and of a refusal may be said otherwise
 pub of_key : {V : Type 0} (a b : StoreLane V) (key : KeyValue) (Refuses Ending : Refusal → Type 0) (Holds Does : ℕ → Type 0) → ((why : Refusal) → Refuses why → Ending why) → ((number : ℕ) → Holds number → Does number)
@@ -62,15 +59,6 @@ placed_same key a b same = placed_still key a.keys a.keys b.keys (places_nothing
 -- nor does one before the call that names the key
 pub placed_after : (key : KeyValue) (a b c : PlanLane) → b.keys ≡ a.keys → PlacesOnly key b.keys c.keys → PlacesOnly key a.keys c.keys
 placed_after key a b c same placed = subst (λ (notes : List KnownPlace). PlacesOnly key notes c.keys) same placed
-
--- the key may be said otherwise
-pub placed_as : (key other : KeyValue) (a b : PlanLane) → key ≡ other → PlacesOnly key a.keys b.keys → PlacesOnly other a.keys b.keys
-placed_as key other a b same placed = subst (λ k. PlacesOnly k a.keys b.keys) same placed
-
--- a step that makes no call puts none, whichever key it names
-pub places_itself : (keys : List KeyText) (named : Option StepKeyText) (a : PlanLane) → PlacesItsKey keys named a a
-places_itself keys (Some key) a = λ number. inl refl
-places_itself keys None a = λ number. refl
 
 -- ---- steps
 
@@ -129,12 +117,3 @@ module _ (store : StoreView) (call : CallText) (at : ℕ) (is : at ≡ start_of 
         (λ why refused. let e = subst (λ r. EndsComputeFail call.name call.label text r between outcome b) refused ends in (same_after (λ given. given ≡ Err (faults.Text message)) why refused uses e.0, e.1))
         (λ number computed. record { message = message; message_is = message_is; result = result; computed = made number computed; between = between; uses = uses; ends = ends })
         (of_key_shown a between b call.key _ _ cells keys answer)
-
--- the step `computefail`, by what it calls the store with
-pub fails_for : (store : StoreView) (keys : List KeyText) (path : List ℕ) (key : StepKeyText) (up : ℕ) (text : List ℕ) (before : PlanLane) (outcome : Outcome) (after : PlanLane) (call : CallText) (made : KeyValue)
-    → call ≡ record { name = codes "computefail"; label = label_of keys key; path = drop up path; key = made } → made ≡ key_of_step keys key
-    → (StepFails store call text before outcome after ⊎ FindsNoMemory before outcome after)
-    → StepFails store (call_of keys path (codes "computefail") key up) text before outcome after ⊎ FindsNoMemory before outcome after
-fails_for store keys path key up text before outcome after call made same_call same_key ends =
-    let whole : call ≡ call_of keys path (codes "computefail") key up = same_call ∙ ap (λ (k : KeyValue). record { name = codes "computefail"; label = label_of keys key; path = drop up path; key = k }) same_key in
-    subst (λ (x : CallText). StepFails store x text before outcome after ⊎ FindsNoMemory before outcome after) whole ends

@@ -1,15 +1,14 @@
 -- What a step of a plan leaves of its lane: it goes on, and each number that it stored is one that it knows the value or the fault of, which a step of the plan keeps under that key.
-use Rattle.std.proofs.Common.{◌≡◌, ◌≢◌, ◌⊎◌, inl, inr, ℕ, ◌<◌, true, false, List, [], ◌∷◌, ◌++◌, Contains, Option, Some, None, refl, ap, sym, subst, ◌∙◌, append-nil, map, length, codes, arith}
+use Rattle.std.proofs.Common.{◌≡◌, inl, inr, ℕ, ◌<◌, List, [], ◌∷◌, ◌++◌, Contains, Option, Some, None, refl, ap, sym, subst, ◌∙◌, append-nil, length, codes, arith}
 use Rattle.std.specs.Prelude.{Result, Ok, Err, String, string_bytes}
 use Rattle.std.specs.declared.alloc.Global.{Global}
 use mathlib.Core.List.{IsPrefix}
-use base.Growing.{prefix_refl, prefix_trans}
+use base.Growing.{prefix_refl}
 use Rattle.std.proofs.lemmas.List.Elements.{Contains-append_cases}
 use Rattle.ext_history.specs.Histories.{seen_by}
 use Rattle.ext_history.proofs.Composed.{seen_goes_on}
 use Rattle.ext_history.proofs.Lists.{bools, contains_cons, contains_here, contains_later, contains_none}
-use Rattle.ext_model.specs.declared.event.Act.{Act}
-use Rattle.ext_model.specs.declared.event.Act.TheVariants.{Keep, Put, Remove, Seal}
+use Rattle.ext_model.specs.declared.event.Act.TheVariants.{Keep, Put, Remove}
 use Rattle.ext_model.specs.declared.look.Fault.{Fault}
 use Rattle.ext_model.specs.declared.look.Fault.TheVariants as faults
 use Rattle.ext_model.specs.declared.slot.Slot.{Slot}
@@ -23,15 +22,16 @@ use Rattle.ext_lifecycle.specs.Lifecycle.{ending_of}
 use Rattle.ext_locks.specs.Sets.{HeldView}
 use Rattle.ext_tree.specs.Keys.{KeyValue, IsKeyNumber}
 use Rattle.ext_tree.proofs.KeyPlacing.{key_within, length-places, number_stays}
-use Rattle.ext_plan.specs.Plans.{PlanText, StepKeyText, StepText, put, put_closeable, want, nothing, remove, compute, compute_closeable, compute_fail, fail, abort}
+use Rattle.ext_plan.specs.declared.word.Word.{Word}
+use Rattle.ext_plan.specs.declared.word.Word.TheVariants as words
+use Rattle.ext_plan.specs.Plans.{PlanText, StepKeyText, StepText, keyed, fail, abort}
+use Rattle.ext_plan.specs.StepWords.{word_text}
 use Rattle.ext_plan.specs.StoreKeys.{key_of_step}
 use Rattle.ext_plan.specs.PlanCalls.{steps_of_call}
-use Rattle.ext_values.specs.Known.{Known, known_at}
+use Rattle.ext_values.specs.Known.{known_at}
 use Rattle.ext_cells.specs.Lanes.{Lane}
 use Rattle.ext_store_core.specs.declared.fault.Refusal.{Refusal}
 use Rattle.ext_store_core.specs.declared.fault.Refusal.TheVariants as refusal
-use Rattle.ext_store.specs.declared.fault.KeepFault.{KeepFault}
-use Rattle.ext_store.specs.declared.fault.KeepFault.TheVariants as keep_fault
 use Rattle.ext_store.specs.declared.computed.Compute.{Compute}
 use Rattle.ext_store.specs.declared.computed.Compute.TheVariants as computes
 use Rattle.ext_store.specs.Stores.{StoreView, IsLaneOf, cell_in}
@@ -40,12 +40,12 @@ use Rattle.ext_store.specs.Computing.{Uses}
 use Rattle.ext_store_core.specs.ContextCalls.{put_acts, remove_acts}
 use Rattle.ext_parallel.specs.Saying.{EndsRefused}
 use Rattle.ext_closing.specs.Sealing.{MakesSeals, seals_of}
-use Rattle.ext_plan.specs.StepCalls.{CallText, label_of, start_of}
+use Rattle.ext_plan.specs.StepCalls.{CallText, call_of, start_of}
 use Rattle.ext_plan.specs.Values.{ValueText}
-use Rattle.ext_plan.specs.Verdicts.{SeenText, none_verdict, want_verdict}
+use Rattle.ext_plan.specs.Verdicts.{SeenText}
 use Rattle.ext_parallel.specs.declared.steps.stored_value.StoredValue.{StoredValue}
 use Rattle.ext_parallel.specs.StoreCalls.{ComputesFault, ComputesValue, EndsChange, EndsCompute, EndsComputeFail, EndsPut, HasFrame, PlanLane, RemovesThere, StoresThere, stored_view}
-use Rattle.ext_parallel.specs.StoreSteps.{OfCallKey, PutsKept, StepComputes, StepFails, StepLooks, StepPuts, StepRemoves, StepRun, StepsRun, call_of}
+use Rattle.ext_parallel.specs.StoreSteps.{LacksMemory, OfCallKey, PutsKept, StepComputes, StepDoes, StepFails, StepLooks, StepPuts, StepRemoves, StepRun, StepsRun}
 use Rattle.ext_parallel.specs.PlanSuites.{RunsCall}
 use Rattle.ext_engine.specs.Meeting.{OnlyMeets}
 use Rattle.ext_engine.specs.Order.{LaneGoesOn}
@@ -294,7 +294,7 @@ module _ (plan : PlanText) (store : StoreView) where
 
   -- ---- a step whose factory fails
 
-  module _ (call : Call) (names : StepKeyText) (text : List ℕ) (up : ℕ) (among : Contains (steps_of_call plan call) (compute_fail names text up)) (key context : ℕ) (name said : List ℕ) (a : PlanLane) (o : Outcome) (b : PlanLane)
+  module _ (call : Call) (names : StepKeyText) (text : List ℕ) (up : ℕ) (among : Contains (steps_of_call plan call) (keyed words.ComputeFail names text up)) (key context : ℕ) (name said : List ℕ) (a : PlanLane) (o : Outcome) (b : PlanLane)
       (mine : IsLaneOf store.id b) (named : IsKeyNumber b.keys (key_of_step plan.keys names) key) (goes : LaneGoesOn a b) where
     fault_own : (number : ℕ) (message : String Global) → string_bytes message ≡ text → (fault : Fault) → known_at b.faults number ≡ Some fault → ◌≡◌ {A = Result StoredValue Fault} (Err fault) (Err (faults.Text message))
         → (c : ℕ) (t : Slot) → Contains {X = Stored} ((cell_in store key context, slot.Fault number) ∷ []) (c, t) → IsOwn b c t
@@ -330,7 +330,7 @@ module _ (plan : PlanText) (store : StoreView) where
   remove_moves made_by a o b goes (inl run) = remove_made (start_of made_by.path) run.0 made_by.name made_by.label a o b goes run.2 run.2.result refl run.2.ends
   remove_moves made_by a o b goes (inr refused) = refused_moves a b goes refused.1.still
 
-  fail_moves : (call : Call) (path : List ℕ) (names : StepKeyText) (text : List ℕ) (up : ℕ) → Contains (steps_of_call plan call) (compute_fail names text up) → (a : PlanLane) (o : Outcome) (b : PlanLane)
+  fail_moves : (call : Call) (path : List ℕ) (names : StepKeyText) (text : List ℕ) (up : ℕ) → Contains (steps_of_call plan call) (keyed words.ComputeFail names text up) → (a : PlanLane) (o : Outcome) (b : PlanLane)
       → IsLaneOf store.id b → LaneGoesOn a b → StepFails store (call_of plan.keys path (codes "computefail") names up) text a o b → Moves a b
   fail_moves call path names text up among a o b mine goes (inl run) =
       let made_by = call_of plan.keys path (codes "computefail") names up in
@@ -338,28 +338,25 @@ module _ (plan : PlanText) (store : StoreView) where
       (waits_values store (start_of made_by.path) run.0 a.cells b.cells run.2.result run.2.computed) run.2.uses run.2.ends
   fail_moves call path names text up among a o b mine goes (inr refused) = refused_moves a b goes refused.1.still
 
+  lacks_still : (word : Word) (key : StepKeyText) (a : PlanLane) (o : Outcome) (b : PlanLane) → LacksMemory plan.keys word key a o b → b ≡ a
+  lacks_still words.ComputeFail key a o b lacks = lacks.unchanged
+  lacks_still word key a o b lacks = lacks.1.unchanged
+
+  word_moves : (call : Call) (path : List ℕ) (word : Word) (key : StepKeyText) (text : List ℕ) (up : ℕ) → Contains (steps_of_call plan call) (keyed word key text up) → (a : PlanLane) (o : Outcome) (b : PlanLane)
+      → IsLaneOf store.id b → LaneGoesOn a b → StepDoes store (call_of plan.keys path (word_text word) key up) word text a o b → Moves a b
+  word_moves call path words.Put key text up among a o b mine goes run = put_moves call (keyed words.Put key text up) among key _ refl path (codes "put") up a o b mine goes run
+  word_moves call path words.PutCloseable key text up among a o b mine goes run = put_moves call (keyed words.PutCloseable key text up) among key _ refl path (codes "put!") up a o b mine goes run
+  word_moves call path words.Want key text up among a o b mine goes run = look_moves (call_of plan.keys path (codes "want") key up) _ a o b goes run
+  word_moves call path words.None key text up among a o b mine goes run = look_moves (call_of plan.keys path (codes "none") key up) _ a o b goes run
+  word_moves call path words.Remove key text up among a o b mine goes run = remove_moves (call_of plan.keys path (codes "remove") key up) a o b goes run
+  word_moves call path words.Compute key text up among a o b mine goes run = compute_moves call (keyed words.Compute key text up) among key _ refl path (codes "compute") up a o b mine goes run
+  word_moves call path words.ComputeCloseable key text up among a o b mine goes run =
+      compute_moves call (keyed words.ComputeCloseable key text up) among key _ refl path (codes "compute!") up a o b mine goes run
+  word_moves call path words.ComputeFail key text up among a o b mine goes run = fail_moves call path key text up among a o b mine goes run
+
   step_moves : (call : Call) (path : List ℕ) (step : StepText) → Contains (steps_of_call plan call) step → (a : PlanLane) (o : Outcome) (b : PlanLane) → StepRun store plan.keys path step a o b → HasFrame store a b → Moves a b
-  step_moves call path (put key text up) among a o b (inl run) frame = put_moves call (put key text up) among key _ refl path (codes "put") up a o b (lane_framed store a b frame) (goes_framed store a b frame) run
-  step_moves call path (put key text up) among a o b (inr none) frame = still_moves a b none.1.unchanged
-  step_moves call path (put_closeable key text up) among a o b (inl run) frame =
-      put_moves call (put_closeable key text up) among key _ refl path (codes "put!") up a o b (lane_framed store a b frame) (goes_framed store a b frame) run
-  step_moves call path (put_closeable key text up) among a o b (inr none) frame = still_moves a b none.1.unchanged
-  step_moves call path (want key text up) among a o b (inl run) frame =
-      look_moves (call_of plan.keys path (codes "want") key up) (want_verdict (codes "want") (label_of plan.keys key) text) a o b (goes_framed store a b frame) run
-  step_moves call path (want key text up) among a o b (inr none) frame = still_moves a b none.1.unchanged
-  step_moves call path (nothing key up) among a o b (inl run) frame =
-      look_moves (call_of plan.keys path (codes "none") key up) (none_verdict (codes "none") (label_of plan.keys key)) a o b (goes_framed store a b frame) run
-  step_moves call path (nothing key up) among a o b (inr none) frame = still_moves a b none.1.unchanged
-  step_moves call path (remove key up) among a o b (inl run) frame = remove_moves (call_of plan.keys path (codes "remove") key up) a o b (goes_framed store a b frame) run
-  step_moves call path (remove key up) among a o b (inr none) frame = still_moves a b none.1.unchanged
-  step_moves call path (compute key text up) among a o b (inl run) frame =
-      compute_moves call (compute key text up) among key _ refl path (codes "compute") up a o b (lane_framed store a b frame) (goes_framed store a b frame) run
-  step_moves call path (compute key text up) among a o b (inr none) frame = still_moves a b none.1.unchanged
-  step_moves call path (compute_closeable key text up) among a o b (inl run) frame =
-      compute_moves call (compute_closeable key text up) among key _ refl path (codes "compute!") up a o b (lane_framed store a b frame) (goes_framed store a b frame) run
-  step_moves call path (compute_closeable key text up) among a o b (inr none) frame = still_moves a b none.1.unchanged
-  step_moves call path (compute_fail key text up) among a o b (inl run) frame = fail_moves call path key text up among a o b (lane_framed store a b frame) (goes_framed store a b frame) run
-  step_moves call path (compute_fail key text up) among a o b (inr none) frame = still_moves a b none.unchanged
+  step_moves call path (keyed word key text up) among a o b (inl run) frame = word_moves call path word key text up among a o b (lane_framed store a b frame) (goes_framed store a b frame) run
+  step_moves call path (keyed word key text up) among a o b (inr lacks) frame = still_moves a b (lacks_still word key a o b lacks)
   step_moves call path (fail text) among a o b run frame = still_moves a b run.0
   step_moves call path (abort text) among a o b run frame = still_moves a b run.0
 

@@ -1,6 +1,6 @@
 -- That no waiting form is refused because a key is not placed, and that a look-up is refused for its key alone.
 use Rattle.std.proofs.Common.{◌≡◌, ◌≢◌, inl, inr, ℕ, List, Option, refl, ap, ◌∙◌, subst, sym}
-use Rattle.std.specs.Prelude.{Some, Result, Ok, Err}
+use Rattle.std.specs.Prelude.{Result, Ok, Err}
 use Rattle.ext_model.specs.declared.event.Act.TheVariants.{Put, Remove}
 use Rattle.ext_model.specs.declared.look.Look.{Look}
 use Rattle.ext_model.specs.Events as events

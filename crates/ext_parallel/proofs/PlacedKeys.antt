@@ -1,5 +1,5 @@
 -- At each place that a lane of a run set stands a key that a step of the plan names.
-use Rattle.std.proofs.Common.{◌≡◌, ◌⊎◌, inl, inr, ℕ, zero, suc, Bool, true, false, true≢false, List, [], ◌∷◌, Contains, Option, Some, None, refl, ap, sym, subst, ◌∙◌, map}
+use Rattle.std.proofs.Common.{◌≡◌, ◌⊎◌, inl, inr, ℕ, zero, suc, true, false, true≢false, List, [], ◌∷◌, Contains, Option, Some, None, refl, sym, subst, ◌∙◌, map}
 use Rattle.std.specs.Prelude.{All}
 use Rattle.std.specs.List.{AllZip}
 use Rattle.std.proofs.lemmas.List.Elements.{All-nil, All-cons, All-head, All-tail}
@@ -10,23 +10,23 @@ use Rattle.ext_lifecycle.specs.Endings.{is_successful}
 use Rattle.ext_lifecycle.specs.Lifecycle.{ending_of}
 use Rattle.ext_locks.specs.Opening.{LocksView}
 use Rattle.ext_locks.specs.Sets.{HeldView}
-use Rattle.ext_tree.specs.Keys.{KnownPlace, IsKeyNumber, KeepsKeys, PlacesNone, PlacesOnly, no_key_known, placed_at}
+use Rattle.ext_tree.specs.Keys.{IsKeyNumber, KeepsKeys, no_key_known, placed_at}
 use Rattle.ext_tree.proofs.KeyPlacing.{keeps_all, keeps_both, number_stays}
 use Rattle.ext_plan.specs.Plans.{PlanText, StepKeyText, StepText}
 use Rattle.ext_plan.specs.Steps.{step_key}
 use Rattle.ext_plan.specs.StoreKeys.{key_of_step}
 use Rattle.ext_plan.specs.PlanCalls.{steps_of_call}
-use Rattle.ext_cells.specs.Lanes.{CellsId, Lane, fresh_lanes}
-use Rattle.ext_store.specs.Stores.{StoreView, StoreLane, fresh_store_lane}
+use Rattle.ext_cells.specs.Lanes.{Lane}
+use Rattle.ext_store.specs.Stores.{StoreView, fresh_store_lane}
 use Rattle.ext_closing.specs.Sealing.{MakesSeals}
 use Rattle.ext_engine.specs.Meeting.{OnlyMeets}
 use Rattle.ext_engine.specs.TreeRun.{Lanes, Ran, TreeRun}
 use Rattle.ext_engine.proofs.Relates.{tree_relates}
 use Rattle.ext_parallel.specs.declared.steps.stored_value.StoredValue.{StoredValue}
-use Rattle.ext_parallel.specs.Opened.{IsNamedByPlan, IsPlaceOfPlan, PlaceKeysOfPlan}
+use Rattle.ext_parallel.specs.Opened.{IsPlaceOfPlan, PlaceKeysOfPlan}
 use Rattle.ext_parallel.specs.ParallelRun.{setting_of_plan}
 use Rattle.ext_parallel.specs.PlanSuites.{RunsCall}
-use Rattle.ext_parallel.specs.StoreCalls.{HasFrame, PlanLane}
+use Rattle.ext_parallel.specs.StoreCalls.{PlanLane}
 use Rattle.ext_parallel.specs.StoreSteps.{PlacesItsKey, StepsRun}
 use Rattle.ext_parallel.proofs.Moves.{goes_framed}
 

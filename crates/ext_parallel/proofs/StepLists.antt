@@ -1,5 +1,5 @@
 -- Steps one after another.
-use Rattle.std.proofs.Common.{◌≡◌, ◌⊎◌, ℕ, ◌+◌, true, false, true≢false, List, [], ◌∷◌, drop, refl, sym, ◌∙◌, subst, arith, codes}
+use Rattle.std.proofs.Common.{◌≡◌, ℕ, ◌+◌, true, false, true≢false, List, [], ◌∷◌, refl, sym, ◌∙◌, subst, arith}
 use Rattle.ext_lifecycle.specs.declared.outcome.Outcome.{Outcome}
 use Rattle.ext_lifecycle.specs.declared.outcome.Verdict.TheVariants as verdicts
 use Rattle.ext_lifecycle.specs.Endings.{is_successful}

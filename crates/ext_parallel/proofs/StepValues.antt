@@ -1,20 +1,15 @@
 -- What the calls of a step store: nothing, or the number of the value or of the fault that the step keeps, in a cell of its key.
-use Rattle.std.proofs.Common.{◌≡◌, ◌≢◌, ◌⊎◌, inl, inr, ℕ, zero, suc, List, [], ◌∷◌, ◌++◌, Contains, Option, Some, None, refl, ap, sym, subst, ◌∙◌, append-nil}
+use Rattle.std.proofs.Common.{◌≡◌, ◌≢◌, inl, inr, ℕ, zero, suc, List, [], ◌∷◌, ◌++◌, Option, refl, ap, sym, ◌∙◌, append-nil}
 use Rattle.std.specs.Prelude.{Result, Ok, Err}
-use Rattle.ext_history.proofs.Lists.{contains_cons, contains_none}
-use Rattle.ext_model.specs.declared.event.Act.{Act}
-use Rattle.ext_model.specs.declared.event.Act.TheVariants.{Keep, Put, Remove, Claim, Fill, Fail, Abandon, Seal}
-use Rattle.ext_model.specs.declared.look.Fault.TheVariants as faults
+use Rattle.ext_model.specs.declared.event.Act.TheVariants.{Keep, Claim, Fill, Fail, Abandon}
 use Rattle.ext_model.specs.declared.look.Look.{Look}
 use Rattle.ext_model.specs.declared.look.Look.TheVariants as look
 use Rattle.ext_model.specs.declared.slot.Slot.TheVariants as slot
 use Rattle.ext_model.specs.History.{Limits}
 use Rattle.ext_model.specs.CallActs.{Calls, LaneView}
-use Rattle.ext_values.specs.Known.{known_at}
 use Rattle.ext_cells.specs.Lanes.{Lane}
 use Rattle.ext_store_core.specs.declared.fault.Refusal.{Refusal}
 use Rattle.ext_store_core.specs.declared.fault.Refusal.TheVariants as refusal
-use Rattle.ext_store_core.specs.declared.claim.Unused.TheVariants as unused
 use Rattle.ext_store_core.specs.ContextCalls.{put_acts, remove_acts}
 use Rattle.ext_store_core.specs.ContextCalls as shared
 use Rattle.ext_store_core.specs.Claiming as claiming
@@ -24,11 +19,10 @@ use Rattle.ext_store.specs.declared.fault.KeepFault.TheVariants as keep_fault
 use Rattle.ext_store.specs.declared.computed.Compute.{Compute}
 use Rattle.ext_store.specs.declared.computed.Compute.TheVariants as computes
 use Rattle.ext_store.specs.Stores.{StoreView, cell_in, context_cells}
-use Rattle.ext_store.specs.LaneCalls.{Gets, Puts, Removes, KeepFails, KeepsAs, KeepsNothing}
+use Rattle.ext_store.specs.LaneCalls.{Gets, Puts, Removes, KeepFails}
 use Rattle.ext_store.specs.Computing.{ComputesFrom, Computes, IsRefused, IsUnkept, Meets, given_up_events}
-use Rattle.ext_store.specs.Waiting.{ComputesAfterWaits, IsDecided}
+use Rattle.ext_store.specs.Waiting.{ComputesAfterWaits}
 use Rattle.ext_parallel.specs.declared.steps.stored_value.StoredValue.{StoredValue}
-use Rattle.ext_parallel.specs.StoreCalls.{PlanLane}
 use Rattle.ext_parallel.proofs.Values.{Stored, calls_quiet, calls_stored, own_stored}
 
 -- ---- store calls

@@ -1,15 +1,14 @@
 -- Lanes that met one after another, there and back.
-use Rattle.std.proofs.Common.{◌≡◌, List, [], ◌∷◌, length, ap₂, arith, refl, subst, sym, ◌∙◌, append-nil}
+use Rattle.std.proofs.Common.{◌≡◌, List, [], ◌∷◌, length, ap₂, arith, refl, subst, ◌∙◌, append-nil}
 use Rattle.std.specs.Prelude.{All, AllPairs}
 use Rattle.std.specs.List.{AllZip}
 use mathlib.Core.List.{IsPrefix}
 use base.Growing.{prefix_refl, prefix_trans}
 use Rattle.std.proofs.lemmas.List.Elements.{All-nil, All-cons, All-head, All-tail}
-use Rattle.ext_history.specs.Histories.{Follow, seen_by}
-use Rattle.ext_history.proofs.Legal.{legal_empty}
+use Rattle.ext_history.specs.Histories.{seen_by}
 use Rattle.ext_history.proofs.Composed.{calls_none, seen_goes_on}
 use Rattle.ext_history.proofs.Lanes.{own_between}
-use Rattle.ext_model.specs.History.{History, Limits, IsAllowed, IsLegal, lane_of, own}
+use Rattle.ext_model.specs.History.{History, IsLegal, lane_of, own}
 use Rattle.ext_model.specs.CallActs.{Calls}
 use Rattle.ext_model.proofs.Composed.{calls_compose}
 use Rattle.ext_tree.specs.Keys.{KnownPlace, KeepsKeys}

@@ -1,8 +1,7 @@
 -- What a lane stored: the numbers of values by its own puts and fills, and those of faults by its own failed claims.
-use Rattle.std.proofs.Common.{◌≡◌, ◌⊎◌, inl, inr, ℕ, ◌<◌, Bool, true, false, List, [], ◌∷◌, ◌++◌, Contains, Option, Some, None, refl, ap, sym, subst, ◌∙◌, append-nil, nat_eq, map}
-use Rattle.std.specs.Prelude.{Result, Ok, Err, find, is_some}
+use Rattle.std.proofs.Common.{◌≡◌, inl, inr, ℕ, true, List, [], ◌∷◌, ◌++◌, Contains, Option, Some, None, ap, sym, subst, ◌∙◌, append-nil, nat_eq}
+use Rattle.std.specs.Prelude.{find, is_some}
 use Rattle.std.specs.List.{filter_map}
-use mathlib.Core.List.{IsPrefix}
 use Rattle.std.proofs.lemmas.List.Elements.{Contains-append_left, Contains-push, filter_map-append}
 use Rattle.ext_history.proofs.Lists.{bools}
 use Rattle.ext_history.specs.Histories.{seen_by}
@@ -15,8 +14,8 @@ use Rattle.ext_model.specs.declared.slot.Slot.{Slot}
 use Rattle.ext_model.specs.declared.slot.Slot.TheVariants as slot
 use Rattle.ext_model.specs.CallActs.{Calls, look_after, LaneView, events_by}
 use Rattle.ext_model.specs.Events.{is_on, slot_after}
-use Rattle.ext_model.specs.History.{History, Limits, IsAllowed, IsLegal, by, own, slots_in, state_after}
-use Rattle.ext_model.specs.State.{look_at, look_in, lookup, standing_value}
+use Rattle.ext_model.specs.History.{History, Limits, IsAllowed, IsLegal, own, slots_in, state_after}
+use Rattle.ext_model.specs.State.{look_at, look_in, standing_value}
 use Rattle.ext_model.proofs.Claims.{same_cell, slot_off, slot_on}
 
 -- ---- what an act stores

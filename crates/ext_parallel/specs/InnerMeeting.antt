@@ -7,13 +7,13 @@ use Rattle.ext_model.specs.History.{History, IsLegal}
 use Rattle.ext_store.specs.Stores.{StoreView, StoreLane, IsLaneOf}
 use Rattle.ext_tree.specs.Keys.{KnownPlace, KeepsKeys}
 
--- what is true of each lane in hand: what it has seen is legal, and each of its fronts goes on from the one before it
+-- What the lane has seen is legal, and each of its fronts extends the one before it.
 pub record HasRecalled {V : Type 0} (lane : StoreLane V) : Type 0 where
   pub legal : IsLegal lane.cells.cells.limits (seen_by lane.cells.view)
   pub follow : Follow [] lane.cells.view.fronts
 
--- The lane stayed one of the store, made no event and knows of values and faults what it knew. In between it saw this history, which goes on from what it had seen, and this
--- numbering of keys has what it knew of keys
+-- The lane is still one of the store's, made no event, and knows the same values and faults. In between it saw this
+-- history, which extends what it had seen, and this numbering contains what it knew of keys.
 pub record Turns {V : Type 0} (store : StoreView) (h : History) (numbering : List KnownPlace) (before after : StoreLane V) : Type 0 where
   pub lane : IsLaneOf store.id after
   pub calls : Calls store.id.cells.limits before.cells.view after.cells.view []

@@ -1,11 +1,11 @@
--- What the fields of a suite keep, and nothing else: no public clause needs it.
+-- What the fields of a suite keep. No public contract cites it.
 use Rattle.std.specs.Prelude.{◌≡◌, List, map}
 use Rattle.ext_tree.specs.Keys.{KeyValue}
 use Rattle.ext_plan.specs.StoreKeys.{named_key}
 use Rattle.ext_plan.specs.ReadPlans.{CallbacksAreFew, StepListsAreShort}
 use Rattle.ext_plan.specs.Plans.{PlanText}
 
--- the keys are those of the plan's labels, and the plan's lists are not too long
+-- The keys are those of the plan's labels, and the plan's lists are not too long.
 pub record IsSuiteOf (plan : PlanText) (keys : List KeyValue) : Type 0 where
   pub keyed : keys ≡ map named_key plan.keys
   pub short : StepListsAreShort plan

@@ -1,7 +1,7 @@
--- Which results tell that a step may have lacked something: memory, a number, a key, a place, or to be shown what stood in its place.
---
--- Own rule. A step that is refused so says so [ext_plan StepTexts], and one that a plan lets fail may say the same. Of a node one fault is told, and how many further faults and
--- aborts there were [ext_lifecycle Results].
+-- Which results show that a step may have lacked something: memory, a number, a key, a place, or being shown what stood
+-- in its place. A step that is refused for it says so (`StepTexts` of ext_plan), and a step that a plan lets fail may
+-- say the same. A node's result has one fault, and how many more faults and aborts there were (`Results` of
+-- ext_lifecycle). JUnit has no such results.
 use Rattle.std.specs.Prelude.{ℕ, codes, nat_eq, nat_lt, Bool, false, ◌||◌, ◌++◌, List, Option, Some, None}
 use Rattle.std.specs.List.{ends_with, list_any}
 use Rattle.std.specs.Str.{bytes_eq}
@@ -12,11 +12,11 @@ use Rattle.ext_plan.specs.declared.reason.Reason.{Reason}
 use Rattle.ext_plan.specs.declared.reason.Reason.TheVariants as reasons
 use Rattle.ext_plan.specs.StepTexts.{words}
 
--- the text ends as that of a step does whose call of the store was refused for this reason
+-- The text ends like that of a step whose call of the store was refused for this reason.
 abbrev pub ends_as_refused : List ℕ → Reason → Bool
 ends_as_refused text why = ends_with nat_eq text (codes ": " ++ words why)
 
--- the text may be that of a step that lacked something
+-- The text may be that of a step that lacked something.
 abbrev pub tells_lack : List ℕ → Bool
 tells_lack text =
     bytes_eq text (codes "no memory")
@@ -30,7 +30,8 @@ abbrev pub fault_tells_lack : Option (List ℕ) → Bool
 fault_tells_lack None = false
 fault_tells_lack (Some text) = tells_lack text
 
--- a node of this status that tells this fault, and so many further ones: it failed, and the fault may be of a step that lacked something, or a further one may, of which no text is told
+-- A node with this status, this fault and this many more. It failed, and the fault may be of a step that lacked
+-- something, or one of the others may, whose texts are not in the result.
 abbrev pub may_lack : Status → Option (List ℕ) → ℕ → Bool
 may_lack statuses.Successful fault more = false
 may_lack statuses.Aborted fault more = false

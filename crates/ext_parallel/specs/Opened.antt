@@ -1,5 +1,5 @@
--- The store and the locks that a run of a plan opens, and the one history of lanes that met.
--- Own rule. JUnit 5 User Guide, "Keeping State in Extensions" and "Synchronization", for stores and locks.
+-- The store and the locks that a run of a plan opens (JUnit 5 User Guide, "Keeping State in Extensions" and
+-- "Synchronization"), and the one history of lanes that met, which is not from JUnit.
 use Rattle.std.specs.Prelude.{◌≡◌, ℕ, ◌*◌, true, List, length, map, Some, All, AllPairs, Contains, IsPermutation}
 use mathlib.Core.List.{IsPrefix}
 use Rattle.ext_model.specs.declared.look.Fault.{Fault}
@@ -18,15 +18,16 @@ use Rattle.ext_store.specs.Opening.{fault_count}
 use Rattle.ext_store.specs.Stores.{StoreView, StoreLane}
 use Rattle.ext_locks.specs.Opening.{LocksView}
 
--- how many numbers a run's store draws at most
+-- How many numbers a run's store draws at most.
 abbrev pub run_numbers : ℕ
 run_numbers = 65535
 
--- how many exchanges a call makes at most before it waits or begins anew
+-- How many exchanges a call makes at most before it waits or starts over.
 abbrev pub run_tries : ℕ
 run_tries = 64
 
--- a store of the plan's contexts, for so many lanes, with 64 places for keys, a place for the value of each number, and where faults are kept one for the fault of each
+-- A store of the plan's contexts with `lanes` lanes, 64 places for keys, a place for the value of each number and, if
+-- faults are kept, one for the fault of each.
 pub record IsStoreOf (plan : PlanText) (lanes : ℕ) (store : StoreView) : Type 0 where
   pub tree : store.tree ≡ ids_of_nodes plan.nodes
   pub limits : store.id.cells.limits ≡ record { cells = length plan.nodes * 64; lanes = lanes; numbers = run_numbers; keep_faults = plan.keep_faults }
@@ -35,22 +36,23 @@ pub record IsStoreOf (plan : PlanText) (lanes : ℕ) (store : StoreView) : Type 
   pub fault_places : length store.id.fault_places ≡ fault_count plan.keep_faults run_numbers
   pub tries : store.tries ≡ run_tries
 
--- locks of the names that the plan's nodes name, for so many lanes
+-- Locks with the names that the plan's nodes name, for `lanes` lanes.
 pub record IsLocksOf (plan : PlanText) (lanes : ℕ) (locks : LocksView) : Type 0 where
   pub names : IsPermutation (lock_names plan.nodes) locks.names
   pub same_lanes : locks.lanes ≡ lanes
   pub tries : locks.tries ≡ run_tries
 
--- what each of the lanes knows of values
+-- What each of the lanes knows of values.
 abbrev pub all_known : {V : Type 0} → List (StoreLane V) → List (List (Known V))
 all_known lanes = map (λ lane. lane.known) lanes
 
--- and of faults
+-- What each of the lanes knows of faults.
 abbrev pub all_faults : {V : Type 0} → List (StoreLane V) → List (List (Known Fault))
 all_faults lanes = map (λ lane. lane.faults) lanes
 
--- What all lanes of a run have seen is one history. All their fronts are parts of it, and it is legal. The events that it has of a lane are those that this lane has seen of
--- itself: nobody else makes events in its name. A value or a fault that two of them know of one number is the same in both
+-- What all lanes of a run have seen is one legal history, and all their fronts are beginnings of it. It has exactly the
+-- events of each lane that this lane has seen: nobody else makes events in its name. Two lanes that know the value or
+-- fault of a number know the same one.
 pub record ShareHistory {V : Type 0} (store : StoreView) (lanes : List (StoreLane V)) : Type 0 where
   pub history : History
   pub legal : IsLegal store.id.cells.limits history
@@ -59,12 +61,12 @@ pub record ShareHistory {V : Type 0} (store : StoreView) (lanes : List (StoreLan
   pub agree : AllPairs AllAgree (all_known lanes)
   pub agree_faults : AllPairs AllAgree (all_faults lanes)
 
--- All lanes of a run have numbered keys alike: what each of them knows of the places of keys is part of one numbering
+-- All lanes of a run number keys alike: what each knows of the places of keys is part of one numbering.
 pub record ShareKeys {V : Type 0} (lanes : List (StoreLane V)) : Type 0 where
   pub numbering : List KnownPlace
   pub parts : All (λ lane. KeepsKeys lane.keys numbering) lanes
 
--- a step of the plan names this key, by a label of it or by its name
+-- A step of the plan names this key, by a label or by its name.
 pub record IsNamedByPlan (plan : PlanText) (key : KeyValue) : Type 0 where
   pub call : Call
   pub step : StepText
@@ -73,11 +75,12 @@ pub record IsNamedByPlan (plan : PlanText) (key : KeyValue) : Type 0 where
   pub step_names : step_key step ≡ Some names
   pub key_is : key_of_step plan.keys names ≡ key
 
--- the place with this number is that of a key which a step of the plan names
+-- The place with this number is that of a key that a step of the plan names.
 abbrev pub IsPlaceOfPlan : PlanText → List KnownPlace → ℕ → Type 0
 IsPlaceOfPlan plan notes number = (key : KeyValue) × IsKeyNumber notes key number × IsNamedByPlan plan key
 
--- Each lane of a run put a key that a step of the plan names at each place that it set: so all of them together set no more places than the plan names keys, since they number
--- keys alike. That a place was set by one of the lanes is not told
+-- Each lane of a run set only places of keys that steps of the plan name. As lanes number keys alike, all of them
+-- together set at most one place for each key that the plan names. It is not said that every place was set by one of
+-- the lanes.
 abbrev pub PlaceKeysOfPlan : {V : Type 0} → PlanText → List (StoreLane V) → Type 0
 PlaceKeysOfPlan plan lanes = All (λ lane. (number : ℕ) → placed_at lane.keys number ≡ true → IsPlaceOfPlan plan lane.keys number) lanes

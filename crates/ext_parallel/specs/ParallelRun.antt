@@ -1,8 +1,7 @@
--- The run of a plan on several lanes: a store with the plan's contexts and locks with its names are opened, the tree of its nodes is run over them, and then each lane
--- meets the next.
---
--- JUnit 5 User Guide, "Parallel Execution", "Synchronization" and "Keeping State in Extensions", by the definitions of the engine. What numbers and tries a run's
--- store has, and that lanes meet at its end, are own rules.
+-- The run of a plan on several lanes: a store with the plan's contexts and locks with its names are opened, the tree of
+-- its nodes is run over them, and then each lane meets the next. The engine's definitions follow the JUnit 5 User
+-- Guide, "Parallel Execution", "Synchronization" and "Keeping State in Extensions". How many numbers and tries a run's
+-- store has, and that lanes meet at its end, is not from JUnit.
 use Rattle.std.specs.Prelude.{◌≡◌, ◌⊎◌, ℕ, List, length, map, Option, Result}
 use Rattle.ext_model.specs.declared.look.Fault.{Fault}
 use Rattle.ext_lifecycle.specs.declared.call.Call.{Call}
@@ -26,19 +25,19 @@ use Rattle.ext_parallel.specs.StoreCalls.{PlanLane, stored_view}
 use Rattle.ext_parallel.specs.PlanActions.{AnswersClose}
 use Rattle.ext_parallel.specs.PlanSuites.{suite_of, RunsCall}
 
--- what a call of a node does, whatever it is lent
+-- What a call of a node does, whatever locks it is lent.
 abbrev pub MakesCall : PlanText → StoreView → ℕ → Call → Option HeldView → PlanLane → Outcome → PlanLane → Type 0
 MakesCall plan store node call held before outcome after = RunsCall plan store node call before outcome after
 
--- a close action is seen as its node, and a node gets its own
+-- Contracts see a close action as its node, and a node gets its own.
 abbrev pub IsAction : ℕ → ℕ → Type 0
 IsAction node action = action ≡ node
 
--- what a close action does with a value
+-- What a close action does with a value.
 abbrev pub ClosesValue : ℕ → ℕ → StoredValue → Result (Unit {0}) Fault → ℕ → Type 0
 ClosesValue action number value answer left = AnswersClose (close_fault (stored_view value)) answer × (left ≡ action)
 
--- what the run of a plan's nodes goes over
+-- The setting in which a plan's nodes are run.
 abbrev pub setting_of_plan : PlanText → StoreView → LocksView → TreeSetting StoredValue ℕ
 setting_of_plan plan store locks = record {
   store = store;
@@ -51,38 +50,40 @@ setting_of_plan plan store locks = record {
   close_gives = ClosesValue;
 }
 
--- A run of the plan on so many lanes, and what it tells of its nodes, in the order of the plan
+-- A run of the plan on `lanes` lanes, and its results, in the order of the plan.
 pub record ParallelRun (plan : PlanText) (lanes : ℕ) (results : List (ResultOf Fault)) : Type 0 where
   pub store : StoreView
   pub store_is : IsStoreOf plan lanes store
   pub locks : LocksView
   pub locks_are : IsLocksOf plan lanes locks
-  -- the lanes have seen nothing before the run
+  -- The lanes have seen nothing before the run.
   pub first : Lanes StoredValue
   pub fresh : first.first ≡ map (fresh_store_lane store.id.places store.id.fault_places store.id.keys) (fresh_lanes store.id.cells 0 lanes)
   pub fresh_locks : first.second ≡ locking.fresh_lanes locks.table lanes lanes
-  -- the run of the tree, and its results
+  -- The run of the tree, and its results.
   pub ran : List Ran
   pub after : Lanes StoredValue
   pub run : TreeRun (setting_of_plan plan store locks) 16 0 first ran after
   pub results_are : results ≡ all_results (suite_of plan) (length plan.nodes) ran
-  -- what all lanes have seen is one history, in which each of them made just its own events, and what two of them know of a number is the same
+  -- What all lanes have seen is one history in which each made exactly its own events, and what two of them know of a
+  -- number is the same.
   pub shared : ShareHistory store after.first
-  -- and a key that two of them know has one number in both
+  -- A key that two of them know has one number in both.
   pub numbered : ShareKeys after.first
-  -- and none of them put a key at a place that no step of the plan names
+  -- None of them put a key at a place that no step of the plan names.
   pub placed : PlaceKeysOfPlan plan after.first
 
 -- ---- refusals
 
--- A run of the plan's tree over this store and these locks ended early, and why. The lanes, as it left them, have seen one history, and have numbered keys alike
+-- A run of the plan's tree over this store and these locks ended early, for this fault. The lanes that it left have
+-- seen one history and number keys alike.
 pub record EndsOver (plan : PlanText) (store : StoreView) (locks : LocksView) (first : Lanes StoredValue) (why : EngineFault) : Type 0 where
   pub after : Lanes StoredValue
   pub early : EndsEarly (setting_of_plan plan store locks) 16 0 first why after
   pub shared : ShareHistory store after.first
   pub numbered : ShareKeys after.first
 
--- A run of the plan on so many lanes ended early, over the store and the locks that were opened for it, on lanes that had seen nothing before it
+-- A run of the plan on `lanes` lanes ended early, over the store and the locks opened for it and on fresh lanes.
 pub record ParallelEndsEarly (plan : PlanText) (lanes : ℕ) (why : EngineFault) : Type 0 where
   pub store : StoreView
   pub store_is : IsStoreOf plan lanes store
@@ -93,6 +94,7 @@ pub record ParallelEndsEarly (plan : PlanText) (lanes : ℕ) (why : EngineFault)
   pub fresh_locks : first.second ≡ locking.fresh_lanes locks.table lanes lanes
   pub ends : EndsOver plan store locks first why
 
--- why a run gives no results: it ended early; or memory was refused, as that for its suite, its locks or its store, and then nothing more is said
+-- Why a run gives no results: it ended early, or memory was refused. Memory may be refused for its suite, its locks or
+-- its store, and then nothing more is said.
 abbrev pub IsRefusedRun : PlanText → ℕ → EngineFault → Type 0
 IsRefusedRun plan lanes why = (why ≡ faults.Memory) ⊎ ParallelEndsEarly plan lanes why

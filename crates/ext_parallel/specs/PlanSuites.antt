@@ -1,7 +1,7 @@
--- What the nodes of a plan are to an engine that runs them, over any store, and what a call of a node does.
---
--- JUnit 5 User Guide, "Parallel Execution", "Synchronization" and "Keeping State in Extensions". That a callback which another node registered acts on the context of
--- the node that it is called for is `ExtensionContext` of "Relative Execution Order of User Code and Extensions"; the steps are an own rule.
+-- What the nodes of a plan are to an engine that runs them, over any store, and what a call of a node does (JUnit 5
+-- User Guide, "Parallel Execution", "Synchronization" and "Keeping State in Extensions"). A callback that another node
+-- registered acts on the context of the node for which it is called, as `ExtensionContext` does in "Relative Execution
+-- Order of User Code and Extensions". The steps are not from JUnit.
 use Rattle.std.specs.Prelude.{ℕ, List, map, Some, is_some}
 use Rattle.ext_lifecycle.specs.declared.call.Call.{Call}
 use Rattle.ext_lifecycle.specs.declared.outcome.Outcome.{Outcome}
@@ -14,12 +14,12 @@ use Rattle.ext_parallel.specs.StoreCalls.{PlanLane}
 use Rattle.ext_parallel.specs.StoreSteps.{StepsRun}
 use Rattle.ext_engine.specs.Suites.{Asked, SuiteView}
 
--- a lock that a node names, as it is asked for
+-- A lock that a node names, as the suite asks for it.
 abbrev pub asked : LockText → Asked
 asked (read name) = record { name = Some name; mode = lock_mode.Read }
 asked (read_write name) = record { name = Some name; mode = lock_mode.ReadWrite }
 
--- the nodes of a plan; one that it does not have is a container that says nothing
+-- The nodes of a plan. One that it does not have is a container that names nothing.
 abbrev pub suite_of : PlanText → SuiteView
 suite_of plan = record {
   is_concurrent = concurrent_of plan;
@@ -28,7 +28,7 @@ suite_of plan = record {
   locks = λ node. map asked (locks_of plan node);
 }
 
--- A call of a node: its steps are run in the node's context, also where another node registered them
+-- A call of a node: its steps run in the node's context, even if another node registered them.
 pub record RunsCall (plan : PlanText) (store : StoreView) (node : ℕ) (call : Call) (before : PlanLane) (outcome : Outcome) (after : PlanLane) : Type 0 where
   pub path : List ℕ
   pub path_is : IsPathOf store.tree node path

@@ -1,4 +1,5 @@
--- What a step on a store for several threads says: its verdict has the text of what happened, or memory for that text ran out.
+-- What a step on a store for several threads says: its verdict has the text of what happened, or says that there was no
+-- memory for that text.
 use Rattle.std.specs.Prelude.{◌≡◌, ◌⊎◌, ℕ, List}
 use Rattle.ext_model.specs.declared.look.Fault.TheVariants as faults
 use Rattle.ext_lifecycle.specs.declared.outcome.Outcome.{Outcome}
@@ -13,30 +14,29 @@ use Rattle.ext_store_core.specs.declared.fault.Refusal.TheVariants as refusal
 use Rattle.ext_store.specs.declared.fault.KeepFault.{KeepFault}
 use Rattle.ext_store.specs.declared.fault.KeepFault.TheVariants as keep_fault
 
--- memory ran out
 abbrev pub no_memory : Verdict
 no_memory = verdicts.Failed faults.Memory
 
--- the verdict says this, or that memory for its text ran out; a success has no text
+-- The verdict says this, or that there was no memory for its text. A success has no text.
 abbrev pub Says : VerdictText → Verdict → Type 0
 Says successful verdict = verdict_text verdict ≡ successful
 Says (aborted text) verdict = (verdict_text verdict ≡ aborted text) ⊎ (verdict ≡ no_memory)
 Says (failed text) verdict = (verdict_text verdict ≡ failed text) ⊎ (verdict ≡ no_memory)
 
--- the outcome says this, and counts so many values that were computed, and that were found
+-- The outcome says this, and counts this many computed and found values.
 pub record Ends (said : VerdictText) (computed found : ℕ) (outcome : Outcome) : Type 0 where
   pub says : Says said outcome.verdict
   pub computed_are : outcome.computed ≡ computed
   pub found_are : outcome.found ≡ found
 
--- memory ran out for what the step does
+-- There was no memory for what the step does.
 abbrev pub EndsNoMemory : Outcome → Type 0
 EndsNoMemory outcome = (outcome.verdict ≡ no_memory) × (outcome.computed ≡ 0) × (outcome.found ≡ 0)
 
 -- ---- refusals of the waiting forms
 
--- A step NAME whose key has this label and whose call was refused so. Waiting forms are not refused for a running factory or because other lanes were in the way, and it does
--- not come that a key is not placed
+-- The end of a step with this name and label whose call was refused. Waiting forms are never refused for a running
+-- factory or other lanes in the way, and a key is never left without a place.
 abbrev pub EndsRefused : List ℕ → List ℕ → Refusal → Outcome → Type 0
 EndsRefused name label (refusal.Busy at) outcome = ⊥
 EndsRefused name label (refusal.Closed at) outcome = Ends (refused name label reasons.Closed) 0 0 outcome
@@ -46,7 +46,7 @@ EndsRefused name label refusal.DirectoryFull outcome = Ends (refused name label 
 EndsRefused name label refusal.Unplaced outcome = ⊥
 EndsRefused name label refusal.Memory outcome = EndsNoMemory outcome
 
--- and one whose value was not kept
+-- The end of a step whose value was not kept.
 abbrev pub EndsUnkept : List ℕ → List ℕ → KeepFault → Outcome → Type 0
 EndsUnkept name label keep_fault.Memory outcome = EndsNoMemory outcome
 EndsUnkept name label keep_fault.NumbersFull outcome = Ends (refused name label reasons.NumbersFull) 0 0 outcome

@@ -1,5 +1,4 @@
--- A store's replies and a step's end, from what the calls of the one-thread store ensure.
-use Rattle.ext_plan.specs.declared.plan_value.PlanValue.{PlanValue}
+-- A store's replies, from what the calls of the one-thread store ensure.
 use Rattle.std.proofs.Common.{Bool, true, false, ◌≡◌, ℕ, ◌+◌, ◌-◌, List, [], ◌∷◌, ◌++◌, length, take, arith, Option, Some, None, Ok, Err, refl, ap, ◌∙◌}
 use Rattle.std.specs.Prelude.{if◌then◌else◌}
 use Rattle.std.proofs.lemmas.List.{take-append-le, take_all}
@@ -9,11 +8,9 @@ use Rattle.ext_plan.specs.declared.reason.Reason.TheVariants as reasons
 use Rattle.ext_model.specs.Events.{Reply, Happens, Answers, Refuses, NumbersFull, Busy, Closed, Standing, FaultStanding, Exhausted, Barred}
 use Rattle.ext_model.specs.State.{State}
 use Rattle.ext_model.specs.Plain.{Place, number_drawn, result_of}
-use Rattle.ext_plain.specs.ValueStates.{Memory, ValueState, refusal}
-use Rattle.ext_plain.specs.StepRuns.{StepEnd, compute_numbered, computefail_numbered, keeping_by, keyed_by, none_numbered, remove_numbered, want_numbered}
-use Rattle.ext_plain.specs.InnerSteps.{KeyedText}
+use Rattle.ext_plain.specs.ValueStates.{ValueState, refusal}
 use Rattle.ext_tree.specs.Keys.{KeyValue}
-use Rattle.ext_plan.specs.Values.{ValueText, value_view}
+use Rattle.ext_plan.specs.Values.{ValueText}
 
 pub state_is : (keeps : Bool) (a b : State Place) (keys : List KeyValue) (v w : List ValueText) → a ≡ b → v ≡ w
     → (let old : ValueState = record { keep_faults = keeps; store = a; keys = keys; values = v; memory = [] } in let new : ValueState = record { keep_faults = keeps; store = b; keys = keys; values = w; memory = [] } in old ≡ new)
@@ -54,37 +51,3 @@ pub popped : {A : Type 0} (xs : List A) (x : A) (n : ℕ) → n ≡ length xs + 
 popped xs x n is =
     let count : n - 1 ≡ length xs = omega (arith, is) in
     ap (λ k. take k (xs ++ x ∷ [])) count ∙ take-append-le (length xs) xs (x ∷ []) (omega arith) ∙ take_all (length xs) xs (omega arith)
-
--- ---- a step by what it names
-
-abbrev pub puts_by : Memory → KeyedText → ValueText → ValueState → StepEnd
-puts_by found k value s = keeping_by k.keys found k.name k.key k.path value s
-
-pub puts_as : (found : Memory) (a b : KeyedText) (v w : ValueText) (s : ValueState) → a ≡ b → v ≡ w → puts_by found a v s ≡ puts_by found b w s
-puts_as found a b v w s e f = ap (λ k. puts_by found k v s) e ∙ ap (λ value. puts_by found b value s) f
-
-abbrev pub computes_by : Memory → KeyedText → ValueText → ValueState → StepEnd
-computes_by found k value s = keyed_by k.keys found k.name k.key (λ label. compute_numbered found k.name label k.path value) s
-
-pub computes_as : (found : Memory) (a b : KeyedText) (v w : ValueText) (s : ValueState) → a ≡ b → v ≡ w → computes_by found a v s ≡ computes_by found b w s
-computes_as found a b v w s e f = ap (λ k. computes_by found k v s) e ∙ ap (λ value. computes_by found b value s) f
-
-abbrev pub wants_by : Memory → KeyedText → List ℕ → ValueState → StepEnd
-wants_by found k text s = keyed_by k.keys found k.name k.key (λ label. want_numbered found k.name label k.path text) s
-
-abbrev pub finds_none_by : Memory → KeyedText → ValueState → StepEnd
-finds_none_by found k s = keyed_by k.keys found k.name k.key (λ label. none_numbered found k.name label k.path) s
-
-abbrev pub removes_by : Memory → KeyedText → ValueState → StepEnd
-removes_by found k s = keyed_by k.keys found k.name k.key (λ label. remove_numbered found k.name label k.path) s
-
-abbrev pub computefails_by : Memory → KeyedText → List ℕ → ValueState → StepEnd
-computefails_by found k text s = keyed_by k.keys found k.name k.key (λ label. computefail_numbered found k.name label k.path text) s
-
--- ---- the value that a step gives
-
-pub made_not_closeable : (v : PlanValue) (a b : List ℕ) → value_view v ≡ record { text = a; closeable = false } → a ≡ b → value_view v ≡ record { text = b; closeable = false }
-made_not_closeable v a b is same = is ∙ ap (λ t. record { text = t; closeable = false }) same
-
-pub made_closeable : (v : PlanValue) (a b : List ℕ) → value_view v ≡ record { text = a; closeable = true } → a ≡ b → value_view v ≡ record { text = b; closeable = true }
-made_closeable v a b is same = is ∙ ap (λ t. record { text = t; closeable = true }) same

@@ -1,22 +1,23 @@
 -- A step computes one value at most, and finds one at most.
-use Rattle.std.proofs.Common.{ℕ, ◌≤◌, Bool, true, false, List, drop, Option, Some, None, arith}
-use Rattle.std.specs.Prelude.{◌&&◌, if◌then◌else◌, codes}
-use Rattle.ext_model.specs.declared.event.Act.TheVariants.{Abandon, Claim, Fail, Remove}
+use Rattle.std.proofs.Common.{ℕ, ◌≤◌, Bool, true, false, List, Option, Some, None, arith}
+use Rattle.std.specs.Prelude.{◌&&◌, if◌then◌else◌}
+use Rattle.ext_model.specs.declared.event.Act.TheVariants.{Abandon, Claim, Fail}
 use Rattle.ext_model.specs.declared.look.Look.{Look}
 use Rattle.ext_model.specs.declared.look.Look.TheVariants as look
 use Rattle.ext_model.specs.declared.slot.Slot.{Slot}
 use Rattle.ext_model.specs.Plain.{Place}
 use Rattle.ext_lifecycle.specs.Endings.{successful, aborted, failed}
 use Rattle.ext_lifecycle.specs.FaultTexts.{VerdictText}
-use Rattle.ext_plan.specs.Plans.{KeyText, StepKeyText, StepText, put, put_closeable, want, nothing, remove, compute, compute_closeable, compute_fail, fail, abort}
+use Rattle.ext_plan.specs.declared.word.Word.{Word}
+use Rattle.ext_plan.specs.declared.word.Word.TheVariants as words
+use Rattle.ext_plan.specs.Plans.{KeyText, StepText, keyed, fail, abort}
 use Rattle.ext_plan.specs.declared.reason.Reason.{Reason}
 use Rattle.ext_plan.specs.Values.{ValueText}
-use Rattle.ext_plan.specs.StepCalls.{is_made, label_of, start_of}
+use Rattle.ext_plan.specs.StepWords.{word_text}
+use Rattle.ext_plan.specs.StepCalls.{CallText, call_of, is_made, start_of}
 use Rattle.ext_tree.specs.Keys.{KeyValue}
-use Rattle.ext_plan.specs.StoreKeys.{key_of_step}
 use Rattle.ext_plain.specs.ValueStates.{Memory, enough, no_key, no_value, no_number, no_place, no_words, ValueState, after_act, why_refused, next_number, keep_value, Numbering, known, next, full, numbering_of, with_number}
-use Rattle.ext_plan.specs.Verdicts.{none_verdict, want_verdict}
-use Rattle.ext_plain.specs.StepRuns.{StepEnd, ended, no_memory, said_by, lacks_key, lacks_value, lacks_number, lacks_place, made_by, number_by, numbered_by, or_refused, kept_or_refused, put_kept, put_in, put_by, keeping_by, keyed_by, factory_gave, factory_failed, if_empty, if_absent, claim_and, compute_looked, compute_by, computefail_looked, computefail_by, found_along, step_by, act_ends, want_numbered, none_numbered, remove_numbered, compute_numbered, computefail_numbered, seen_by}
+use Rattle.ext_plain.specs.StepRuns.{StepEnd, ended, no_memory, said_by, lacks_key, lacks_value, lacks_number, lacks_place, made_by, number_by, numbered_by, or_refused, kept_or_refused, put_kept, put_in, factory_gave, factory_failed, if_empty, if_absent, claim_and, compute_looked, compute_by, computefail_looked, computefail_by, found_along, acts_by, first_kept, step_by, value_first}
 
 pub record IsFew (end : StepEnd) : Type 0 where
   pub computed : end.computed ≤ 1
@@ -65,13 +66,12 @@ kept-few : (found : Memory) (name label : List ℕ) (why : Option Reason) (s : V
 kept-few found name label None s goes_on few = few
 kept-few found name label (Some why) s goes_on few = said-few found _ (ended-few _ s)
 
-put-few : (found : Memory) (name label : List ℕ) (at : ℕ) (key : KeyValue) (value : ValueText) (s : ValueState) → IsFew (put_by found name label at key value s)
-put-few found name label at key value s =
-    let kept = keep_value value s in
-    let puts : ℕ → ValueState → StepEnd = λ number. put_in found name label (at, number) in
-    let stored = numbered_by found name label key puts kept in
-    if-few (lacks_value found) (ended no_memory s) (kept_or_refused found name label (why_refused (next_number s) s) s stored) (ended-few no_memory s)
-    (kept-few found name label (why_refused (next_number s) s) s stored (number-few found name label key puts kept (numbering_of kept.keys key) (λ number t. put_in-few found name label (at, number) t)))
+first-few : (found : Memory) (name label : List ℕ) (value : Option ValueText) (goes_on : ValueState → StepEnd) (s : ValueState) → ((t : ValueState) → IsFew (goes_on t)) → IsFew (first_kept found name label value goes_on s)
+first-few found name label None goes_on s each = each s
+first-few found name label (Some value) goes_on s each =
+    let why = why_refused (next_number s) s in
+    let stored = goes_on (keep_value value s) in
+    if-few (lacks_value found) (ended no_memory s) (kept_or_refused found name label why s stored) (ended-few no_memory s) (kept-few found name label why s stored (each (keep_value value s)))
 
 gave-few : (name label : List ℕ) (place : Place) (value : ValueText) (s : ValueState) → IsFew (factory_gave name label place value s)
 gave-few name label place value s = refused-few name label (why_refused (next_number s) s) (after_act (Abandon place) s) _ (record { computed = omega arith; found = omega arith })
@@ -139,23 +139,22 @@ computefail-few no_place name label place text s found =
     (refused-few name label (why_refused (Claim place) s) s (ended no_memory s) (ended-few _ s)) (fail_looked-few name label place text s found)
 computefail-few no_words name label place text s found = said-few no_words (computefail_looked name label place text s found) (fail_looked-few name label place text s found)
 
-keeping-few : (keys : List KeyText) (found : Memory) (name : List ℕ) (key : StepKeyText) (path : List ℕ) (value : ValueText) (s : ValueState) → IsFew (keeping_by keys found name key path value s)
-keeping-few keys found name key path value s = made-few found (is_made keys key) s _ (put-few found name (label_of keys key) (start_of path) (key_of_step keys key) value s)
-
-keyed-few : (keys : List KeyText) (found : Memory) (name : List ℕ) (key : StepKeyText) (goes_on : List ℕ → ℕ → ValueState → StepEnd) (s : ValueState) → ((label : List ℕ) (number : ℕ) (t : ValueState) → IsFew (goes_on label number t))
-    → IsFew (keyed_by keys found name key goes_on s)
-keyed-few keys found name key goes_on s each =
-    let label = label_of keys key in
-    made-few found (is_made keys key) s _ (number-few found name label (key_of_step keys key) (goes_on label) s (numbering_of s.keys (key_of_step keys key)) (each label))
+acts-few : (found : Memory) (word : Word) (call : CallText) (text : List ℕ) (number : ℕ) (s : ValueState) → IsFew (acts_by found word call text number s)
+acts-few found words.Put call text number s = put_in-few found call.name call.label (start_of call.path, number) s
+acts-few found words.PutCloseable call text number s = put_in-few found call.name call.label (start_of call.path, number) s
+acts-few found words.Want call text number s = said-few found _ (ended-few _ s)
+acts-few found words.None call text number s = said-few found _ (ended-few _ s)
+acts-few found words.Remove call text number s = said-few found _ (ended-few _ _)
+acts-few found words.Compute call text number s = compute-few found call.name call.label (start_of call.path, number) (record { text = text; closeable = false }) s (found_along number call.path s)
+acts-few found words.ComputeCloseable call text number s = compute-few found call.name call.label (start_of call.path, number) (record { text = text; closeable = true }) s (found_along number call.path s)
+acts-few found words.ComputeFail call text number s = computefail-few found call.name call.label (start_of call.path, number) text s (found_along number call.path s)
 
 pub step-few : (keys : List KeyText) (found : Memory) (path : List ℕ) (step : StepText) (s : ValueState) → IsFew (step_by keys found path step s)
-step-few keys found path (put key text up) s = keeping-few keys found (codes "put") key (drop up path) (record { text = text; closeable = false }) s
-step-few keys found path (put_closeable key text up) s = keeping-few keys found (codes "put!") key (drop up path) (record { text = text; closeable = true }) s
-step-few keys found path (want key text up) s = keyed-few keys found (codes "want") key (λ label. want_numbered found (codes "want") label (drop up path) text) s (λ label number t. said-few found (ended (want_verdict (codes "want") label text (seen_by t.values (found_along number (drop up path) t))) t) (ended-few _ _))
-step-few keys found path (nothing key up) s = keyed-few keys found (codes "none") key (λ label. none_numbered found (codes "none") label (drop up path)) s (λ label number t. said-few found (ended (none_verdict (codes "none") label (seen_by t.values (found_along number (drop up path) t))) t) (ended-few _ _))
-step-few keys found path (remove key up) s = keyed-few keys found (codes "remove") key (λ label. remove_numbered found (codes "remove") label (drop up path)) s (λ label number t. said-few found (act_ends (codes "remove") label (Remove (start_of (drop up path), number)) t) (ended-few _ _))
-step-few keys found path (compute key text up) s = keyed-few keys found (codes "compute") key (λ label. compute_numbered found (codes "compute") label (drop up path) (record { text = text; closeable = false })) s (λ label number t. compute-few found (codes "compute") label (start_of (drop up path), number) (record { text = text; closeable = false }) t (found_along number (drop up path) t))
-step-few keys found path (compute_closeable key text up) s = keyed-few keys found (codes "compute!") key (λ label. compute_numbered found (codes "compute!") label (drop up path) (record { text = text; closeable = true })) s (λ label number t. compute-few found (codes "compute!") label (start_of (drop up path), number) (record { text = text; closeable = true }) t (found_along number (drop up path) t))
-step-few keys found path (compute_fail key text up) s = keyed-few keys found (codes "computefail") key (λ label. computefail_numbered found (codes "computefail") label (drop up path) text) s (λ label number t. computefail-few found (codes "computefail") label (start_of (drop up path), number) text t (found_along number (drop up path) t))
+step-few keys found path (keyed word key text up) s =
+    let call = call_of keys path (word_text word) key up in
+    let acts : ℕ → ValueState → StepEnd = acts_by found word call text in
+    made-few found (is_made keys key) s _
+    (first-few found call.name call.label (value_first word text) (numbered_by found call.name call.label call.key acts) s
+    (λ t. number-few found call.name call.label call.key acts t (numbering_of t.keys call.key) (acts-few found word call text)))
 step-few keys found path (fail text) s = said-few found (ended (failed text) s) (ended-few _ s)
 step-few keys found path (abort text) s = said-few found (ended (aborted text) s) (ended-few _ s)

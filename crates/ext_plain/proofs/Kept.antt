@@ -1,12 +1,14 @@
 -- What each act of a plain run keeps true of its store, the whole run keeps true.
 use Rattle.std.proofs.Common.{◌≡◌, ℕ, zero, suc, Bool, true, false, List, [], ◌∷◌, Option, Some, None, is_some, get_or, refl, sym, subst, arith}
-use Rattle.std.specs.Prelude.{◌&&◌, All, IfSome, fold, drop, if◌then◌else◌, codes}
+use Rattle.std.specs.Prelude.{◌&&◌, All, IfSome, fold, if◌then◌else◌}
 use Rattle.ext_model.specs.declared.event.Act.TheVariants.{Put, Remove, Claim, Fill, Fail, Abandon, Seal}
 use Rattle.ext_model.specs.declared.look.Look.{Look}
 use Rattle.ext_model.specs.declared.look.Look.TheVariants as look
 use Rattle.ext_model.specs.declared.slot.Slot.{Slot}
 use Rattle.ext_model.specs.Plain.{Place}
-use Rattle.ext_plan.specs.Plans.{KeyText, StepKeyText, StepText, put, put_closeable, want, nothing, remove, compute, compute_closeable, compute_fail, fail, abort, PlanText}
+use Rattle.ext_plan.specs.declared.word.Word.{Word}
+use Rattle.ext_plan.specs.declared.word.Word.TheVariants as words
+use Rattle.ext_plan.specs.Plans.{KeyText, StepKeyText, StepText, keyed, fail, abort, PlanText}
 use Rattle.ext_plan.specs.ReadPlans.{ids_of_nodes}
 use Rattle.ext_tree.specs.Trees.{children_of}
 use Rattle.ext_lifecycle.specs.declared.call.Call.{Call}
@@ -20,10 +22,11 @@ use Rattle.ext_plan.specs.Verdicts.{refused, none_verdict, want_verdict}
 use Rattle.ext_tree.specs.Keys.{KeyValue}
 use Rattle.ext_plan.specs.StoreKeys.{key_of_step}
 use Rattle.ext_plan.specs.Steps.{step_key}
-use Rattle.ext_plan.specs.StepCalls.{is_made, label_of, start_of}
+use Rattle.ext_plan.specs.StepWords.{word_text}
+use Rattle.ext_plan.specs.StepCalls.{CallText, call_of, is_made, start_of}
 use Rattle.ext_plan.specs.Values.{ValueText}
 use Rattle.ext_plain.specs.ValueStates.{key_limit, Memory, enough, no_key, no_value, no_number, no_place, no_words, ValueState, with_memory, next_found, found_later, after_act, why_refused, next_number, keep_value, Numbering, known, next, full, numbering_of, with_number}
-use Rattle.ext_plain.specs.StepRuns.{StepEnd, ended, no_memory, said_by, lacks_key, lacks_value, lacks_number, lacks_place, number_by, numbered_by, found_along, or_refused, kept_or_refused, put_kept, put_in, put_by, keeping_by, keyed_by, factory_gave, factory_failed, if_empty, if_absent, claim_and, compute_looked, compute_by, computefail_looked, computefail_by, step_by, next_step, unless_ended, steps_run, act_ends, want_numbered, none_numbered, remove_numbered, compute_numbered, computefail_numbered, seen_by}
+use Rattle.ext_plain.specs.StepRuns.{StepEnd, ended, no_memory, said_by, lacks_key, lacks_value, lacks_number, lacks_place, number_by, numbered_by, found_along, or_refused, kept_or_refused, put_kept, put_in, factory_gave, factory_failed, if_empty, if_absent, claim_and, compute_looked, compute_by, computefail_looked, computefail_by, step_by, next_step, unless_ended, steps_run, act_ends, acts_by, call_by, first_kept, value_first, seen_by}
 use Rattle.ext_plain.specs.ContextEnds.{seal_keys}
 use Rattle.ext_plan.specs.PlanCalls.{registered, steps_of_call, test_of, concurrent_of}
 use Rattle.ext_plain.specs.NodeCalls.{CallsEnd, befores_run, call_run, make, make_all, make_befores, make_if_successful, no_calls, test_run}
@@ -172,38 +175,31 @@ module _ (P : ValueState → Type 0) (kept : IsKept P) where
       either-kept P kept (lacks_number found) (ended no_memory s) (goes_on number (with_number key s)) (λ lacks. h) (each number (with_number key s) (named.gets number s is h))
   number-kept found name label key goes_on s full named is each h = said-kept P kept found (ended (refused name label reasons.DirectoryFull) s) h
 
-  put_by-kept : (found : Memory) (name label : List ℕ) (at : ℕ) (key : KeyValue) (value : ValueText) (s : ValueState) → IsKeptNaming P key → P s → P (put_by found name label at key value s).state
-  put_by-kept found name label at key value s named h =
-      let mid = keep_value value s in
-      let puts : ℕ → ValueState → StepEnd = λ number. put_in found name label (at, number) in
+  first-kept : (found : Memory) (name label : List ℕ) (value : Option ValueText) (goes_on : ValueState → StepEnd) (s : ValueState) → ((t : ValueState) → P t → P (goes_on t).state) → P s → P (first_kept found name label value goes_on s).state
+  first-kept found name label None goes_on s each h = each s h
+  first-kept found name label (Some value) goes_on s each h =
       let why = why_refused (next_number s) s in
-      let stored = numbered_by found name label key puts mid in
+      let stored = goes_on (keep_value value s) in
       either-kept P kept (lacks_value found) (ended no_memory s) (kept_or_refused found name label why s stored) (λ lacks. h)
-      (kept_or_refused-kept P found name label why s stored (said-kept P kept found (ended (refused name label (reason_of why)) s) h)
-      (λ room. number-kept found name label key puts mid (numbering_of mid.keys key) named refl (λ number t. put_in-kept P kept found name label (at, number) t) (kept.keeps value s room h)))
+      (kept_or_refused-kept P found name label why s stored (said-kept P kept found (ended (refused name label (reason_of why)) s) h) (λ room. each (keep_value value s) (kept.keeps value s room h)))
 
-  keeping-kept : (keys : List KeyText) (found : Memory) (name : List ℕ) (key : StepKeyText) (path : List ℕ) (value : ValueText) (s : ValueState) → IsKeptNaming P (key_of_step keys key) → P s → P (keeping_by keys found name key path value s).state
-  keeping-kept keys found name key path value s named h =
-      either-kept P kept (lacks_key found && is_made keys key) (ended no_memory s) (put_by found name (label_of keys key) (start_of path) (key_of_step keys key) value s) (λ lacks. h)
-      (put_by-kept found name (label_of keys key) (start_of path) (key_of_step keys key) value s named h)
-
-  keyed-kept : (keys : List KeyText) (found : Memory) (name : List ℕ) (key : StepKeyText) (goes_on : List ℕ → ℕ → ValueState → StepEnd) (s : ValueState) → IsKeptNaming P (key_of_step keys key)
-      → ((label : List ℕ) (number : ℕ) (t : ValueState) → P t → P (goes_on label number t).state) → P s → P (keyed_by keys found name key goes_on s).state
-  keyed-kept keys found name key goes_on s named each h =
-      let label = label_of keys key in
-      let k = key_of_step keys key in
-      either-kept P kept (lacks_key found && is_made keys key) (ended no_memory s) (numbered_by found name label k (goes_on label) s) (λ lacks. h)
-      (number-kept found name label k (goes_on label) s (numbering_of s.keys k) named refl (each label) h)
+  pub acts-kept : (found : Memory) (word : Word) (call : CallText) (text : List ℕ) (number : ℕ) (s : ValueState) → P s → P (acts_by found word call text number s).state
+  acts-kept found words.Put call text number s h = put_in-kept P kept found call.name call.label (start_of call.path, number) s h
+  acts-kept found words.PutCloseable call text number s h = put_in-kept P kept found call.name call.label (start_of call.path, number) s h
+  acts-kept found words.Want call text number s h = said-kept P kept found (ended (want_verdict call.name call.label text (seen_by s.values (found_along number call.path s))) s) h
+  acts-kept found words.None call text number s h = said-kept P kept found (ended (none_verdict call.name call.label (seen_by s.values (found_along number call.path s))) s) h
+  acts-kept found words.Remove call text number s h = said-kept P kept found (act_ends call.name call.label (Remove (start_of call.path, number)) s) (kept.removes (start_of call.path, number) s h)
+  acts-kept found words.Compute call text number s h = compute_by-kept P kept found call.name call.label (start_of call.path, number) (record { text = text; closeable = false }) s (found_along number call.path s) h
+  acts-kept found words.ComputeCloseable call text number s h = compute_by-kept P kept found call.name call.label (start_of call.path, number) (record { text = text; closeable = true }) s (found_along number call.path s) h
+  acts-kept found words.ComputeFail call text number s h = computefail_by-kept P kept found call.name call.label (start_of call.path, number) text s (found_along number call.path s) h
 
   pub step-kept-by : (keys : List KeyText) (found : Memory) (path : List ℕ) (step : StepText) (s : ValueState) → IsKeptByStep P keys step → P s → P (step_by keys found path step s).state
-  step-kept-by keys found path (put key text up) s named h = keeping-kept keys found (codes "put") key (drop up path) (record { text = text; closeable = false }) s named h
-  step-kept-by keys found path (put_closeable key text up) s named h = keeping-kept keys found (codes "put!") key (drop up path) (record { text = text; closeable = true }) s named h
-  step-kept-by keys found path (want key text up) s named h = keyed-kept keys found (codes "want") key (λ label. want_numbered found (codes "want") label (drop up path) text) s named (λ label number t p. said-kept P kept found (ended (want_verdict (codes "want") label text (seen_by t.values (found_along number (drop up path) t))) t) p) h
-  step-kept-by keys found path (nothing key up) s named h = keyed-kept keys found (codes "none") key (λ label. none_numbered found (codes "none") label (drop up path)) s named (λ label number t p. said-kept P kept found (ended (none_verdict (codes "none") label (seen_by t.values (found_along number (drop up path) t))) t) p) h
-  step-kept-by keys found path (remove key up) s named h = keyed-kept keys found (codes "remove") key (λ label. remove_numbered found (codes "remove") label (drop up path)) s named (λ label number t p. said-kept P kept found (act_ends (codes "remove") label (Remove (start_of (drop up path), number)) t) (kept.removes (start_of (drop up path), number) t p)) h
-  step-kept-by keys found path (compute key text up) s named h = keyed-kept keys found (codes "compute") key (λ label. compute_numbered found (codes "compute") label (drop up path) (record { text = text; closeable = false })) s named (λ label number t p. compute_by-kept P kept found (codes "compute") label (start_of (drop up path), number) (record { text = text; closeable = false }) t (found_along number (drop up path) t) p) h
-  step-kept-by keys found path (compute_closeable key text up) s named h = keyed-kept keys found (codes "compute!") key (λ label. compute_numbered found (codes "compute!") label (drop up path) (record { text = text; closeable = true })) s named (λ label number t p. compute_by-kept P kept found (codes "compute!") label (start_of (drop up path), number) (record { text = text; closeable = true }) t (found_along number (drop up path) t) p) h
-  step-kept-by keys found path (compute_fail key text up) s named h = keyed-kept keys found (codes "computefail") key (λ label. computefail_numbered found (codes "computefail") label (drop up path) text) s named (λ label number t p. computefail_by-kept P kept found (codes "computefail") label (start_of (drop up path), number) text t (found_along number (drop up path) t) p) h
+  step-kept-by keys found path (keyed word key text up) s named h =
+      let call = call_of keys path (word_text word) key up in
+      let acts : ℕ → ValueState → StepEnd = acts_by found word call text in
+      either-kept P kept (lacks_key found && is_made keys key) (ended no_memory s) (call_by found word call text s) (λ lacks. h)
+      (first-kept found call.name call.label (value_first word text) (numbered_by found call.name call.label call.key acts) s
+      (λ t p. number-kept found call.name call.label call.key acts t (numbering_of t.keys call.key) named refl (acts-kept found word call text) p) h)
   step-kept-by keys found path (fail text) s named h = said-kept P kept found (ended (failed text) s) h
   step-kept-by keys found path (abort text) s named h = said-kept P kept found (ended (aborted text) s) h
 

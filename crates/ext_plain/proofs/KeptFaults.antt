@@ -16,7 +16,8 @@ use Rattle.ext_model.specs.Plain.{Place, any_lane, state_by, under}
 use Rattle.ext_model.proofs.Lookups.{nearest_decides}
 use Rattle.ext_model.proofs.Steps.{abandon_undoes_claim}
 use Rattle.ext_lifecycle.specs.Endings.{failed, successful}
-use Rattle.ext_plan.specs.Plans.{KeyText, PlanText, StepKeyText, compute_fail}
+use Rattle.ext_plan.specs.declared.word.Word.TheVariants as words
+use Rattle.ext_plan.specs.Plans.{KeyText, PlanText, StepKeyText, keyed}
 use Rattle.ext_plan.specs.StoreKeys.{key_of_step}
 use Rattle.ext_tree.specs.Keys.{KeyValue}
 use Rattle.ext_plan.specs.declared.reason.Reason.{Reason}
@@ -157,8 +158,8 @@ named_meets keys path at above key up text s (next named) is h keeps has =
 named_meets keys path at above key up text s full is h keeps has = λ passed. absurd cc
 
 pub kept_fault_stands : (keys : List KeyText) (path : List ℕ) (at : ℕ) (above : List ℕ) (key : StepKeyText) (up : ℕ) (text : List ℕ) (s : ValueState) → drop up path ≡ at ∷ above → HasValues s → s.keep_faults ≡ true
-    → (step_run keys path (compute_fail key text up) s).verdict ≡ successful
-    → MeetsFault keys path key up text (step_run keys path (compute_fail key text up) s).state
+    → (step_run keys path (keyed words.ComputeFail key text up) s).verdict ≡ successful
+    → MeetsFault keys path key up text (step_run keys path (keyed words.ComputeFail key text up) s).state
 kept_fault_stands keys path at above key up text s is h keeps passed = named_meets keys path at above key up text s (numbering_of s.keys (key_of_step keys key)) is h keeps refl passed
 
 -- ---- where faults are not kept
@@ -190,7 +191,7 @@ named-same name label key path text s (next number) keeps = looked-same name lab
 named-same name label key path text s full keeps = refl
 
 pub no_fault_stays : (keys : List KeyText) (path : List ℕ) (key : StepKeyText) (up : ℕ) (text : List ℕ) (s : ValueState) → s.keep_faults ≡ false
-    → (let k = key_of_step keys key in (step_run keys path (compute_fail key text up) s).state ≡ named_by (numbering_of s.keys k) k s)
+    → (let k = key_of_step keys key in (step_run keys path (keyed words.ComputeFail key text up) s).state ≡ named_by (numbering_of s.keys k) k s)
 no_fault_stays keys path key up text s keeps = named-same (codes "computefail") (label_of keys key) (key_of_step keys key) (drop up path) text s (numbering_of s.keys (key_of_step keys key)) keeps
 
 -- ---- where faults are not kept, none stands

@@ -1,22 +1,23 @@
 -- A step that finds no memory does what it does where it finds enough, or says so.
-use Rattle.std.proofs.Common.{◌≡◌, ℕ, Bool, true, false, List, drop, Option, Some, None, refl, inl, inr, ◌⊎◌}
-use Rattle.std.specs.Prelude.{◌&&◌, if◌then◌else◌, codes}
-use Rattle.ext_model.specs.declared.event.Act.TheVariants.{Abandon, Claim, Remove}
+use Rattle.std.proofs.Common.{◌≡◌, ℕ, Bool, true, false, List, Option, Some, None, refl, inl, inr, ◌⊎◌}
+use Rattle.std.specs.Prelude.{◌&&◌, if◌then◌else◌}
+use Rattle.ext_model.specs.declared.event.Act.TheVariants.{Abandon, Claim}
 use Rattle.ext_model.specs.declared.look.Look.{Look}
 use Rattle.ext_model.specs.declared.look.Look.TheVariants as look
 use Rattle.ext_model.specs.declared.slot.Slot.{Slot}
 use Rattle.ext_model.specs.Plain.{Place}
-use Rattle.ext_plan.specs.Plans.{KeyText, StepKeyText, StepText, put, put_closeable, want, nothing, remove, compute, compute_closeable, compute_fail, fail, abort}
+use Rattle.ext_plan.specs.declared.word.Word.{Word}
+use Rattle.ext_plan.specs.declared.word.Word.TheVariants as words
+use Rattle.ext_plan.specs.Plans.{KeyText, StepText, keyed, fail, abort}
 use Rattle.ext_lifecycle.specs.Endings.{successful, aborted, failed}
 use Rattle.ext_lifecycle.specs.FaultTexts.{VerdictText}
 use Rattle.ext_plan.specs.declared.reason.Reason.{Reason}
 use Rattle.ext_plan.specs.Values.{ValueText}
-use Rattle.ext_plan.specs.StepCalls.{is_made, label_of, start_of}
+use Rattle.ext_plan.specs.StepWords.{word_text}
+use Rattle.ext_plan.specs.StepCalls.{CallText, call_of, is_made, start_of}
 use Rattle.ext_tree.specs.Keys.{KeyValue}
-use Rattle.ext_plan.specs.StoreKeys.{key_of_step}
 use Rattle.ext_plain.specs.ValueStates.{Memory, enough, no_key, no_value, no_number, no_place, no_words, ValueState, after_act, why_refused, next_number, keep_value, Numbering, known, next, full, numbering_of, with_number}
-use Rattle.ext_plan.specs.Verdicts.{none_verdict, want_verdict}
-use Rattle.ext_plain.specs.StepRuns.{StepEnd, ended, no_memory, without_words, said_by, lacks_key, lacks_value, lacks_number, made_by, number_by, numbered_by, or_refused, kept_or_refused, put_kept, put_in, put_by, factory_gave, factory_failed, if_empty, if_absent, claim_and, compute_looked, compute_by, computefail_looked, computefail_by, found_along, keeping_by, keyed_by, step_by, step_run, act_ends, want_numbered, none_numbered, remove_numbered, compute_numbered, computefail_numbered, seen_by}
+use Rattle.ext_plain.specs.StepRuns.{StepEnd, ended, no_memory, without_words, said_by, lacks_key, lacks_value, lacks_number, made_by, number_by, numbered_by, or_refused, kept_or_refused, put_kept, put_in, factory_gave, factory_failed, if_empty, if_absent, claim_and, compute_looked, compute_by, computefail_looked, computefail_by, found_along, step_by, step_run, acts_by, first_kept, value_first}
 
 abbrev Either : StepEnd → StepEnd → Type 0
 Either end whole = (end ≡ whole) ⊎ (end.verdict ≡ no_memory)
@@ -78,14 +79,14 @@ kept-either : (found : Memory) (name label : List ℕ) (why : Option Reason) (s 
 kept-either found name label None s end whole is = is
 kept-either found name label (Some why) s end whole is = said found _
 
-put-either : (found : Memory) (name label : List ℕ) (at : ℕ) (key : KeyValue) (value : ValueText) (s : ValueState) → Either (put_by found name label at key value s) (put_by enough name label at key value s)
-put-either found name label at key value s =
+first-either : (found : Memory) (name label : List ℕ) (value : Option ValueText) (lacks goes_on : ValueState → StepEnd) (s : ValueState) → ((t : ValueState) → Either (lacks t) (goes_on t))
+    → Either (first_kept found name label value lacks s) (first_kept enough name label value goes_on s)
+first-either found name label None lacks goes_on s each = each s
+first-either found name label (Some value) lacks goes_on s each =
+    let why = why_refused (next_number s) s in
     let kept = keep_value value s in
-    let lacks : ℕ → ValueState → StepEnd = λ number. put_in found name label (at, number) in
-    let puts : ℕ → ValueState → StepEnd = λ number. put_in enough name label (at, number) in
-    lacks-either (lacks_value found) (ended no_memory s) (kept_or_refused found name label (why_refused (next_number s) s) s (numbered_by found name label key lacks kept)) (kept_or_refused enough name label (why_refused (next_number s) s) s (numbered_by enough name label key puts kept)) refl
-    (kept-either found name label (why_refused (next_number s) s) s (numbered_by found name label key lacks kept) (numbered_by enough name label key puts kept)
-    (number-either found name label key lacks puts kept (numbering_of kept.keys key) (λ number t. put_in-either found name label (at, number) t)))
+    lacks-either (lacks_value found) (ended no_memory s) (kept_or_refused found name label why s (lacks kept)) (kept_or_refused enough name label why s (goes_on kept)) refl
+    (kept-either found name label why s (lacks kept) (goes_on kept) (each kept))
 
 -- ---- a step that computes
 
@@ -131,25 +132,24 @@ computefail-either no_words name label place text s found = unsaid (computefail_
 
 -- ---- each step
 
-keeping-either : (keys : List KeyText) (found : Memory) (name : List ℕ) (key : StepKeyText) (path : List ℕ) (value : ValueText) (s : ValueState)
-    → Either (keeping_by keys found name key path value s) (keeping_by keys enough name key path value s)
-keeping-either keys found name key path value s = made-either found (is_made keys key) s _ _ (put-either found name (label_of keys key) (start_of path) (key_of_step keys key) value s)
-
-keyed-either : (keys : List KeyText) (found : Memory) (name : List ℕ) (key : StepKeyText) (lacks goes_on : List ℕ → ℕ → ValueState → StepEnd) (s : ValueState)
-    → ((label : List ℕ) (number : ℕ) (t : ValueState) → Either (lacks label number t) (goes_on label number t)) → Either (keyed_by keys found name key lacks s) (keyed_by keys enough name key goes_on s)
-keyed-either keys found name key lacks goes_on s each =
-    let label = label_of keys key in
-    made-either found (is_made keys key) s _ _ (number-either found name label (key_of_step keys key) (lacks label) (goes_on label) s (numbering_of s.keys (key_of_step keys key)) (each label))
+acts-either : (found : Memory) (word : Word) (call : CallText) (text : List ℕ) (number : ℕ) (s : ValueState) → Either (acts_by found word call text number s) (acts_by enough word call text number s)
+acts-either found words.Put call text number s = put_in-either found call.name call.label (start_of call.path, number) s
+acts-either found words.PutCloseable call text number s = put_in-either found call.name call.label (start_of call.path, number) s
+acts-either found words.Want call text number s = said found _
+acts-either found words.None call text number s = said found _
+acts-either found words.Remove call text number s = said found _
+acts-either found words.Compute call text number s = compute-either found call.name call.label (start_of call.path, number) (record { text = text; closeable = false }) s (found_along number call.path s)
+acts-either found words.ComputeCloseable call text number s = compute-either found call.name call.label (start_of call.path, number) (record { text = text; closeable = true }) s (found_along number call.path s)
+acts-either found words.ComputeFail call text number s = computefail-either found call.name call.label (start_of call.path, number) text s (found_along number call.path s)
 
 pub does_or_lacks : (keys : List KeyText) (found : Memory) (path : List ℕ) (step : StepText) (s : ValueState)
     → (step_by keys found path step s ≡ step_run keys path step s) ⊎ ((step_by keys found path step s).verdict ≡ no_memory)
-does_or_lacks keys found path (put key text up) s = keeping-either keys found (codes "put") key (drop up path) (record { text = text; closeable = false }) s
-does_or_lacks keys found path (put_closeable key text up) s = keeping-either keys found (codes "put!") key (drop up path) (record { text = text; closeable = true }) s
-does_or_lacks keys found path (want key text up) s = keyed-either keys found (codes "want") key (λ label. want_numbered found (codes "want") label (drop up path) text) (λ label. want_numbered enough (codes "want") label (drop up path) text) s (λ label number t. said found (ended (want_verdict (codes "want") label text (seen_by t.values (found_along number (drop up path) t))) t))
-does_or_lacks keys found path (nothing key up) s = keyed-either keys found (codes "none") key (λ label. none_numbered found (codes "none") label (drop up path)) (λ label. none_numbered enough (codes "none") label (drop up path)) s (λ label number t. said found (ended (none_verdict (codes "none") label (seen_by t.values (found_along number (drop up path) t))) t))
-does_or_lacks keys found path (remove key up) s = keyed-either keys found (codes "remove") key (λ label. remove_numbered found (codes "remove") label (drop up path)) (λ label. remove_numbered enough (codes "remove") label (drop up path)) s (λ label number t. said found (act_ends (codes "remove") label (Remove (start_of (drop up path), number)) t))
-does_or_lacks keys found path (compute key text up) s = keyed-either keys found (codes "compute") key (λ label. compute_numbered found (codes "compute") label (drop up path) (record { text = text; closeable = false })) (λ label. compute_numbered enough (codes "compute") label (drop up path) (record { text = text; closeable = false })) s (λ label number t. compute-either found (codes "compute") label (start_of (drop up path), number) (record { text = text; closeable = false }) t (found_along number (drop up path) t))
-does_or_lacks keys found path (compute_closeable key text up) s = keyed-either keys found (codes "compute!") key (λ label. compute_numbered found (codes "compute!") label (drop up path) (record { text = text; closeable = true })) (λ label. compute_numbered enough (codes "compute!") label (drop up path) (record { text = text; closeable = true })) s (λ label number t. compute-either found (codes "compute!") label (start_of (drop up path), number) (record { text = text; closeable = true }) t (found_along number (drop up path) t))
-does_or_lacks keys found path (compute_fail key text up) s = keyed-either keys found (codes "computefail") key (λ label. computefail_numbered found (codes "computefail") label (drop up path) text) (λ label. computefail_numbered enough (codes "computefail") label (drop up path) text) s (λ label number t. computefail-either found (codes "computefail") label (start_of (drop up path), number) text t (found_along number (drop up path) t))
+does_or_lacks keys found path (keyed word key text up) s =
+    let call = call_of keys path (word_text word) key up in
+    let lacks : ℕ → ValueState → StepEnd = acts_by found word call text in
+    let acts : ℕ → ValueState → StepEnd = acts_by enough word call text in
+    made-either found (is_made keys key) s _ _
+    (first-either found call.name call.label (value_first word text) (numbered_by found call.name call.label call.key lacks) (numbered_by enough call.name call.label call.key acts) s
+    (λ t. number-either found call.name call.label call.key lacks acts t (numbering_of t.keys call.key) (acts-either found word call text)))
 does_or_lacks keys found path (fail text) s = said found (ended (failed text) s)
 does_or_lacks keys found path (abort text) s = said found (ended (aborted text) s)

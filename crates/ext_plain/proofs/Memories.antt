@@ -1,22 +1,23 @@
 -- What the steps after it find of memory goes through each step of a plain run, and through the end of a context.
-use Rattle.std.proofs.Common.{◌≡◌, ℕ, zero, suc, Bool, true, false, List, [], ◌∷◌, drop, Option, Some, None, refl, ap, ◌∙◌}
-use Rattle.std.specs.Prelude.{◌&&◌, if◌then◌else◌, codes}
-use Rattle.ext_model.specs.declared.event.Act.TheVariants.{Seal, Remove, Abandon, Claim, Fail}
+use Rattle.std.proofs.Common.{◌≡◌, ℕ, zero, suc, Bool, true, false, List, [], ◌∷◌, Option, Some, None, refl, ap, ◌∙◌}
+use Rattle.std.specs.Prelude.{◌&&◌, if◌then◌else◌}
+use Rattle.ext_model.specs.declared.event.Act.TheVariants.{Seal, Abandon, Claim, Fail}
 use Rattle.ext_model.specs.declared.look.Look.{Look}
 use Rattle.ext_model.specs.declared.look.Look.TheVariants as look
 use Rattle.ext_model.specs.declared.slot.Slot.{Slot}
 use Rattle.ext_model.specs.Plain.{Place}
 use Rattle.ext_lifecycle.specs.declared.outcome.Outcome.{Outcome}
 use Rattle.ext_lifecycle.specs.Endings.{successful, aborted, failed}
-use Rattle.ext_plan.specs.Plans.{KeyText, StepKeyText, StepText, put, put_closeable, want, nothing, remove, compute, compute_closeable, compute_fail, fail, abort}
+use Rattle.ext_plan.specs.declared.word.Word.{Word}
+use Rattle.ext_plan.specs.declared.word.Word.TheVariants as words
+use Rattle.ext_plan.specs.Plans.{KeyText, StepText, keyed, fail, abort}
 use Rattle.ext_plan.specs.declared.reason.Reason.{Reason}
 use Rattle.ext_plan.specs.Values.{ValueText}
-use Rattle.ext_plan.specs.StepCalls.{is_made, label_of, start_of}
+use Rattle.ext_plan.specs.StepWords.{word_text}
+use Rattle.ext_plan.specs.StepCalls.{CallText, call_of, is_made, start_of}
 use Rattle.ext_tree.specs.Keys.{KeyValue}
-use Rattle.ext_plan.specs.StoreKeys.{key_of_step}
 use Rattle.ext_plain.specs.ValueStates.{Memory, enough, no_key, no_value, no_number, no_place, no_words, ValueState, with_memory, after_act, why_refused, next_number, keep_value, Numbering, known, next, full, numbering_of, with_number}
-use Rattle.ext_plan.specs.Verdicts.{none_verdict, want_verdict}
-use Rattle.ext_plain.specs.StepRuns.{StepEnd, ended, no_memory, said_by, lacks_key, lacks_value, lacks_number, lacks_place, made_by, number_by, numbered_by, or_refused, kept_or_refused, put_kept, put_in, put_by, factory_gave, factory_failed, if_empty, if_absent, claim_and, compute_looked, compute_by, computefail_looked, computefail_by, found_along, keeping_by, keyed_by, step_by, next_step, act_ends, want_numbered, none_numbered, remove_numbered, compute_numbered, computefail_numbered, seen_by}
+use Rattle.ext_plain.specs.StepRuns.{StepEnd, ended, no_memory, said_by, lacks_key, lacks_value, lacks_number, lacks_place, made_by, number_by, numbered_by, or_refused, kept_or_refused, put_kept, put_in, factory_gave, factory_failed, if_empty, if_absent, claim_and, compute_looked, compute_by, computefail_looked, computefail_by, found_along, step_by, next_step, acts_by, call_by, first_kept, value_first}
 use Rattle.ext_plain.specs.ContextEnds.{seal_keys}
 use Rattle.ext_plain.specs.InnerSteps.{step_end}
 
@@ -80,14 +81,15 @@ module _ (m : List Memory) where
   kept_or_refused-with found name label None s goes_on = refl
   kept_or_refused-with found name label (Some why) s goes_on = said_by-with found _
 
-  put_by-with : (found : Memory) (name label : List ℕ) (at : ℕ) (key : KeyValue) (value : ValueText) (s : ValueState) → end_with m (put_by found name label at key value s) ≡ put_by found name label at key value (with_memory m s)
-  put_by-with found name label at key value s =
-      let puts : ℕ → ValueState → StepEnd = λ number. put_in found name label (at, number) in
-      let stored = numbered_by found name label key puts (keep_value value s) in
-      if-with (lacks_value found) (ended no_memory s) (kept_or_refused found name label (why_refused (next_number s) s) s stored)
+  first-with : (found : Memory) (name label : List ℕ) (value : Option ValueText) (goes_on : ValueState → StepEnd) (s : ValueState) → ((t : ValueState) → end_with m (goes_on t) ≡ goes_on (with_memory m t))
+      → end_with m (first_kept found name label value goes_on s) ≡ first_kept found name label value goes_on (with_memory m s)
+  first-with found name label None goes_on s each = each s
+  first-with found name label (Some value) goes_on s each =
+      let why = why_refused (next_number s) s in
+      let stored = goes_on (keep_value value s) in
+      if-with (lacks_value found) (ended no_memory s) (kept_or_refused found name label why s stored)
       ∙ ap (λ e. if lacks_value found then ended no_memory (with_memory m s) else e) (
-      kept_or_refused-with found name label (why_refused (next_number s) s) s stored
-      ∙ ap (kept_or_refused found name label (why_refused (next_number s) s) (with_memory m s)) (numbered_by-with found name label key puts (keep_value value s) (λ number t. put_in-with found name label (at, number) t))
+      kept_or_refused-with found name label why s stored ∙ ap (kept_or_refused found name label why (with_memory m s)) (each (keep_value value s))
       )
 
   claim_and-with : (name label : List ℕ) (place : Place) (factory : ValueState → StepEnd) (s : ValueState) → end_with m (factory (after_act (Claim place) s)) ≡ factory (after_act (Claim place) (with_memory m s))
@@ -157,29 +159,23 @@ module _ (m : List Memory) where
       ∙ ap (if_absent found (or_refused name label (why_refused (Claim place) s) (with_memory m s) (ended no_memory (with_memory m s)))) (computefail_looked-with name label place text s found)
   computefail_by-with no_words name label place text s found = said_by-with no_words (computefail_looked name label place text s found) ∙ ap (said_by no_words) (computefail_looked-with name label place text s found)
 
-  keeping_by-with : (keys : List KeyText) (found : Memory) (name : List ℕ) (key : StepKeyText) (path : List ℕ) (value : ValueText) (s : ValueState)
-      → end_with m (keeping_by keys found name key path value s) ≡ keeping_by keys found name key path value (with_memory m s)
-  keeping_by-with keys found name key path value s =
-      let puts : ValueState → StepEnd = put_by found name (label_of keys key) (start_of path) (key_of_step keys key) value in
-      made_by-with found (is_made keys key) s (puts s) ∙ ap (made_by found (is_made keys key) (with_memory m s)) (put_by-with found name (label_of keys key) (start_of path) (key_of_step keys key) value s)
-
-  keyed_by-with : (keys : List KeyText) (found : Memory) (name : List ℕ) (key : StepKeyText) (goes_on : List ℕ → ℕ → ValueState → StepEnd) (s : ValueState)
-      → ((label : List ℕ) (number : ℕ) (t : ValueState) → end_with m (goes_on label number t) ≡ goes_on label number (with_memory m t))
-      → end_with m (keyed_by keys found name key goes_on s) ≡ keyed_by keys found name key goes_on (with_memory m s)
-  keyed_by-with keys found name key goes_on s each =
-      let label = label_of keys key in
-      let k = key_of_step keys key in
-      made_by-with found (is_made keys key) s (numbered_by found name label k (goes_on label) s) ∙ ap (made_by found (is_made keys key) (with_memory m s)) (numbered_by-with found name label k (goes_on label) s (each label))
+  acts-with : (found : Memory) (word : Word) (call : CallText) (text : List ℕ) (number : ℕ) (s : ValueState) → end_with m (acts_by found word call text number s) ≡ acts_by found word call text number (with_memory m s)
+  acts-with found words.Put call text number s = put_in-with found call.name call.label (start_of call.path, number) s
+  acts-with found words.PutCloseable call text number s = put_in-with found call.name call.label (start_of call.path, number) s
+  acts-with found words.Want call text number s = said_by-with found _
+  acts-with found words.None call text number s = said_by-with found _
+  acts-with found words.Remove call text number s = said_by-with found _
+  acts-with found words.Compute call text number s = compute_by-with found call.name call.label (start_of call.path, number) (record { text = text; closeable = false }) s (found_along number call.path s)
+  acts-with found words.ComputeCloseable call text number s = compute_by-with found call.name call.label (start_of call.path, number) (record { text = text; closeable = true }) s (found_along number call.path s)
+  acts-with found words.ComputeFail call text number s = computefail_by-with found call.name call.label (start_of call.path, number) text s (found_along number call.path s)
 
   pub step_by-with : (keys : List KeyText) (found : Memory) (path : List ℕ) (step : StepText) (s : ValueState) → end_with m (step_by keys found path step s) ≡ step_by keys found path step (with_memory m s)
-  step_by-with keys found path (put key text up) s = keeping_by-with keys found (codes "put") key (drop up path) (record { text = text; closeable = false }) s
-  step_by-with keys found path (put_closeable key text up) s = keeping_by-with keys found (codes "put!") key (drop up path) (record { text = text; closeable = true }) s
-  step_by-with keys found path (want key text up) s = keyed_by-with keys found (codes "want") key (λ label. want_numbered found (codes "want") label (drop up path) text) s (λ label number t. said_by-with found (ended (want_verdict (codes "want") label text (seen_by t.values (found_along number (drop up path) t))) t))
-  step_by-with keys found path (nothing key up) s = keyed_by-with keys found (codes "none") key (λ label. none_numbered found (codes "none") label (drop up path)) s (λ label number t. said_by-with found (ended (none_verdict (codes "none") label (seen_by t.values (found_along number (drop up path) t))) t))
-  step_by-with keys found path (remove key up) s = keyed_by-with keys found (codes "remove") key (λ label. remove_numbered found (codes "remove") label (drop up path)) s (λ label number t. said_by-with found (act_ends (codes "remove") label (Remove (start_of (drop up path), number)) t))
-  step_by-with keys found path (compute key text up) s = keyed_by-with keys found (codes "compute") key (λ label. compute_numbered found (codes "compute") label (drop up path) (record { text = text; closeable = false })) s (λ label number t. compute_by-with found (codes "compute") label (start_of (drop up path), number) (record { text = text; closeable = false }) t (found_along number (drop up path) t))
-  step_by-with keys found path (compute_closeable key text up) s = keyed_by-with keys found (codes "compute!") key (λ label. compute_numbered found (codes "compute!") label (drop up path) (record { text = text; closeable = true })) s (λ label number t. compute_by-with found (codes "compute!") label (start_of (drop up path), number) (record { text = text; closeable = true }) t (found_along number (drop up path) t))
-  step_by-with keys found path (compute_fail key text up) s = keyed_by-with keys found (codes "computefail") key (λ label. computefail_numbered found (codes "computefail") label (drop up path) text) s (λ label number t. computefail_by-with found (codes "computefail") label (start_of (drop up path), number) text t (found_along number (drop up path) t))
+  step_by-with keys found path (keyed word key text up) s =
+      let call = call_of keys path (word_text word) key up in
+      let goes_on : ValueState → StepEnd = numbered_by found call.name call.label call.key (acts_by found word call text) in
+      made_by-with found (is_made keys key) s (call_by found word call text s)
+      ∙ ap (made_by found (is_made keys key) (with_memory m s))
+      (first-with found call.name call.label (value_first word text) goes_on s (λ t. numbered_by-with found call.name call.label call.key (acts_by found word call text) t (acts-with found word call text)))
   step_by-with keys found path (fail text) s = said_by-with found (ended (failed text) s)
   step_by-with keys found path (abort text) s = said_by-with found (ended (aborted text) s)
 

@@ -1,23 +1,24 @@
 -- The numbers of keys in a plain run: each key has one at most, and keeps it; a step whose key gets none changes nothing.
-use Rattle.std.proofs.Common.{◌≡◌, ℕ, Bool, true, false, List, [], ◌∷◌, length, length-append, drop, Option, Some, None, inl, inr, refl, ap, sym, ◌∙◌, arith, true≢false}
-use Rattle.std.specs.Prelude.{◌&&◌, if◌then◌else◌, codes}
+use Rattle.std.proofs.Common.{◌≡◌, ℕ, Bool, true, false, List, [], ◌∷◌, length, length-append, Option, Some, None, inl, inr, refl, ap, sym, ◌∙◌, arith, true≢false}
+use Rattle.std.specs.Prelude.{◌&&◌, if◌then◌else◌}
 use Rattle.std.proofs.lemmas.Bool.{ltb-true}
 use Rattle.ext_tree.specs.Keys.{KeyValue, HasNumber}
 use Rattle.ext_tree.proofs.Numbers.{different_with}
-use Rattle.ext_plan.specs.Plans.{KeyText, StepKeyText, StepText, put, put_closeable, want, nothing, remove, compute, compute_closeable, compute_fail, fail, abort}
+use Rattle.ext_plan.specs.declared.word.Word.{Word}
+use Rattle.ext_plan.specs.Plans.{KeyText, StepKeyText, StepText, keyed, fail, abort}
 use Rattle.ext_plan.specs.StoreKeys.{is_there, key_of_step}
 use Rattle.ext_plan.specs.Steps.{step_key}
 use Rattle.ext_plan.proofs.KeyLists.{not_contained}
 use Rattle.ext_plan.specs.declared.reason.Reason.{Reason}
 use Rattle.ext_plan.specs.declared.reason.Reason.TheVariants as reasons
-use Rattle.ext_plan.specs.StepCalls.{is_made, label_of, start_of}
+use Rattle.ext_plan.specs.StepWords.{word_text}
+use Rattle.ext_plan.specs.StepCalls.{call_of, is_made}
 use Rattle.ext_plan.specs.Values.{ValueText}
-use Rattle.ext_plan.specs.Verdicts.{refused, none_verdict, want_verdict}
+use Rattle.ext_plan.specs.Verdicts.{refused}
 use Rattle.ext_plain.specs.ValueStates.{key_limit, Memory, enough, no_key, no_value, no_number, no_place, no_words, ValueState, why_refused, next_number, keep_value, Numbering, known, next, full, numbering_of, with_number}
-use Rattle.ext_model.specs.declared.event.Act.TheVariants.{Remove}
-use Rattle.ext_plain.specs.StepRuns.{StepEnd, ended, no_memory, said_by, lacks_key, lacks_number, lacks_value, number_by, numbered_by, keeping_by, keyed_by, kept_or_refused, found_along, put_by, put_in, step_by, act_ends, want_numbered, none_numbered, remove_numbered, compute_numbered, computefail_numbered, seen_by}
+use Rattle.ext_plain.specs.StepRuns.{StepEnd, ended, no_memory, said_by, lacks_key, lacks_number, lacks_value, number_by, numbered_by, kept_or_refused, acts_by, call_by, first_kept, step_by, value_first}
 use Rattle.ext_plain.specs.PlainRunLaws.{IsUnchangedButKept, KeepsNumber, NumbersKeys, NumbersOnce, kept_first}
-use Rattle.ext_plain.proofs.Kept.{IsKept, IsKeptNumbered, compute_by-kept, computefail_by-kept, node-kept, put_in-kept, said-kept, step-kept, steps-kept}
+use Rattle.ext_plain.proofs.Kept.{IsKept, IsKeptNumbered, acts-kept, node-kept, step-kept, steps-kept}
 use Rattle.ext_plain.proofs.Numberings.{known_is, next_is, number_stays, there_then}
 
 -- ---- no act on the store changes the keys that have numbers
@@ -122,63 +123,41 @@ module _ (key : KeyValue) where
   kept_or_refused-absent P found name label None s goes_on h go = go
   kept_or_refused-absent P found name label (Some why) s goes_on h go = λ absent. said-state P found (ended (refused name label why) s) h
 
-  put-absent : (P : ValueState → Type 0) (found : Memory) (name label : List ℕ) (at : ℕ) (value : ValueText) (s : ValueState) → P s → P (keep_value value s) → Absent (put_by found name label at key value s).state.keys
-      → P (put_by found name label at key value s).state
-  put-absent P found name label at value s h kept =
-      let mid = keep_value value s in
-      let why = why_refused (next_number s) s in
-      let puts : ℕ → ValueState → StepEnd = λ number. put_in found name label (at, number) in
-      let stored = numbered_by found name label key puts mid in
-      either-state P (lacks_value found) (ended no_memory s) (kept_or_refused found name label why s stored) (λ absent. h)
-      (kept_or_refused-absent P found name label why s stored h
-      (number-absent P found name label puts mid (numbering_of mid.keys key) refl (λ number t there. put_in-kept (OfKeys There) (of-keys There) found name label (at, number) t there) kept))
+  first-absent : (found : Memory) (name label : List ℕ) (value : Option ValueText) (goes_on : ValueState → StepEnd) (old : ValueState)
+      → ((P : ValueState → Type 0) (t : ValueState) → P t → Absent (goes_on t).state.keys → P (goes_on t).state) → Absent (first_kept found name label value goes_on old).state.keys
+      → IsUnchangedButKept value old (first_kept found name label value goes_on old).state
+  first-absent found name label None goes_on old each = each (λ t. t ≡ old) old refl
+  first-absent found name label (Some value) goes_on old each =
+      let P : ValueState → Type 0 = IsUnchangedButKept (Some value) old in
+      let why = why_refused (next_number old) old in
+      let stored = goes_on (keep_value value old) in
+      either-state P (lacks_value found) (ended no_memory old) (kept_or_refused found name label why old stored) (λ absent. inl refl)
+      (kept_or_refused-absent P found name label why old stored (inl refl) (each P (keep_value value old) (inr refl)))
 
 module _ (keys : List KeyText) (found : Memory) (path : List ℕ) where
-  keeping-absent : (name : List ℕ) (key : StepKeyText) (on : List ℕ) (value : ValueText) (s : ValueState) → is_there (keeping_by keys found name key on value s).state.keys (key_of_step keys key) ≡ false
-      → IsUnchangedButKept (Some value) s (keeping_by keys found name key on value s).state
-  keeping-absent name key on value s =
-      let k = key_of_step keys key in
-      let P : ValueState → Type 0 = λ t. IsUnchangedButKept (Some value) s t in
-      either-state k P (lacks_key found && is_made keys key) (ended no_memory s) (put_by found name (label_of keys key) (start_of on) k value s) (λ absent. inl refl)
-      (put-absent k P found name (label_of keys key) (start_of on) value s (inl refl) (inr refl))
+  unchanged : (value : Option ValueText) (s : ValueState) → IsUnchangedButKept value s s
+  unchanged None s = refl
+  unchanged (Some value) s = inl refl
 
-  keyed-absent : (name : List ℕ) (key : StepKeyText) (goes_on : List ℕ → ℕ → ValueState → StepEnd) (s : ValueState)
-      → ((label : List ℕ) (number : ℕ) (t : ValueState) → is_there t.keys (key_of_step keys key) ≡ true → is_there (goes_on label number t).state.keys (key_of_step keys key) ≡ true)
-      → is_there (keyed_by keys found name key goes_on s).state.keys (key_of_step keys key) ≡ false → IsUnchangedButKept None s (keyed_by keys found name key goes_on s).state
-  keyed-absent name key goes_on s each =
-      let k = key_of_step keys key in
-      let label = label_of keys key in
-      let P : ValueState → Type 0 = λ t. IsUnchangedButKept None s t in
-      either-state k P (lacks_key found && is_made keys key) (ended no_memory s) (numbered_by found name label k (goes_on label) s) (λ absent. refl)
-      (number-absent k P found name label (goes_on label) s (numbering_of s.keys k) refl (each label) refl)
+  keyed-absent : (word : Word) (own : StepKeyText) (text : List ℕ) (up : ℕ) (s : ValueState) → is_there (step_by keys found path (keyed word own text up) s).state.keys (key_of_step keys own) ≡ false
+      → IsUnchangedButKept (value_first word text) s (step_by keys found path (keyed word own text up) s).state
+  keyed-absent word own text up s =
+      let k = key_of_step keys own in
+      let call = call_of keys path (word_text word) own up in
+      let value = value_first word text in
+      let acts : ℕ → ValueState → StepEnd = acts_by found word call text in
+      either-state k (IsUnchangedButKept value s) (lacks_key found && is_made keys own) (ended no_memory s) (call_by found word call text s) (λ absent. unchanged value s)
+      (first-absent k found call.name call.label value (numbered_by found call.name call.label call.key acts) s
+      (λ P t h. number-absent k P found call.name call.label acts t (numbering_of t.keys k) refl (acts-kept (OfKeys (There k)) (of-keys (There k)) found word call text) h))
 
   -- the key that the step names is the one that is spoken of
   by_own : (own key : StepKeyText) (step : StepText) (s : ValueState) → own ≡ key → is_there (step_by keys found path step s).state.keys (key_of_step keys key) ≡ false
       → is_there (step_by keys found path step s).state.keys (key_of_step keys own) ≡ false
   by_own own key step s is absent = ap (λ k. is_there (step_by keys found path step s).state.keys (key_of_step keys k)) is ∙ absent
 
-  said-there : (own : StepKeyText) (memory : Memory) (end : StepEnd) → is_there end.state.keys (key_of_step keys own) ≡ true → is_there (said_by memory end).state.keys (key_of_step keys own) ≡ true
-  said-there own memory end there = said-kept (OfKeys (There (key_of_step keys own))) (of-keys (There (key_of_step keys own))) memory end there
-
   step-absent : (step : StepText) (key : StepKeyText) (s : ValueState) → step_key step ≡ Some key → is_there (step_by keys found path step s).state.keys (key_of_step keys key) ≡ false
       → IsUnchangedButKept (kept_first step) s (step_by keys found path step s).state
-  step-absent (put own text up) key s is absent = keeping-absent (codes "put") own (drop up path) (record { text = text; closeable = false }) s (by_own own key (put own text up) s (let e : own ≡ key = cc in e) absent)
-  step-absent (put_closeable own text up) key s is absent = keeping-absent (codes "put!") own (drop up path) (record { text = text; closeable = true }) s (by_own own key (put_closeable own text up) s (let e : own ≡ key = cc in e) absent)
-  step-absent (want own text up) key s is absent = keyed-absent (codes "want") own (λ label. want_numbered found (codes "want") label (drop up path) text) s (λ label number t there. said-there own found (ended (want_verdict (codes "want") label text (seen_by t.values (found_along number (drop up path) t))) t) there) (by_own own key (want own text up) s (let e : own ≡ key = cc in e) absent)
-  step-absent (nothing own up) key s is absent = keyed-absent (codes "none") own (λ label. none_numbered found (codes "none") label (drop up path)) s (λ label number t there. said-there own found (ended (none_verdict (codes "none") label (seen_by t.values (found_along number (drop up path) t))) t) there) (by_own own key (nothing own up) s (let e : own ≡ key = cc in e) absent)
-  step-absent (remove own up) key s is absent = keyed-absent (codes "remove") own (λ label. remove_numbered found (codes "remove") label (drop up path)) s (λ label number t there. said-there own found (act_ends (codes "remove") label (Remove (start_of (drop up path), number)) t) there) (by_own own key (remove own up) s (let e : own ≡ key = cc in e) absent)
-  step-absent (compute own text up) key s is absent =
-      keyed-absent (codes "compute") own (λ label. compute_numbered found (codes "compute") label (drop up path) (record { text = text; closeable = false })) s
-      (λ label number t there. compute_by-kept (OfKeys (There (key_of_step keys own))) (of-keys (There (key_of_step keys own))) found (codes "compute") label (start_of (drop up path), number) (record { text = text; closeable = false }) t (found_along number (drop up path) t) there)
-      (by_own own key (compute own text up) s (let e : own ≡ key = cc in e) absent)
-  step-absent (compute_closeable own text up) key s is absent =
-      keyed-absent (codes "compute!") own (λ label. compute_numbered found (codes "compute!") label (drop up path) (record { text = text; closeable = true })) s
-      (λ label number t there. compute_by-kept (OfKeys (There (key_of_step keys own))) (of-keys (There (key_of_step keys own))) found (codes "compute!") label (start_of (drop up path), number) (record { text = text; closeable = true }) t (found_along number (drop up path) t) there)
-      (by_own own key (compute_closeable own text up) s (let e : own ≡ key = cc in e) absent)
-  step-absent (compute_fail own text up) key s is absent =
-      keyed-absent (codes "computefail") own (λ label. computefail_numbered found (codes "computefail") label (drop up path) text) s
-      (λ label number t there. computefail_by-kept (OfKeys (There (key_of_step keys own))) (of-keys (There (key_of_step keys own))) found (codes "computefail") label (start_of (drop up path), number) text t (found_along number (drop up path) t) there)
-      (by_own own key (compute_fail own text up) s (let e : own ≡ key = cc in e) absent)
+  step-absent (keyed word own text up) key s is absent = keyed-absent word own text up s (by_own own key (keyed word own text up) s (let e : own ≡ key = cc in e) absent)
   step-absent (fail text) key s is absent = absurd cc
   step-absent (abort text) key s is absent = absurd cc
 

@@ -1,5 +1,5 @@
 -- Where a call of a node ended for want of memory its result tells so, or tells of further faults: so calls of a node that is spared did not end so.
-use Rattle.std.proofs.Common.{◌≡◌, ◌≢◌, ◌<◌, ◌-◌, ◌∙◌, ℕ, zero, suc, Bool, true, false, codes, List, [], ◌∷◌, ◌++◌, length, map, Option, Some, None, refl, ap, sym, subst, arith, append_assoc, inl, inr, ◌⊎◌, ⊎_elim}
+use Rattle.std.proofs.Common.{◌≡◌, ◌≢◌, ◌<◌, ◌-◌, ◌∙◌, ℕ, zero, suc, Bool, true, false, codes, List, [], ◌∷◌, ◌++◌, length, map, Option, Some, None, refl, ap, sym, subst, arith, append_assoc, inl, inr, ⊎_elim}
 use Rattle.std.specs.Prelude.{nat_lt, slice_get, IsSomeAnd, ◌||◌}
 use Rattle.std.specs.List.{AllByRecursion, list_any}
 use Rattle.ext_model.specs.declared.look.Fault.{Fault}

@@ -1,5 +1,5 @@
 -- Whether a step lacked memory, told over steps that follow one another.
-use Rattle.std.proofs.Common.{◌≡◌, Bool, List, ap, sym, ◌∙◌}
+use Rattle.std.proofs.Common.{◌≡◌, Bool, List, sym, ◌∙◌}
 use Rattle.ext_plain.specs.InnerSteps.{TellsLacks}
 use Rattle.ext_plain.specs.ValueStates.{Memory}
 

@@ -11,7 +11,8 @@ use Rattle.ext_model.specs.State.{State, lookup}
 use Rattle.ext_model.specs.Events.{Reply, Happens, Answers, Refuses, NumbersFull, put_reply, drawn_after}
 use Rattle.ext_model.specs.Plain.{Place, under, any_lane, state_by}
 use Rattle.ext_model.proofs.Lookups.{put_found}
-use Rattle.ext_plan.specs.Plans.{KeyText, PlanText, StepKeyText, put, want}
+use Rattle.ext_plan.specs.declared.word.Word.TheVariants as words
+use Rattle.ext_plan.specs.Plans.{KeyText, PlanText, StepKeyText, keyed}
 use Rattle.ext_plan.specs.StoreKeys.{key_of_step}
 use Rattle.ext_lifecycle.specs.Endings.{successful, failed}
 use Rattle.ext_plain.specs.ValueStates.{run_numbers, enough, ValueState, refusal, reply_to, after_act, why_refused, next_number, keep_value, value_of, Numbering, known, next, full, numbering_of, with_number}
@@ -112,7 +113,7 @@ kept-wanted own label at key above text kept values are drawn passed =
 
 put-known : (keys : List KeyText) (path : List ℕ) (at : ℕ) (above : List ℕ) (key other : StepKeyText) (up : ℕ) (text : List ℕ) (kept : ValueState) (values : List ValueText) (number : ℕ) → key_of_step keys other ≡ key_of_step keys key
     → drop up path ≡ at ∷ above → numbering_of kept.keys (key_of_step keys key) ≡ known number → kept.values ≡ values ++ record { text = text; closeable = false } ∷ [] → kept.store.drawn ≡ suc (length values)
-    → (let end = put_kept (codes "put") (label_of keys key) (start_of (drop up path), number) kept in end.verdict ≡ successful → (step_run keys path (want other text up) end.state).verdict ≡ successful)
+    → (let end = put_kept (codes "put") (label_of keys key) (start_of (drop up path), number) kept in end.verdict ≡ successful → (step_run keys path (keyed words.Want other text up) end.state).verdict ≡ successful)
 put-known keys path at above key other up text kept values number same is knows are drawn = λ passed.
     let own = label_of keys key in
     let label = label_of keys other in
@@ -125,7 +126,7 @@ put-known keys path at above key other up text kept values number same is knows 
 put-named : (keys : List KeyText) (path : List ℕ) (at : ℕ) (above : List ℕ) (key other : StepKeyText) (up : ℕ) (text : List ℕ) (kept : ValueState) (values : List ValueText) (numbering : Numbering) → key_of_step keys other ≡ key_of_step keys key
     → drop up path ≡ at ∷ above → numbering_of kept.keys (key_of_step keys key) ≡ numbering → kept.values ≡ values ++ record { text = text; closeable = false } ∷ [] → kept.store.drawn ≡ suc (length values)
     → (let label = label_of keys key in let puts : ℕ → ValueState → StepEnd = λ number. put_in enough (codes "put") label (start_of (drop up path), number) in let end = number_by enough (codes "put") label (key_of_step keys key) puts kept numbering in
-    end.verdict ≡ successful → (step_run keys path (want other text up) end.state).verdict ≡ successful)
+    end.verdict ≡ successful → (step_run keys path (keyed words.Want other text up) end.state).verdict ≡ successful)
 put-named keys path at above key other up text kept values (known number) same is has are drawn = put-known keys path at above key other up text kept values number same is has are drawn
 put-named keys path at above key other up text kept values (next number) same is has are drawn =
     let k = key_of_step keys key in
@@ -136,7 +137,7 @@ put-wanted : (keys : List KeyText) (path : List ℕ) (at : ℕ) (above : List �
     → drop up path ≡ at ∷ above → why_refused (next_number s) s ≡ why → HasValues s
     → (let value : ValueText = record { text = text; closeable = false } in let label = label_of keys key in let puts : ℕ → ValueState → StepEnd = λ number. put_in enough (codes "put") label (start_of (drop up path), number) in
     let end = kept_or_refused enough (codes "put") label why s (numbered_by enough (codes "put") label (key_of_step keys key) puts (keep_value value s)) in
-    end.verdict ≡ successful → (step_run keys path (want other text up) end.state).verdict ≡ successful)
+    end.verdict ≡ successful → (step_run keys path (keyed words.Want other text up) end.state).verdict ≡ successful)
 put-wanted keys path at above key other up text s None same is room h =
     let value : ValueText = record { text = text; closeable = false } in
     let kept = keep_value value s in
@@ -144,6 +145,6 @@ put-wanted keys path at above key other up text s None same is room h =
 put-wanted keys path at above key other up text s (Some why) same is room h = λ passed. absurd cc
 
 pub put_is_found : (keys : List KeyText) (path : List ℕ) (at : ℕ) (above : List ℕ) (key other : StepKeyText) (up : ℕ) (text : List ℕ) (s : ValueState) → key_of_step keys other ≡ key_of_step keys key → drop up path ≡ at ∷ above → HasValues s
-    → (step_run keys path (put key text up) s).verdict ≡ successful
-    → (step_run keys path (want other text up) (step_run keys path (put key text up) s).state).verdict ≡ successful
+    → (step_run keys path (keyed words.Put key text up) s).verdict ≡ successful
+    → (step_run keys path (keyed words.Want other text up) (step_run keys path (keyed words.Put key text up) s).state).verdict ≡ successful
 put_is_found keys path at above key other up text s same is h = put-wanted keys path at above key other up text s (why_refused (next_number s) s) same is refl h

@@ -1,5 +1,5 @@
--- What private functions answer of the store, of the numbers of keys, and of steps. No public clause needs it.
-use Rattle.std.specs.Prelude.{◌≡◌, ◌≢◌, ◌<◌, ◌≤◌, ◌⊎◌, ℕ, Bool, true, false, not, List, [], ◌∷◌, ◌++◌, drop, length, map, Option, Some, None, option_map, slice_get, IsSomeAnd, Result, Ok, Err, if◌then◌else◌}
+-- What private functions answer of the store, of the numbers of keys, and of steps. No public contract cites it.
+use Rattle.std.specs.Prelude.{◌≡◌, ◌≢◌, ◌<◌, ◌≤◌, ◌⊎◌, ℕ, Bool, true, false, not, List, [], ◌∷◌, ◌++◌, length, map, Option, Some, None, option_map, slice_get, IsSomeAnd, Result, Ok, Err, if◌then◌else◌}
 use Rattle.ext_model.specs.declared.look.Fault.{Fault}
 use Rattle.ext_model.specs.declared.event.Act.TheVariants.{Abandon}
 use Rattle.ext_model.specs.declared.plain_fault.PlainFault.{PlainFault}
@@ -15,25 +15,24 @@ use Rattle.ext_lifecycle.specs.FaultTexts.{NodeOutcome, VerdictText, fault_text,
 use Rattle.ext_lifecycle.specs.Lifecycle.{computed_in, endings_of, found_in, tally_of}
 use Rattle.ext_model.specs.Closed.{closed_of}
 use Rattle.ext_tree.specs.Keys.{KeyValue}
-use Rattle.ext_plan.specs.Plans.{KeyText, PlanText, StepKeyText, step_key_view, plan_view}
+use Rattle.ext_plan.specs.Plans.{PlanText, plan_view}
 use Rattle.ext_plan.specs.declared.reason.Reason.{Reason}
 use Rattle.ext_plan.specs.declared.reason.Reason.TheVariants as reasons
 use Rattle.ext_plan.specs.declared.step_call.StepCall.{StepCall}
-use Rattle.ext_plan.specs.StepCalls.{keys_in, start_of}
+use Rattle.ext_plan.specs.StepCalls.{start_of}
 use Rattle.ext_plan.specs.Values.{ValueText, value_view}
 use Rattle.ext_plain.specs.declared.callers.NodeCaller.{NodeCaller}
 use Rattle.ext_plain.specs.declared.lack.Lack.{Lack}
 use Rattle.ext_plain.specs.declared.lack.Lack.TheVariants as lacks
 use Rattle.ext_plain.specs.declared.lack.StepLack.{StepLack}
 use Rattle.ext_plain.specs.declared.lack.StepLack.TheVariants as step_lacks
-use Rattle.ext_plain.specs.declared.keyed_step.KeyedStep.{KeyedStep}
 use Rattle.ext_plain.specs.declared.plain.PlainRunner.{PlainRunner}
 use Rattle.ext_plain.specs.declared.setting.Setting.{Setting}
 use Rattle.ext_plain.specs.declared.value_store.ValueStore.{ValueStore}
 use Rattle.ext_plain.specs.NodeCalls.{CallsEnd, call_run}
 use Rattle.ext_tree.specs.Trees.{Id, IsTree, IsParentOf, IsPathOf}
 use Rattle.ext_plain.specs.PlainRun.{RunState, may_lack_memory, node_end}
-use Rattle.ext_plain.specs.StepRuns.{StepEnd, ended, factory_gave, factory_failed, no_memory, said_by}
+use Rattle.ext_plain.specs.StepRuns.{StepEnd, ended, factory_gave, factory_failed, made_by, no_memory, said_by}
 use Rattle.ext_plain.specs.ValueStates.{Memory, enough, no_key, no_value, no_number, no_place, no_words, ValueState, after_act, reason, why_refused, next_number, keep_value, with_memory, known, next, full, numbering_of, with_number}
 
 -- ---- the store and its values
@@ -41,7 +40,7 @@ use Rattle.ext_plain.specs.ValueStates.{Memory, enough, no_key, no_value, no_num
 abbrev pub state_view : ValueStore → ValueState
 state_view s = record { keep_faults = s.keep_faults; store = state_of s.store; keys = s.keys; values = map value_view s.values.items; memory = [] }
 
--- why a call of the store was refused, where it was not for want of memory
+-- The reason for a refusal other than a lack of memory.
 abbrev pub IsReasonOf : PlainFault → Reason → Type 0
 IsReasonOf plain.Busy why = why ≡ reason events.Busy
 IsReasonOf plain.Closed why = why ≡ reason events.Closed
@@ -50,7 +49,7 @@ IsReasonOf (plain.FaultStands number) why = why ≡ reason (events.FaultStanding
 IsReasonOf plain.NumbersFull why = why ≡ reason events.NumbersFull
 IsReasonOf plain.Memory why = ⊥
 
--- why a call of the store was refused, if it was
+-- The reason why a call of the store was refused, if it was.
 abbrev pub Told : {A : Type 0} → Result A PlainFault → Option Reason → Type 0
 Told (Ok x) why = why ≡ None
 Told (Err plain.Busy) why = why ≡ Some (reason events.Busy)
@@ -60,14 +59,14 @@ Told (Err (plain.FaultStands number)) why = why ≡ Some (reason (events.FaultSt
 Told (Err plain.NumbersFull) why = why ≡ Some (reason events.NumbersFull)
 Told (Err plain.Memory) why = ⊥
 
--- the value is kept under this number
+-- The value is kept under this number.
 pub record IsKeptAs (value : ValueText) (old new : ValueState) (number : ℕ) : Type 0 where
   pub state : new ≡ keep_value value old
   pub drawn : number ≡ new.store.drawn
   pub allowed : why_refused (next_number old) old ≡ None
   pub slots : (place : Place) → new.store.slots place ≡ old.store.slots place
 
--- no number is left, and nothing was changed
+-- No number is left, and nothing has changed.
 pub record IsNotKept (old new : ValueState) (why : Reason) : Type 0 where
   pub state : new ≡ old
   pub refused : why_refused (next_number old) old ≡ Some why
@@ -78,31 +77,31 @@ Keeps value old new (Err why) = IsNotKept old new why
 
 -- ---- the numbers of keys
 
--- the key has this number from now on: it had it, or it got it
+-- The key has this number from now on, whether it had it before or got it now.
 abbrev pub HasBeenNumbered : KeyValue → ValueState → ValueState → ℕ → Type 0
 HasBeenNumbered key old new number = ((numbering_of old.keys key ≡ known number) × (new ≡ old)) ⊎ ((numbering_of old.keys key ≡ next number) × (new ≡ with_number key old))
 
--- all numbers are those of other keys
+-- All numbers belong to other keys.
 pub record HasNoNumber (key : KeyValue) (old new : ValueState) (why : Reason) : Type 0 where
   pub numbering : numbering_of old.keys key ≡ full
   pub reason : why ≡ reasons.DirectoryFull
   pub state : new ≡ old
 
--- the key would have got a number, but for memory
+-- The key would have got a number, but there was no memory.
 pub record WantsNumber (key : KeyValue) (old new : ValueState) (lack : StepLack) : Type 0 where
   pub number : ℕ
   pub numbering : numbering_of old.keys key ≡ next number
   pub lacks : lack ≡ step_lacks.Number
   pub state : new ≡ old
 
-abbrev pub Numbers : KeyValue → ValueState → ValueState → Result (Result ℕ Reason) StepLack → Type 0
-Numbers key old new (Ok (Ok number)) = HasBeenNumbered key old new number
-Numbers key old new (Ok (Err why)) = HasNoNumber key old new why
-Numbers key old new (Err lack) = WantsNumber key old new lack
+abbrev pub Declares : KeyValue → ValueState → ValueState → Result (Result ℕ Reason) StepLack → Type 0
+Declares key old new (Ok (Ok number)) = HasBeenNumbered key old new number
+Declares key old new (Ok (Err why)) = HasNoNumber key old new why
+Declares key old new (Err lack) = WantsNumber key old new lack
 
 -- ---- the steps
 
--- the place of a call's context and of the number of its key
+-- The place of a call's context and its key's number.
 abbrev pub place_of_call : StepCall → ℕ → Place
 place_of_call c number = (start_of c.path.now, number)
 
@@ -112,7 +111,7 @@ step_end s o = record { state = s; verdict = verdict_text o.verdict; computed = 
 abbrev pub end_view : ValueStore → Outcome → StepEnd
 end_view s o = step_end (state_view s) o
 
--- what a step found of memory that lacked some
+-- The memory that a step lacked.
 abbrev pub lacking : Lack → Memory
 lacking lacks.Value = no_value
 lacking lacks.Place = no_place
@@ -123,97 +122,91 @@ found_lacking lacks.Value = 0
 found_lacking lacks.Place = 0
 found_lacking (lacks.Words found) = found
 
--- a step that lacked memory leaves this
+-- What a step leaves that lacked memory.
 abbrev pub lack_end : ValueState → Lack → StepEnd
 lack_end s lack = record { state = s; verdict = no_memory; computed = 0; found = found_lacking lack }
 
--- what a step leaves that answered this
+-- What a step leaves, by its answer.
 abbrev pub answer_end : ValueState → Result Outcome Lack → StepEnd
 answer_end s (Ok outcome) = step_end s outcome
 answer_end s (Err lack) = lack_end s lack
 
--- what a step found of memory that answered this
+-- What a step found of memory, by its answer.
 abbrev pub memory_of : Result Outcome Lack → Memory
 memory_of (Ok outcome) = enough
 memory_of (Err lack) = lacking lack
 
--- an answer that lacks memory lacks it for what is done once the key has its number
+-- The same answer of a whole step. A lack of memory came after the key had its number.
 abbrev pub lifted : Result Outcome Lack → Result Outcome StepLack
 lifted (Ok outcome) = Ok outcome
 lifted (Err lack) = Err (step_lacks.Act lack)
 
--- what a whole step found of memory that answered this,
+-- What a whole step found of memory, by its answer.
 abbrev pub memory_of_step : Result Outcome StepLack → Memory
 memory_of_step (Ok outcome) = enough
 memory_of_step (Err step_lacks.Key) = no_key
 memory_of_step (Err step_lacks.Number) = no_number
 memory_of_step (Err (step_lacks.Act lack)) = lacking lack
 
--- how many values it had found,
+-- How many values a step had found when it lacked memory.
 abbrev pub step_found : StepLack → ℕ
 step_found step_lacks.Key = 0
 step_found step_lacks.Number = 0
 step_found (step_lacks.Act lack) = found_lacking lack
 
--- and what it leaves
+-- What a whole step leaves, by its answer.
 abbrev pub end_of_step : ValueState → Result Outcome StepLack → StepEnd
 end_of_step s (Ok outcome) = step_end s outcome
 end_of_step s (Err lack) = record { state = s; verdict = no_memory; computed = 0; found = step_found lack }
 
--- a step ends with this verdict that found a value where it would have computed one
+-- The end of a step that found a value where it would have computed one.
 abbrev pub counted_found : VerdictText → ValueState → StepEnd
 counted_found verdict s = record { state = s; verdict = verdict; computed = 0; found = 1 }
 
--- a step before its key is made: the declared keys of its plan, its first word, the key that it names, and the path of the context that it acts on
-pub record KeyedText : Type 0 where
-  pub keys : List KeyText
-  pub name : List ℕ
-  pub key : StepKeyText
-  pub path : List ℕ
+-- Once its key is there, made for the step or declared, the step does this, by what it finds of memory.
+abbrev pub DoesKeyed : ValueState → ValueState → Result Outcome StepLack → (Memory → StepEnd) → Type 0
+DoesKeyed old new answer does = (made : Bool) → end_of_step new answer ≡ made_by (memory_of_step answer) made old (does (memory_of_step answer))
 
-abbrev pub keyed_view : KeyedStep → KeyedText
-keyed_view k = record { keys = keys_in k.keys.now; name = k.name.now; key = step_key_view k.key.now; path = drop k.up k.path.now }
-
--- a step of this name, on the path of an ancestor so many contexts up
-abbrev pub keyed : List KeyText → List ℕ → List ℕ → StepKeyText → ℕ → KeyedText
-keyed keys path name key up = record { keys = keys; name = name; key = key; path = drop up path }
-
--- a step that does nothing more ends with this verdict; it lacks memory only for the words of one that isn't a success
+-- A step that does nothing more ends with this verdict. It can lack memory only for its words, so only if it isn't
+-- successful.
 abbrev pub Says : VerdictText → Result Outcome Lack → Type 0
 Says v (Ok outcome) = (s : ValueState) → step_end s outcome ≡ ended v s
 Says v (Err lack) = (lack ≡ lacks.Words 0) × (is_successful v ≡ false)
 
--- what is left where memory is lacked once a factory gave a value, under the claim that stands; the place of the claim is in use
+-- What a lack of memory leaves after a factory gave a value, under the claim that stands. The claim's place exists
+-- already and needs none.
 abbrev pub LacksGiven : Lack → List ℕ → List ℕ → Place → ValueText → ValueState → ValueState → Type 0
 LacksGiven lacks.Value name label place value old new = new ≡ after_act (Abandon place) old
 LacksGiven lacks.Place name label place value old new = ⊥
 LacksGiven (lacks.Words found) name label place value old new = lack_end new (lacks.Words found) ≡ said_by no_words (factory_gave name label place value old)
 
--- what is left once a factory gave a value, under the claim that stands
+-- What is left after a factory gave a value, under the claim that stands.
 abbrev pub Gives : List ℕ → List ℕ → Place → ValueText → ValueState → ValueState → Result Outcome Lack → Type 0
 Gives name label place value old new (Ok outcome) = step_end new outcome ≡ factory_gave name label place value old
 Gives name label place value old new (Err lack) = LacksGiven lack name label place value old new
 
--- what is left where memory is lacked once a factory failed, under the claim that stands: none is asked for but where its fault is to be kept
+-- What a lack of memory leaves after a factory failed, under the claim that stands. Memory is asked for only if its
+-- fault is to be kept.
 abbrev pub LacksFailed : Lack → List ℕ → List ℕ → Place → List ℕ → ValueState → ValueState → Type 0
 LacksFailed lacks.Value name label place text old new = (old.keep_faults ≡ true) × (new ≡ after_act (Abandon place) old)
 LacksFailed lacks.Place name label place text old new = ⊥
 LacksFailed (lacks.Words found) name label place text old new = lack_end new (lacks.Words found) ≡ said_by no_words (factory_failed name label place text old)
 
--- what is left once a factory failed with this text, under the claim that stands
+-- What is left after a factory failed with this text, under the claim that stands.
 abbrev pub Fails : List ℕ → List ℕ → Place → List ℕ → ValueState → ValueState → Result Outcome Lack → Type 0
 Fails name label place text old new (Ok outcome) = step_end new outcome ≡ factory_failed name label place text old
 Fails name label place text old new (Err lack) = LacksFailed lack name label place text old new
 
--- one step computes or finds one value at most
+-- One step computes or finds at most one value.
 pub record AreFew (o : Outcome) : Type 0 where
   pub computed : o.computed ≤ 1
   pub found : o.found ≤ 1
 
 -- ---- whether a step lacked memory
 
--- By whether a step is told to have lacked memory before and after some steps, what these found of memory, and what those after them find: where none is told to have, none
--- of them lacked any; and where they were spared that, by how they ended, none of them is told to have. A list that says nothing says that all find enough
+-- Whether a step has lacked memory, before and after some steps. `memory` is what these find, `later` what the steps
+-- after them find. If none has lacked any, these did not either. If they are spared it, by how they ended, the answer
+-- stays the same. An empty list says that all find enough.
 pub record TellsLacks (before after : Bool) (memory later : List Memory) (Spared : Type 0) : Type 0 where
   pub kept : after ≡ false → before ≡ false
   pub nothing : after ≡ false → later ≡ [] → memory ≡ []
@@ -224,13 +217,13 @@ pub record TellsLacks (before after : Bool) (memory later : List Memory) (Spared
 abbrev pub plan_in : Setting → PlanText
 plan_in s = plan_view s.plan.now
 
--- the node is one of the tree
+-- The node is one of the tree.
 pub record IsReady {L : Type 0} (caller : NodeCaller L) : Type 0 where
   pub tree : IsTree caller.setting.tree.now
   pub within : caller.node < length caller.setting.tree.now
 
--- What a call does: its steps in the context of the node. Whatever the steps after it find of memory, there is something that its own steps found; and whether they lacked some
--- is told
+-- What a call does: its steps run in the node's context. Whatever later steps find of memory, there is something that
+-- its own steps found; and it is noted whether they lacked some.
 pub record DoesCall {L : Type 0} (before : NodeCaller L) (call : Call) (outcome : Outcome) (after : NodeCaller L) : Type 0 where
   pub setting : after.setting ≡ before.setting
   pub node : after.node ≡ before.node
@@ -238,7 +231,7 @@ pub record DoesCall {L : Type 0} (before : NodeCaller L) (call : Call) (outcome 
       → (memory : List Memory) × (step_end (with_memory later (state_view after.store)) outcome ≡ call_run (plan_in before.setting) path call (with_memory memory (state_view before.store)))
       × TellsLacks before.lacked after.lacked memory later (verdict_text outcome.verdict ≢ no_memory)
 
--- what calls with these outcomes leave
+-- What calls with these outcomes leave.
 abbrev pub calls_end : ValueState → List Outcome → CallsEnd
 calls_end s outcomes = record { state = s; calls = map (with_fault fault_text) (endings_of outcomes); computed = computed_in outcomes; found = found_in outcomes }
 
@@ -248,7 +241,7 @@ abbrev pub only_closeable : Option ValueText → Option ValueText
 only_closeable None = None
 only_closeable (Some value) = if value.closeable then Some value else None
 
--- these closes were counted, with the texts of their faults
+-- These closes were counted, with the texts of their faults.
 pub record HasClosed (closes : counts.Closed) (told : List (Option (List ℕ))) : Type 0 where
   pub faults : List (Option Fault)
   pub counted : closes ≡ closed_of faults
@@ -256,7 +249,7 @@ pub record HasClosed (closes : counts.Closed) (told : List (Option (List ℕ))) 
 
 -- ---- the plain run
 
--- a run between two nodes, and whether a step has lacked memory
+-- A run between two nodes, and whether a step has lacked memory.
 pub record RunSoFar : Type 0 where
   pub state : ValueState
   pub results : List NodeOutcome
@@ -265,50 +258,51 @@ pub record RunSoFar : Type 0 where
 abbrev pub run_view : {L : Type 0} → PlainRunner L → RunSoFar
 run_view r = record { state = state_view r.caller.store; results = results_view r.results.items; lacked = r.caller.lacked }
 
--- the run itself, where the next steps find this of memory
+-- The same run, whose next steps find this of memory.
 abbrev pub run_with : List Memory → RunSoFar → RunState
 run_with memory run = record { state = with_memory memory run.state; results = run.results }
 
--- those children that are concurrent, or those that aren't
+-- The concurrent children, or the others.
 abbrev pub chosen : Bool → (ℕ → Bool) → ℕ → Bool
 chosen true concurrent = concurrent
 chosen false concurrent = λ child. not (concurrent child)
 
--- this holds of the results of the node that a path begins with, and of those of all nodes below it
+-- `P` holds of the result of the node with which the path begins, and of those of all nodes below it.
 pub record AllBelow (P : NodeOutcome → Type 0) (ids : List Id) (path : List ℕ) (results : List NodeOutcome) : Type 0 where
   pub each : (k : ℕ) (below : List ℕ) → IsPathOf ids k (below ++ path) → IsSomeAnd (slice_get results k) P
 
--- a node that is not told to have lacked memory, and can't have
+-- The node does not report a lack of memory, and had none.
 abbrev pub IsSpared : NodeOutcome → Type 0
 IsSpared r = may_lack_memory r ≡ false
 
--- so the node that a path begins with, and all below it
+-- The node with which a path begins and all nodes below it are spared.
 abbrev pub NodeSpared : List Id → List ℕ → List NodeOutcome → Type 0
 NodeSpared ids path results = AllBelow IsSpared ids path results
 
--- so those children of a node that are chosen, and all below them
+-- The chosen children of a node and all nodes below them are spared.
 abbrev pub ChildrenSpared : List Id → ℕ → (ℕ → Bool) → List ℕ → List NodeOutcome → Type 0
 ChildrenSpared ids at among path results = (child : ℕ) → IsParentOf ids at child → among child ≡ true → NodeSpared ids (child ∷ path) results
 
--- For the node of this number, whose path it goes by, the run became what this makes of it. Whatever later steps find of memory, there is something that those between
--- found; and whether they lacked some is told, by which nodes were spared it
+-- For the node with this number, whatever its path, the run changed as `by` says. Whatever later steps find of memory,
+-- there is something that the steps between found; and it is noted whether they lacked some, by which nodes were
+-- spared.
 pub record RunsAs (setting : Setting) (at : ℕ) (spared : List ℕ → List NodeOutcome → Type 0) (by : List ℕ → RunState → RunState) (old new : RunSoFar) : Type 0 where
   pub each : (path : List ℕ) → IsPathOf setting.tree.now at path → (later : List Memory)
       → (memory : List Memory) × (run_with later new ≡ by path (run_with memory old)) × TellsLacks old.lacked new.lacked memory later (spared path new.results)
 
--- the node and all below it are run
+-- The node and all nodes below it are run.
 abbrev pub NodeRuns : Setting → ℕ → (List ℕ → RunState → RunState) → RunSoFar → RunSoFar → Type 0
 NodeRuns setting at by old new = RunsAs setting at (NodeSpared setting.tree.now) by old new
 
--- those of its children that are chosen, with all below them
+-- The chosen children of the node are run, with all nodes below them.
 abbrev pub ChildrenRun : Setting → ℕ → (ℕ → Bool) → (List ℕ → RunState → RunState) → RunSoFar → RunSoFar → Type 0
 ChildrenRun setting at among by old new = RunsAs setting at (ChildrenSpared setting.tree.now at among) by old new
 
--- all children
+-- All children.
 abbrev pub any_child : ℕ → Bool
 any_child child = true
 
--- the end of a node whose calls came to this tally, whatever later steps find of memory
+-- The end of a node whose calls came to this tally, whatever later steps find of memory.
 pub record EndsNode (setting : Setting) (at : ℕ) (is_test : Bool) (tally : Tally) (old new : RunSoFar) : Type 0 where
   pub same : new.lacked ≡ old.lacked
   pub each : (outcomes : List Outcome) → tally ≡ tally_of outcomes → (later : List Memory)

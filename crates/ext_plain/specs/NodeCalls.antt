@@ -1,7 +1,7 @@
--- The calls of a node in a plain run: which steps each of them is, and what they leave one after another.
---
--- JUnit 5 User Guide, "Relative Execution Order of User Code and Extensions", by the lists of calls of [ext_lifecycle Callbacks]. That a call after a
--- before-callback that isn't successful is skipped, unless it is an after-callback, is an own rule.
+-- The calls of a node in a plain run: which steps each of them makes, and what they leave one after another. The calls
+-- are those of `Callbacks` in ext_lifecycle (JUnit 5 User Guide, "Relative Execution Order of User Code and
+-- Extensions"). That a before-callback that isn't successful skips all later calls except after-callbacks is chosen
+-- here.
 use Rattle.std.specs.Prelude.{ℕ, ◌+◌, Bool, List, [], ◌∷◌, ◌++◌, fold, if◌then◌else◌}
 use Rattle.ext_lifecycle.specs.declared.call.Call.{Call}
 use Rattle.ext_lifecycle.specs.Callbacks.{afters_of, befores_of, test_call}
@@ -13,24 +13,24 @@ use Rattle.ext_plain.specs.ValueStates.{ValueState}
 use Rattle.ext_plain.specs.StepRuns.{StepEnd, steps_run}
 
 module _ (plan : PlanText) where
-  -- a call of a node with this path: its steps run in the context of that node, also where another node registered them
+  -- A call of a node with this path: its steps run in that node's context, even if another node registered them.
   abbrev pub call_run : List ℕ → Call → ValueState → StepEnd
   call_run path call s = steps_run plan.keys path (steps_of_call plan call) s
 
 -- ---- calls, one after another
 
--- what a node's calls leave, how they ended, and what they computed and found
+-- What a node's calls leave, how they ended, and what they computed and found.
 pub record CallsEnd : Type 0 where
   pub state : ValueState
   pub calls : List VerdictText
   pub computed : ℕ
   pub found : ℕ
 
--- before the first call
+-- Before the first call.
 abbrev pub no_calls : ValueState → CallsEnd
 no_calls s = record { state = s; calls = []; computed = 0; found = 0 }
 
--- one call more
+-- One more call.
 abbrev pub and_call : CallsEnd → StepEnd → CallsEnd
 and_call before call = record {
   state = call.state;
@@ -39,20 +39,20 @@ and_call before call = record {
   found = before.found + call.found;
 }
 
--- `run call state` says what a call leaves
+-- `run call state` is what a call leaves.
 module _ (run : Call → ValueState → StepEnd) where
   abbrev pub make : CallsEnd → Call → CallsEnd
   make before call = and_call before (run call before.state)
 
-  -- the call is made where all calls before it were successful
+  -- The call is made if all calls before it were successful.
   abbrev pub make_if_successful : CallsEnd → Call → CallsEnd
   make_if_successful before call = if all_successful before.calls then make before call else before
 
-  -- all of these calls, in order
+  -- All of these calls, in order.
   abbrev pub make_all : List Call → CallsEnd → CallsEnd
   make_all calls before = fold make before calls
 
-  -- in order, up to the first that isn't successful
+  -- The calls in order, up to and including the first that isn't successful.
   abbrev pub make_befores : List Call → CallsEnd → CallsEnd
   make_befores calls before = fold make_if_successful before calls
 
@@ -62,7 +62,7 @@ module _ (plan : PlanText) where
   abbrev pub befores_run : Bool → ℕ → List ℕ → ValueState → CallsEnd
   befores_run is_test at path s = make_befores (call_run plan path) (befores_of (registered plan) is_test at path) (no_calls s)
 
-  -- the body of a test
+  -- The body of a test.
   abbrev pub test_run : ℕ → List ℕ → CallsEnd → CallsEnd
   test_run at path before = make_if_successful (call_run plan path) before (test_call at)
 

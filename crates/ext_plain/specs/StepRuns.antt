@@ -1,9 +1,9 @@
--- What the steps of a test or of a callback do to the store of one thread, and how each of them ends.
---
--- JUnit 5 User Guide, "Keeping State in Extensions", and Javadoc `ExtensionContext.Store`, `put`, `get`, `remove` and `getOrComputeIfAbsent`, by the definitions
--- of the store's state. A step acts on the first context of the path that it is given, and looks up along it. A key that is no label's is made first. A step that puts then
--- keeps its value. Then the key gets its number, unless it has one. The steps and their texts, and the numbers of keys, are an own rule.
-use Rattle.std.specs.Prelude.{ℕ, ◌+◌, ◌&&◌, codes, Bool, true, false, if◌then◌else◌, List, [], ◌∷◌, drop, Option, Some, None}
+-- What the steps of a test or a callback do to the store of one thread, and how each of them ends (JUnit 5 User Guide,
+-- "Keeping State in Extensions"; Javadoc `ExtensionContext.Store`, `put`, `get`, `remove` and `getOrComputeIfAbsent`).
+-- A step acts on the first context of the path that it is given, and looks up along it. First its key is made, unless
+-- that has a label. Then a step that puts keeps its value. Then the key gets its number, unless it has one. Steps,
+-- their texts and the numbers of keys are not from JUnit.
+use Rattle.std.specs.Prelude.{ℕ, ◌+◌, ◌&&◌, codes, Bool, true, false, if◌then◌else◌, List, [], ◌∷◌, Option, Some, None}
 use Rattle.ext_model.specs.declared.event.Act.{Act}
 use Rattle.ext_model.specs.declared.event.Act.TheVariants.{Put, Remove, Claim, Fill, Fail, Abandon}
 use Rattle.ext_model.specs.declared.look.Look.{Look}
@@ -12,18 +12,21 @@ use Rattle.ext_model.specs.declared.slot.Slot.{Slot}
 use Rattle.ext_model.specs.State.{lookup}
 use Rattle.ext_model.specs.Plain.{Place, under}
 use Rattle.ext_tree.specs.Keys.{KeyValue}
-use Rattle.ext_plan.specs.Plans.{KeyText, StepKeyText, StepText, put, put_closeable, want, nothing, remove, compute, compute_closeable, compute_fail, fail, abort}
-use Rattle.ext_plan.specs.StoreKeys.{key_of_step}
+use Rattle.ext_plan.specs.declared.word.Word.{Word}
+use Rattle.ext_plan.specs.declared.word.Word.TheVariants as words
+use Rattle.ext_plan.specs.Plans.{KeyText, StepText, keyed, fail, abort}
 use Rattle.ext_lifecycle.specs.Endings.{successful, aborted, failed}
 use Rattle.ext_lifecycle.specs.FaultTexts.{VerdictText}
 use Rattle.ext_plan.specs.declared.reason.Reason.{Reason}
 use Rattle.ext_plan.specs.declared.reason.Reason.TheVariants as reasons
-use Rattle.ext_plan.specs.StepCalls.{is_made, label_of, start_of}
+use Rattle.ext_plan.specs.StepCalls.{CallText, call_of, is_made, start_of}
+use Rattle.ext_plan.specs.StepWords.{word_text}
 use Rattle.ext_plan.specs.Values.{ValueText}
 use Rattle.ext_plan.specs.Verdicts.{SeenText, seen_value, seen_fault, seen_nothing, seen_refused, refused, unless_refused, want_verdict, none_verdict, fail_verdict}
 use Rattle.ext_plain.specs.ValueStates.{Memory, enough, no_key, no_value, no_number, no_place, no_words, ValueState, with_memory, next_found, found_later, after_act, why_refused, next_number, keep_value, value_of, Numbering, known, next, full, numbering_of, with_number}
 
--- what a step, a test or a callback leaves, how it ended, how many values it computed, and how many it found where it would have computed one
+-- What a step, a test or a callback leaves, how it ended, how many values it computed, and how many it found where it
+-- would have computed one.
 pub record StepEnd : Type 0 where
   pub state : ValueState
   pub verdict : VerdictText
@@ -33,17 +36,17 @@ pub record StepEnd : Type 0 where
 abbrev pub ended : VerdictText → ValueState → StepEnd
 ended verdict s = record { state = s; verdict = verdict; computed = 0; found = 0 }
 
--- a step that finds no memory fails with these words
+-- A step that finds no memory fails with these words.
 abbrev pub no_memory : VerdictText
 no_memory = failed (codes "no memory")
 
--- a verdict for whose words there is no memory; a success has none
+-- The verdict if there is no memory for its words. A success has none.
 abbrev pub without_words : VerdictText → VerdictText
 without_words successful = successful
 without_words (aborted text) = no_memory
 without_words (failed text) = no_memory
 
--- the same step, which asks for no memory but that for its words
+-- The same end, of a step that asks for no memory except for its words.
 abbrev pub said_by : Memory → StepEnd → StepEnd
 said_by enough end = end
 said_by no_key end = end
@@ -52,18 +55,18 @@ said_by no_number end = end
 said_by no_place end = end
 said_by no_words end = record end { verdict = without_words end.verdict }
 
--- a step's last act, refused or not
+-- A step's last act, refused or not.
 abbrev pub act_ends : List ℕ → List ℕ → Act Place → ValueState → StepEnd
 act_ends name label act s = ended (unless_refused name label (why_refused act s)) (after_act act s)
 
--- what goes on, unless a step was refused: then it ends in this state
+-- What follows, unless the step was refused: then it ends in this state.
 abbrev pub or_refused : List ℕ → List ℕ → Option Reason → ValueState → StepEnd → StepEnd
 or_refused name label None s goes_on = goes_on
 or_refused name label (Some why) s goes_on = ended (refused name label why) s
 
 -- ---- the key of a step
 
--- which memory is lacked: that for a key that is made for the step,
+-- There is no memory for a key that is made for the step.
 abbrev pub lacks_key : Memory → Bool
 lacks_key enough = false
 lacks_key no_key = true
@@ -72,7 +75,7 @@ lacks_key no_number = false
 lacks_key no_place = false
 lacks_key no_words = false
 
--- that for a value that is kept,
+-- There is no memory for a value to keep.
 abbrev pub lacks_value : Memory → Bool
 lacks_value enough = false
 lacks_value no_key = false
@@ -81,7 +84,7 @@ lacks_value no_number = false
 lacks_value no_place = false
 lacks_value no_words = false
 
--- that for the number of a new key,
+-- There is no memory for the number of a new key.
 abbrev pub lacks_number : Memory → Bool
 lacks_number enough = false
 lacks_number no_key = false
@@ -90,7 +93,7 @@ lacks_number no_number = true
 lacks_number no_place = false
 lacks_number no_words = false
 
--- or that for a place of the store
+-- There is no memory for a place of the store.
 abbrev pub lacks_place : Memory → Bool
 lacks_place enough = false
 lacks_place no_key = false
@@ -99,60 +102,64 @@ lacks_place no_number = false
 lacks_place no_place = true
 lacks_place no_words = false
 
--- The key is made, where it is no label's; with no memory for it nothing is done
+-- The key is made, unless it has a label. Without memory for it nothing is done.
 abbrev pub made_by : Memory → Bool → ValueState → StepEnd → StepEnd
 made_by found made s goes_on = if lacks_key found && made then ended no_memory s else goes_on
 
--- By what the key has: it goes on with its number. With no memory for a new key's number the key gets none, and nothing more is done
+-- The step goes on with its key's number. Without memory for a new key's number the key gets none, and nothing more is
+-- done.
 abbrev pub number_by : Memory → List ℕ → List ℕ → KeyValue → (ℕ → ValueState → StepEnd) → ValueState → Numbering → StepEnd
 number_by found name label key goes_on s (known number) = goes_on number s
 number_by found name label key goes_on s (next number) = if lacks_number found then ended no_memory s else goes_on number (with_number key s)
 number_by found name label key goes_on s full = said_by found (ended (refused name label reasons.DirectoryFull) s)
 
--- The key's number: its own, where it has one; else the next, where not all are given; else the step is refused
+-- The key's number: its own if it has one, otherwise the next if one is left; otherwise the step is refused.
 abbrev pub numbered_by : Memory → List ℕ → List ℕ → KeyValue → (ℕ → ValueState → StepEnd) → ValueState → StepEnd
 numbered_by found name label key goes_on s = number_by found name label key goes_on s (numbering_of s.keys key)
 
 -- ---- `put` and `put!`
 
--- the number that was drawn last, that of the value kept last, is stored in the context
+-- The number of the value kept last, which was drawn last, is stored in the context.
 abbrev pub put_kept : List ℕ → List ℕ → Place → ValueState → StepEnd
 put_kept name label place kept = act_ends name label (Put place kept.store.drawn) kept
 
--- what is done where nothing stands in a place, and what is done else
+-- What is done if nothing stands in a place, and what is done otherwise.
 abbrev pub if_empty : Option Slot → StepEnd → StepEnd → StepEnd
 if_empty None empty other = empty
 if_empty (Some slot) empty other = other
 
--- with no memory for the place the number is not stored; a place where something stands needs none
+-- Without memory for the place the number is not stored. A place where something stands needs none.
 abbrev pub put_in : Memory → List ℕ → List ℕ → Place → ValueState → StepEnd
 put_in found name label place kept = said_by found (if lacks_place found then if_empty (kept.store.slots place) (ended no_memory kept) (put_kept name label place kept) else put_kept name label place kept)
 
--- the step ends where no number was left for its value, and else goes on
+-- The step ends if no number was left for its value, and otherwise goes on.
 abbrev pub kept_or_refused : Memory → List ℕ → List ℕ → Option Reason → ValueState → StepEnd → StepEnd
 kept_or_refused found name label None s goes_on = goes_on
 kept_or_refused found name label (Some why) s goes_on = said_by found (ended (refused name label why) s)
 
--- The value is kept, and then its number is stored under the key in this context. With no memory for the value nothing is done
+-- The value is kept, if there is one, and the step goes on. Without memory for the value nothing is done.
+abbrev pub first_kept : Memory → List ℕ → List ℕ → Option ValueText → (ValueState → StepEnd) → ValueState → StepEnd
+first_kept found name label None goes_on s = goes_on s
+first_kept found name label (Some value) goes_on s =
+    if lacks_value found then ended no_memory s else kept_or_refused found name label (why_refused (next_number s) s) s (goes_on (keep_value value s))
+
+-- A value is kept, and then its number is stored under the key in this context.
 abbrev pub put_by : Memory → List ℕ → List ℕ → ℕ → KeyValue → ValueText → ValueState → StepEnd
-put_by found name label at key value s =
-    if lacks_value found
-    then ended no_memory s
-    else kept_or_refused found name label (why_refused (next_number s) s) s (numbered_by found name label key (λ number. put_in found name label (at, number)) (keep_value value s))
+put_by found name label at key value s = first_kept found name label (Some value) (numbered_by found name label key (λ number. put_in found name label (at, number))) s
 
 -- ---- `want` and `none`, which change nothing
 
--- the value of a number that a look-up found, which each number that was drawn has
+-- The value of a number that a look-up found. Each number that was drawn has one.
 abbrev pub shown : Option ValueText → SeenText
 shown None = seen_refused reasons.NotShown
 shown (Some value) = seen_value value.text
 
--- the kept fault of a number that a look-up met; it has the text of the step whose factory failed
+-- The kept fault of a number that a look-up met. It has the text of the step whose factory failed.
 abbrev pub shown_fault : Option ValueText → SeenText
 shown_fault None = seen_refused reasons.NotShown
 shown_fault (Some value) = seen_fault value.text
 
--- what a look-up shows
+-- What a look-up shows.
 abbrev pub seen_by : List ValueText → Look → SeenText
 seen_by values (look.Found at number) = shown (value_of values number)
 seen_by values (look.Fault at number) = shown_fault (value_of values number)
@@ -162,15 +169,17 @@ seen_by values (look.Closed at) = seen_refused reasons.Closed
 
 -- ---- `compute`, `compute!` and `computefail`
 
--- The factory gave this value, under the claim that now stands. Its number is drawn and stored in the place of the claim; where none is left, the claim goes
+-- The factory gave this value under the claim that stands. Its number is drawn and stored in the claim's place. If none
+-- is left, the claim is given up.
 abbrev pub factory_gave : List ℕ → List ℕ → Place → ValueText → ValueState → StepEnd
 factory_gave name label place value s =
     let kept = keep_value value s in
     let computed : StepEnd = record { state = after_act (Fill place kept.store.drawn) kept; verdict = successful; computed = 1; found = 0 } in
     or_refused name label (why_refused (next_number s) s) (after_act (Abandon place) s) computed
 
--- The factory failed with this text. Where faults are not kept its own fault comes back: the claim goes, and the step passes. Where they are its fault is kept: its number is
--- drawn and stored in the place of the claim, and the step passes; where none is left, the claim goes
+-- The factory failed with this text. A store that keeps no faults gives the claim up, and the step succeeds. A store
+-- that keeps them draws a number and stores it in the claim's place, and the step succeeds; if no number is left, the
+-- claim is given up.
 abbrev pub factory_failed : List ℕ → List ℕ → Place → List ℕ → ValueState → StepEnd
 factory_failed name label place text s =
     let kept = keep_value (record { text = text; closeable = false }) s in
@@ -178,11 +187,11 @@ factory_failed name label place text s =
     then or_refused name label (why_refused (next_number s) s) (after_act (Abandon place) s) (ended successful (after_act (Fail place kept.store.drawn) kept))
     else ended successful (after_act (Abandon place) s)
 
--- where nothing was found the place is claimed, and its factory runs
+-- If nothing was found, the place is claimed and its factory runs.
 abbrev pub claim_and : List ℕ → List ℕ → Place → (ValueState → StepEnd) → ValueState → StepEnd
 claim_and name label place factory s = or_refused name label (why_refused (Claim place) s) s (factory (after_act (Claim place) s))
 
--- by what the look-up answers
+-- What a compute does, by what the look-up answers.
 abbrev pub compute_looked : List ℕ → List ℕ → Place → ValueText → ValueState → Look → StepEnd
 compute_looked name label place value s (look.Found at number) = record { state = s; verdict = successful; computed = 0; found = 1 }
 compute_looked name label place value s (look.Fault at number) = ended (none_verdict name label (shown_fault (value_of s.values number))) s
@@ -190,7 +199,7 @@ compute_looked name label place value s look.Absent = claim_and name label place
 compute_looked name label place value s (look.Busy at) = ended (refused name label reasons.Busy) s
 compute_looked name label place value s (look.Closed at) = ended (refused name label reasons.Closed) s
 
--- what is done only where a look-up finds nothing, and what is done else
+-- What is done only if a look-up finds nothing, and what is done otherwise.
 abbrev pub if_absent : Look → StepEnd → StepEnd → StepEnd
 if_absent (look.Found at number) absent other = other
 if_absent (look.Fault at number) absent other = other
@@ -198,7 +207,8 @@ if_absent look.Absent absent other = absent
 if_absent (look.Busy at) absent other = other
 if_absent (look.Closed at) absent other = other
 
--- With no memory for the value the claim goes. With none for the place there is no claim. Neither is asked for where a value is found
+-- Without memory for the value the claim is given up. Without memory for the place there is no claim. Neither is needed
+-- if a value is found.
 abbrev pub compute_by : Memory → List ℕ → List ℕ → Place → ValueText → ValueState → Look → StepEnd
 compute_by enough name label place value s found = compute_looked name label place value s found
 compute_by no_key name label place value s found = compute_looked name label place value s found
@@ -215,7 +225,7 @@ computefail_looked name label place text s look.Absent = claim_and name label pl
 computefail_looked name label place text s (look.Busy at) = ended (refused name label reasons.Busy) s
 computefail_looked name label place text s (look.Closed at) = ended (refused name label reasons.Closed) s
 
--- With no memory for a fault that is to be kept the claim goes, as for a value; where faults are not kept it keeps nothing
+-- Without memory for a fault to be kept the claim is given up, as for a value. A store that keeps no faults needs none.
 abbrev pub computefail_by : Memory → List ℕ → List ℕ → Place → List ℕ → ValueState → Look → StepEnd
 computefail_by enough name label place text s found = computefail_looked name label place text s found
 computefail_by no_key name label place text s found = computefail_looked name label place text s found
@@ -229,11 +239,11 @@ computefail_by no_words name label place text s found = said_by no_words (comput
 
 -- ---- the steps of a test or of a callback
 
--- what is found under the key of a number along a path
+-- What a look-up finds along a path, under the key with a number.
 abbrev pub found_along : ℕ → List ℕ → ValueState → Look
 found_along number path s = lookup (under s.store number) path
 
--- what a step does once its key has a number
+-- What a step does once its key has a number.
 abbrev pub want_numbered : Memory → List ℕ → List ℕ → List ℕ → List ℕ → ℕ → ValueState → StepEnd
 want_numbered found name label path text number s = said_by found (ended (want_verdict name label text (seen_by s.values (found_along number path s))) s)
 
@@ -249,47 +259,58 @@ compute_numbered found name label path value number s = compute_by found name la
 abbrev pub computefail_numbered : Memory → List ℕ → List ℕ → List ℕ → List ℕ → ℕ → ValueState → StepEnd
 computefail_numbered found name label path text number s = computefail_by found name label (start_of path, number) text s (found_along number path s)
 
+-- The value that a step with this word keeps before its key is numbered.
+abbrev pub value_first : Word → List ℕ → Option ValueText
+value_first words.Put text = Some (record { text = text; closeable = false })
+value_first words.PutCloseable text = Some (record { text = text; closeable = true })
+value_first words.Want text = None
+value_first words.None text = None
+value_first words.Remove text = None
+value_first words.Compute text = None
+value_first words.ComputeCloseable text = None
+value_first words.ComputeFail text = None
+
+-- What the step does under the number of its key.
+abbrev pub acts_by : Memory → Word → CallText → List ℕ → ℕ → ValueState → StepEnd
+acts_by found words.Put call text = λ number. put_in found call.name call.label (start_of call.path, number)
+acts_by found words.PutCloseable call text = λ number. put_in found call.name call.label (start_of call.path, number)
+acts_by found words.Want call text = want_numbered found call.name call.label call.path text
+acts_by found words.None call text = none_numbered found call.name call.label call.path
+acts_by found words.Remove call text = remove_numbered found call.name call.label call.path
+acts_by found words.Compute call text = compute_numbered found call.name call.label call.path (record { text = text; closeable = false })
+acts_by found words.ComputeCloseable call text = compute_numbered found call.name call.label call.path (record { text = text; closeable = true })
+acts_by found words.ComputeFail call text = computefail_numbered found call.name call.label call.path text
+
+-- The step's call of the store, once its key is made.
+abbrev pub call_by : Memory → Word → CallText → List ℕ → ValueState → StepEnd
+call_by found word call text s = first_kept found call.name call.label (value_first word text) (numbered_by found call.name call.label call.key (acts_by found word call text)) s
+
 module _ (keys : List KeyText) where
-  -- a step that first keeps its value
-  abbrev pub keeping_by : Memory → List ℕ → StepKeyText → List ℕ → ValueText → ValueState → StepEnd
-  keeping_by found name key path value s = made_by found (is_made keys key) s (put_by found name (label_of keys key) (start_of path) (key_of_step keys key) value s)
-
-  -- a step that first numbers its key
-  abbrev pub keyed_by : Memory → List ℕ → StepKeyText → (List ℕ → ℕ → ValueState → StepEnd) → ValueState → StepEnd
-  keyed_by found name key goes_on s = made_by found (is_made keys key) s (numbered_by found name (label_of keys key) (key_of_step keys key) (goes_on (label_of keys key)) s)
-
-  -- A step that runs in the context of this path, by what it finds of memory; with `up` it goes by the path of an ancestor
+  -- A step that runs in the context of this path, by what it finds of memory.
   abbrev pub step_by : Memory → List ℕ → StepText → ValueState → StepEnd
-  step_by found path (put key text up) s = keeping_by found (codes "put") key (drop up path) (record { text = text; closeable = false }) s
-  step_by found path (put_closeable key text up) s = keeping_by found (codes "put!") key (drop up path) (record { text = text; closeable = true }) s
-  step_by found path (want key text up) s = keyed_by found (codes "want") key (λ label. want_numbered found (codes "want") label (drop up path) text) s
-  step_by found path (nothing key up) s = keyed_by found (codes "none") key (λ label. none_numbered found (codes "none") label (drop up path)) s
-  step_by found path (remove key up) s = keyed_by found (codes "remove") key (λ label. remove_numbered found (codes "remove") label (drop up path)) s
-  step_by found path (compute key text up) s = keyed_by found (codes "compute") key (λ label. compute_numbered found (codes "compute") label (drop up path) (record { text = text; closeable = false })) s
-  step_by found path (compute_closeable key text up) s = keyed_by found (codes "compute!") key (λ label. compute_numbered found (codes "compute!") label (drop up path) (record { text = text; closeable = true })) s
-  step_by found path (compute_fail key text up) s = keyed_by found (codes "computefail") key (λ label. computefail_numbered found (codes "computefail") label (drop up path) text) s
+  step_by found path (keyed word key text up) s = made_by found (is_made keys key) s (call_by found word (call_of keys path (word_text word) key up) text s)
   step_by found path (fail text) s = said_by found (ended (failed text) s)
   step_by found path (abort text) s = said_by found (ended (aborted text) s)
 
-  -- one that finds enough
+  -- A step that finds enough memory.
   abbrev pub step_run : List ℕ → StepText → ValueState → StepEnd
   step_run = step_by enough
 
-  -- the next step that is made, by what it finds
+  -- The next step that is made, by what it finds.
   abbrev pub next_step : List ℕ → StepText → ValueState → StepEnd
   next_step path step s = step_by (next_found s.memory) path step (with_memory (found_later s.memory) s)
 
--- one step and then the rest: the counts of both are added up
+-- One step and then the rest. The counts of both are added up.
 abbrev pub and_then : StepEnd → StepEnd → StepEnd
 and_then first rest = record { state = rest.state; verdict = rest.verdict; computed = first.computed + rest.computed; found = first.found + rest.found }
 
--- the first step that isn't successful ends the test or the callback
+-- The first step that isn't successful ends the test or the callback.
 abbrev pub unless_ended : VerdictText → StepEnd → (ValueState → StepEnd) → StepEnd
 unless_ended successful first go_on = and_then first (go_on first.state)
 unless_ended (aborted text) first go_on = first
 unless_ended (failed text) first go_on = first
 
--- in order, up to the first that isn't successful
+-- The steps in order, up to and including the first that isn't successful.
 unfoldable pub steps_run : List KeyText → List ℕ → List StepText → ValueState → StepEnd
 steps_run keys path [] s = ended successful s
 steps_run keys path (step ∷ more) s = unless_ended (next_step keys path step s).verdict (next_step keys path step s) (steps_run keys path more)

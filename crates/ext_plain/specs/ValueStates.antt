@@ -1,5 +1,5 @@
--- The store of a run, the keys and the values of its numbers, and what an act does to it. Javadoc `NamespacedHierarchicalStore`, for one thread, by the definitions
--- of the store's state; that keys and values are seen by numbers is an own rule.
+-- The store of a run, its keys and the values of its numbers, and what an act does to it: Javadoc
+-- `NamespacedHierarchicalStore` for one thread. That keys and values are seen by numbers is not from JUnit.
 use Rattle.std.specs.Prelude.{ℕ, Bool, zero, suc, ◌+◌, List, [], ◌∷◌, ◌++◌, length, nat_lt, Option, Some, None, slice_get, if◌then◌else◌}
 use Rattle.ext_model.specs.declared.event.Act.{Act}
 use Rattle.ext_model.specs.declared.event.Act.TheVariants.{Keep}
@@ -12,16 +12,16 @@ use Rattle.ext_plan.specs.declared.reason.Reason.{Reason}
 use Rattle.ext_plan.specs.declared.reason.Reason.TheVariants as reasons
 use Rattle.ext_plan.specs.Values.{ValueText}
 
--- how many numbers a run's store draws at most
+-- How many numbers a run's store draws at most.
 abbrev pub run_numbers : ℕ
 run_numbers = 65535
 
--- how many keys have numbers at most
+-- How many keys have numbers at most.
 abbrev pub key_limit : ℕ
 key_limit = 64
 
--- what a step finds of the memory that it asks for: enough; or none for the key that is made for it, none for a value that it keeps, none for the number of a new key,
--- none for a place of the store, or none for the words of its fault
+-- What a step finds of the memory that it asks for: enough, or none for one of these: a key that is made for it, a
+-- value that it keeps, the number of a new key, a place of the store, or the words of its fault.
 pub data Memory : Type 0 where
   enough : Memory
   no_key : Memory
@@ -30,9 +30,10 @@ pub data Memory : Type 0 where
   no_place : Memory
   no_words : Memory
 
--- the store of a run: whether it keeps faults, as it does from its opening on or never; its state; the keys that have a number, in the order in which steps first named
--- them, where the place of each is its number; the values that were kept, the first of which has number 1, and among them the text of each kept fault, as a value that
--- isn't closeable; and what the next steps find of memory, in the order in which they are made; steps past the end of that list find enough
+-- The store of a run: whether it keeps faults; its state; the keys that have a number, in the order in which steps
+-- first named them, each key's place being its number; the kept values, from number 1 on, and among them the text of
+-- each kept fault, as a value that isn't closeable; and what the next steps find of memory, in the order in which they
+-- are made. Steps past the end of that list find enough.
 pub record ValueState : Type 0 where
   pub keep_faults : Bool
   pub store : State Place
@@ -42,34 +43,35 @@ pub record ValueState : Type 0 where
 
 -- ---- an act on the store
 
--- the store at its opening, which keeps faults or not
+-- The newly opened store, which keeps faults or not.
 abbrev pub value_opening : Bool → ValueState
 value_opening keeps = record { keep_faults = keeps; store = opening; keys = []; values = []; memory = [] }
 
--- the same, where the next steps find this of memory
+-- The same store, whose next steps find this of memory.
 abbrev pub with_memory : List Memory → ValueState → ValueState
 with_memory memory s = record s { memory = memory }
 
--- what the next step finds
+-- What the next step finds.
 abbrev pub next_found : List Memory → Memory
 next_found [] = enough
 next_found (found ∷ more) = found
 
--- and what those after it find
+-- What the steps after it find.
 abbrev pub found_later : List Memory → List Memory
 found_later [] = []
 found_later (found ∷ more) = more
 
--- what the store answers to an act
+-- What the store answers to an act.
 abbrev pub reply_to : Act Place → ValueState → Reply
 reply_to act s = plain_reply run_numbers s.store any_lane act
 
--- the store after an act, whether the act is an event or refused
+-- The store after an act, whether the act is an event or refused.
 abbrev pub after_act : Act Place → ValueState → ValueState
 after_act act s = record s { store = next_state run_numbers s.store any_lane act }
 
--- Why a step's call of the store was refused. In a plain run only the first comes: a step acts on contexts that are not sealed yet, a claim follows a look-up
--- that found nothing, and one thread between two steps has no claims, and no versions that could run out
+-- Why a step's call of the store was refused. In a plain run only the first reason comes: a step acts on contexts that
+-- are not sealed yet, a claim follows a look-up that found nothing, and between two steps one thread has no claims, and
+-- no versions that could run out.
 abbrev pub reason : Refusal → Reason
 reason NumbersFull = reasons.NumbersFull
 reason Busy = reasons.Busy
@@ -79,7 +81,7 @@ reason (FaultStanding number) = reasons.Busy
 reason Exhausted = reasons.Exhausted
 reason Barred = reasons.Busy
 
--- why an act is refused, where it is
+-- Why an act is refused, if it is.
 abbrev pub refusal : Reply → Option Reason
 refusal (Happens answer) = None
 refusal (Answers answer) = None
@@ -88,22 +90,23 @@ refusal (Refuses why) = Some (reason why)
 abbrev pub why_refused : Act Place → ValueState → Option Reason
 why_refused act s = refusal (reply_to act s)
 
--- a number is drawn: the next one
+-- Draws the next number.
 abbrev pub next_number : ValueState → Act Place
 next_number s = Keep (s.store.drawn + 1)
 
--- a value is kept under the number that is drawn for it
+-- A value is kept under the number that is drawn for it.
 abbrev pub keep_value : ValueText → ValueState → ValueState
 keep_value value s = record s { store = next_state run_numbers s.store any_lane (next_number s); values = s.values ++ value ∷ [] }
 
--- the value of a number, which numbers count from 1
+-- The value of a number; numbers count from 1.
 abbrev pub value_of : List ValueText → ℕ → Option ValueText
 value_of values zero = None
 value_of values (suc n) = slice_get values n
 
 -- ---- the number of a key
 
--- what a key that a step names has: a number; the next number, which it gets; or none, where all numbers are those of other keys
+-- What a key has that a step names: a number; the next number, which it gets; or none, because all numbers belong to
+-- other keys.
 pub data Numbering : Type 0 where
   known : ℕ → Numbering
   next : ℕ → Numbering
@@ -112,6 +115,6 @@ pub data Numbering : Type 0 where
 abbrev pub numbering_of : List KeyValue → KeyValue → Numbering
 numbering_of keys key = if is_there keys key then known (place_of_key keys key) else if nat_lt (length keys) key_limit then next (length keys) else full
 
--- the key gets the next number
+-- The key gets the next number.
 abbrev pub with_number : KeyValue → ValueState → ValueState
 with_number key s = record s { keys = s.keys ++ key ∷ [] }

@@ -1,38 +1,58 @@
-//! Steps that name a key: each makes its key, numbers it, and then acts under that number.
-ghost use Rattle.std.specs.Prelude.{◌≡◌, false};
-ghost use Rattle.ext_plan.specs.StepCalls.{call_view};
+//! Steps that call the store: each makes its key, numbers it, and then acts under that number.
+ghost use Rattle.std.specs.Prelude.{◌≡◌, None, false, option_map};
+ghost use Rattle.ext_plan.specs.Plans.{keyed, step_key_view};
+ghost use Rattle.ext_plan.specs.StepCalls.{call_view, keys_in, start_of};
 ghost use Rattle.ext_plan.specs.Values.{value_view};
-ghost use Rattle.ext_plain.specs.StepRuns.{compute_numbered, computefail_numbered, keeping_by, keyed_by, lacks_value, none_numbered, put_in, remove_numbered, want_numbered};
-ghost use Rattle.ext_plain.specs.InnerSteps.{answer_end, end_of_step, keyed_view, memory_of, memory_of_step, place_of_call, state_view};
+ghost use Rattle.ext_plain.specs.StepRuns.{acts_by, lacks_value, numbered_by, put_by, put_in, remove_numbered, step_by, value_first};
+ghost use Rattle.ext_plain.specs.InnerSteps.{answer_end, end_of_step, memory_of, memory_of_step, place_of_call, state_view, DoesKeyed};
 
-use crate::keyed_step::KeyedStep;
 use crate::lack::{Lack, StepLack};
 use crate::said::{say_refused, say_unless_refused};
 use crate::value_store::ValueStore;
 use ext_lifecycle::Outcome;
-use ext_model::KeyNo;
-use ext_plan::{PlanValue, StepCall};
+use ext_model::{ContextNo, KeyNo};
+use ext_plan::{KeyedStep, PlanValue, StepCall, StepKeys, Word};
 use std::alloc::Global;
 
 impl<'a> ValueStore<'a> {
-    /// Runs a step `put` or `put!`: keeps the value, which draws its number, then numbers the key,
-    /// and stores the value's number in the context.
-    pub fn put_step(
+    /// Runs a step that calls the store, in the context of this path.
+    pub fn run_keyed(
         &mut self,
         alloc: Global,
-        step: &KeyedStep<'_, '_>,
+        keys: &StepKeys<'_>,
+        path: &[ContextNo],
+        step: KeyedStep<'a>,
+    ) -> Result<Outcome, StepLack>
+        ensures { end_of_step (state_view self.new) result ≡ step_by (keys_in keys.now) (memory_of_step result) path.now
+            (keyed step.entry.word (step_key_view step.entry.key.now) step.entry.text.now step.entry.up) (state_view self.old) }
+    {
+        let Ok(made) = keys.key_of(alloc, step.key) else {
+            return Err(StepLack::Key);
+        };
+        let call = keys.call(step, made.key(), path);
+        match value_first(step) {
+            Some(value) => self.put_step(alloc, &call, value),
+            None => self.act_step(alloc, &call, step),
+        }
+    }
+
+    /// Runs a step `put` or `put!`: keeps the value, which draws its number, then numbers the key,
+    /// and stores the value's number in the context.
+    fn put_step(
+        &mut self,
+        alloc: Global,
+        call: &StepCall<'_>,
         value: PlanValue<'a>,
     ) -> Result<Outcome, StepLack>
-        ensures { let k = keyed_view step.now in end_of_step (state_view self.new) result ≡ keeping_by k.keys (memory_of_step result) k.name k.key k.path (value_view value.entry) (state_view self.old) }
+        ensures { let c = call_view call.now in DoesKeyed (state_view self.old) (state_view self.new) result
+            (λ found. put_by found c.name c.label (start_of c.path) c.key (value_view value.entry) (state_view self.old)) }
     {
-        let made = step.made(alloc)?;
-        let call = step.call(made.key());
         match self.keep(value) {
             Err(lack) => Err(StepLack::Act(lack)),
-            Ok(Err(why)) => StepLack::of(say_refused(alloc, &call, why)),
-            Ok(Ok(number)) => match self.number(made.key())? {
-                Err(why) => StepLack::of(say_refused(alloc, &call, why)),
-                Ok(key) => StepLack::of(self.put_value(alloc, &call, key, number)),
+            Ok(Err(why)) => StepLack::of(say_refused(alloc, call, why)),
+            Ok(Ok(number)) => match self.declare(call.key)? {
+                Err(why) => StepLack::of(say_refused(alloc, call, why)),
+                Ok(key) => StepLack::of(self.put_value(alloc, call, key, number)),
             },
         }
     }
@@ -53,55 +73,44 @@ impl<'a> ValueStore<'a> {
         say_unless_refused(alloc, call, why)
     }
 
-    /// Makes a step `want`: looks the key up, and compares what is found with the text.
-    pub fn want_step(
+    /// Runs a step that keeps no value first: numbers its key, and acts under that number.
+    fn act_step(
         &mut self,
         alloc: Global,
-        step: &KeyedStep<'_, '_>,
-        text: &str,
+        call: &StepCall<'_>,
+        step: KeyedStep<'a>,
     ) -> Result<Outcome, StepLack>
-        ensures { let k = keyed_view step.now in end_of_step (state_view self.new) result ≡ keyed_by k.keys (memory_of_step result) k.name k.key
-            (λ label. want_numbered (memory_of_step result) k.name label k.path text.now) (state_view self.old) }
+        requires { value_first step.word step.text.now ≡ None }
+        ensures { let c = call_view call.now in DoesKeyed (state_view self.old) (state_view self.new) result
+            (λ found. numbered_by found c.name c.label c.key (acts_by found step.entry.word c step.entry.text.now) (state_view self.old)) }
     {
-        let made = step.made(alloc)?;
-        let call = step.call(made.key());
-        match self.number(made.key())? {
-            Err(why) => StepLack::of(say_refused(alloc, &call, why)),
-            Ok(key) => StepLack::of(self.want(alloc, &call, key, text)),
+        match self.declare(call.key)? {
+            Err(why) => StepLack::of(say_refused(alloc, call, why)),
+            Ok(key) => StepLack::of(self.act(alloc, call, key, step)),
         }
     }
 
-    /// Makes a step `none`: looks the key up, and fails where anything is found.
-    pub fn none_step(
+    /// Does what the step's word says, under the number of its key.
+    fn act(
         &mut self,
         alloc: Global,
-        step: &KeyedStep<'_, '_>,
-    ) -> Result<Outcome, StepLack>
-        ensures { let k = keyed_view step.now in end_of_step (state_view self.new) result ≡ keyed_by k.keys (memory_of_step result) k.name k.key
-            (λ label. none_numbered (memory_of_step result) k.name label k.path) (state_view self.old) }
+        call: &StepCall<'_>,
+        key: KeyNo,
+        step: KeyedStep<'a>,
+    ) -> Result<Outcome, Lack>
+        requires { value_first step.word step.text.now ≡ None }
+        ensures { answer_end (state_view self.new) result ≡ acts_by (memory_of result) step.entry.word (call_view call.now) step.entry.text.now key (state_view self.old) }
     {
-        let made = step.made(alloc)?;
-        let call = step.call(made.key());
-        match self.number(made.key())? {
-            Err(why) => StepLack::of(say_refused(alloc, &call, why)),
-            Ok(key) => StepLack::of(self.none(alloc, &call, key)),
-        }
-    }
-
-    /// Makes a step `remove`: takes what stands under the key in the context itself.
-    pub fn remove_step(
-        &mut self,
-        alloc: Global,
-        step: &KeyedStep<'_, '_>,
-    ) -> Result<Outcome, StepLack>
-        ensures { let k = keyed_view step.now in end_of_step (state_view self.new) result ≡ keyed_by k.keys (memory_of_step result) k.name k.key
-            (λ label. remove_numbered (memory_of_step result) k.name label k.path) (state_view self.old) }
-    {
-        let made = step.made(alloc)?;
-        let call = step.call(made.key());
-        match self.number(made.key())? {
-            Err(why) => StepLack::of(say_refused(alloc, &call, why)),
-            Ok(key) => StepLack::of(self.remove_value(alloc, &call, key)),
+        match step.word {
+            Word::Put | Word::PutCloseable => unreachable!(),
+            Word::Want => self.want(alloc, call, key, step.text),
+            Word::None => self.none(alloc, call, key),
+            Word::Remove => self.remove_value(alloc, call, key),
+            Word::Compute => self.compute(alloc, call, key, PlanValue::not_closeable(step.text)),
+            Word::ComputeCloseable => {
+                self.compute(alloc, call, key, PlanValue::closeable(step.text))
+            }
+            Word::ComputeFail => self.computefail(alloc, call, key, step.text),
         }
     }
 
@@ -117,40 +126,15 @@ impl<'a> ValueStore<'a> {
         let why = self.remove(call.at(), key);
         say_unless_refused(alloc, call, why)
     }
+}
 
-    /// Runs a step `compute` or `compute!`.
-    pub fn compute_step(
-        &mut self,
-        alloc: Global,
-        step: &KeyedStep<'_, '_>,
-        value: PlanValue<'a>,
-    ) -> Result<Outcome, StepLack>
-        ensures { let k = keyed_view step.now in end_of_step (state_view self.new) result ≡ keyed_by k.keys (memory_of_step result) k.name k.key
-            (λ label. compute_numbered (memory_of_step result) k.name label k.path (value_view value.entry)) (state_view self.old) }
-    {
-        let made = step.made(alloc)?;
-        let call = step.call(made.key());
-        match self.number(made.key())? {
-            Err(why) => StepLack::of(say_refused(alloc, &call, why)),
-            Ok(key) => StepLack::of(self.compute(alloc, &call, key, value)),
-        }
-    }
-
-    /// Runs a step `computefail`, whose factory fails with this text.
-    pub fn computefail_step(
-        &mut self,
-        alloc: Global,
-        step: &KeyedStep<'_, '_>,
-        text: &'a str,
-    ) -> Result<Outcome, StepLack>
-        ensures { let k = keyed_view step.now in end_of_step (state_view self.new) result ≡ keyed_by k.keys (memory_of_step result) k.name k.key
-            (λ label. computefail_numbered (memory_of_step result) k.name label k.path text.now) (state_view self.old) }
-    {
-        let made = step.made(alloc)?;
-        let call = step.call(made.key());
-        match self.number(made.key())? {
-            Err(why) => StepLack::of(say_refused(alloc, &call, why)),
-            Ok(key) => StepLack::of(self.computefail(alloc, &call, key, text)),
-        }
+/// The value that a step keeps before its key is numbered: that of `put` or `put!`.
+fn value_first<'a>(step: KeyedStep<'a>) -> Option<PlanValue<'a>>
+    ensures { option_map value_view result ≡ value_first step.entry.word step.entry.text.now }
+{
+    match step.word {
+        Word::Put => Some(PlanValue::not_closeable(step.text)),
+        Word::PutCloseable => Some(PlanValue::closeable(step.text)),
+        _ => None,
     }
 }

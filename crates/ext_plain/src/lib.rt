@@ -7,8 +7,8 @@
 //! take as given which steps lack memory.
 //!
 //! In `specs/`, `StepRuns` defines what steps do, `NodeCalls` which calls a node has, `ContextEnds`
-//! how its context is closed, and `PlainRun` the run of a plan. `PlainRunLaws` and `Ancestors` say what is
-//! true of every plain run, which `plain_run_laws` proves.
+//! how its context is closed, and `PlainRun` the run of a plan. `PlainRunLaws` and `Ancestors` say
+//! what is true of every plain run, which `plain_run_laws` proves.
 #![tactic(auto)]
 
 mod callers;
@@ -16,7 +16,6 @@ mod closing;
 mod computes;
 mod found;
 mod keyed;
-mod keyed_step;
 mod lack;
 mod laws;
 mod plain;

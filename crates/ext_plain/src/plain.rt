@@ -97,7 +97,7 @@ pub fn run_plain<'x, L: RunListener>(
 }
 
 impl<'a, L: RunListener> PlainRunner<'a, L> {
-    ghost use Rattle.ext_plan.specs.PlanCalls.{test_of, concurrent_of};
+    ghost use Rattle.ext_plan.specs.PlanCalls.{concurrent_of};
     ghost use Rattle.ext_plain.specs.PlainRun.{body_run, container_run, node_run, test_node_run, with_result};
     ghost use Rattle.ext_plain.specs.InnerSteps.{ChildrenRun, EndsNode, NodeRuns, any_child, chosen, plan_in, run_view};
 

@@ -1,5 +1,5 @@
 //! Outcomes of steps that only report.
-ghost use Rattle.std.specs.Prelude.{◌≡◌, false, string_bytes, IfErr, IfOk};
+ghost use Rattle.std.specs.Prelude.{◌≡◌, false, IfErr, IfOk};
 ghost use Rattle.ext_lifecycle.specs.Endings.{aborted, failed, is_successful};
 ghost use Rattle.ext_lifecycle.specs.FaultTexts.{VerdictText, verdict_text};
 ghost use Rattle.ext_plan.specs.StepCalls.{call_view};
@@ -40,15 +40,15 @@ pub fn say_unless_refused(
 }
 
 /// The outcome of a step `fail` with this text.
-pub fn say_failed(text: &String) -> Result<Outcome, Lack>
-    ensures { Says (failed (string_bytes text.now)) result }
+pub fn say_failed(alloc: Global, text: &str) -> Result<Outcome, Lack>
+    ensures { Says (failed text.now) result }
 {
-    Ok(Outcome::of(failed(text.clone()?)))
+    Ok(Outcome::of(failed(String::from_str(alloc, text)?)))
 }
 
 /// The outcome of a step `abort` with this text.
-pub fn say_aborted(text: &String) -> Result<Outcome, Lack>
-    ensures { Says (aborted (string_bytes text.now)) result }
+pub fn say_aborted(alloc: Global, text: &str) -> Result<Outcome, Lack>
+    ensures { Says (aborted text.now) result }
 {
-    Ok(Outcome::of(aborted(text.clone()?)))
+    Ok(Outcome::of(aborted(String::from_str(alloc, text)?)))
 }

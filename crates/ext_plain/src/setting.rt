@@ -5,7 +5,6 @@ ghost use Rattle.ext_plan.specs.Plans.{keys_view, plan_view, step_view};
 ghost use Rattle.ext_plan.specs.StoreKeys.{named_key};
 ghost use Rattle.ext_plan.specs.ReadPlans.{CallbacksAreFew, StepListsAreShort};
 ghost use Rattle.ext_plan.specs.Steps.{step_limit};
-ghost use Rattle.ext_plan.specs.PlanCalls.{steps_called};
 
 use ext_lifecycle::{Call, Callbacks, Kind};
 use ext_model::ContextNo;

@@ -7,13 +7,12 @@ ghost use Rattle.ext_plain.specs.ValueStates.{Memory, enough, with_memory};
 ghost use Rattle.ext_plain.specs.StepRuns.{no_memory, step_by, steps_run};
 ghost use Rattle.ext_plain.specs.InnerSteps.{end_of_step, end_view, memory_of_step, state_view, step_end, AreFew};
 
-use crate::keyed_step::KeyedStep;
 use crate::lack::StepLack;
 use crate::said::{say_aborted, say_failed};
 use crate::value_store::ValueStore;
 use ext_lifecycle::{Outcome, Verdict};
 use ext_model::ContextNo;
-use ext_plan::{PlanValue, Step, StepKeys};
+use ext_plan::{Step, StepKeys, StepParts};
 use std::alloc::Global;
 
 /// The outcome of a step, or of the steps of a call, and whether one of them lacked memory.
@@ -102,39 +101,10 @@ impl<'a> ValueStore<'a> {
     ) -> Result<Outcome, StepLack>
         ensures { end_of_step (state_view self.new) result ≡ step_by (keys_in keys.now) (memory_of_step result) path.now (step_view step.now) (state_view self.old) }
     {
-        match step {
-            Step::Put { key, text, up } => {
-                let keyed = KeyedStep::of(keys, path, "put", key, *up);
-                self.put_step(alloc, &keyed, PlanValue::not_closeable(text.as_str()))
-            }
-            Step::PutCloseable { key, text, up } => {
-                let keyed = KeyedStep::of(keys, path, "put!", key, *up);
-                self.put_step(alloc, &keyed, PlanValue::closeable(text.as_str()))
-            }
-            Step::Want { key, text, up } => {
-                let keyed = KeyedStep::of(keys, path, "want", key, *up);
-                self.want_step(alloc, &keyed, text.as_str())
-            }
-            Step::None { key, up } => {
-                self.none_step(alloc, &KeyedStep::of(keys, path, "none", key, *up))
-            }
-            Step::Remove { key, up } => {
-                self.remove_step(alloc, &KeyedStep::of(keys, path, "remove", key, *up))
-            }
-            Step::Compute { key, text, up } => {
-                let keyed = KeyedStep::of(keys, path, "compute", key, *up);
-                self.compute_step(alloc, &keyed, PlanValue::not_closeable(text.as_str()))
-            }
-            Step::ComputeCloseable { key, text, up } => {
-                let keyed = KeyedStep::of(keys, path, "compute!", key, *up);
-                self.compute_step(alloc, &keyed, PlanValue::closeable(text.as_str()))
-            }
-            Step::ComputeFail { key, text, up } => {
-                let keyed = KeyedStep::of(keys, path, "computefail", key, *up);
-                self.computefail_step(alloc, &keyed, text.as_str())
-            }
-            Step::Fail { text } => StepLack::of(say_failed(text)),
-            Step::Abort { text } => StepLack::of(say_aborted(text)),
+        match step.parts() {
+            StepParts::Keyed(step) => self.run_keyed(alloc, keys, path, step),
+            StepParts::Fail(text) => StepLack::of(say_failed(alloc, text)),
+            StepParts::Abort(text) => StepLack::of(say_aborted(alloc, text)),
         }
     }
 }

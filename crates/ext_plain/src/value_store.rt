@@ -40,7 +40,7 @@ pub struct ValueStore<'a> {
 }
 
 impl<'a> ValueStore<'a> {
-    ghost use Rattle.ext_plain.specs.InnerSteps.{state_view, Keeps, Numbers};
+    ghost use Rattle.ext_plain.specs.InnerSteps.{state_view, Declares, Keeps};
 
     /// Makes an empty store, which keeps the faults of factories or not.
     pub fn new(alloc: Global, keep_faults: bool) -> ValueStore<'a>
@@ -61,9 +61,9 @@ impl<'a> ValueStore<'a> {
         self.keep_faults
     }
 
-    /// The number of a key, which gets the next one if it has none; or why it gets none.
-    pub fn number(&mut self, key: &Key) -> Result<Result<KeyNo, Reason>, StepLack>
-        ensures { Numbers key.now (state_view self.old) (state_view self.new) result }
+    /// Declares a key: returns its number, the next one if it had none, or why it gets none.
+    pub fn declare(&mut self, key: &Key) -> Result<Result<KeyNo, Reason>, StepLack>
+        ensures { Declares key.now (state_view self.old) (state_view self.new) result }
     {
         if let Some(number) = self.keys.number_of(key) {
             return Ok(Ok(number));

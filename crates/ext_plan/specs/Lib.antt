@@ -5,6 +5,7 @@ pub mod Plans
 pub mod ReadPlans
 pub mod StepCalls
 pub mod StepTexts
+pub mod StepWords
 pub mod Steps
 pub mod StoreKeys
 pub mod Values

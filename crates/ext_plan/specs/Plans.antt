@@ -1,4 +1,5 @@
--- A plan without where it lies in memory: its keys by their labels, its nodes by their ids, and the steps of their callbacks and tests. Texts are bytes.
+-- A plan, apart from where it lies in memory: its keys by their labels, its nodes by their ids, and the steps of their
+-- callbacks and tests. Texts are bytes.
 use Rattle.std.specs.Prelude.{ℕ, Bool, List, [], map, Option, option_map, Vec, String, string_bytes}
 use Rattle.std.specs.declared.alloc.Global.{Global}
 use Rattle.ext_ids.specs.Grammar.{Pair}
@@ -14,38 +15,36 @@ use Rattle.ext_plan.specs.declared.plan.Step.{Step}
 use Rattle.ext_plan.specs.declared.plan.Step.TheVariants as steps
 use Rattle.ext_plan.specs.declared.plan.StepKey.{StepKey}
 use Rattle.ext_plan.specs.declared.plan.StepKey.TheVariants as step_keys
+use Rattle.ext_plan.specs.declared.step_parts.StepParts.{StepParts}
+use Rattle.ext_plan.specs.declared.step_parts.StepParts.TheVariants as parts
+use Rattle.ext_plan.specs.declared.word.Word.{Word}
+use Rattle.ext_plan.specs.declared.word.Word.TheVariants as words
 
--- a declared key: the label by which steps name it, its name, and the parts of its namespace where that was created
+-- A declared key: the label by which steps name it, its name, and the parts of its namespace if that was created.
 pub record KeyText : Type 0 where
   pub label : List ℕ
   pub name : List ℕ
   pub namespace : Option (List (List ℕ))
 
--- the key that a step names: by the place of its label among the plan's keys, or by its name in the global namespace
+-- The key that a step names, by the place of its label among the plan's keys, or by its name in the global namespace.
 pub data StepKeyText : Type 0 where
   label : ℕ → StepKeyText
   named : List ℕ → StepKeyText
 
--- A step: its key, its text, and to which ancestor of its context it goes up
+-- A step. Those that call the store have a first word, the key that they name, a text, which is empty if the step has
+-- none, and how many contexts up they act. The other two only end their test or callback, with this text.
 pub data StepText : Type 0 where
-  put : StepKeyText → List ℕ → ℕ → StepText
-  put_closeable : StepKeyText → List ℕ → ℕ → StepText
-  want : StepKeyText → List ℕ → ℕ → StepText
-  nothing : StepKeyText → ℕ → StepText
-  remove : StepKeyText → ℕ → StepText
-  compute : StepKeyText → List ℕ → ℕ → StepText
-  compute_closeable : StepKeyText → List ℕ → ℕ → StepText
-  compute_fail : StepKeyText → List ℕ → ℕ → StepText
+  keyed : Word → StepKeyText → List ℕ → ℕ → StepText
   fail : List ℕ → StepText
   abort : List ℕ → StepText
 
--- a resource lock, by its name: for reading, or for reading and writing
+-- A resource lock by its name, for reading or for writing.
 pub data LockText : Type 0 where
   read : List ℕ → LockText
   read_write : List ℕ → LockText
 
--- the segments of the id, each by its type and its value; whether the node may run beside others; whether it is isolated, and the locks that it names; its
--- callbacks of each kind, each a list of steps; the steps, where it is a test
+-- A node: its id; whether it may run beside its siblings, and whether it is isolated; the locks that it names; its
+-- callbacks of each kind, each a list of steps; and its steps, if it is a test.
 pub record NodeText : Type 0 where
   pub id : List Pair
   pub mode : Mode
@@ -57,7 +56,7 @@ pub record NodeText : Type 0 where
   pub after_each : List (List StepText)
   pub test : Option (List StepText)
 
--- the callbacks of a kind that a node registers; a test is none
+-- The callbacks of this kind that the node registers. A test's body is none.
 abbrev pub callbacks_of : Kind → NodeText → List (List StepText)
 callbacks_of kinds.BeforeAll node = node.before_all
 callbacks_of kinds.BeforeEach node = node.before_each
@@ -70,7 +69,7 @@ pub record PlanText : Type 0 where
   pub keys : List KeyText
   pub nodes : List NodeText
 
--- ---- what a plan in memory stands for
+-- ---- a plan in memory as contracts see it
 
 abbrev pub texts_view : Vec (String Global) Global → List (List ℕ)
 texts_view v = map string_bytes v.items
@@ -83,16 +82,22 @@ step_key_view (step_keys.Label number) = label number
 step_key_view (step_keys.Named name) = named (string_bytes name)
 
 abbrev pub step_view : Step → StepText
-step_view (steps.Put key text up) = put (step_key_view key) (string_bytes text) up
-step_view (steps.PutCloseable key text up) = put_closeable (step_key_view key) (string_bytes text) up
-step_view (steps.Want key text up) = want (step_key_view key) (string_bytes text) up
-step_view (steps.None key up) = nothing (step_key_view key) up
-step_view (steps.Remove key up) = remove (step_key_view key) up
-step_view (steps.Compute key text up) = compute (step_key_view key) (string_bytes text) up
-step_view (steps.ComputeCloseable key text up) = compute_closeable (step_key_view key) (string_bytes text) up
-step_view (steps.ComputeFail key text up) = compute_fail (step_key_view key) (string_bytes text) up
+step_view (steps.Put key text up) = keyed words.Put (step_key_view key) (string_bytes text) up
+step_view (steps.PutCloseable key text up) = keyed words.PutCloseable (step_key_view key) (string_bytes text) up
+step_view (steps.Want key text up) = keyed words.Want (step_key_view key) (string_bytes text) up
+step_view (steps.None key up) = keyed words.None (step_key_view key) [] up
+step_view (steps.Remove key up) = keyed words.Remove (step_key_view key) [] up
+step_view (steps.Compute key text up) = keyed words.Compute (step_key_view key) (string_bytes text) up
+step_view (steps.ComputeCloseable key text up) = keyed words.ComputeCloseable (step_key_view key) (string_bytes text) up
+step_view (steps.ComputeFail key text up) = keyed words.ComputeFail (step_key_view key) (string_bytes text) up
 step_view (steps.Fail text) = fail (string_bytes text)
 step_view (steps.Abort text) = abort (string_bytes text)
+
+-- The step that these parts make.
+abbrev pub parts_view : StepParts → StepText
+parts_view (parts.Keyed step) = keyed step.word (step_key_view step.key.now) step.text.now step.up
+parts_view (parts.Fail text) = fail text.now
+parts_view (parts.Abort text) = abort text.now
 
 abbrev pub steps_view : Vec Step Global → List StepText
 steps_view v = map step_view v.items

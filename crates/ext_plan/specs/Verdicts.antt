@@ -1,5 +1,6 @@
--- How a step ends, by what its look-up showed and by why its call of the store was refused, if it was. Steps go by the step's first word and the word by which
--- it names its key. Own rule; a look-up is `get` of JUnit's `ExtensionContext.Store`.
+-- How a step ends, by what its look-up showed, or by why its call of the store was refused. `name` is the step's first
+-- word and `label` the word by which it names its key. A look-up is `get` of JUnit's `ExtensionContext.Store`; the
+-- verdicts are not from JUnit.
 use Rattle.std.specs.Prelude.{ℕ, List, Option, Some, None, if◌then◌else◌}
 use Rattle.std.specs.Str.{bytes_eq}
 use Rattle.ext_lifecycle.specs.Endings.{successful, failed}
@@ -10,7 +11,8 @@ use Rattle.ext_plan.specs.declared.seen.Seen.{Seen}
 use Rattle.ext_plan.specs.declared.seen.Seen.TheVariants as seens
 use Rattle.ext_plan.specs.StepTexts.{words, refused_text, missing_text, other_text, got_text, other_fault_text, met_fault_text}
 
--- what a look-up shows a step: the text of a value, or of a kept fault, a kept fault that is want of memory, nothing, or why it was refused
+-- What a look-up shows a step: the text of a value or of a kept fault, a kept fault that is a lack of memory, nothing,
+-- or why it was refused.
 pub data SeenText : Type 0 where
   seen_value : List ℕ → SeenText
   seen_fault : List ℕ → SeenText
@@ -32,11 +34,11 @@ abbrev pub unless_refused : List ℕ → List ℕ → Option Reason → VerdictT
 unless_refused name label None = successful
 unless_refused name label (Some why) = refused name label why
 
--- of a step that met a kept fault which is want of memory
+-- The verdict of a step that met a lack of memory kept as a fault.
 abbrev pub out_of_memory : VerdictText
 out_of_memory = failed (fault_text faults.Memory)
 
--- of a step that wants a value of this text
+-- The verdict of a step that wants a value with this text.
 abbrev pub want_verdict : List ℕ → List ℕ → List ℕ → SeenText → VerdictText
 want_verdict name label text (seen_value other) = if bytes_eq other text then successful else failed (other_text label text other)
 want_verdict name label text (seen_fault other) = failed (other_fault_text label text other)
@@ -44,7 +46,7 @@ want_verdict name label text seen_no_memory = out_of_memory
 want_verdict name label text seen_nothing = failed (missing_text label text)
 want_verdict name label text (seen_refused why) = refused name label why
 
--- of a step that is to find nothing
+-- The verdict of a step that must find nothing.
 abbrev pub none_verdict : List ℕ → List ℕ → SeenText → VerdictText
 none_verdict name label (seen_value other) = failed (got_text name label other)
 none_verdict name label (seen_fault other) = failed (met_fault_text name label other)
@@ -52,7 +54,8 @@ none_verdict name label seen_no_memory = out_of_memory
 none_verdict name label seen_nothing = successful
 none_verdict name label (seen_refused why) = refused name label why
 
--- of a step whose factory is to fail with this text, where nothing else is found: a kept fault of the same text is as good
+-- The verdict of a step whose factory must fail with this text. Unless it finds something, it succeeds; a kept fault
+-- with the same text will do, too.
 abbrev pub fail_verdict : List ℕ → List ℕ → List ℕ → SeenText → VerdictText
 fail_verdict name label text (seen_value other) = failed (got_text name label other)
 fail_verdict name label text (seen_fault other) = if bytes_eq other text then successful else failed (met_fault_text name label other)

@@ -2,9 +2,10 @@
 //! verdicts.
 //!
 //! A `Plan` has `PlanKey`s and `PlanNode`s; callbacks and tests are lists of `Step`s, each of which
-//! names its key by a `StepKey`. `Plan::store_keys` makes the keys of the labels, and
-//! `keys_are_few` counts them. Contracts see a plan by `plan_view` (`specs/Plans.antt`);
-//! `specs/ReadPlans.antt` says what holds of each plan that was read.
+//! names its key by a `StepKey`. `Step::parts` takes a step apart, and its `Word` tells which call
+//! of the store it makes. `Plan::store_keys` makes the keys of the labels, and `keys_are_few` counts
+//! them. Contracts see a plan by `plan_view` (`specs/Plans.antt`); `specs/ReadPlans.antt` says what
+//! holds of each plan that was read.
 //!
 //! A step's call of the store is a `StepCall`, which `StepKeys` makes with the key that the step
 //! names. What a look-up shows a step is `Seen`, and why a call was refused is a `Reason`.
@@ -25,8 +26,10 @@ mod reason;
 mod seen;
 mod step_call;
 mod step_keys;
+mod step_parts;
 mod step_text;
 mod verdicts;
+mod word;
 
 pub use call_key::CallKey;
 pub use keys::keys_are_few;
@@ -36,4 +39,6 @@ pub use reason::Reason;
 pub use seen::{Seen, fail_verdict, none_verdict, want_verdict};
 pub use step_call::StepCall;
 pub use step_keys::StepKeys;
+pub use step_parts::{KeyedStep, StepParts};
 pub use verdicts::{aborted, failed, refused, unless_refused};
+pub use word::Word;

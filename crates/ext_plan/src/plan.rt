@@ -3,6 +3,7 @@ ghost use Rattle.std.specs.Prelude.{◌≡◌, Some, map};
 ghost use Rattle.ext_plan.specs.Plans.{node_view, step_view};
 ghost use Rattle.ext_plan.specs.PlanCalls.{steps_called};
 
+use crate::{KeyedStep, StepParts, Word};
 use ext_ids::UniqueId;
 use ext_lifecycle::{Call, Kind, Mode};
 use ext_model::ContextNo;
@@ -282,24 +283,52 @@ pub enum Step {
 
 impl Step {
     ghost use Rattle.std.specs.Prelude.{option_map};
-    ghost use Rattle.ext_plan.specs.Plans.{step_key_view};
-    ghost use Rattle.ext_plan.specs.Steps.{step_key};
+    ghost use Rattle.ext_plan.specs.Plans.{parts_view, step_key_view};
+    ghost use Rattle.ext_plan.specs.Steps.{height, step_key};
+
+    /// Takes the step apart. A step `none` or `remove` has the empty text.
+    pub fn parts(&self) -> StepParts<'_>
+        ensures { parts_view result ≡ step_view self.now }
+    {
+        let (word, key, text, up) = match self {
+            Step::Put { key, text, up } => (Word::Put, key, text.as_str(), *up),
+            Step::PutCloseable { key, text, up } => (Word::PutCloseable, key, text.as_str(), *up),
+            Step::Want { key, text, up } => (Word::Want, key, text.as_str(), *up),
+            Step::None { key, up } => (Word::None, key, "", *up),
+            Step::Remove { key, up } => (Word::Remove, key, "", *up),
+            Step::Compute { key, text, up } => (Word::Compute, key, text.as_str(), *up),
+            Step::ComputeCloseable { key, text, up } => {
+                (Word::ComputeCloseable, key, text.as_str(), *up)
+            }
+            Step::ComputeFail { key, text, up } => (Word::ComputeFail, key, text.as_str(), *up),
+            Step::Fail { text } => return StepParts::Fail(text.as_str()),
+            Step::Abort { text } => return StepParts::Abort(text.as_str()),
+        };
+        StepParts::Keyed(KeyedStep {
+            word,
+            key,
+            text,
+            up,
+        })
+    }
 
     /// Returns the key that the step names; `None` for `fail` and `abort`, which name none.
     pub fn key(&self) -> Option<&StepKey>
         ensures { option_map (λ k. step_key_view k.now) result ≡ step_key (step_view self.now) }
     {
-        match self {
-            Step::Put { key, .. } => Some(key),
-            Step::PutCloseable { key, .. } => Some(key),
-            Step::Want { key, .. } => Some(key),
-            Step::None { key, .. } => Some(key),
-            Step::Remove { key, .. } => Some(key),
-            Step::Compute { key, .. } => Some(key),
-            Step::ComputeCloseable { key, .. } => Some(key),
-            Step::ComputeFail { key, .. } => Some(key),
-            Step::Fail { .. } => None,
-            Step::Abort { .. } => None,
+        match self.parts() {
+            StepParts::Keyed(step) => Some(step.key),
+            StepParts::Fail(_) | StepParts::Abort(_) => None,
+        }
+    }
+
+    /// Returns how many contexts up the step acts; 0 for `fail` and `abort`.
+    pub fn height(&self) -> usize
+        ensures { result ≡ height (step_view self.now) }
+    {
+        match self.parts() {
+            StepParts::Keyed(step) => step.up,
+            StepParts::Fail(_) | StepParts::Abort(_) => 0,
         }
     }
 }

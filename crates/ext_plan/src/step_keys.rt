@@ -1,11 +1,12 @@
 //! The keys that steps name.
 ghost use Rattle.std.specs.Prelude.{◌≡◌, drop, map, true, IfErr, IfOk};
 ghost use Rattle.ext_plan.specs.Plans.{keys_view, step_key_view};
+ghost use Rattle.ext_plan.specs.StepWords.{word_text};
 ghost use Rattle.ext_plan.specs.StoreKeys.{key_of_step, named_key};
 
 use crate::call_key::CallKey;
 use crate::step_call::StepCall;
-use crate::{PlanKey, StepKey};
+use crate::{KeyedStep, PlanKey, StepKey};
 use ext_model::ContextNo;
 use ext_tree::Key;
 use std::alloc::{AllocError, Global};
@@ -49,28 +50,25 @@ impl<'b> StepKeys<'b> {
         }
     }
 
-    /// Makes the call of a step that runs in the context of `path` and acts `up` contexts above it.
-    /// `name` is the step's first word, and `made` the key of the store. A label that the plan does
-    /// not have is the empty text.
+    /// Makes the call of a step that runs in the context of `path`. `made` is the key of the store
+    /// that the step names. A label that the plan does not have is the empty text.
     pub fn call<'c>(
         &'c self,
-        name: &'c str,
-        key: &'c StepKey,
+        step: KeyedStep<'c>,
         made: &'c Key,
         path: &'c [ContextNo],
-        up: usize,
     ) -> StepCall<'c>
         ensures { call_view result ≡ record {
-          name = name.now;
-          label = label_of (keys_in self.now) (step_key_view key.now);
-          path = drop up path.now;
+          name = word_text step.entry.word;
+          label = label_of (keys_in self.now) (step_key_view step.entry.key.now);
+          path = drop step.entry.up path.now;
           key = made.now;
         } }
     {
         StepCall {
-            name,
-            label: self.label_of(key),
-            path: ancestor(path, up),
+            name: step.word.text(),
+            label: self.label_of(step.key),
+            path: ancestor(path, step.up),
             key: made,
         }
     }

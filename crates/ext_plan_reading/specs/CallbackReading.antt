@@ -1,5 +1,5 @@
--- The callbacks of a node: for each of four kinds an array of callbacks, each of them an array of steps (JUnit 5 User Guide, "Test Lifecycle Callbacks"; that
--- they are written so, and how many there may be, are own rules).
+-- The callbacks of a node: for each of the four kinds an array of callbacks, each an array of steps (JUnit 5 User
+-- Guide, "Test Lifecycle Callbacks"). How they are written, and how many there may be, is not from JUnit.
 use Rattle.std.specs.Prelude.{ℕ, nat_le, Bool, ◌||◌, codes, List, [], ◌∷◌, ◌++◌, length, Option, Some, None, is_some, Result, Ok}
 use Rattle.toml.specs.Data.{Members, get_member}
 use Rattle.ext_plan.specs.Plans.{StepText}
@@ -13,14 +13,14 @@ use Rattle.ext_plan_reading.specs.StepReading.{steps_at}
 
 -- ---- as texts
 
--- the texts of the steps of each callback, by the fields of the four kinds, where these are given
+-- The texts of the steps of each callback, for each kind whose field is given.
 pub record CallbackTexts : Type 0 where
   pub before_all : Option (List (List (List ℕ)))
   pub after_all : Option (List (List (List ℕ)))
   pub before_each : Option (List (List (List ℕ)))
   pub after_each : Option (List (List (List ℕ)))
 
--- the callbacks in the table of the node of this number
+-- The callbacks in the table of the node with this number.
 unfoldable pub callback_texts_at : ℕ → Members → Result CallbackTexts PlanFault
 callback_texts_at node fields = do
   before_all ← text_lists_or_none (faults.BadField (places.Node node)) (get_member (codes "before_all") fields)
@@ -29,34 +29,36 @@ callback_texts_at node fields = do
   after_each ← text_lists_or_none (faults.BadField (places.Node node)) (get_member (codes "after_each") fields)
   Ok (record { before_all = before_all; after_all = after_all; before_each = before_each; after_each = after_each })
 
--- a field that no test may have is given, be it an empty array
+-- A field that no test may have is given, even as an empty array.
 abbrev pub are_of_container : CallbackTexts → Bool
 are_of_container texts = is_some texts.before_all || is_some texts.after_all
 
 -- ---- as steps
 
--- the steps of each callback, by the four kinds
+-- The steps of each callback, by kind.
 pub record CallbackSteps : Type 0 where
   pub before_all : List (List StepText)
   pub after_all : List (List StepText)
   pub before_each : List (List StepText)
   pub after_each : List (List StepText)
 
--- these callbacks and then those that the texts are, in order
+-- These callbacks, followed by those that the texts write.
 unfoldable pub callbacks_after : List (List ℕ) → ℕ → ℕ → List (List StepText) → List (List (List ℕ)) → Result (List (List StepText)) PlanFault
 callbacks_after labels depth node before [] = Ok before
 callbacks_after labels depth node before (texts ∷ more) = do
   steps ← steps_at labels depth node texts
   callbacks_after labels depth node (before ++ steps ∷ []) more
 
--- The callbacks of one field of the node of this number, if they are not too many. The shortest of the paths on which they run has so many contexts
+-- The callbacks of one field of the node, unless there are too many. The shortest path on which they run has `depth`
+-- contexts.
 unfoldable pub callbacks_at : List (List ℕ) → ℕ → ℕ → Option (List (List (List ℕ))) → Result (List (List StepText)) PlanFault
 callbacks_at labels depth node None = Ok []
 callbacks_at labels depth node (Some lists) = do
   _ ← check (faults.BadStep node) (nat_le (length lists) callback_limit)
   callbacks_after labels depth node [] lists
 
--- The callbacks of the node of this number: `own` is the number of contexts on its path, `least` that of the shortest path of a test at or below it
+-- The callbacks of the node. `own` is the number of contexts on its path, `least` that of the shortest path of a test
+-- at or below it.
 unfoldable pub node_callbacks_at : List (List ℕ) → ℕ → ℕ → ℕ → CallbackTexts → Result CallbackSteps PlanFault
 node_callbacks_at labels own least node texts = do
   before_all ← callbacks_at labels own node texts.before_all

@@ -1,10 +1,10 @@
--- What is said of the fault of a text that is no unique id. Texts are lists of bytes.
+-- How the fault of a text that is no unique id is explained. Texts are lists of bytes.
 use Rattle.std.specs.Prelude.{◌≡◌, ◌⊎◌, ◌==◌, ℕ, zero, suc, Bool, false, if◌then◌else◌, codes, encode_utf8, List, ◌++◌, slice_get, Option, Some, None}
 use Rattle.ext_ids.specs.Grammar.{percent, plus, left_bracket, right_bracket, colon, slash, spelled}
 use Rattle.ext_ids.specs.declared.fault.IdFault.{IdFault}
 use Rattle.ext_ids.specs.declared.fault.IdFault.TheVariants as ids
 
--- of each fault but a raw character, of which `SaysRaw` has what is said
+-- The words for each fault. `SaysRaw` has better ones for a raw character.
 abbrev pub words_of : IdFault → List ℕ
 words_of ids.Empty = codes "it is empty"
 words_of (ids.NoOpen at) = codes "a segment begins with `[`"
@@ -16,11 +16,11 @@ words_of (ids.EmptyPart at) = codes "the type or the value that ends there is em
 words_of ids.TooDeep = codes "it has more than 16 segments"
 words_of ids.Memory = codes "memory was refused"
 
--- one of the six marks
+-- One of the six marks.
 abbrev pub IsMark : ℕ → Type 0
 IsMark c = (c ≡ percent) ⊎ (c ≡ plus) ⊎ (c ≡ left_bracket) ⊎ (c ≡ right_bracket) ⊎ (c ≡ colon) ⊎ (c ≡ slash)
 
--- a segment's `]` stands before this place
+-- A segment's `]` stands just before this place.
 abbrev pub is_bracket : Option ℕ → Bool
 is_bracket None = false
 is_bracket (Some c) = c == right_bracket
@@ -29,21 +29,21 @@ abbrev pub is_behind : List ℕ → ℕ → Bool
 is_behind text zero = false
 is_behind text (suc last) = is_bracket (slice_get text last)
 
--- what stands at a place within a segment
+-- The character at a place within a segment.
 abbrev pub within : List ℕ → ℕ → Option ℕ
 within text at = if is_behind text at then None else slice_get text at
 
--- what is said of it: how a mark is written in a type or a value
+-- The words for a raw character: how a mark is written in a type or a value.
 abbrev pub SaysRaw : Option ℕ → List ℕ → Type 0
 SaysRaw None words = words ≡ codes "behind a segment stands a `/` or nothing"
 SaysRaw (Some c) words = IsMark c → words ≡ codes "`" ++ encode_utf8 c ++ codes "` has to be written `" ++ spelled c ++ codes "`"
 
--- of a fault of this text
+-- The words for a fault of this text.
 abbrev pub SaysOf : List ℕ → IdFault → List ℕ → Type 0
 SaysOf text (ids.RawCharacter at) words = SaysRaw (within text at) words
 SaysOf text fault words = words ≡ words_of fault
 
--- the line that explains it
+-- The line that explains it.
 pub record ExplainsId (text : List ℕ) (fault : IdFault) (line : List ℕ) : Type 0 where
   pub words : List ℕ
   pub says : SaysOf text fault words

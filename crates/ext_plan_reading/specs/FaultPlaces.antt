@@ -1,4 +1,5 @@
--- Where in a plan a fault is, and the line of a fault: its code, and behind it where it is. Texts are lists of bytes, numbers are decimal.
+-- Where in a plan a fault is, and the fault's line: its code, then its place. Texts are lists of bytes, numbers are
+-- decimal.
 use Rattle.std.specs.Prelude.{ℕ, codes, List, [], ◌++◌}
 use Rattle.std.specs.Fmt.{decimal}
 use Rattle.ext_plan_reading.specs.declared.fault.PlanFault.{PlanFault}
@@ -6,7 +7,6 @@ use Rattle.ext_plan_reading.specs.declared.fault.PlanFault.TheVariants as faults
 use Rattle.ext_plan_reading.specs.declared.fault.Place.{Place}
 use Rattle.ext_plan_reading.specs.declared.fault.Place.TheVariants as places
 
--- where a fault is
 abbrev pub place_of : PlanFault → Place
 place_of faults.NotUtf8 = places.Whole
 place_of faults.NotToml = places.Whole
@@ -21,7 +21,7 @@ place_of (faults.BadTest node) = places.Node node
 place_of faults.TooMany = places.Whole
 place_of faults.Memory = places.Whole
 
--- the number of its code
+-- The number of the fault's code.
 abbrev pub code_of : PlanFault → ℕ
 code_of faults.NotUtf8 = 1
 code_of faults.NotToml = 2
@@ -36,12 +36,12 @@ code_of (faults.BadTest node) = 10
 code_of faults.TooMany = 11
 code_of faults.Memory = 12
 
--- a place behind a code: nothing for the plan as a whole
+-- A place after a code. The plan as a whole is not named.
 abbrev pub place_text : Place → List ℕ
 place_text places.Whole = []
 place_text (places.Key key) = codes " key " ++ decimal key
 place_text (places.Node node) = codes " node " ++ decimal node
 
--- `plan: P5 key 1`
+-- For instance `plan: P5 key 1`.
 abbrev pub line_of : PlanFault → List ℕ
 line_of fault = codes "plan: P" ++ decimal (code_of fault) ++ place_text (place_of fault)

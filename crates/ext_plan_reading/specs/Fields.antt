@@ -1,4 +1,4 @@
--- The fields of a TOML table, as the kit's `toml` reads it: which there are, and which types they have.
+-- The fields of a TOML table as the kit's `toml` reads it: which there are, and their types.
 use Rattle.std.specs.Prelude.{ℕ, Bool, true, false, ◌&&◌, List, [], ◌∷◌, ◌++◌, Option, Some, None, option_and_then, Result, Ok}
 use Rattle.std.specs.List.{list_any}
 use Rattle.std.specs.Str.{bytes_eq}
@@ -6,66 +6,66 @@ use Rattle.toml.specs.Data.{Data, array, Items, no_items, item, Members, no_memb
 use Rattle.ext_plan_reading.specs.declared.fault.PlanFault.{PlanFault}
 use Rattle.ext_plan_reading.specs.Faults.{some_or, ◌>>=◌}
 
--- each field of the table has one of the names
+-- Each field of the table has one of the names.
 abbrev pub has_only : List (List ℕ) → Members → Bool
 has_only names no_members = true
 has_only names (member name value more) = list_any (λ n. bytes_eq n name) names && has_only names more
 
--- the text at a name, if a text is there
+-- The text under a name, if a text is there.
 abbrev pub text_at : List ℕ → Members → Option (List ℕ)
 text_at name fields = option_and_then as_str (get_member name fields)
 
--- these texts and then the items, if each of them is a text
+-- These texts followed by the items, if each item is a text.
 abbrev pub texts_after : List (List ℕ) → Items → Option (List (List ℕ))
 texts_after before no_items = Some before
 texts_after before (item value more) = option_and_then (λ text. texts_after (before ++ text ∷ []) more) (as_str value)
 
--- these tables and then the items, if each of them is a table
+-- These tables followed by the items, if each item is a table.
 abbrev pub tables_after : List Members → Items → Option (List Members)
 tables_after before no_items = Some before
 tables_after before (item value more) = option_and_then (λ fields. tables_after (before ++ fields ∷ []) more) (as_table value)
 
--- the texts of an array of texts
+-- The texts of an array of texts.
 abbrev pub texts_in : Data → Option (List (List ℕ))
 texts_in (array items) = texts_after [] items
 texts_in _ = None
 
--- the tables of an array of tables
+-- The tables of an array of tables.
 abbrev pub tables_in : Data → Option (List Members)
 tables_in (array items) = tables_after [] items
 tables_in _ = None
 
--- these lists and then the items, if each of them is an array of texts
+-- These lists followed by the items, if each item is an array of texts.
 abbrev pub text_lists_after : List (List (List ℕ)) → Items → Option (List (List (List ℕ)))
 text_lists_after before no_items = Some before
 text_lists_after before (item value more) = option_and_then (λ texts. text_lists_after (before ++ texts ∷ []) more) (texts_in value)
 
--- the lists of an array of arrays of texts
+-- The lists of an array of arrays of texts.
 abbrev pub text_lists_in : Data → Option (List (List (List ℕ)))
 text_lists_in (array items) = text_lists_after [] items
 text_lists_in _ = None
 
--- the tables of a field that may be left out, or this fault where it has another type
+-- The tables of an optional field, or this fault if it has another type.
 abbrev pub tables_or_none : PlanFault → Option Data → Result (List Members) PlanFault
 tables_or_none e None = Ok []
 tables_or_none e (Some value) = some_or e (tables_in value)
 
--- the text of a field that may be left out, or this fault where it has another type
+-- The text of an optional field, or this fault if it has another type.
 abbrev pub text_or_none : PlanFault → Option Data → Result (Option (List ℕ)) PlanFault
 text_or_none e None = Ok None
 text_or_none e (Some value) = some_or e (as_str value) >>= (λ text. Ok (Some text))
 
--- the texts of a field that may be left out, or this fault where it has another type
+-- The texts of an optional field, or this fault if it has another type.
 abbrev pub texts_or_none : PlanFault → Option Data → Result (Option (List (List ℕ))) PlanFault
 texts_or_none e None = Ok None
 texts_or_none e (Some value) = some_or e (texts_in value) >>= (λ texts. Ok (Some texts))
 
--- the lists of texts of a field that may be left out, or this fault where it has another type
+-- The lists of texts of an optional field, or this fault if it has another type.
 abbrev pub text_lists_or_none : PlanFault → Option Data → Result (Option (List (List (List ℕ)))) PlanFault
 text_lists_or_none e None = Ok None
 text_lists_or_none e (Some value) = some_or e (text_lists_in value) >>= (λ lists. Ok (Some lists))
 
--- the truth of a field that may be left out, and is false then, or this fault where it has another type
+-- The truth of an optional field, false if it is left out, or this fault if it has another type.
 abbrev pub truth_or_false : PlanFault → Option Data → Result Bool PlanFault
 truth_or_false e None = Ok false
 truth_or_false e (Some value) = some_or e (as_bool value)

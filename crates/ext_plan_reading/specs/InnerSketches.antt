@@ -1,5 +1,5 @@
--- What the reader's own helpers hold, without where it lies in memory, and what those of them answer that can only want memory. Only contracts of private functions
--- cite it.
+-- What the reader's own helpers hold, apart from where it lies in memory, and what those helpers answer that can only
+-- run out of memory. Only contracts of private functions cite it.
 use Rattle.std.specs.Prelude.{◌≡◌, ℕ, List, map, Option, option_map, Result, Ok, Err, Vec}
 use Rattle.std.specs.BTreeMap.{BTreeMap, get_by}
 use Rattle.std.specs.Cmp.Lexicographic.{slice_cmp}
@@ -15,15 +15,13 @@ use Rattle.ext_plan_reading.specs.declared.nodes.NodeSketch.{NodeSketch}
 use Rattle.ext_plan_reading.specs.CallbackReading.{CallbackTexts, CallbackSteps}
 use Rattle.ext_plan_reading.specs.NodeReading.{Sketch}
 
--- borrowed texts
 abbrev pub words_view : Vec (Bor (List ℕ)) Global → List (List ℕ)
 words_view v = map (λ t. t.now) v.items
 
--- the number of a text in a map from texts
+-- The number of a text in a map from texts.
 abbrev pub number_in : BTreeMap (Bor (List ℕ)) ℕ → List ℕ → Option ℕ
 number_in numbers text = get_by (λ label. slice_cmp nat_cmp text label.now) numbers
 
--- lists of borrowed texts
 abbrev pub lists_view : Vec (Vec (Bor (List ℕ)) Global) Global → List (List (List ℕ))
 lists_view v = map words_view v.items
 
@@ -43,7 +41,7 @@ callback_steps_view c = record {
   after_each = callbacks_view c.after_each;
 }
 
--- a node between the two passes over a plan
+-- A node between the two passes over a plan.
 abbrev pub sketch_view : NodeSketch → Sketch
 sketch_view n = record {
   id = n.id;
@@ -54,7 +52,7 @@ sketch_view n = record {
   test = option_map words_view n.test;
 }
 
--- what a function returned that can't be refused, seen by `view`, is what reading gives, unless memory ran out
+-- A function that can't be refused returned what reading gives, seen by `view`, unless memory ran out.
 abbrev pub GivesAll : {X Y : Type 0} → (X → Y) → Result X PlanFault → Y → Type 0
 GivesAll view (Ok x) read = read ≡ view x
 GivesAll view (Err e) read = e ≡ faults.Memory

@@ -1,4 +1,4 @@
--- The keys of a plan: each has a label, a word that no key before it has, and may have a name and a namespace.
+-- The keys of a plan. Each has a label, a word that no key before it has, and may have a name and a namespace.
 use Rattle.std.specs.Prelude.{ℕ, ◌==◌, Bool, true, not, ◌&&◌, codes, List, [], ◌∷◌, ◌++◌, length, position, Result, Ok, Option, Some, None, unwrap_or}
 use Rattle.std.specs.Str.{bytes_eq}
 use Rattle.toml.specs.Data.{Members, get_member}
@@ -13,16 +13,16 @@ use Rattle.ext_plan_reading.specs.Fields.{has_only, text_at, text_or_none, texts
 abbrev pub key_fields : List (List ℕ)
 key_fields = codes "label" ∷ codes "name" ∷ codes "namespace" ∷ []
 
--- the place of a label among the labels
+-- The place of a label among the labels.
 abbrev pub label_number : List (List ℕ) → List ℕ → Option ℕ
 label_number labels text = position (bytes_eq text) labels
 
--- a namespace that is given has a part
+-- A namespace that is given has a part.
 abbrev pub has_parts : Option (List (List ℕ)) → Bool
 has_parts None = true
 has_parts (Some parts) = not (length parts == 0)
 
--- the key of a table, which is the key of this number after those with these labels; its name is the label where none is given
+-- The key of a table, the one with this number after those with these labels. Without a name its name is the label.
 unfoldable pub key_at : ℕ → List (List ℕ) → Members → Result KeyText PlanFault
 key_at number labels fields = do
   _ ← check (faults.UnknownField (places.Key number)) (has_only key_fields fields)
@@ -32,7 +32,7 @@ key_at number labels fields = do
   _ ← check (faults.BadLabel number) (is_word label && has_parts namespace && not (is_label labels label))
   Ok (record { label = label; name = unwrap_or name label; namespace = namespace })
 
--- these keys and then those of the tables, in order
+-- These keys, followed by those of the tables.
 unfoldable pub keys_after : List KeyText → List Members → Result (List KeyText) PlanFault
 keys_after before [] = Ok before
 keys_after before (fields ∷ more) = do

@@ -1,4 +1,5 @@
--- The nodes of a plan: first their fields and ids, then, where the ids are those of a tree, their modes, their locks and the steps of their callbacks and tests.
+-- The nodes of a plan: first their fields and ids; then, if the ids form a tree, their modes, their locks and the steps
+-- of their callbacks and tests.
 use Rattle.std.specs.Prelude.{ℕ, Bool, not, ◌&&◌, ◌||◌, ◌==◌, codes, List, [], ◌∷◌, ◌++◌, length, map, Option, Some, None, is_some, Result, Ok, Err}
 use Rattle.toml.specs.Data.{Members, get_member}
 use Rattle.ext_ids.specs.declared.fault.IdFault.{IdFault}
@@ -22,7 +23,7 @@ abbrev pub node_fields : List (List ℕ)
 node_fields =
     codes "id" ∷ codes "test" ∷ codes "mode" ∷ codes "isolated" ∷ codes "locks" ∷ codes "before_all" ∷ codes "after_all" ∷ codes "before_each" ∷ codes "after_each" ∷ []
 
--- a node whose fields have their types, with its mode, its locks and its steps as texts
+-- A node whose fields have their types, with its mode, its locks and its steps still as texts.
 pub record Sketch : Type 0 where
   pub id : List Pair
   pub mode : Option (List ℕ)
@@ -31,12 +32,12 @@ pub record Sketch : Type 0 where
   pub callbacks : CallbackTexts
   pub test : Option (List (List ℕ))
 
--- the segments of an id, or this fault where the text is none
+-- The segments of an id, or this fault if the text is none.
 abbrev pub id_or : PlanFault → Result (List Pair) IdFault → Result (List Pair) PlanFault
 id_or e (Ok id) = Ok id
 id_or e (Err _) = Err e
 
--- the node of a table; `node` is its number
+-- The node of a table; `node` is its number.
 unfoldable pub sketch_at : ℕ → Members → Result Sketch PlanFault
 sketch_at node fields = do
   _ ← check (faults.UnknownField (places.Node node)) (has_only node_fields fields)
@@ -49,7 +50,7 @@ sketch_at node fields = do
   id ← id_or (faults.BadId node) (read_id text)
   Ok (record { id = id; mode = mode; isolated = isolated; locks = locks; callbacks = callbacks; test = test })
 
--- these nodes and then those of the tables, in order
+-- These nodes, followed by those of the tables.
 unfoldable pub sketches_after : List Sketch → List Members → Result (List Sketch) PlanFault
 sketches_after before [] = Ok before
 sketches_after before (fields ∷ more) = do
@@ -61,29 +62,30 @@ sketches_after before (fields ∷ more) = do
 abbrev pub ids_of : List Sketch → List Id
 ids_of sketches = map (λ s. s.id) sketches
 
--- a node by its id, and by whether it is a test
+-- A node's id, and whether it is a test.
 abbrev pub outline_of : Sketch → Outline
 outline_of sketch = (sketch.id, is_some sketch.test)
 
 abbrev pub outlines_of : List Sketch → List Outline
 outlines_of sketches = map outline_of sketches
 
--- a node of the tree has children
+-- The node of the tree has children.
 abbrev pub has_children : List Id → ℕ → Bool
 has_children ids node = not (length (children_of ids node) == 0)
 
--- a node that is a test, but has children or callbacks round them
+-- The node is a test but has children, or callbacks that only a container may have.
 abbrev pub is_bad_test : Bool → Sketch → Bool
 is_bad_test parent sketch = is_some sketch.test && (parent || are_of_container sketch.callbacks)
 
--- the test of a node with the steps that its texts are, if it is one; `depth` is the number of segments of its id
+-- The test of a node, with the steps that its texts write, if it is one. `depth` is the number of segments of its id.
 unfoldable pub test_at : List (List ℕ) → ℕ → ℕ → Option (List (List ℕ)) → Result (Option (List StepText)) PlanFault
 test_at labels depth node None = Ok None
 test_at labels depth node (Some texts) = do
   steps ← steps_at labels depth node texts
   Ok (Some steps)
 
--- The node of a sketch. `parent` says whether it has children; `least` is the least number of segments that the id of a test at or below it has
+-- The node of a sketch. `parent` says whether it has children. `least` is the least number of segments of the id of a
+-- test at or below it.
 unfoldable pub node_at : List (List ℕ) → ℕ → Bool → ℕ → Sketch → Result NodeText PlanFault
 node_at labels node parent least sketch = do
   _ ← check (faults.BadTest node) (not (is_bad_test parent sketch))
@@ -103,14 +105,14 @@ node_at labels node parent least sketch = do
     test = test;
   })
 
--- these nodes and then those of the sketches, in order, where `all` are the sketches of all nodes
+-- These nodes, followed by those of the sketches; `all` are the sketches of all nodes.
 unfoldable pub nodes_after : List (List ℕ) → List Sketch → List NodeText → List Sketch → Result (List NodeText) PlanFault
 nodes_after labels all before [] = Ok before
 nodes_after labels all before (sketch ∷ more) = do
   node ← node_at labels (length before) (has_children (ids_of all) (length before)) (least_test_depth (outlines_of all) sketch.id) sketch
   nodes_after labels all (before ++ node ∷ []) more
 
--- the nodes of tables: the fields and the id of each, then the tree of the ids, and then all else of each
+-- The nodes of tables: the fields and the id of each, then the tree of the ids, then the rest of each.
 unfoldable pub nodes_of_tables : List (List ℕ) → List Members → Result (List NodeText) PlanFault
 nodes_of_tables labels tables = do
   sketches ← sketches_after [] tables

@@ -1,4 +1,4 @@
--- Which texts are plans, and of which keys and nodes: the text's TOML document, read in order with the first fault that is met.
+-- Which texts are plans, and with which keys and nodes: the text's TOML document, read in order up to the first fault.
 use Rattle.std.specs.Prelude.{ℕ, nat_le, Bool, codes, List, [], ◌∷◌, length, Result, Ok}
 use Rattle.toml.specs.Data.{Members, get_member}
 use Rattle.toml.specs.Parse.{parse_document}
@@ -17,7 +17,7 @@ use Rattle.ext_plan_reading.specs.NodeReading.{nodes_of_tables}
 abbrev pub top_fields : List (List ℕ)
 top_fields = codes "keep_faults" ∷ codes "key" ∷ codes "node" ∷ []
 
--- the plan of the tables of its keys and its nodes, whose store keeps faults or not
+-- The plan with these tables of keys and nodes, whose store keeps faults or not.
 unfoldable pub plan_of_tables : Bool → List Members → List Members → Result PlanText PlanFault
 plan_of_tables keep_faults key_tables node_tables = do
   keys ← keys_after [] key_tables
@@ -26,7 +26,7 @@ plan_of_tables keep_faults key_tables node_tables = do
   _ ← check faults.TooMany (nat_le (length (lock_names nodes)) lock_limit)
   Ok (record { keep_faults = keep_faults; keys = keys; nodes = nodes })
 
--- the plan of a document
+-- The plan of a document.
 unfoldable pub plan_of : Members → Result PlanText PlanFault
 plan_of top = do
   _ ← check (faults.UnknownField places.Whole) (has_only top_fields top)
@@ -35,7 +35,7 @@ plan_of top = do
   node_tables ← tables_or_none (faults.BadField places.Whole) (get_member (codes "node") top)
   plan_of_tables keep_faults key_tables node_tables
 
--- the plan of a text
+-- The plan of a text.
 unfoldable pub plan_of_text : List ℕ → Result PlanText PlanFault
 plan_of_text text = do
   top ← some_or faults.NotToml (parse_document text)

@@ -2,7 +2,7 @@
 //!
 //! `read_plan` reads, `Plan` is the result, and `PlanFault` is why a text was refused. `explain`
 //! explains such a fault, and `explain_id` the fault of an id. What a plan is stands in `ext_plan`,
-//! whose public names this crate exports too.
+//! whose types of a plan's data this crate exports too.
 //!
 //! JUnit has no plans.
 #![tactic(auto)]

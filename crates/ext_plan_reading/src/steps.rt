@@ -3,10 +3,9 @@ ghost use Rattle.std.specs.Prelude.{◌≡◌, ◌==◌, [], map, take, length, 
 ghost use Rattle.std.specs.List.{slice_split, list_any};
 ghost use Rattle.std.specs.Str.{bytes_eq};
 ghost use Rattle.ext_plan.specs.Plans.{step_key_view, step_view, steps_view};
-ghost use Rattle.ext_plan.specs.Steps.{height};
 ghost use Rattle.ext_plan_reading.specs.Faults.{Gives};
 ghost use Rattle.ext_plan_reading.specs.InnerSketches.{GivesAll};
-ghost use Rattle.ext_plan_reading.specs.StepReading.{height_of, key_of_word, key_step, text_step, worded_key_step, worded_text_step, short_step, step_of_words, step_of, step_at, steps_after, steps_at};
+ghost use Rattle.ext_plan_reading.specs.StepReading.{height_of, key_of_word, key_word, text_word, worded_step, short_step, step_of_words, step_of, step_at, steps_after, steps_at};
 
 use crate::fault::PlanFault;
 use crate::labels::Labels;
@@ -73,28 +72,10 @@ pub(crate) fn step_at(
     let Some(step) = step_of(alloc, labels, text)? else {
         return Err(PlanFault::BadStep(node));
     };
-    if height(&step) >= depth {
+    if step.height() >= depth {
         return Err(PlanFault::BadStep(node));
     }
     Ok(step)
-}
-
-/// To which ancestor a step goes up.
-fn height(step: &Step) -> usize
-    ensures { result ≡ height (step_view step.now) }
-{
-    match step {
-        Step::Put { up, .. } => *up,
-        Step::PutCloseable { up, .. } => *up,
-        Step::Want { up, .. } => *up,
-        Step::None { up, .. } => *up,
-        Step::Remove { up, .. } => *up,
-        Step::Compute { up, .. } => *up,
-        Step::ComputeCloseable { up, .. } => *up,
-        Step::ComputeFail { up, .. } => *up,
-        Step::Fail { .. } => 0,
-        Step::Abort { .. } => 0,
-    }
 }
 
 /// The step that a text is, if it is one.
@@ -142,14 +123,14 @@ fn step_of_words(
 {
     match words {
         [name, word] => short_step(alloc, labels, name, word),
-        [name, key, text] => worded_text_step(alloc, labels, name, key, text, 0),
+        [name, key, text] => text_step(alloc, labels, name, key, text, 0),
         [name, key, word, number] => match height_of(word, number) {
             None => Ok(None),
-            Some(up) => worded_key_step(alloc, labels, name, key, up),
+            Some(up) => key_step(alloc, labels, name, key, up),
         },
         [name, key, text, word, number] => match height_of(word, number) {
             None => Ok(None),
-            Some(up) => worded_text_step(alloc, labels, name, key, text, up),
+            Some(up) => text_step(alloc, labels, name, key, text, up),
         },
         _ => Ok(None),
     }
@@ -171,70 +152,40 @@ fn short_step(
         "abort" => Ok(Some(Step::Abort {
             text: String::from_str(alloc, word)?,
         })),
-        _ => worded_key_step(alloc, labels, name, word, 0),
+        _ => key_step(alloc, labels, name, word, 0),
     }
 }
 
 /// The step of a name and the word of a key, if the name has such steps.
-fn worded_key_step(
+fn key_step(
     alloc: Global,
     labels: &Labels<'_>,
     name: &str,
     word: &str,
     up: usize,
 ) -> Result<Option<Step>, PlanFault>
-    ensures { GivesAll (option_map step_view) result (worded_key_step labels.now name.now word.now up) }
+    ensures { GivesAll (option_map step_view) result (worded_step labels.now (key_word name.now) word.now [] up) }
 {
     let key = key_of_word(alloc, labels, word)?;
-    Ok(key_step(name, key, up))
-}
-
-/// The step of a name, the word of a key and a text, if the name has such steps.
-fn worded_text_step(
-    alloc: Global,
-    labels: &Labels<'_>,
-    name: &str,
-    word: &str,
-    text: &str,
-    up: usize,
-) -> Result<Option<Step>, PlanFault>
-    ensures { GivesAll (option_map step_view) result (worded_text_step labels.now name.now word.now text.now up) }
-{
-    let key = key_of_word(alloc, labels, word)?;
-    text_step(alloc, name, key, text, up)
-}
-
-/// The key that a word names: that of the label which it is, or else the one of this name.
-fn key_of_word(alloc: Global, labels: &Labels<'_>, word: &str) -> Result<StepKey, AllocError>
-    ensures { IfOk result (λ k. step_key_view k ≡ key_of_word labels.now word.now) }
-{
-    match labels.number_of(word) {
-        Some(label) => Ok(StepKey::Label(label)),
-        None => Ok(StepKey::Named(String::from_str(alloc, word)?)),
-    }
-}
-
-/// The step of this name with a key, if the name has such steps.
-fn key_step(name: &str, key: StepKey, up: usize) -> Option<Step>
-    ensures { option_map step_view result ≡ key_step name.now (step_key_view key) up }
-{
-    match name {
+    Ok(match name {
         "none" => Some(Step::None { key, up }),
         "remove" => Some(Step::Remove { key, up }),
         _ => None,
-    }
+    })
 }
 
-/// The step of this name with a key and a text, if the name has such steps.
+/// The step of a name, the word of a key and a text, if the name has such steps.
 fn text_step(
     alloc: Global,
+    labels: &Labels<'_>,
     name: &str,
-    key: StepKey,
+    word: &str,
     text: &str,
     up: usize,
 ) -> Result<Option<Step>, PlanFault>
-    ensures { GivesAll (option_map step_view) result (text_step name.now (step_key_view key) text.now up) }
+    ensures { GivesAll (option_map step_view) result (worded_step labels.now (text_word name.now) word.now text.now up) }
 {
+    let key = key_of_word(alloc, labels, word)?;
     let text = String::from_str(alloc, text)?;
     Ok(match name {
         "put" => Some(Step::Put { key, text, up }),
@@ -245,6 +196,16 @@ fn text_step(
         "computefail" => Some(Step::ComputeFail { key, text, up }),
         _ => None,
     })
+}
+
+/// The key that a word names: that of the label which it is, or else the one of this name.
+fn key_of_word(alloc: Global, labels: &Labels<'_>, word: &str) -> Result<StepKey, AllocError>
+    ensures { IfOk result (λ k. step_key_view k ≡ key_of_word labels.now word.now) }
+{
+    match labels.number_of(word) {
+        Some(label) => Ok(StepKey::Label(label)),
+        None => Ok(StepKey::Named(String::from_str(alloc, word)?)),
+    }
 }
 
 /// The number of two words `up` and a number, if they are such.

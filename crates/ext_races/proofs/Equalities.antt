@@ -1,16 +1,17 @@
 -- Touches and races that are equal by their tests are one.
-use Rattle.std.proofs.Common.{◌≡◌, ℕ, Bool, true, false, refl, sym, ap, ◌∙◌}
-use Rattle.std.specs.Prelude.{◌==◌, ◌&&◌, if◌then◌else◌}
+use Rattle.std.proofs.Common.{◌≡◌, ℕ, Bool, true, false, refl, rules}
+use Rattle.std.specs.Prelude.{◌==◌, ◌&&◌}
 use Rattle.std.specs.Cmp.{booleans_Decides}
 use Rattle.std.specs.Cmp.Lexicographic.{bytes_decides}
 use Rattle.std.proofs.lemmas.Bool.Decides.{Decides-eqb}
+use denote.Enum.Bare.{same_true, true_same}
+use Rattle.ext_plan.specs.contracts.word.Word.{the_type}
+use Rattle.ext_plan.specs.declared.word.Word.{Word}
+use Rattle.ext_plan.specs.StepWords.{word_eq}
 use Rattle.ext_races.specs.declared.race.Race.{Race}
 use Rattle.ext_races.specs.declared.race.Side.{Side}
-use Rattle.ext_races.specs.declared.word.Word.{Word}
-use Rattle.ext_races.specs.declared.word.Word.TheVariants as words
 use Rattle.ext_races.specs.InnerTold.{race_eq, side_eq, touch_eq}
 use Rattle.ext_races.specs.Touches.{TouchText}
-use Rattle.ext_races.specs.StepWords.{word_code, word_eq}
 
 pub both : (a b : Bool) → (a && b) ≡ true → (a ≡ true) × (b ≡ true)
 both true true h = (refl, refl)
@@ -20,30 +21,8 @@ both false b h = absurd cc
 pub equal : (a b : ℕ) → (a == b) ≡ true → a ≡ b
 equal a b = (Decides-eqb a b).0
 
-word_of : ℕ → Word
-word_of n =
-    if n == 0 then words.Put
-    else (if n == 1 then words.PutCloseable
-    else (if n == 2 then words.Want
-    else (if n == 3 then words.None
-    else (if n == 4 then words.Remove
-    else (if n == 5 then words.Compute
-    else (if n == 6 then words.ComputeCloseable
-    else words.ComputeFail))))))
-
-word_back : (a : Word) → word_of (word_code a) ≡ a
-unfolding word_of
-word_back words.Put = refl
-word_back words.PutCloseable = refl
-word_back words.Want = refl
-word_back words.None = refl
-word_back words.Remove = refl
-word_back words.Compute = refl
-word_back words.ComputeCloseable = refl
-word_back words.ComputeFail = refl
-
 pub word_is : (a b : Word) → word_eq a b ≡ true → a ≡ b
-word_is a b h = sym (word_back a) ∙ ap word_of (equal (word_code a) (word_code b) h) ∙ word_back b
+word_is = same_true the_type (search rules)
 
 pub touch_is : (t u : TouchText) → touch_eq t u ≡ true → t ≡ u
 touch_is t u h =
@@ -85,7 +64,7 @@ same : (a : ℕ) → (a == a) ≡ true
 same a = (Decides-eqb a a).1 refl
 
 side_same : (a : Side) → side_eq a a ≡ true
-side_same a = both_true _ _ (both_true _ _ (same a.node) (same (word_code a.word))) (same a.key)
+side_same a = both_true _ _ (both_true _ _ (same a.node) (true_same the_type a.word a.word refl)) (same a.key)
 
 pub race_same : (a : Race) → race_eq a a ≡ true
 race_same a = both_true _ _ (both_true _ _ (side_same a.first) (side_same a.second)) (same a.context)

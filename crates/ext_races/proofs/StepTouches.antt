@@ -8,10 +8,10 @@ use Rattle.std.specs.Prelude.{◌&&◌, if◌then◌else◌}
 use Rattle.ext_plan.specs.Plans.{KeyText, StepText, step_view}
 use Rattle.ext_plan.specs.declared.plan.Step.{Step}
 use Rattle.ext_plan.specs.StoreKeys.{is_there, key_of_step, place_of_key}
+use Rattle.ext_plan.specs.StepWords.{changes, gives_value}
 use Rattle.ext_races.proofs.Lists.{map-take_more}
 use Rattle.ext_races.specs.Acts.{ActText, act_of}
 use Rattle.ext_races.specs.InnerGroups.{HasGroups}
-use Rattle.ext_races.specs.StepWords.{changes, gives_value}
 use Rattle.ext_races.specs.MadeSteps.{MadeText, path_of}
 use Rattle.ext_races.specs.Touches.{below_act, below_computes, key_of_act, key_of_made, reach, touches_along, touches_of, touches_of_act}
 

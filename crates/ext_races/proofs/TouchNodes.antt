@@ -6,10 +6,10 @@ use Rattle.ext_tree.specs.Keys.{KeyValue}
 use Rattle.ext_plan.specs.Plans.{KeyText, PlanText, StepText}
 use Rattle.ext_plan.specs.StoreKeys.{key_of_step, place_of_key}
 use Rattle.ext_plan.specs.ReadPlans.{ids_of_nodes}
+use Rattle.ext_plan.specs.StepWords.{looks_along}
 use Rattle.ext_races.specs.Acts.{ActText, act_of}
 use Rattle.ext_races.specs.MadeSteps.{path_of, steps_made}
 use Rattle.ext_races.specs.Touches.{TouchText, keys_named, reach, touch_of, touches_above, touches_along, touches_made, touches_of, touches_of_act}
-use Rattle.ext_races.specs.StepWords.{looks_along}
 use Rattle.ext_races.proofs.Lists.{contains_nothing, contains_cases, contains-flat_map_back, contains-map_back}
 use Rattle.ext_races.proofs.Within.{nodes_within}
 

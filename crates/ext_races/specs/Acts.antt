@@ -1,9 +1,10 @@
--- What a step does with the store: its word, its key, its text, and to which ancestor it goes up; and which steps draw a number. Own rule.
-use Rattle.std.specs.Prelude.{ℕ, Bool, true, false, List, [], Option, Some, None}
-use Rattle.ext_plan.specs.Plans.{StepKeyText, StepText, step_key_view, put, put_closeable, want, nothing, remove, compute, compute_closeable, compute_fail, fail, abort}
-use Rattle.ext_races.specs.declared.act.StepAct.{StepAct}
-use Rattle.ext_races.specs.declared.word.Word.{Word}
-use Rattle.ext_races.specs.declared.word.Word.TheVariants as words
+-- What a step does with the store: its word, its key, its text, and how many contexts up it acts; and which steps draw
+-- a number.
+use Rattle.std.specs.Prelude.{ℕ, Bool, true, false, List, Option, Some, None}
+use Rattle.ext_plan.specs.declared.step_parts.KeyedStep.{KeyedStep}
+use Rattle.ext_plan.specs.declared.word.Word.{Word}
+use Rattle.ext_plan.specs.declared.word.Word.TheVariants as words
+use Rattle.ext_plan.specs.Plans.{StepKeyText, StepText, step_key_view, keyed, fail, abort}
 
 pub record ActText : Type 0 where
   pub word : Word
@@ -11,33 +12,26 @@ pub record ActText : Type 0 where
   pub text : List ℕ
   pub up : ℕ
 
-abbrev pub act_view : StepAct → ActText
+abbrev pub act_view : KeyedStep → ActText
 act_view a = record { word = a.word; key = step_key_view a.key.now; text = a.text.now; up = a.up }
 
-abbrev pub act : Word → StepKeyText → List ℕ → ℕ → Option ActText
-act word key text up = Some (record { word = word; key = key; text = text; up = up })
-
 abbrev pub act_of : StepText → Option ActText
-act_of (put key text up) = act words.Put key text up
-act_of (put_closeable key text up) = act words.PutCloseable key text up
-act_of (want key text up) = act words.Want key text up
-act_of (nothing key up) = act words.None key [] up
-act_of (remove key up) = act words.Remove key [] up
-act_of (compute key text up) = act words.Compute key text up
-act_of (compute_closeable key text up) = act words.ComputeCloseable key text up
-act_of (compute_fail key text up) = act words.ComputeFail key text up
+act_of (keyed word key text up) = Some (record { word = word; key = key; text = text; up = up })
 act_of (fail text) = None
 act_of (abort text) = None
 
--- a step that may draw a number: it puts, or its factory gives a value, or a fault that is kept
+-- A step with this word may draw a number: it puts, or its factory gives a value or a fault that is kept.
+abbrev pub word_draws : Bool → Word → Bool
+word_draws keep_faults words.Put = true
+word_draws keep_faults words.PutCloseable = true
+word_draws keep_faults words.Want = false
+word_draws keep_faults words.None = false
+word_draws keep_faults words.Remove = false
+word_draws keep_faults words.Compute = true
+word_draws keep_faults words.ComputeCloseable = true
+word_draws keep_faults words.ComputeFail = keep_faults
+
 abbrev pub draws : Bool → StepText → Bool
-draws keep_faults (put key text up) = true
-draws keep_faults (put_closeable key text up) = true
-draws keep_faults (want key text up) = false
-draws keep_faults (nothing key up) = false
-draws keep_faults (remove key up) = false
-draws keep_faults (compute key text up) = true
-draws keep_faults (compute_closeable key text up) = true
-draws keep_faults (compute_fail key text up) = keep_faults
+draws keep_faults (keyed word key text up) = word_draws keep_faults word
 draws keep_faults (fail text) = false
 draws keep_faults (abort text) = false

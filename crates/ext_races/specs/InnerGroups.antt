@@ -15,7 +15,7 @@ groups_view groups = map group_view groups
 abbrev pub group_at : List (List TouchText) → ℕ → List TouchText
 group_at groups number = slice_index_or groups number []
 
--- a context has 65 groups: one for each key, and the last for closes
+-- A context has 65 groups: one for each key, and the last for closes.
 abbrev pub place_group : TouchText → ℕ
 place_group t = t.context * 65 + t.key
 
@@ -25,14 +25,14 @@ close_group_of context = context * 65 + 64
 abbrev pub close_group : TouchText → ℕ
 close_group t = close_group_of t.context
 
--- the group of this number has this touch too
+-- This touch is added to the group with this number.
 pub record IsPushed (before : List (List TouchText)) (number : ℕ) (touch : TouchText) (after : List (List TouchText)) : Type 0 where
   pub count : length after ≡ length before
   pub here : Contains (group_at after number) touch
   pub kept : (k : ℕ) (t : TouchText) → Contains (group_at before k) t → Contains (group_at after k) t
   pub only : (k : ℕ) (t : TouchText) → Contains (group_at after k) t → Contains (group_at before k) t ⊎ (t ≡ touch)
 
--- each of these touches stands in the groups to which it belongs, and nothing else came into a group
+-- Each of these touches is added to the groups to which it belongs, and nothing else is added.
 pub record IsAdded (touches : List TouchText) (before after : List (List TouchText)) : Type 0 where
   pub count : length after ≡ length before
   pub kept : (k : ℕ) (t : TouchText) → Contains (group_at before k) t → Contains (group_at after k) t
@@ -40,16 +40,16 @@ pub record IsAdded (touches : List TouchText) (before after : List (List TouchTe
   pub places : (t : TouchText) → Contains touches t → Contains (group_at after (place_group t)) t
   pub closes : (t : TouchText) → Contains touches t → may_fail t ≡ true → Contains (group_at after (close_group t)) t
 
--- these touches in groups, and nothing else
+-- The groups have these touches and nothing else.
 pub record IsGrouped (touches : List TouchText) (groups : List (List TouchText)) : Type 0 where
   pub only : (k : ℕ) (t : TouchText) → Contains (group_at groups k) t → Contains touches t
   pub places : (t : TouchText) → Contains touches t → Contains (group_at groups (place_group t)) t
   pub closes : (t : TouchText) → Contains touches t → may_fail t ≡ true → Contains (group_at groups (close_group t)) t
 
--- no group has a touch
+-- No group has a touch.
 abbrev pub AreEmpty : List (List TouchText) → Type 0
 AreEmpty groups = (k : ℕ) (t : TouchText) → Contains (group_at groups k) t → ⊥
 
--- a context has its groups among so many
+-- The groups of the context are among the first `count`.
 abbrev pub HasGroups : ℕ → ℕ → Type 0
 HasGroups count context = close_group_of context < count

@@ -1,4 +1,4 @@
--- The keys that steps name, by the declared keys of a plan.
+-- The keys that steps name, by a plan's declared keys.
 use Rattle.std.specs.Prelude.{List, [], map}
 use Rattle.std.specs.Borrow.{Bor}
 use Rattle.ext_tree.specs.Keys.{KeyValue}
@@ -11,6 +11,6 @@ use Rattle.ext_races.specs.Touches.{keys_of_steps}
 abbrev pub keys_of : List KeyText → List (Bor StepKey) → List KeyValue
 keys_of keys names = map (λ k. key_of_step keys (step_key_view k.now)) names
 
--- those of steps
+-- The keys that these steps name.
 abbrev pub keys_told : List KeyText → List MadeText → List KeyValue
 keys_told declared steps = keys_of_steps declared [] steps

@@ -1,12 +1,13 @@
--- What is told of groups of touches: each pair of a group that clashes, and whose nodes may run beside one another, once, until so many are told.
+-- Which races are listed for groups of touches: each pair of a group that clashes, and whose nodes may run beside one
+-- another, once, up to a limit.
 use Rattle.std.specs.Prelude.{ℕ, ◌==◌, Bool, not, ◌&&◌, List, [], ◌∷◌, ◌++◌, length, fold, nat_lt, if◌then◌else◌}
 use Rattle.std.specs.Bool.{beq}
 use Rattle.std.specs.List.{list_any}
 use Rattle.std.specs.Str.{bytes_eq}
 use Rattle.ext_plan.specs.Plans.{PlanText}
+use Rattle.ext_plan.specs.StepWords.{word_eq}
 use Rattle.ext_races.specs.declared.race.Race.{Race}
 use Rattle.ext_races.specs.declared.race.Side.{Side}
-use Rattle.ext_races.specs.StepWords.{word_eq}
 use Rattle.ext_races.specs.Beside.{nodes_beside}
 use Rattle.ext_races.specs.Touches.{TouchText}
 use Rattle.ext_races.specs.Clashes.{clashes}
@@ -28,9 +29,9 @@ touch_eq t u = (t.node == u.node) && (t.context == u.context) && (t.key == u.key
 abbrev pub race : PlanText → TouchText → TouchText → Bool
 race plan t u = clashes t u && nodes_beside plan t.node u.node
 
--- ---- telling
+-- ---- listing
 
--- one race more, unless it was told, or so many were
+-- Lists one more race, unless it is listed already or the list is full.
 abbrev pub with_race : ℕ → List Race → Race → List Race
 with_race most told race = if nat_lt (length told) most && not (list_any (λ r. race_eq r race) told) then told ++ race ∷ [] else told
 
@@ -38,7 +39,7 @@ module _ (plan : PlanText) (most : ℕ) where
   abbrev pub pair_told : TouchText → List Race → TouchText → List Race
   pair_told t told u = if race plan t u then with_race most told (race_of t u) else told
 
-  -- a touch with all of its group
+  -- Lists the races of a touch with its whole group.
   abbrev pub touch_told : List TouchText → List Race → TouchText → List Race
   touch_told group told t = fold (pair_told t) told group
 

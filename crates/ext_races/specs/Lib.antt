@@ -8,4 +8,3 @@ pub mod MadeSteps
 pub mod RaceLines
 pub mod Races
 pub mod Touches
-pub mod StepWords

@@ -1,10 +1,11 @@
--- What is written of what was found of a plan's races: a line for each of the first 20,
+-- What is written of a plan's races: a line for each of the first 20,
 --
 --     WORD KEY of ID and WORD KEY of ID in ID
 --
--- with the step of the node that stands first in the plan, that of the other, and the context of the place. A step is told by its first word, the word by which the
--- plan's steps first name its key, and the id of its node. `and more` stands in a line behind them where there are others, and `no races` in one where there is none.
--- A limit that the plan goes past has a line alone. Texts are bytes; the format is an own rule.
+-- with the step of the node that comes first in the plan, that of the other, and the context of the place. A step is
+-- shown by its first word, the word by which the plan's steps first name its key, and the id of its node. A line
+-- `and more` follows if there are more, and a line `no races` stands alone if there is none. A limit that the plan
+-- exceeds has a line of its own. Texts are bytes; the format is not from JUnit.
 use Rattle.std.specs.Prelude.{ℕ, codes, List, [], ◌∷◌, ◌++◌, length, nat_lt, take, Option, Some, None, if◌then◌else◌}
 use Rattle.std.specs.Borrow.{Bor}
 use Rattle.std.specs.List.{flat_map, slice_get}
@@ -12,27 +13,27 @@ use Rattle.ext_ids.specs.Grammar.{id_text}
 use Rattle.ext_plan.specs.Plans.{NodeText, PlanText, step_key_view}
 use Rattle.ext_plan.specs.StepCalls.{label_of}
 use Rattle.ext_plan.specs.declared.plan.StepKey.{StepKey}
+use Rattle.ext_plan.specs.StepWords.{word_text}
 use Rattle.ext_races.specs.declared.race.Race.{Race}
 use Rattle.ext_races.specs.declared.race.Side.{Side}
 use Rattle.ext_races.specs.declared.found.Found.{Found}
 use Rattle.ext_races.specs.declared.found.Found.TheVariants as found
-use Rattle.ext_races.specs.StepWords.{word_text}
 
--- how many races have a line
+-- How many races have a line.
 abbrev pub line_limit : ℕ
 line_limit = 20
 
--- the id of a node, if it is there
+-- The id of a node, if it is there.
 abbrev pub id_if : Option NodeText → List ℕ
 id_if None = []
 id_if (Some node) = id_text node.id
 
 module _ (plan : PlanText) where
-  -- that of a node of the plan, by its place
+  -- The id of the plan's node at this place.
   abbrev pub id_of_node : ℕ → List ℕ
   id_of_node node = id_if (slice_get plan.nodes node)
 
-  -- the word by which a step names its key, if there is one
+  -- The word by which a step names its key, if any.
   abbrev pub name_if : Option (Bor StepKey) → List ℕ
   name_if None = []
   name_if (Some name) = label_of plan.keys (step_key_view name.now)
@@ -42,16 +43,15 @@ module _ (plan : PlanText) where
     unfoldable pub side_text : Side → List ℕ
     side_text side = word_text side.word ++ codes " " ++ name_if (slice_get names side.key) ++ codes " of " ++ id_of_node side.node
 
-    -- the line of a race
     unfoldable pub race_line : Race → List ℕ
     race_line race = side_text race.first ++ codes " and " ++ side_text race.second ++ codes " in " ++ id_of_node race.context ++ codes "\n"
 
-    -- those of the first races, and whether there are others
+    -- The lines of the first races, and whether there are more.
     abbrev pub race_lines : List Race → List ℕ
     race_lines [] = codes "no races\n"
     race_lines (race ∷ more) = flat_map race_line (take line_limit (race ∷ more)) ++ (if nat_lt line_limit (length (race ∷ more)) then codes "and more\n" else [])
 
-  -- what is written of what was found
+  -- What is written, by what was found.
   abbrev pub found_text : Found → List ℕ
   found_text found.TooManyKeys = codes "the steps name more than 64 keys\n"
   found_text found.TooManyNumbers = codes "the steps may draw more than 65535 numbers\n"

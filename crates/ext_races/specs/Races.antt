@@ -1,4 +1,4 @@
--- What a race of a plan is, and what is told of a plan's races.
+-- What a race of a plan is, and which races are listed.
 use Rattle.std.specs.Prelude.{ℕ, ◌≡◌, ◌≢◌, ◌<◌, ◌≤◌, true, List, length, map, nat_lt, All, AllPairs, Contains, if◌then◌else◌}
 use Rattle.std.specs.Borrow.{Bor}
 use Rattle.ext_tree.specs.Keys.{KeyValue}
@@ -16,14 +16,14 @@ use Rattle.ext_races.specs.Beside.{IsBeside}
 abbrev pub side_of : TouchText → Side
 side_of t = record { node = t.node; word = t.word; key = t.key }
 
--- of two touches in one context; that of the lower node comes first
+-- The race of two touches in one context. That of the node with the lower number comes first.
 abbrev pub race_of : TouchText → TouchText → Race
 race_of t u =
     if nat_lt t.node u.node
     then record { first = side_of t; second = side_of u; context = t.context }
     else record { first = side_of u; second = side_of t; context = t.context }
 
--- two touches of nodes that may run beside one another clash
+-- Two touches clash, and their nodes may run beside one another.
 pub record IsRace (plan : PlanText) (race : Race) : Type 0 where
   pub first : TouchText
   pub second : TouchText
@@ -33,25 +33,25 @@ pub record IsRace (plan : PlanText) (race : Race) : Type 0 where
   pub clash : clashes first second ≡ true
   pub is : race ≡ race_of first second
 
--- each that is told is a race, and none is told twice; so many are told at most, and where fewer are told there are no others
+-- Every answer is a race, without repetition. At most `most` are listed, and fewer only if there are no more.
 pub record AreRaces (plan : PlanText) (most : ℕ) (races : List Race) : Type 0 where
   pub found : All (IsRace plan) races
   pub different : AllPairs (λ a b. a ≢ b) races
   pub few : length races ≤ most
   pub all : length races < most → (race : Race) → IsRace plan race → Contains races race
 
--- how many keys and numbers a run has
+-- How many keys and numbers a run has.
 abbrev pub key_limit : ℕ
 key_limit = 64
 
 abbrev pub number_limit : ℕ
 number_limit = 65535
 
--- the keys of these names
+-- The keys of these names.
 abbrev pub keys_of_names : PlanText → List (Bor StepKey) → List KeyValue
 keys_of_names plan names = map (λ k. key_of_step plan.keys (step_key_view k.now)) names
 
--- Too many keys are told before too many numbers, and either before the races
+-- Too many keys are reported before too many numbers, and either before the races.
 abbrev pub IsFound : PlanText → ℕ → Found → Type 0
 IsFound plan most found.TooManyKeys = key_limit < length (keys_named plan)
 IsFound plan most found.TooManyNumbers = (length (keys_named plan) ≤ key_limit) × (number_limit < numbers_drawn plan)

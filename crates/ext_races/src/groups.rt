@@ -11,13 +11,13 @@ ghost use Rattle.ext_races.specs.InnerTold.{touch_eq};
 ghost use Rattle.ext_races.specs.MadeSteps.{made_view};
 ghost use Rattle.ext_races.specs.Touches.{key_of_made, touch_view, touches_above, touches_along, touches_of};
 
-use crate::act::{StepAct, act_of};
+use crate::act::act_of;
 use crate::made::{MadeStep, path_in};
 use crate::naming::store_key;
 use crate::reach::reach;
 use crate::touch::{Touch, touch_of};
 use ext_model::{ContextNo, KeyNo};
-use ext_plan::{StepKey, StepKeys};
+use ext_plan::{KeyedStep, StepKey, StepKeys};
 use ext_tree::{Directory, Tree};
 use std::alloc::{AllocError, Global};
 
@@ -117,7 +117,7 @@ fn add_act<'p>(
     groups: &mut Vec<Vec<Touch<'p>>>,
     node: ContextNo,
     key: KeyNo,
-    act: &StepAct<'p>,
+    act: &KeyedStep<'p>,
     path: &[ContextNo],
 ) -> Result<(), AllocError>
     requires key { key < 64 }
@@ -140,7 +140,7 @@ fn add_above<'p>(
     groups: &mut Vec<Vec<Touch<'p>>>,
     node: ContextNo,
     key: KeyNo,
-    act: &StepAct<'p>,
+    act: &KeyedStep<'p>,
     above: &[ContextNo],
 ) -> Result<(), AllocError>
     requires key { key < 64 }

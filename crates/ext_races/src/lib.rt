@@ -19,10 +19,8 @@ mod reach;
 mod telling;
 mod text;
 mod touch;
-mod word;
 
 pub use finding::races;
 pub use found::Found;
 pub use race::{Race, Side};
 pub use text::races_text;
-pub use word::Word;

@@ -1,8 +1,8 @@
 //! A race of a plan.
 ghost use Rattle.std.specs.Prelude.{◌≡◌};
 
-use crate::Word;
 use ext_model::{ContextNo, KeyNo};
+use ext_plan::Word;
 
 /// One of two steps that race: the node in whose context it runs, its first word, and the number of
 /// its key.
@@ -35,7 +35,7 @@ impl Side {
     fn is_same(&self, other: &Side) -> bool
         ensures { result ≡ side_eq self.now other.now }
     {
-        self.node == other.node && self.word.code() == other.word.code() && self.key == other.key
+        self.node == other.node && self.word == other.word && self.key == other.key
     }
 }
 

@@ -7,10 +7,10 @@ ghost use Rattle.ext_tree.specs.Traits.{key_eq};
 ghost use Rattle.ext_races.specs.Acts.{act_of, act_view};
 ghost use Rattle.ext_races.specs.Touches.{below_act, reach};
 
-use crate::act::{StepAct, act_of};
+use crate::act::act_of;
 use crate::naming::store_key;
 use ext_model::ContextNo;
-use ext_plan::{Step, StepKeys};
+use ext_plan::{KeyedStep, Step, StepKeys};
 use ext_tree::Key;
 use std::alloc::{AllocError, Global};
 
@@ -19,7 +19,7 @@ use std::alloc::{AllocError, Global};
 pub(crate) fn reach<'t>(
     alloc: Global,
     keys: &StepKeys<'_>,
-    act: &StepAct<'_>,
+    act: &KeyedStep<'_>,
     before: &[Step],
     path: &'t [ContextNo],
 ) -> Result<&'t [ContextNo], AllocError>
@@ -59,7 +59,7 @@ fn below_step<'t>(
 fn is_of(
     alloc: Global,
     keys: &StepKeys<'_>,
-    act: &StepAct<'_>,
+    act: &KeyedStep<'_>,
     key: &Key,
 ) -> Result<bool, AllocError>
     ensures { IfOk result (λ is. is ≡ key_eq (key_of_step (keys_in keys.now) (act_view act.now).key) key.now) }

@@ -3,9 +3,9 @@ ghost use Rattle.std.specs.Prelude.{◌≡◌};
 ghost use Rattle.ext_races.specs.Acts.{act_view};
 ghost use Rattle.ext_races.specs.Touches.{touch_of, touch_view};
 
-use crate::act::StepAct;
-use crate::{Race, Side, Word};
+use crate::{Race, Side};
 use ext_model::{ContextNo, KeyNo};
+use ext_plan::{KeyedStep, Word};
 
 /// A touch: a step of a node touches a place. The text is kept only if it decides whether the step
 /// races.
@@ -23,7 +23,7 @@ pub(crate) struct Touch<'p> {
 pub(crate) fn touch_of<'p>(
     node: ContextNo,
     key: KeyNo,
-    act: &StepAct<'p>,
+    act: &KeyedStep<'p>,
     changes: bool,
     context: ContextNo,
 ) -> Touch<'p>
@@ -56,7 +56,7 @@ impl Touch<'_> {
         self.node == other.node
             && self.context == other.context
             && self.key == other.key
-            && self.word.code() == other.word.code()
+            && self.word == other.word
             && self.changes == other.changes
             && self.text == other.text
     }
@@ -79,10 +79,7 @@ impl Touch<'_> {
     fn agrees(&self, other: &Touch<'_>) -> bool
         ensures { result ≡ agree (touch_view self.now) (touch_view other.now) }
     {
-        other.changes
-            && self.word.computes()
-            && self.word.code() == other.word.code()
-            && self.text == other.text
+        other.changes && self.word.computes() && self.word == other.word && self.text == other.text
     }
 
     /// Tests whether the fault of either close may be reported first.

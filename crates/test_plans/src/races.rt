@@ -257,7 +257,8 @@ const PLANS: [([&str; 6], &str); 20] = [
     ),
 ];
 
-/// Tests `races`, `Word::text`, `races_text`, `Word::changes` and `Word::looks_along`.
+/// Tests `races`, `races_text`, `Word::text`, `Word::changes`, `Word::looks_along`,
+/// `Word::computes`, `Word::gives_value`, `Word::leaves_closeable` and `Word::has_text`.
 #[test]
 fn races_of_worked_plans(rt: HostRuntime) -> Result<(), AllocError> {
     for (fields, wanted) in PLANS {

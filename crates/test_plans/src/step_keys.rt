@@ -3,7 +3,7 @@ ghost use Rattle.ext_plan.specs.ReadPlans.{NamespacesHaveParts};
 ghost use Rattle.ext_plan.specs.Plans.{plan_view};
 
 use crate::same::same;
-use ext_plan::{CallKey, StepCall, StepKeys};
+use ext_plan::{CallKey, StepCall, StepKeys, StepParts};
 use ext_plan_reading::{Plan, Step, read_plan};
 use ext_tree::Key;
 use std::alloc::{AllocError, Global};
@@ -40,44 +40,35 @@ fn labels_name_keys_by_name_and_namespace(rt: HostRuntime) -> Result<(), Fail> {
     Ok(())
 }
 
-/// Plans of one test, each with what is told of the keys that its steps name: the word of each, and the place of the first step whose key
-/// is the same.
+/// Plans of one test, each with what is told of its steps that call the store: the word of each,
+/// that of its key, and the place of the first such step whose key is the same.
 const NAMES: [(&str, &str); 3] = [
     // A name that is the name of a label's key is that key.
     (
         "[[key]]\nlabel = \"a\"\nname = \"b\"\n[[node]]\nid = \"[a:b]\"\ntest = [\"put a x\", \"want b x\", \"fail f\"]",
-        "a Some(0), b Some(0), ",
+        "put a Some(0), want b Some(0), ",
     ),
     // A label is looked for first; a key of a namespace is another than the one of its name.
     (
         "[[key]]\nlabel = \"a\"\nname = \"b\"\n[[key]]\nlabel = \"b\"\nname = \"c\"\n[[key]]\nlabel = \"d\"\nname = \"e\"\nnamespace = [\"x\"]\n[[node]]\nid = \"[a:b]\"\ntest = [\"none a\", \"none b\", \"none c\", \"remove d\", \"compute e 1\"]",
-        "a Some(0), b Some(1), c Some(1), d Some(3), e Some(4), ",
+        "none a Some(0), none b Some(1), none c Some(1), remove d Some(3), compute e Some(4), ",
     ),
     // No key needs a declaration.
     (
         "[[node]]\nid = \"[a:b]\"\ntest = [\"none q\", \"none p\", \"abort t\", \"none q\"]",
-        "q Some(0), p Some(1), q Some(0), ",
+        "none q Some(0), none p Some(1), none q Some(0), ",
     ),
 ];
 
-/// Writes the word of a key, and the place of the first of the keys that is equal to it.
-fn write_key(
-    word: &str,
-    key: &Key,
-    keys: &[CallKey<'_>],
-    told: &mut String,
-) -> Result<(), AllocError> {
-    let place = keys.iter().position(|other| *other.key() == *key);
-    write!(told, "{word} {place:?}, ")
-}
-
-/// Writes the same of the key of a call.
+/// Writes the words of a call and of its key, and the place of the first of the keys that is equal
+/// to it.
 fn write_call(
     call: &StepCall<'_>,
     keys: &[CallKey<'_>],
     told: &mut String,
 ) -> Result<(), AllocError> {
-    write_key(call.label, call.key, keys, told)
+    let place = keys.iter().position(|other| *other.key() == *call.key);
+    write!(told, "{} {} {place:?}, ", call.name, call.label)
 }
 
 /// The keys that the steps name, in order.
@@ -95,7 +86,7 @@ fn keys_of<'b>(
     Ok(keys)
 }
 
-/// Writes what is told of the keys of these steps.
+/// Writes what is told of these steps.
 fn write_steps(
     alloc: Global,
     names: StepKeys<'_>,
@@ -104,16 +95,16 @@ fn write_steps(
 ) -> Result<(), AllocError> {
     let keys = keys_of(alloc, &names, steps)?;
     for step in steps {
-        if let Some(key) = step.key() {
-            let made = names.key_of(alloc, key)?;
-            let call = names.call("none", key, made.key(), &[2, 1, 0], 1);
+        if let StepParts::Keyed(step) = step.parts() {
+            let made = names.key_of(alloc, step.key)?;
+            let call = names.call(step, made.key(), &[2, 1, 0]);
             write_call(&call, keys.as_slice(), told)?;
         }
     }
     Ok(())
 }
 
-/// What is told of the keys of a plan's first test.
+/// What is told of the steps of a plan's first test.
 fn names_told(alloc: Global, plan: &Plan) -> Result<String, Fail>
     requires { NamespacesHaveParts (plan_view plan.now) }
 {
@@ -133,7 +124,7 @@ fn read_names(alloc: Global, text: &str) -> Result<String, Fail> {
     names_told(alloc, &plan)
 }
 
-/// Tests `Step::key`, `read_plan` and `StepKeys::key_of`.
+/// Tests `Step::key`, `Step::parts`, `read_plan`, `StepKeys::key_of` and `StepKeys::call`.
 #[test]
 fn steps_name_keys_without_a_label(rt: HostRuntime) -> Result<(), Fail> {
     for (text, wanted) in &NAMES {

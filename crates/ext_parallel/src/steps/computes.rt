@@ -70,19 +70,19 @@ pub(crate) fn compute_fail<'a, R: Wait>(
     store: &Store<StoredValue<'a>>,
     lane: &mut Lane<StoredValue<'a>>,
     call: &StepCall<'_>,
-    text: &String,
+    text: &str,
 ) -> Outcome
     requires lane { IsLaneOf store.now.id lane.old }
     requires context { start_of (call_view call.now).path < length store.now.tree }
-    ensures fails { StepFails store.now (call_view call.now) (string_bytes text.now) lane.old result lane.new ⊎ FindsNoMemory lane.old result lane.new }
+    ensures fails { StepFails store.now (call_view call.now) text.now lane.old result lane.new ⊎ FindsNoMemory lane.old result lane.new }
     ensures computed { result.computed ≤ 1 }
     ensures found { result.found ≤ 1 }
     ensures lane { IsLaneOf store.now.id lane.new }
     ensures frame { HasFrame store.now lane.old lane.new }
     ensures placed { PlacesOnly (call_view call.now).key lane.old.keys lane.new.keys }
 {
-    match text.clone() {
-        Ok(copy) => compute_fault(alloc, rt, store, lane, call, copy, text.as_str()),
+    match String::from_str(alloc, text) {
+        Ok(copy) => compute_fault(alloc, rt, store, lane, call, copy, text),
         Err(_) => Outcome::of(Verdict::Failed(Fault::Memory)),
     }
 }

@@ -1,5 +1,5 @@
 //! The steps of a test or a callback, in order.
-ghost use Rattle.std.specs.Prelude.{◌≡◌, ◌<◌, ◌≤◌, All, length, map, string_bytes};
+ghost use Rattle.std.specs.Prelude.{◌≡◌, ◌<◌, ◌≤◌, All, length, map};
 ghost use Rattle.ext_lifecycle.specs.Endings.{aborted, failed};
 ghost use Rattle.ext_plan.specs.Plans.{step_view};
 ghost use Rattle.ext_plan.specs.Steps.{step_key, step_limit};
@@ -10,7 +10,7 @@ ghost use Rattle.ext_parallel.specs.Saying.{Ends};
 use crate::steps::StoredValue;
 use ext_lifecycle::{Outcome, Verdict};
 use ext_model::{ContextNo, Fault};
-use ext_plan::{Step, StepKeys, aborted, failed};
+use ext_plan::{Step, StepKeys, StepParts, aborted, failed};
 use ext_store::{Lane, Store};
 use std::alloc::Global;
 use std::sync::Wait;
@@ -106,50 +106,27 @@ impl<'b> StoreSteps<'b> {
         ensures frame { HasFrame store.now lane.old lane.new }
         ensures placed { PlacesItsKey (plan_keys self.now) (step_key (step_view step.now)) lane.old lane.new }
     {
-        match step {
-            Step::Put { key, text, up } => {
-                let value = StoredValue::not_closeable(text.as_str());
-                self.put(rt, store, lane, path, "put", key, *up, value)
-            }
-            Step::PutCloseable { key, text, up } => {
-                let value = StoredValue::closeable_of(text.as_str());
-                self.put(rt, store, lane, path, "put!", key, *up, value)
-            }
-            Step::Want { key, text, up } => {
-                self.want(rt, store, lane, path, key, *up, text.as_str())
-            }
-            Step::None { key, up } => self.none(rt, store, lane, path, key, *up),
-            Step::Remove { key, up } => self.remove(rt, store, lane, path, key, *up),
-            Step::Compute { key, text, up } => {
-                let value = StoredValue::not_closeable(text.as_str());
-                self.compute(rt, store, lane, path, "compute", key, *up, value)
-            }
-            Step::ComputeCloseable { key, text, up } => {
-                let value = StoredValue::closeable_of(text.as_str());
-                self.compute(rt, store, lane, path, "compute!", key, *up, value)
-            }
-            Step::ComputeFail { key, text, up } => {
-                self.compute_fail(rt, store, lane, path, key, *up, text)
-            }
-            Step::Fail { text } => fail(text),
-            Step::Abort { text } => abort(text),
+        match step.parts() {
+            StepParts::Keyed(step) => self.run_keyed(rt, store, lane, path, step),
+            StepParts::Fail(text) => fail(self.alloc, text),
+            StepParts::Abort(text) => abort(self.alloc, text),
         }
     }
 }
 
-fn fail(text: &String) -> Outcome
-    ensures { Ends (failed (string_bytes text.now)) 0 0 result }
+fn fail(alloc: Global, text: &str) -> Outcome
+    ensures { Ends (failed text.now) 0 0 result }
 {
-    match text.clone() {
+    match String::from_str(alloc, text) {
         Ok(text) => Outcome::of(failed(text)),
         Err(_) => Outcome::of(Verdict::Failed(Fault::Memory)),
     }
 }
 
-fn abort(text: &String) -> Outcome
-    ensures { Ends (aborted (string_bytes text.now)) 0 0 result }
+fn abort(alloc: Global, text: &str) -> Outcome
+    ensures { Ends (aborted text.now) 0 0 result }
 {
-    match text.clone() {
+    match String::from_str(alloc, text) {
         Ok(text) => Outcome::of(aborted(text)),
         Err(_) => Outcome::of(Verdict::Failed(Fault::Memory)),
     }

@@ -1,5 +1,5 @@
 //! A value of a plan, as a store keeps it.
-ghost use Rattle.std.specs.Prelude.{◌≡◌, true, false};
+ghost use Rattle.std.specs.Prelude.{◌≡◌};
 
 use ext_plan::PlanValue;
 use ext_store::StoreValue;
@@ -22,19 +22,11 @@ impl StoreValue for StoredValue<'_> {
 impl<'a> StoredValue<'a> {
     ghost use Rattle.ext_parallel.specs.StoreCalls.{stored_view};
 
-    pub(crate) fn not_closeable(text: &'a str) -> StoredValue<'a>
-        ensures { stored_view result ≡ record { text = text.now; closeable = false } }
+    pub(crate) fn of(text: &'a str, closeable: bool) -> StoredValue<'a>
+        ensures { stored_view result ≡ record { text = text.now; closeable = closeable } }
     {
         StoredValue {
-            value: PlanValue::not_closeable(text),
-        }
-    }
-
-    pub(crate) fn closeable_of(text: &'a str) -> StoredValue<'a>
-        ensures { stored_view result ≡ record { text = text.now; closeable = true } }
-    {
-        StoredValue {
-            value: PlanValue::closeable(text),
+            value: PlanValue { text, closeable },
         }
     }
 }

@@ -8,7 +8,7 @@ use Rattle.ext_plan_reading.proofs.steps.step_of_words.Goals.{in_default-via-the
 pub returns-in-len3 : goal.returns-in-len3
 returns-in-len3 c =
     let words = three (λ w. w.now) c.args.words.now (record { ref_ptr = (0, 0); now = [] }) c.in-len3.len_at_least c.in-len3.len_below in
-    rw words c.worded_text_step.ensures
+    rw words c.text_step.ensures
 
 pub returns-in_default : goal.returns-in_default
 returns-in_default c = elim c.in_default.branch [

@@ -3,7 +3,7 @@ use Rattle.std.proofs.lemmas.Bool.{le-ltb, lt-ltb}
 use Rattle.ext_plain.specs.InnerSteps.{state_view}
 use Rattle.ext_plain.specs.ValueStates.{next}
 use Rattle.ext_plain.proofs.Numberings.{found_is, is_full, is_next}
-use Rattle.ext_plain.proofs.value_store.ValueStore.number.Goals as goal
+use Rattle.ext_plain.proofs.value_store.ValueStore.declare.Goals as goal
 
 pub returns-in-Some : goal.returns-in-Some
 returns-in-Some c = inl (found_is c.args.self.now.keys c.args.key.now c.in-Some.number c.number_of.result c.in-Some.is c.in-Some.ensures.number c.number_of.ensures.found, refl)

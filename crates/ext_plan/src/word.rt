@@ -1,5 +1,5 @@
 //! The first words of the steps that call a store.
-ghost use Rattle.std.specs.Prelude.{◌≡◌, codes};
+ghost use Rattle.std.specs.Prelude.{◌≡◌};
 
 /// The first word of a step that calls the store. `fail` and `abort` call none.
 #[derive(Clone, Copy, Debug, PartialEq, Eq)]
@@ -23,7 +23,7 @@ pub enum Word {
 }
 
 impl Word {
-    ghost use Rattle.ext_races.specs.StepWords.{changes, computes, gives_value, has_text, leaves_closeable, looks_along, word_code, word_text};
+    ghost use Rattle.ext_plan.specs.StepWords.{changes, computes, gives_value, has_text, leaves_closeable, looks_along, word_text};
 
     /// Returns the word as a plan writes it.
     pub fn text(self) -> &'static str
@@ -56,7 +56,7 @@ impl Word {
     }
 
     /// Tests whether a step of this word has a factory.
-    pub(crate) fn computes(self) -> bool
+    pub fn computes(self) -> bool
         ensures { result ≡ computes self }
     {
         matches!(
@@ -66,14 +66,14 @@ impl Word {
     }
 
     /// Tests whether a step of this word has a factory that gives a value.
-    pub(crate) fn gives_value(self) -> bool
+    pub fn gives_value(self) -> bool
         ensures { result ≡ gives_value self }
     {
         matches!(self, Word::Compute | Word::ComputeCloseable)
     }
 
     /// Tests whether a step of this word may leave a closeable value.
-    pub(crate) fn leaves_closeable(self) -> bool
+    pub fn leaves_closeable(self) -> bool
         ensures { result ≡ leaves_closeable self }
     {
         matches!(self, Word::PutCloseable | Word::ComputeCloseable)
@@ -81,25 +81,9 @@ impl Word {
 
     /// Tests whether the text of such a step decides whether it races: the computes, and the words
     /// that leave a closeable value.
-    pub(crate) fn has_text(self) -> bool
+    pub fn has_text(self) -> bool
         ensures { result ≡ has_text self }
     {
         !matches!(self, Word::Put | Word::Want | Word::None | Word::Remove)
-    }
-
-    /// A distinct number for each word.
-    pub(crate) fn code(self) -> u8
-        ensures { result ≡ word_code self }
-    {
-        match self {
-            Word::Put => 0,
-            Word::PutCloseable => 1,
-            Word::Want => 2,
-            Word::None => 3,
-            Word::Remove => 4,
-            Word::Compute => 5,
-            Word::ComputeCloseable => 6,
-            Word::ComputeFail => 7,
-        }
     }
 }

@@ -1,7 +1,9 @@
--- The words of steps: which of them may change a place, and which look along a path of places. Own rule.
-use Rattle.std.specs.Prelude.{ℕ, Bool, true, false, List, ◌==◌, codes}
-use Rattle.ext_races.specs.declared.word.Word.{Word}
-use Rattle.ext_races.specs.declared.word.Word.TheVariants as words
+-- The words of steps: which of them may change a place, and which look along a path of places.
+use Rattle.std.specs.Prelude.{ℕ, Bool, true, false, List, codes}
+use denote.Enum.Bare.{sameb}
+use Rattle.ext_plan.specs.contracts.word.Word.{the_type}
+use Rattle.ext_plan.specs.declared.word.Word.{Word}
+use Rattle.ext_plan.specs.declared.word.Word.TheVariants as words
 
 abbrev pub word_text : Word → List ℕ
 word_text words.Put = codes "put"
@@ -13,7 +15,7 @@ word_text words.Compute = codes "compute"
 word_text words.ComputeCloseable = codes "compute!"
 word_text words.ComputeFail = codes "computefail"
 
--- a step of this word may change the place that it acts on
+-- A step with this word may change the place on which it acts.
 abbrev pub changes : Word → Bool
 changes words.Put = true
 changes words.PutCloseable = true
@@ -24,7 +26,7 @@ changes words.Compute = true
 changes words.ComputeCloseable = true
 changes words.ComputeFail = true
 
--- it looks at the place that it acts on, and at the places of its key in all contexts above
+-- A step with this word looks at the place on which it acts, and at the places of its key in all contexts above.
 abbrev pub looks_along : Word → Bool
 looks_along words.Put = false
 looks_along words.PutCloseable = false
@@ -35,7 +37,7 @@ looks_along words.Compute = true
 looks_along words.ComputeCloseable = true
 looks_along words.ComputeFail = true
 
--- it has a factory
+-- A step with this word has a factory.
 abbrev pub computes : Word → Bool
 computes words.Put = false
 computes words.PutCloseable = false
@@ -46,7 +48,7 @@ computes words.Compute = true
 computes words.ComputeCloseable = true
 computes words.ComputeFail = true
 
--- it has a factory that gives a value: where the step passes, a value stands on its path
+-- A step with this word has a factory that gives a value. If the step succeeds, a value stands on its path.
 abbrev pub gives_value : Word → Bool
 gives_value words.Put = false
 gives_value words.PutCloseable = false
@@ -57,7 +59,7 @@ gives_value words.Compute = true
 gives_value words.ComputeCloseable = true
 gives_value words.ComputeFail = false
 
--- it may leave a closeable value
+-- A step with this word may leave a closeable value.
 abbrev pub leaves_closeable : Word → Bool
 leaves_closeable words.Put = false
 leaves_closeable words.PutCloseable = true
@@ -68,7 +70,7 @@ leaves_closeable words.Compute = false
 leaves_closeable words.ComputeCloseable = true
 leaves_closeable words.ComputeFail = false
 
--- its text tells whether it races: that of its factory, or of its closeable value
+-- Whether a step with this word races depends on its text: its factory's, or its closeable value's.
 abbrev pub has_text : Word → Bool
 has_text words.Put = false
 has_text words.PutCloseable = true
@@ -79,16 +81,6 @@ has_text words.Compute = true
 has_text words.ComputeCloseable = true
 has_text words.ComputeFail = true
 
--- a number of its own for each word
-abbrev pub word_code : Word → ℕ
-word_code words.Put = 0
-word_code words.PutCloseable = 1
-word_code words.Want = 2
-word_code words.None = 3
-word_code words.Remove = 4
-word_code words.Compute = 5
-word_code words.ComputeCloseable = 6
-word_code words.ComputeFail = 7
-
+-- What `==` of the code says of two words.
 abbrev pub word_eq : Word → Word → Bool
-word_eq a b = word_code a == word_code b
+word_eq = sameb the_type
