@@ -1,0 +1,10 @@
+pub mod Ends
+pub mod Standing
+pub mod Known
+pub mod Going
+pub mod Steps
+pub mod RowSteps
+pub mod Seats
+pub mod Passing
+pub mod MarkedRows
+pub mod Marked

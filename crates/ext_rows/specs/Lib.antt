@@ -1,0 +1,10 @@
+pub mod Standings
+pub mod StandingLaws
+pub mod Layouts
+pub mod Views
+pub mod Rule
+pub mod Steps
+pub mod StepLaws
+pub mod SeatLaws
+pub mod Marks
+pub mod MarkLaws
