@@ -1,6 +1,7 @@
 pub mod WordChanges
 pub mod Lanes
 pub mod CellCalls
+pub mod InnerRule
 pub mod InnerSteps
 pub mod InnerPasses
 pub mod InnerDeciding
