@@ -17,7 +17,7 @@ _extrun_values() {
     case $1 in
         --lanes) seq 1 16 ;;
         --store) echo plain cells ;;
-        --report) echo text json ;;
+        --report) echo text json junit ;;
     esac
 }
 

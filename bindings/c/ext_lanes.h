@@ -1,13 +1,10 @@
 /* A store whose lanes are named by number, with a flag for each, so that two calls at once on one lane are told and not undefined.
-   Not of the library and not proved: a few lines of C11 round its calls. A caller that keeps each slot to one thread, as by a lock
-   or by its language, needs none of this. */
+   Not of the library and not proved: a few lines round its calls, in what GCC and clang take as C11 and as C++11. A caller that keeps
+   each slot to one thread, as by a lock or by its language, needs none of this. */
 #ifndef EXT_LANES_H
 #define EXT_LANES_H
 
 #include "ext_store.h"
-
-#include <stdatomic.h>
-#include <stdlib.h>
 
 /* Answered by the calls below alone. */
 enum {
@@ -19,9 +16,9 @@ enum { EXT_MOST_LANES = 16 };
 
 /* One lane, on a line of the processor's cache of its own. */
 typedef struct ext_lane {
-    _Alignas(64) atomic_bool in_use;
+    bool in_use; /* by the compiler's atomics alone */
     ext_slot slot;
-} ext_lane;
+} __attribute__((aligned(64))) ext_lane;
 
 /* All lanes of a store, numbered from 0; the last one closes. */
 typedef struct ext_lanes {
@@ -39,7 +36,7 @@ static inline ext_code ext_lanes_open(ext_lanes *store, const uint8_t *bytes, si
     if (code != EXT_DONE) return code;
     store->count = (uint32_t)count;
     for (size_t lane = 0; lane < count; lane++) {
-        atomic_init(&store->lanes[lane].in_use, false);
+        store->lanes[lane].in_use = false;
         store->lanes[lane].slot = slots[lane];
     }
     return EXT_DONE;
@@ -48,12 +45,13 @@ static inline ext_code ext_lanes_open(ext_lanes *store, const uint8_t *bytes, si
 /* Takes the lane for one call, as a lock is taken; EXT_DONE where it is taken. */
 static inline ext_code ext_lane_take(ext_lanes *store, uint32_t lane) {
     if (lane >= store->count) return EXT_BAD_LANE;
-    return atomic_exchange_explicit(&store->lanes[lane].in_use, true, memory_order_acquire) ? EXT_LANE_IN_USE : EXT_DONE;
+    if (__atomic_exchange_n(&store->lanes[lane].in_use, true, __ATOMIC_ACQUIRE)) return EXT_LANE_IN_USE;
+    return EXT_DONE;
 }
 
 /* Gives the lane back after its call, and answers the call's code. */
 static inline ext_code ext_lane_give(ext_lanes *store, uint32_t lane, ext_code code) {
-    atomic_store_explicit(&store->lanes[lane].in_use, false, memory_order_release);
+    __atomic_store_n(&store->lanes[lane].in_use, false, __ATOMIC_RELEASE);
     return code;
 }
 

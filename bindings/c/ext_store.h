@@ -59,7 +59,7 @@ enum {
     EXT_BAD_LIMIT = 22,     /* lanes, tries or numbers are out of range */
     EXT_BAD_LENGTHS = 23,   /* the lengths go beyond the bytes, or there is no text where one is needed */
     EXT_BAD_TEXT = 24,      /* a text is not UTF-8 */
-    EXT_BAD_ID = 25,        /* a text is no unique id */
+    EXT_BAD_ID = 25,        /* a text is no unique id, or one that is more than 16 deep */
     EXT_BAD_TREE = 26,      /* the ids are no tree: no root, two roots, an id twice, or a parent that does not stand before */
     EXT_TOO_MANY = 27,      /* there are more than 256 contexts */
     EXT_TOO_FEW_PLACES = 28 /* of ext_close: there is room for fewer than 64 values */
@@ -86,7 +86,7 @@ typedef struct ext_value {
 
    `bytes` has the ids of the contexts, one text behind the other, and `lengths` the length of each: first the root, then every id
    behind its parent, as "[engine:x]" and "[engine:x]/[class:A]"; at most 256, 16 deep.
-   `tries`, 1 to 64: how often a call meets other lanes before it answers EXT_CONTENDED.
+   `tries`, 1 to 64: how often a call meets other lanes before it answers EXT_CONTENDED. ext_fill and ext_fail never do.
    `numbers`, 1 to 65535: how many values and faults can be stored while the store lives, those that are replaced, removed or
    refused among them.
    `keep_faults`: whether ext_fail keeps the fault of a factory.
@@ -148,20 +148,20 @@ ext_code ext_remove(ext_slot *slot, size_t context, size_t key, ext_value *taken
    Else nothing is claimed: EXT_CONTENDED, EXT_EXHAUSTED, EXT_CLAIMING, EXT_BAD_CONTEXT, EXT_BAD_KEY, EXT_NO_LANE */
 ext_code ext_begin(ext_slot *slot, size_t context, size_t key, ext_value *found);
 
-/* Ends the compute with the factory's value. Takes memory.
+/* Ends the compute with the factory's value. Where other lanes draw numbers at the same moment it draws again while the claim
+   stands, until it has a number or none is left. Takes memory.
 
    EXT_DONE: it is stored in the claimed place, as *number
-   EXT_NUMBERS_FULL, EXT_NO_MEMORY, EXT_CONTENDED, EXT_UNPLACED: the claim is given up, nothing is stored, and the handle is the
-   caller's again; a next ext_begin may run a factory anew
+   EXT_NUMBERS_FULL, EXT_NO_MEMORY, EXT_UNPLACED: the claim is given up, nothing is stored, and the handle is the caller's again; a
+   next ext_begin may run a factory anew
    Else: EXT_NO_CLAIM, EXT_NO_LANE */
 ext_code ext_fill(ext_slot *slot, uint64_t handle, bool closeable, uint32_t *number);
 
-/* Ends the compute of a factory that failed. Takes memory where the store keeps faults.
+/* Ends the compute of a factory that failed. Draws again as ext_fill does, and takes memory, where the store keeps faults.
 
    EXT_DONE: the store keeps faults, and the fault's handle stands in the claimed place, as *number, until it is removed or replaced
    EXT_GIVEN_UP: the store keeps none: the claim is given up, and the handle is the caller's again
-   EXT_NUMBERS_FULL, EXT_NO_MEMORY, EXT_CONTENDED, EXT_UNPLACED: the claim is given up, nothing is kept, and the handle is the
-   caller's again
+   EXT_NUMBERS_FULL, EXT_NO_MEMORY, EXT_UNPLACED: the claim is given up, nothing is kept, and the handle is the caller's again
    Else: EXT_NO_CLAIM, EXT_NO_LANE */
 ext_code ext_fail(ext_slot *slot, uint64_t handle, uint32_t *number);
 

@@ -9,6 +9,7 @@
 
 #include <pthread.h>
 #include <sched.h>
+#include <stdatomic.h>
 #include <stdio.h>
 #include <stdlib.h>
 #include <string.h>
@@ -128,6 +129,17 @@ static void refused_openings(void) {
     CODE(open_slots(&no_text_and_long, USUAL, slots, 1), EXT_BAD_LENGTHS);
     CODE(open_slots(&no_text_and_long, (limits){64, 0, false}, slots, 1), EXT_BAD_LIMIT);
     CODE(open_slots(&no_id, USUAL, slots, 1), EXT_BAD_ID);
+    texts deep = {.byte_count = 0, .length_count = 0};
+    char path[17 * sizeof "/[a:0]"] = "[a:0]";
+    for (size_t level = 1; level <= 17; level++) {
+        add(&deep, path);
+        strcat(path, "/[a:0]");
+    }
+    CODE(open_slots(&deep, USUAL, slots, 1), EXT_BAD_ID);
+    deep.length_count--; /* 16 deep */
+    deep.byte_count -= deep.lengths[deep.length_count];
+    CODE(open_slots(&deep, USUAL, slots, 1), EXT_DONE);
+    left(slots, 1);
     CODE(open_slots(&no_root, USUAL, slots, 1), EXT_BAD_TREE);
     CODE(open_slots(&two_roots, USUAL, slots, 1), EXT_BAD_TREE);
     CODE(open_slots(&twice, USUAL, slots, 1), EXT_BAD_TREE);
@@ -516,8 +528,8 @@ enum { METHODS = 100 };
 static ext_lanes lanes;
 static uint32_t rounds = 2000;
 static pthread_barrier_t gate;
-static atomic_uint factories, computed, found, stored, in_use, answered, wrong;
-static atomic_uchar replaced[65536];
+static atomic_uint factories, computed, found, stored, refused, in_use, answered, wrong;
+static atomic_uchar replaced[65536], drawn[65536];
 
 static texts many_methods(void) {
     texts list = TEXTS("[engine:x]", "[engine:x]/[class:A]");
@@ -587,6 +599,28 @@ static void *puts_over(void *at) {
     return NULL;
 }
 
+/* Each computes for a key of its own, and all draw numbers: no end of a compute is refused for that. */
+static void *ends_computes(void *at) {
+    uint32_t lane = (uint32_t)(size_t)at;
+    pthread_barrier_wait(&gate);
+    for (uint32_t round = 0; round < rounds; round++) {
+        ext_value value = {0};
+        uint32_t number = 0;
+        ext_code code = ext_lanes_begin(&lanes, lane, 1, lane, &value);
+        if (code != EXT_RUN) unwanted(code, "a key of one lane alone");
+        code = round % 2 ? ext_lanes_fail(&lanes, lane, round, &number) : ext_lanes_fill(&lanes, lane, round, false, &number);
+        if (code != EXT_DONE) {
+            refused++;
+            continue;
+        }
+        computed++;
+        if (atomic_fetch_add(&drawn[number], 1)) unwanted(code, "a number drawn twice");
+        code = ext_lanes_remove(&lanes, lane, 1, lane, &value);
+        if (code != EXT_DONE || value.handle != round || value.number != number) unwanted(code, "what ended a compute");
+    }
+    return NULL;
+}
+
 /* All use one lane: each call is told that another has it, or is answered. */
 static void *one_lane(void *at) {
     (void)at;
@@ -638,6 +672,18 @@ static void threads_compute_put_and_close(uint32_t threads) {
     CODE(ext_lanes_leave(&lanes, 0), EXT_NO_LANE);
 }
 
+/* In a store with one try. */
+static void threads_end_computes(uint32_t threads) {
+    texts list = many_methods();
+    computed = refused = wrong = 0;
+    memset((void *)drawn, 0, sizeof drawn);
+    CODE(ext_lanes_open(&lanes, list.bytes, list.byte_count, list.lengths, list.length_count, 1, 65535, true, threads), EXT_DONE);
+    together(ends_computes, threads);
+    WANT(refused == 0 && computed == threads * rounds && wrong == 0);
+    for (uint32_t number = 1; number <= computed; number++) WANT(drawn[number] == 1);
+    for (uint32_t lane = 0; lane < threads; lane++) CODE(ext_lanes_leave(&lanes, lane), EXT_DONE);
+}
+
 /* The lanes leave at the same moment: the last one frees the store. */
 static void *leaves(void *at) {
     pthread_barrier_wait(&gate);
@@ -680,6 +726,8 @@ int main(int count, char **words) {
     calls_that_take_no_memory(), ran("calls_that_take_no_memory");
     threads_compute_put_and_close(4), ran("threads_compute_put_and_close, 4 threads");
     threads_compute_put_and_close(16), ran("threads_compute_put_and_close, 16 threads");
+    threads_end_computes(4), ran("threads_end_computes, 4 threads");
+    threads_end_computes(16), ran("threads_end_computes, 16 threads");
     threads_leave_at_once(), ran("threads_leave_at_once");
     printf("%d passed, %d failed\n", passed, failed);
     return failed != 0;

@@ -1,8 +1,8 @@
-//! Links the static library of crates/ext_c, and the kit's C library, through which it takes memory.
+//! Links the static library. A crate that was packed (`make crate`) has it, with what it takes memory by, for one kind of machine.
 //!
-//! EXT_C_LIBRARY names the one, as DIRECTORY/libext_c.a; without it it is crates/ext_c/out/libext_c.a of this repository, as `rt lib` in
-//! crates/ext_c leaves it. EXT_C_ALLOCATOR names the other, as DIRECTORY/liblibc_c.a; without it it is c/liblibc_c.a of the kit whose
-//! command `rt` is on the path.
+//! Else these are the static library of crates/ext_c and the kit's C library. EXT_C_LIBRARY names the one, as DIRECTORY/libext_c.a; without
+//! it it is crates/ext_c/out/libext_c.a of this repository, as `rt lib` in crates/ext_c leaves it. EXT_C_ALLOCATOR names the other, as
+//! DIRECTORY/liblibc_c.a; without it it is c/liblibc_c.a of the kit whose command `rt` is on the path.
 use std::env;
 use std::path::{Path, PathBuf};
 use std::process::exit;
@@ -11,9 +11,16 @@ fn main() {
     for name in ["EXT_C_LIBRARY", "EXT_C_ALLOCATOR", "PATH"] {
         println!("cargo:rerun-if-env-changed={name}");
     }
+    let here = PathBuf::from(env::var_os("CARGO_MANIFEST_DIR").expect("cargo sets it"));
+    let target = env::var("TARGET").expect("cargo sets it");
+    let packed = here.join("prebuilt");
+    if packed.is_dir() {
+        let hint = format!("the crate has no library for {target}");
+        return link(&packed.join(target).join("libextension_store.a"), &hint);
+    }
     // The first one calls the second, so it stands before it.
     link(
-        &named("EXT_C_LIBRARY").unwrap_or_else(built_library),
+        &named("EXT_C_LIBRARY").unwrap_or_else(|| here.join("../../crates/ext_c/out/libext_c.a")),
         "run `rt lib` in crates/ext_c, or set EXT_C_LIBRARY",
     );
     link(
@@ -24,11 +31,6 @@ fn main() {
 
 fn named(variable: &str) -> Option<PathBuf> {
     env::var_os(variable).map(PathBuf::from)
-}
-
-fn built_library() -> PathBuf {
-    let here = env::var_os("CARGO_MANIFEST_DIR").expect("cargo sets it");
-    Path::new(&here).join("../../crates/ext_c/out/libext_c.a")
 }
 
 /// The folder of `rt` lies in the kit, beside the folder `c`.

@@ -1,17 +1,25 @@
 /* The store's calls for Java: what class extensionstore.Native declares.
 
-   A store is the address of its lanes. The last lane closes; every other call takes a lane that is free, from the caller's hint on. An
-   answer is the code above 32 bits of a handle, a lane, a key, a context or a count. */
+   A store is the address of its lanes. The last lane closes, and claims nothing: so a look-up finds a lane, whatever factories run. Every
+   other call takes a lane that is free, from the caller's hint on. An answer is the code above 32 bits of a handle, a lane, a key, a
+   context or a count.
+
+   To the library every value is closeable, so that a close tells of all that stands; Java closes those that are resources. */
 #include "../../c/ext_lanes.h"
 
 #include <jni.h>
 #include <sched.h>
 #include <stdio.h>
+#include <stdlib.h>
 #include <string.h>
 
 #define NATIVE(result, name) JNIEXPORT result JNICALL Java_extensionstore_Native_##name
 
-static jlong says(ext_code code, uint64_t what) { return (jlong)((uint64_t)code << 32 | (what & UINT32_MAX)); }
+/* After `leave` every slot is empty: all contexts are closed. */
+static jlong says(ext_code code, uint64_t what) {
+    if (code == EXT_NO_LANE) return (jlong)((uint64_t)EXT_CLOSED << 32);
+    return (jlong)((uint64_t)code << 32 | (what & UINT32_MAX));
+}
 
 /* What a call on a place answers: the handle of what was met, or the context that decides. */
 static jlong told(ext_code code, ext_value value) {
@@ -27,11 +35,11 @@ static jlong told_own(ext_code code, ext_value value, jint context) {
 /* The lane at which a thread begins to look: the hint has 16 bits. */
 static uint32_t first_lane(jint hint, uint32_t many) { return ((uint32_t)hint & 0xFFFF) * many >> 16; }
 
-/* Tries the lanes from the hint's on until one is free that has no claim; yields when it has tried all. Where all have claims the answer
-   is EXT_CLAIMING. `lane` is the one that answered, and `code` what it answered. */
-#define ON_A_FREE_LANE(CALL)                                                        \
+/* Tries so many lanes from the hint's on until one is free that has no claim; yields when it has tried all. Where all have claims the
+   answer is EXT_CLAIMING. `lane` is the one that answered, and `code` what it answered. */
+#define ON_A_FREE_LANE_OF(MANY, CALL)                                               \
     ext_lanes *lanes = (ext_lanes *)store;                                          \
-    uint32_t many = lanes->count - 1, first = first_lane(hint, many), lane = first; \
+    uint32_t many = MANY, first = first_lane(hint, many), lane = first;             \
     ext_code code = CALL;                                                           \
     for (uint32_t claiming = 0; code == EXT_LANE_IN_USE || code == EXT_CLAIMING;) { \
         claiming = code == EXT_CLAIMING ? claiming + 1 : 0;                         \
@@ -40,6 +48,8 @@ static uint32_t first_lane(jint hint, uint32_t many) { return ((uint32_t)hint & 
         if (lane == first) sched_yield();                                           \
         code = CALL;                                                                \
     }
+
+#define ON_A_FREE_LANE(CALL) ON_A_FREE_LANE_OF(lanes->count, CALL)
 
 /* A call on the lane that has the caller's claim. Others may have it for the moment in which they see that it claims. */
 #define ON_THE_LANE(CALL)                  \
@@ -52,7 +62,7 @@ static uint32_t first_lane(jint hint, uint32_t many) { return ((uint32_t)hint & 
 
 /* The store's address, or the code of the refusal with a minus. */
 NATIVE(jlong, open)
-(JNIEnv *env, jclass type, jbyteArray bytes, jintArray lengths, jint tries, jint numbers, jboolean keep_faults, jint count) {
+(JNIEnv *env, jclass type, jbyteArray bytes, jintArray lengths, jint tries, jint numbers, jint count) {
     (void)type;
     ext_lanes *lanes = aligned_alloc(_Alignof(ext_lanes), sizeof(ext_lanes));
     if (!lanes) return -EXT_NO_MEMORY;
@@ -66,7 +76,7 @@ NATIVE(jlong, open)
     ext_code code = EXT_NO_MEMORY;
     if (text && each)
         code = ext_lanes_open(lanes, (const uint8_t *)text, byte_count, (const uint32_t *)each, length_count, (uint32_t)tries,
-                              (uint32_t)numbers, keep_faults == JNI_TRUE, (size_t)count);
+                              (uint32_t)numbers, false, (size_t)count);
     if (text) (*env)->ReleaseByteArrayElements(env, bytes, text, JNI_ABORT);
     if (each) (*env)->ReleaseIntArrayElements(env, lengths, each, JNI_ABORT);
     if (code == EXT_DONE) return (jlong)lanes;
@@ -74,12 +84,20 @@ NATIVE(jlong, open)
     return -(jlong)code;
 }
 
+/* Frees what the library has of the store, all of whose contexts are closed. Calls may run, and come. */
+NATIVE(void, leave)(JNIEnv *env, jclass type, jlong store) {
+    (void)env, (void)type;
+    uint32_t count = ((ext_lanes *)store)->count;
+    for (uint32_t lane = 0; lane < count; lane++) {
+        ON_THE_LANE(ext_lanes_leave(lanes, lane))
+        (void)code;
+    }
+}
+
 /* No other call on the store may run, or come. */
 NATIVE(void, free)(JNIEnv *env, jclass type, jlong store) {
-    (void)env, (void)type;
-    ext_lanes *lanes = (ext_lanes *)store;
-    for (uint32_t lane = 0; lane < lanes->count; lane++) ext_lanes_leave(lanes, lane);
-    free(lanes);
+    Java_extensionstore_Native_leave(env, type, store);
+    free((ext_lanes *)store);
 }
 
 /* The number of the key whose name is the number `name`, in the global namespace. */
@@ -99,11 +117,20 @@ NATIVE(jlong, get)(JNIEnv *env, jclass type, jlong store, jint hint, jint contex
     return told(code, value);
 }
 
+/* Looks first whether a factory runs in the place itself, since a put that is refused loses its number. */
+static ext_code put_after_a_look(ext_lanes *lanes, uint32_t lane, uint32_t context, uint32_t key, uint32_t handle, ext_value *stood) {
+    ext_value seen = {0};
+    ext_code code = ext_lanes_get(lanes, lane, context, key, &seen);
+    if (code == EXT_LANE_IN_USE || code == EXT_CLAIMING || code == EXT_CONTENDED) return code;
+    if (code == EXT_BUSY && seen.context == context) return code;
+    return ext_lanes_put(lanes, lane, context, key, handle, true, stood);
+}
+
 /* EXT_ABSENT where nothing stood. */
-NATIVE(jlong, put)(JNIEnv *env, jclass type, jlong store, jint hint, jint context, jint key, jint handle, jboolean closeable) {
+NATIVE(jlong, put)(JNIEnv *env, jclass type, jlong store, jint hint, jint context, jint key, jint handle) {
     (void)env, (void)type;
     ext_value value = {0};
-    ON_A_FREE_LANE(ext_lanes_put(lanes, lane, (uint32_t)context, (uint32_t)key, (uint32_t)handle, closeable == JNI_TRUE, &value))
+    ON_A_FREE_LANE(put_after_a_look(lanes, lane, (uint32_t)context, (uint32_t)key, (uint32_t)handle, &value))
     return told_own(code == EXT_DONE && value.number == 0 ? EXT_ABSENT : code, value, context);
 }
 
@@ -114,25 +141,21 @@ NATIVE(jlong, remove)(JNIEnv *env, jclass type, jlong store, jint hint, jint con
     return told_own(code, value, context);
 }
 
-/* EXT_RUN: with the lane that has the claim. */
-NATIVE(jlong, begin)(JNIEnv *env, jclass type, jlong store, jint hint, jint context, jint key) {
-    (void)env, (void)type;
+/* EXT_RUN: with the lane that has the claim, which is one of the first `within`. Where those all have claims it answers as get does, and
+   EXT_CLAIMING in place of EXT_ABSENT. */
+NATIVE(jlong, begin)(JNIEnv *env, jclass type, jlong store, jint hint, jint within, jint context, jint key) {
     ext_value value = {0};
-    ON_A_FREE_LANE(ext_lanes_begin(lanes, lane, (uint32_t)context, (uint32_t)key, &value))
-    return code == EXT_RUN ? says(code, lane) : told(code, value);
+    ON_A_FREE_LANE_OF((uint32_t)within, ext_lanes_begin(lanes, lane, (uint32_t)context, (uint32_t)key, &value))
+    if (code == EXT_RUN) return says(code, lane);
+    if (code != EXT_CLAIMING) return told(code, value);
+    jlong looked = Java_extensionstore_Native_get(env, type, store, hint, context, key);
+    return looked == says(EXT_ABSENT, 0) ? says(EXT_CLAIMING, 0) : looked;
 }
 
-NATIVE(jlong, fill)(JNIEnv *env, jclass type, jlong store, jint lane, jint handle, jboolean closeable) {
+NATIVE(jlong, fill)(JNIEnv *env, jclass type, jlong store, jint lane, jint handle) {
     (void)env, (void)type;
     uint32_t number = 0;
-    ON_THE_LANE(ext_lanes_fill(lanes, (uint32_t)lane, (uint32_t)handle, closeable == JNI_TRUE, &number))
-    return says(code, number);
-}
-
-NATIVE(jlong, fail)(JNIEnv *env, jclass type, jlong store, jint lane, jint handle) {
-    (void)env, (void)type;
-    uint32_t number = 0;
-    ON_THE_LANE(ext_lanes_fail(lanes, (uint32_t)lane, (uint32_t)handle, &number))
+    ON_THE_LANE(ext_lanes_fill(lanes, (uint32_t)lane, (uint32_t)handle, true, &number))
     return says(code, number);
 }
 
@@ -142,7 +165,7 @@ NATIVE(jlong, abandon)(JNIEnv *env, jclass type, jlong store, jint lane) {
     return says(code, 0);
 }
 
-/* Writes the handles that are to be closed to the array, which has 64 places; the answer has their count. */
+/* Writes the handles of all that stands to the array, which has 64 places, the latest first; the answer has their count. */
 NATIVE(jlong, close)(JNIEnv *env, jclass type, jlong store, jint context, jintArray handles) {
     (void)type;
     ext_value values[64] = {{0}};

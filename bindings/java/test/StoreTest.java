@@ -5,6 +5,7 @@ import extensionstore.Limits;
 import extensionstore.Namespace;
 import extensionstore.Store;
 import extensionstore.StoreException;
+import java.lang.ref.WeakReference;
 import java.lang.reflect.Method;
 import java.util.ArrayList;
 import java.util.Collections;
@@ -251,7 +252,7 @@ final class StoreTest {
         Store few = Contexts.open(new Limits(3, 64, 100, true), IDS).root().getStore(Namespace.GLOBAL);
         equal(deep(few, 2), "end 1 2");
         String message = thrown(StoreException.class, () -> deep(few, 10)).getMessage();
-        equal(message.startsWith("a factory asks for a key, and all lanes are those of factories"), true);
+        equal(message.startsWith("all factories that run wait for one another, or for one of the 3 lanes"), true);
         equal(few.getOrComputeIfAbsent(10, it -> "again"), "again");
     }
 
@@ -346,6 +347,208 @@ final class StoreTest {
             one.root().getStore(Namespace.GLOBAL).put("key", round);
         }
         System.gc();
+    }
+
+    void waitingPutTakesOneNumber() throws Exception {
+        Store store = Contexts.open(new Limits(15, 64, 4, false), IDS).root().getStore(Namespace.GLOBAL);
+        CountDownLatch begun = new CountDownLatch(1);
+        CountDownLatch go = new CountDownLatch(1);
+        together(3, thread -> {
+            if (thread == 0) {
+                store.getOrComputeIfAbsent("slow", it -> {
+                    begun.countDown();
+                    await(go);
+                    return "made";
+                });
+            } else if (thread == 1) {
+                await(begun);
+                equal(store.put("slow", "put"), "made");
+            } else {
+                await(begun);
+                for (int end = 0; end < 2_000; end++) {
+                    thrown(IllegalStateException.class, () -> store.getOrComputeIfAbsent("other", it -> {
+                        throw new IllegalStateException("as wanted");
+                    }));
+                }
+                go.countDown();
+            }
+        });
+        equal(store.put("third", 3), null);
+        equal(store.put("fourth", 4), null);
+        equal(thrown(StoreException.class, () -> store.put("fifth", 5)).getValue(), 5);
+    }
+
+    private static final class Own {
+        private final int number = 7;
+
+        private Own() {}
+    }
+
+    void classThatIsNotPublic() {
+        Own own = inClass.getOrComputeIfAbsent(Own.class);
+        equal(own.number, 7);
+        equal(first.get(Own.class), own);
+    }
+
+    void whatIsReplacedOrClosedIsLetGo() throws Exception {
+        List<WeakReference<Object>> all = new ArrayList<>();
+        equal(engine.put("kept", weakly(all, new byte[1 << 16])), null);
+        for (int value = 0; value < 20; value++) {
+            inClass.put("replaced", weakly(all, new byte[1 << 16]));
+            inClass.put("removed", weakly(all, new byte[1 << 16]));
+            inClass.remove("removed");
+        }
+        inClass.put("closed", weakly(all, new byte[1 << 16]));
+        inClass.getOrComputeIfAbsent("made", it -> weakly(all, (CloseableResource) () -> equal(weakly(all, new Object()) == null, false)));
+        RuntimeException fault = thrown(IllegalStateException.class, () -> inClass.getOrComputeIfAbsent("fault", it -> {
+            throw new IllegalStateException("as wanted");
+        }));
+        weakly(all, fault);
+        fault = null;
+        contexts.all().get(1).close();
+        long held = all.size();
+        for (int time = 0; time < 50 && held > 1; time++) {
+            System.gc();
+            Thread.sleep(20);
+            held = all.stream().filter(it -> it.get() != null).count();
+        }
+        equal(held, 1L);
+        equal(engine.get("kept") == all.get(0).get(), true);
+    }
+
+    private static <T> T weakly(List<WeakReference<Object>> all, T value) {
+        all.add(new WeakReference<>(value));
+        return value;
+    }
+
+    void closeActionLooksAtItsOwnContext() {
+        List<Object> found = new ArrayList<>();
+        engine.put("above", "engine's");
+        inClass.put("text", "class's");
+        RuntimeException fault = new IllegalStateException("as wanted");
+        thrown(IllegalStateException.class, () -> inClass.getOrComputeIfAbsent("fault", it -> {
+            throw fault;
+        }));
+        inClass.put("resource", (CloseableResource) () -> {
+            for (Store store : List.of(first, inClass)) {
+                found.add(store.get("text"));
+                found.add(store.get("above"));
+                found.add(store.get("other"));
+                found.add(store.getOrDefault("other", String.class, "default"));
+                found.add(store.getOrComputeIfAbsent("text", it -> "new"));
+            }
+            equal(thrown(IllegalStateException.class, () -> first.get("fault")), fault);
+            equal(first.get("resource") instanceof CloseableResource, true);
+            equal(thrown(StoreException.class, () -> inClass.put("text", "new")).isClosed(), true);
+            equal(thrown(StoreException.class, () -> inClass.getOrComputeIfAbsent("one more", it -> "new")).isClosed(), true);
+            equal(thrown(StoreException.class, () -> inClass.remove("text")).isClosed(), true);
+        });
+        contexts.all().get(1).close();
+        List<Object> each = java.util.Arrays.asList("class's", "engine's", null, "default", "class's");
+        equal(found.subList(0, 5), each);
+        equal(found.subList(5, 10), each);
+        equal(thrown(StoreException.class, () -> first.get("text")).isClosed(), true);
+        equal(engine.get("above"), "engine's");
+    }
+
+    void lookUpsDoNotWaitForFactoriesOfOtherKeys() throws Exception {
+        engine.put("server", "up");
+        CountDownLatch begun = new CountDownLatch(12);
+        CountDownLatch go = new CountDownLatch(1);
+        AtomicInteger looked = new AtomicInteger();
+        Thread looking = new Thread(() -> {
+            await(begun);
+            sleep();
+            equal(first.get("server"), "up");
+            equal(inClass.getOrComputeIfAbsent("server", it -> "another"), "up");
+            equal(inClass.put("beside", 1), null);
+            equal(inClass.remove("beside"), 1);
+            looked.incrementAndGet();
+        });
+        looking.start();
+        Thread ending = new Thread(() -> {
+            join(looking, 5_000);
+            go.countDown();
+        });
+        ending.start();
+        together(20, thread -> inClass.getOrComputeIfAbsent("slow " + thread, it -> {
+            begun.countDown();
+            await(go);
+            looked.compareAndSet(0, -1);
+            return thread;
+        }));
+        join(looking, 60_000);
+        equal(looked.get(), 1);
+    }
+
+    private static void join(Thread thread, long millis) {
+        try {
+            thread.join(millis);
+        } catch (InterruptedException late) {
+            throw new IllegalStateException(late);
+        }
+    }
+
+    void factoriesInsideOneAnotherOnManyThreads() throws Exception {
+        for (int round = 0; round < 20; round++) {
+            Contexts shared = Contexts.open(Limits.USUAL, IDS);
+            Store store = shared.all().get(1).getStore(Namespace.GLOBAL);
+            CountDownLatch begun = new CountDownLatch(12);
+            together(20, thread -> equal(store.getOrComputeIfAbsent("outer " + thread, it -> {
+                begun.countDown();
+                await(begun);
+                return store.getOrComputeIfAbsent("inner " + thread, inner -> store.getOrComputeIfAbsent("innermost " + thread, innermost -> thread));
+            }), thread));
+        }
+    }
+
+    void factoriesThatWaitForOneAnother() throws Exception {
+        CountDownLatch begun = new CountDownLatch(2);
+        AtomicInteger refused = new AtomicInteger();
+        together(2, thread -> {
+            try {
+                inClass.getOrComputeIfAbsent(thread, it -> {
+                    begun.countDown();
+                    await(begun);
+                    return first.get(1 - thread);
+                });
+            } catch (StoreException refusal) {
+                equal(refusal.getMessage().startsWith("all factories that run wait for one another"), true);
+                refused.incrementAndGet();
+            }
+        });
+        equal(refused.get(), 1);
+    }
+
+    void closeFreesTheLibrarysMemory() throws Exception {
+        List<Contexts> kept = new ArrayList<>();
+        long before = residentKilobytes();
+        for (int round = 0; round < 2_000; round++) {
+            Contexts one = Contexts.open(new Limits(15, 64, 100, true), IDS);
+            for (int key = 0; key < 20; key++) {
+                one.root().getStore(Namespace.GLOBAL).put(key, round);
+            }
+            one.close();
+            kept.add(one);
+        }
+        long grown = residentKilobytes() - before;
+        equal(grown < 12_000 ? "" : grown + " kB more", "");
+        Contexts last = kept.get(1_999);
+        Store store = last.root().getStore(Namespace.GLOBAL);
+        equal(thrown(StoreException.class, () -> store.get(1)).isClosed(), true);
+        equal(thrown(StoreException.class, () -> store.put("other", 1)).isClosed(), true);
+        equal(thrown(StoreException.class, () -> store.getOrComputeIfAbsent(1, it -> 1)).isClosed(), true);
+        equal(thrown(StoreException.class, () -> store.remove(1)).isClosed(), true);
+        last.close();
+    }
+
+    private static long residentKilobytes() throws java.io.IOException {
+        for (String line : java.nio.file.Files.readAllLines(java.nio.file.Path.of("/proc/self/status"))) {
+            if (line.startsWith("VmRSS:")) {
+                return Long.parseLong(line.replaceAll("\\D", ""));
+            }
+        }
+        return 0;
     }
 
     public static void main(String[] words) {

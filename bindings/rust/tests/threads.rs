@@ -113,6 +113,33 @@ fn each_value_is_replaced_once() {
     assert_eq!(replaced.len(), 4 * 2_000 - 1);
 }
 
+/// Each lane computes for a key of its own, and all draw numbers, in a store with one try.
+#[test]
+fn what_a_factory_answers_is_kept_beside_others() {
+    let limits = Limits {
+        lanes: 15,
+        tries: 1,
+        keep_faults: true,
+        ..Limits::default()
+    };
+    let (_store, lanes, _closers) = Store::open(&ids(), limits).unwrap();
+    together(lanes, |at, lane| {
+        let key = lane.key(&[], &at.to_string()).unwrap();
+        for round in 0..2_000 {
+            let factory = || match round % 2 {
+                0 => Ok(Number(round)),
+                _ => Err(round),
+            };
+            match lane.compute(1, &key, factory) {
+                Ok(found) => assert_eq!(found.0, round),
+                Err(ComputeError::FaultKept(kept)) => assert_eq!(**kept.fault(), round),
+                Err(refused) => panic!("{refused}"),
+            }
+            lane.remove(1, &key).unwrap();
+        }
+    });
+}
+
 /// A factory that runs on a thread of its own until it is told what to answer, which is sent, or to panic, where the sender is dropped.
 struct Running {
     answer: Sender<Result<u32, u32>>,

@@ -165,7 +165,7 @@ pub fail_without_memory : (handle : ℕ) (before after : Seat) (was claim : ℕ)
     → EndsClaim before.lane.cells after.lane.cells (Abandon claim) → said ≡ code.NoMemory → FailSays handle before after was was said
 unfolding IsUnkept
 fail_without_memory handle before after was claim said is keeps fits ends e =
-    FailSays.unkept claim keep.Memory is keeps (subst (λ (id : CellsId). Calls id.limits before.lane.cells.view after.lane.cells.view (Abandon claim ∷ [])) fits ends.calls) refl e
+    FailSays.unkept claim keep.Memory is keeps (subst (λ (id : CellsId). Calls id.limits before.lane.cells.view after.lane.cells.view (Abandon claim ∷ [])) fits ends.calls) tt refl e
 
 -- ---- closing
 

@@ -20,6 +20,7 @@ use Rattle.ext_store.specs.declared.fault.KeepFault.{KeepFault}
 use Rattle.ext_store.specs.Stores.{StoreView, StoreLane}
 use Rattle.ext_store.specs.LaneCalls.{Gets, IsKeyRefused, KeepsAs, KeepsNothing, Puts, Removes}
 use Rattle.ext_store.specs.Computing.{Fails, Fills, IsUnkept}
+use Rattle.ext_store.specs.Waiting.{IsDecidedFault}
 use Rattle.ext_c.specs.declared.code.Code.{Code}
 use Rattle.ext_c.specs.declared.code.Code.TheVariants as code
 use Rattle.ext_c.specs.declared.handle.Handle.{Handle}
@@ -163,17 +164,18 @@ pub data BeginSays (context key : ℕ) (before after : Seat) (was found : ExtVal
   unclaimed : before.claim ≡ None → (why : Unused) → ClaimsMissing (store_of before) context key before.lane.cells.view after.lane.cells.view (Err why)
       → TellsUnused why before.lane after.lane was found said → after.claim ≡ None → BeginSays context key before after was found said
 
--- The handle is kept and its number stands in the claimed cell; or it is not kept, and the claim is given up.
+-- The handle is kept and its number stands in the claimed cell; or it is not kept, and the claim is given up. That other
+-- lanes were in the way is no reason: while the claim stands the lane draws again.
 pub data FillSays (handle : Handle) (before after : Seat) (was number : ℕ) (said : Code) : Type 0 where
   no_claim : before.claim ≡ None → after ≡ before → number ≡ was → said ≡ code.NoClaim → FillSays handle before after was number said
   filled : (claim : ℕ) → before.claim ≡ Some claim → Fills (store_of before).id.cells.limits [] claim before.lane.cells.view after.lane.cells.view number
       → Learns before.lane.known after.lane.known number handle → said ≡ code.Done → FillSays handle before after was number said
   unkept : (claim : ℕ) (why : KeepFault) → before.claim ≡ Some claim
       → IsUnkept (store_of before).id.cells.limits (store_of before).tries [] claim before.lane.cells.view after.lane.cells.view why
-      → number ≡ was → said ≡ keep_code why → FillSays handle before after was number said
+      → IsDecidedFault why → number ≡ was → said ≡ keep_code why → FillSays handle before after was number said
 
--- The handle's fault is kept and its number stands in the claimed cell; or it is not kept, and the claim is given up;
--- or the store keeps no faults.
+-- The handle's fault is kept and its number stands in the claimed cell; or it is not kept, for the same reasons, and the
+-- claim is given up; or the store keeps no faults.
 pub data FailSays (handle : ℕ) (before after : Seat) (was number : ℕ) (said : Code) : Type 0 where
   no_claim : before.claim ≡ None → after ≡ before → number ≡ was → said ≡ code.NoClaim → FailSays handle before after was number said
   failed : (claim : ℕ) (why : Fault) → before.claim ≡ Some claim → IsTrue (store_of before).id.cells.limits.keep_faults → IsFaultOf handle why
@@ -181,7 +183,7 @@ pub data FailSays (handle : ℕ) (before after : Seat) (was number : ℕ) (said 
       → Learns before.lane.faults after.lane.faults number why → said ≡ code.Done → FailSays handle before after was number said
   unkept : (claim : ℕ) (why : KeepFault) → before.claim ≡ Some claim → IsTrue (store_of before).id.cells.limits.keep_faults
       → IsUnkept (store_of before).id.cells.limits (store_of before).tries [] claim before.lane.cells.view after.lane.cells.view why
-      → number ≡ was → said ≡ keep_code why → FailSays handle before after was number said
+      → IsDecidedFault why → number ≡ was → said ≡ keep_code why → FailSays handle before after was number said
   given_up : (claim : ℕ) → before.claim ≡ Some claim → IsFalse (store_of before).id.cells.limits.keep_faults
       → EndsClaim before.lane.cells after.lane.cells (act_is.Abandon claim) → number ≡ was → said ≡ code.GivenUp → FailSays handle before after was number said
 

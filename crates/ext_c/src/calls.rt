@@ -4,6 +4,7 @@ ghost use Rattle.ext_model.specs.CallActs.{IsHeld};
 ghost use Rattle.ext_values.specs.Known.{Learns, known_at};
 ghost use Rattle.ext_store.specs.Computing.{ClaimsMissing, Fails, IsUnkept};
 ghost use Rattle.ext_store.specs.Stores.{IsKeptBy};
+ghost use Rattle.ext_store.specs.Waiting.{IsDecidedFault};
 ghost use Rattle.ext_store.specs.LaneCalls.{Gets, KeepsAs, KeepsNothing, Puts, Removes};
 ghost use Rattle.ext_c.specs.Answers.{KnowsNoFault, NotAsked, TellsFault, TellsNumber, TellsValue, store_of};
 
@@ -143,6 +144,7 @@ impl Seat {
         ensures failed { IfOk result (Fails (store_of self.old).id.cells.limits [] claim self.old.lane.cells.view self.new.lane.cells.view) }
         ensures learnt { IfOk result (λ number. Learns self.old.lane.faults self.new.lane.faults number fault) }
         ensures unkept { IfErr result (IsUnkept (store_of self.old).id.cells.limits (store_of self.old).tries [] claim self.old.lane.cells.view self.new.lane.cells.view) }
+        ensures decided { IfErr result IsDecidedFault }
     {
         let shared: &Store<Handle> = &self.store;
         match shared.fail_quietly(&mut self.lane, claim, fault) {

@@ -201,8 +201,8 @@ pub extern "C" fn ext_begin(
     code.number()
 }
 
-/// Ends a compute by a value. If the value is not kept, the claim is given up. Takes memory for the
-/// handle.
+/// Ends a compute by a value. If the value is not kept, the claim is given up; that is never since
+/// other lanes were in the way, as it draws a number again then. Takes memory for the handle.
 #[unsafe(no_mangle)]
 pub extern "C" fn ext_fill(
     alloc: Global,
@@ -226,8 +226,8 @@ pub extern "C" fn ext_fill(
 }
 
 /// Ends a compute whose factory failed. If the store keeps faults, this one's handle is kept at the
-/// place, and if that fails the claim is given up. If it keeps none, the claim is given up, as
-/// `GivenUp`. Takes memory if the store keeps faults.
+/// place, as `ext_fill` keeps a value, and if that fails the claim is given up. If it keeps none,
+/// the claim is given up, as `GivenUp`. Takes memory if the store keeps faults.
 #[unsafe(no_mangle)]
 pub extern "C" fn ext_fail(alloc: Global, slot: &mut ExtSlot, handle: u64, number: &mut u32) -> u32
     ensures says { OnSlot HasNoClaim (number.new ≡ number.old) (λ before after. FailSays handle before after number.old number.new) slot.old slot.new result }

@@ -1,7 +1,6 @@
 -- The words of a legal history: what each tells, and what they are after one more event.
-use Rattle.std.proofs.Common.{◌≡◌, ◌≢◌, inl, inr, ℕ, ◌+◌, ◌^◌, ◌<◌, ◌≤◌, Bool, true, false, List, [], ◌∷◌, ◌++◌, get_or, set, length-set, get_or-set_same, get_or-set_other, refl, sym, ap, subst, ◌∙◌, arith, nat_eq, Option, None, Some, Contains, eq-eqb}
-use Rattle.std.specs.Prelude.{if◌then◌else◌, unwrap_or}
-use Rattle.std.proofs.lemmas.Bool.{ne_eqb}
+use Rattle.std.proofs.Common.{◌≡◌, ◌≢◌, inl, inr, ℕ, ◌+◌, ◌^◌, ◌<◌, ◌≤◌, Bool, true, false, [], ◌∷◌, ◌++◌, refl, sym, ap, subst, ◌∙◌, arith, nat_eq, Option, None, Some, Contains, eq-eqb}
+use Rattle.std.specs.Prelude.{if◌then◌else◌}
 use Rattle.std.proofs.lemmas.List.Elements.{Contains-push_cases}
 use mathlib.Core.Logic.{dite}
 use native.Mathlib.Decide.{ℕ_discrete}
@@ -11,17 +10,17 @@ use Rattle.ext_model.specs.declared.event.Event.{Event}
 use Rattle.ext_model.specs.declared.slot.Slot.{Slot}
 use Rattle.ext_model.specs.declared.slot.Slot.TheVariants as slot
 use Rattle.ext_model.specs.State.{standing_value}
-use Rattle.ext_model.specs.Events.{slot_after, drawn_after, place_of, is_at, is_on}
+use Rattle.ext_model.specs.Events.{slot_after, place_of, is_at, is_on}
 use Rattle.ext_model.specs.History.{History, Limits, by, state_after, version_of, IsAllowed, IsLegal}
 use Rattle.ext_model.specs.CellWords.{state_code, number_code, word, slot_word}
 use Rattle.ext_history.proofs.Legal.{legal_induct}
 use Rattle.ext_history.proofs.Lists.{contains_none}
 use Rattle.ext_model.proofs.Numbers.{bounded}
 use Rattle.ext_model.proofs.Claims.{claim_can_end, can_be_sealed}
-use Rattle.ext_model.proofs.Words.{after-push, word-event, word-elsewhere, drawn-push}
+use Rattle.ext_model.proofs.Words.{after-push, word-event, drawn-push}
 use Rattle.ext_cells.specs.declared.cell_state.CellState.TheVariants.{Sealed}
 use Rattle.ext_cells.specs.WordChanges.{code}
-use Rattle.ext_cells.specs.InnerRule.{IsWordAt, AreWordsOf, place_in}
+use Rattle.ext_rows.specs.Steps.{IsWordAt}
 use Rattle.ext_cells.specs.InnerDeciding.{state_of, IsNumbered, IsCellWord}
 
 -- ---- a number that stands is not 0
@@ -107,9 +106,6 @@ one_word limits h place v w within a b = dite (ℕ_discrete place limits.cells)
 on_same : (cell : ℕ) → nat_eq cell cell ≡ true
 on_same cell = eq-eqb cell cell refl
 
-off_other : (cell other : ℕ) → other ≢ cell → nat_eq cell other ≡ false
-off_other cell other ne = ne_eqb cell other (λ e. ne (sym e))
-
 -- the word of the cell that the act is on
 pub word_after : (limits : Limits) (h : History) (lane : ℕ) (act : Act ℕ) (cell next : ℕ) → place_of act ≡ Some cell → cell < limits.cells → next ≡ slot_word (slot_after lane act ((state_after h).slots cell)) (version_of h cell + 1)
     → IsWordAt limits (h ++ by lane act ∷ []) cell next
@@ -123,35 +119,4 @@ pub count_after : (limits : Limits) (h : History) (lane number count : ℕ) → 
 count_after limits h lane number count at = record {
   cell = λ less. absurd (omega (arith, less));
   count = λ last. ap (λ k. k + 1) (at.count last) ∙ sym (drawn-push h (by lane (Keep number)));
-}
-
-off_place : (place cells : ℕ) (o : Option ℕ) → place ≢ unwrap_or o cells → is_at nat_eq place o ≡ false
-off_place place cells None ne = refl
-off_place place cells (Some at) ne = off_other at place ne
-
-no_draw : (limits : Limits) (act : Act ℕ) (place drawn : ℕ) → place ≢ place_in limits act → place ≡ limits.cells → drawn_after act drawn ≡ drawn
-no_draw limits (Keep number) place drawn ne last = absurd (ne last)
-no_draw limits (Put at number) place drawn ne last = refl
-no_draw limits (Remove at) place drawn ne last = refl
-no_draw limits (Claim at) place drawn ne last = refl
-no_draw limits (Fill at number) place drawn ne last = refl
-no_draw limits (Fail at number) place drawn ne last = refl
-no_draw limits (Abandon at) place drawn ne last = refl
-no_draw limits (Seal at) place drawn ne last = refl
-
--- all other places keep their words
-elsewhere : (limits : Limits) (h : History) (lane : ℕ) (act : Act ℕ) (place w : ℕ) → place ≢ place_in limits act → IsWordAt limits h place w → IsWordAt limits (h ++ by lane act ∷ []) place w
-elsewhere limits h lane act place w ne at = record {
-  cell = λ less. at.cell less ∙ sym (word-elsewhere h (by lane act) place (off_place place limits.cells (place_of act) ne));
-  count = λ last. at.count last ∙ sym (drawn-push h (by lane act) ∙ no_draw limits act place (state_after h).drawn ne last);
-}
-
-pub words_after : (limits : Limits) (h : History) (lane : ℕ) (act : Act ℕ) (place next : ℕ) (words : List ℕ) → place ≡ place_in limits act → place ≤ limits.cells → AreWordsOf limits h words → IsWordAt limits (h ++ by lane act ∷ []) place next
-    → AreWordsOf limits (h ++ by lane act ∷ []) (set words place next)
-words_after limits h lane act place next words here within are is = record {
-  wide = length-set words place next ∙ are.wide;
-  each = λ other. dite (ℕ_discrete other place)
-      (λ same. subst (λ k. IsWordAt limits (h ++ by lane act ∷ []) k (get_or (set words place next) k 0)) (sym same)
-      (subst (IsWordAt limits (h ++ by lane act ∷ []) place) (sym (get_or-set_same words place next 0 (let wide = are.wide in omega (arith, wide, within)))) is))
-      (λ (ne : other ≡ place → ⊥). subst (IsWordAt limits (h ++ by lane act ∷ []) other) (sym (get_or-set_other words place other next 0 ne)) (elsewhere limits h lane act other (get_or words other 0) (λ e. ne (e ∙ sym here)) (are.each other)));
 }

@@ -22,7 +22,7 @@ use Rattle.ext_cells.specs.Lanes.{Lane}
 use Rattle.ext_cells.specs.CellCalls.{result_of, change_reply}
 use Rattle.ext_cells.specs.InnerDeciding.{IsCellWord, IsChange, reply_on, Decides}
 use Rattle.ext_cells.specs.InnerSteps.{Finds, MayGoOn, IsChangeOf, answer_to, idle_reply, Changes}
-use Rattle.ext_cells.specs.InnerRule.{place_in}
+use Rattle.ext_rows.specs.Steps.{place_in}
 use Rattle.ext_cells.proofs.CellWords.{cell_word, word_after}
 use Rattle.ext_cells.proofs.Tries.{TriesOn, answered, made, goes_on, seen_on}
 
@@ -122,7 +122,7 @@ same_refusal why e = cc e
 module _ (before now : Lane) (word count cell : ℕ) (act : Act ℕ) (small : before.cells.limits.numbers < 2 ^ 20) (less : cell < before.cells.limits.cells) (is : IsChangeOf cell act)
     (store : IfSome (stored_number act) (MayStoreNow before.view)) (c : TriesOn before now cell word count) where
   abbrev pub word_now : (stands : Option Slot) × (version : ℕ) × IsCellWord stands version word
-  word_now = ((state_after (seen_by now.view)).slots cell, version_of (seen_by now.view) cell, cell_word (seen_by now.view) cell word small c.tries.calls.legal c.tries.word_is less)
+  word_now = ((state_after (seen_by now.view)).slots cell, version_of (seen_by now.view) cell, cell_word (seen_by now.view) cell word small c.tries.legal c.tries.word_is less)
 
   pub act_now : IsChange act
   act_now = is_change before.cells.limits before.view (seen_by now.view) cell act small (seen_on before.cells.limits before.view now.view cell word count c.tries) is store
@@ -152,7 +152,7 @@ module _ (before now : Lane) (word count cell : ℕ) (act : Act ℕ) (small : be
     pub changed : (tries : ℕ) (after : Lane) (h : History) → Finds now.cells.limits now.view cell word h → after.view ≡ moved now.view ((h ++ by now.view.number act ∷ []) ∷ []) → Changes tries before after act (Ok stood)
     changed tries after h f e =
         let f' = subst (λ l. Finds l now.view cell word h) (ap (λ z. z.limits) c.cells) f in
-        inl (made before.cells.limits before.view now.view cell word count c.tries after.view act h (λ p. reply_after before.cells.limits p before.view.number act ≡ events.Happens (answer_to act stood)) f'.on (may_at h f').allowed e (happens_at h before.view.number f'))
+        inl (made before.cells.limits before.view now.view cell word count c.tries after.view act h (λ p. reply_after before.cells.limits p before.view.number act ≡ events.Happens (answer_to act stood)) f'.on e (happens_at h before.view.number f'))
 
   holds : (Fact : History → Type 0) → Fact (seen_by now.view) → HoldsAtPoint before.cells.limits before.view now.view [] Fact
   holds Fact fact = answered before.cells.limits before.view now.view cell word count c.tries Fact fact

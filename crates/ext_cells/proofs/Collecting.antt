@@ -272,7 +272,7 @@ module _ (limits : Limits) (before now next : LaneView) (cells words again : Lis
 
   calls : Calls limits before next []
   calls = subst (λ z. Calls limits before z []) (sym next_latest.is)
-      (calls_moved lane_of before (both ++ pass.fronts) [] (follow_append (seen_by before) both pass.fronts follow_both next_latest.follow) next_latest.legal
+      (calls_moved lane_of before (both ++ pass.fronts) [] (follow_append (seen_by before) both pass.fronts follow_both next_latest.follow)
       ((next_latest.own_same ∙ (t.latest.own_same ∙ t.own_same)) ∙ sym (append-nil (own before.number (seen_by before)))))
 
   -- two equal passes are of one point
@@ -340,7 +340,7 @@ module _ (limits : Limits) (before now : LaneView) (cells words : List ℕ) (cou
       let start = first_follows (seen_by before) added follow_all in
       let none : own before.number m ≡ [] = own_rest start.0 m last (sym (append_assoc (seen_by before) start.0 m) ∙ (ap (λ z. z ++ m) start.1 ∙ begins.1)) own_is in
       record {
-        calls = subst (λ z. Calls limits before z []) (sym t.latest.is) (calls_moved lane_of before added [] follow_all t.latest.legal (own_is ∙ sym (append-nil (own before.number (seen_by before)))));
+        calls = subst (λ z. Calls limits before z []) (sym t.latest.is) (calls_moved lane_of before added [] follow_all (own_is ∙ sym (append-nil (own before.number (seen_by before)))));
         passed = (
           m,
           subst (λ z. seen_by z ≡ first_front before z ++ m) (sym t.latest.is) (moved_seen before added ∙ (sym begins.1 ∙ ap (λ fs. first_or (seen_by before) fs ++ m) (sym (moved_fronts before added)))),

@@ -55,7 +55,7 @@ module _ (before now : Lane) (word count : ℕ) (t : TriesOn before now before.c
       let counted = t.tries.word_is.count refl in
       let later = seen_goes_on t.tries.calls in
       let still : Contains (seen_by now.view) (by other (Keep number)) = subst (λ h. Contains h (by other (Keep number))) later.1 (Contains-append_left (seen_by before.view) later.0 (by other (Keep number)) there) in
-      let least = (bounded (seen_by now.view) t.tries.calls.legal).kept other number still in
+      let least = (bounded (seen_by now.view) t.tries.legal).kept other number still in
       absurd (omega (arith, counted, least, is))
 
   module _ (number : ℕ) (less : word < before.cells.limits.numbers) (is : number ≡ word + 1) where
@@ -83,5 +83,5 @@ module _ (before now : Lane) (word count : ℕ) (t : TriesOn before now before.c
         let answer : number_reply before h ≡ Ok number = ap (result_of number_drawn) (keeps before.cells.limits.numbers (state_after h).drawn few) ∙ ap Ok next in
         record {
           overtaken = λ e. absurd (cc e);
-          replied = λ ne. made before.cells.limits before.view now.view before.cells.limits.cells word count t.tries after.view (Keep number) h (λ p. Ok number ≡ number_reply before p) f'.on (may_at h f').allowed e (sym answer);
+          replied = λ ne. made before.cells.limits before.view now.view before.cells.limits.cells word count t.tries after.view (Keep number) h (λ p. Ok number ≡ number_reply before p) f'.on e (sym answer);
         }

@@ -19,9 +19,9 @@ use Rattle.ext_cells.specs.declared.claim.Claimed.{Claimed}
 use Rattle.ext_cells.specs.declared.claim.Claimed.TheVariants.{Won}
 use Rattle.ext_cells.specs.declared.refusal.CellRefusal.{CellRefusal}
 use Rattle.ext_cells.specs.WordChanges.{word_with, next_word, Suits}
-use Rattle.ext_cells.specs.Lanes.{Lane}
+use Rattle.ext_cells.specs.Lanes.{CellsId, Lane}
 use Rattle.ext_cells.specs.CellCalls.{Answers, EndsClaim, IfWon, number_acts, number_reply}
-use Rattle.ext_cells.specs.InnerRule.{IsWordAt}
+use Rattle.ext_rows.specs.Steps.{IsWordAt}
 use Rattle.ext_cells.specs.InnerDeciding.{IsCellWord}
 use Rattle.ext_cells.specs.InnerSteps.{Finds, MayGoOn, IsEndOf}
 use Rattle.ext_cells.proofs.CellWords.{cell_word, word_after}
@@ -120,7 +120,7 @@ module _ (before now : Lane) (word cell : ℕ) (act : Act ℕ) (small : before.c
   pub never_missed : (found : ℕ) (h : History) → Finds now.cells.limits now.view cell found h → found ≡ word
   never_missed found h f =
       let f' : Finds before.cells.limits now.view cell found h = subst (λ l. Finds l now.view cell found h) (ap (λ z. z.limits) c.cells) f in
-      let still = (claim_held before.cells.limits before.view now.view [] cell c.tries.calls (All-nil (λ a. is_on nat_eq cell a ≡ false)) held).0 in
+      let still = (claim_held before.cells.limits before.view now.view [] cell c.tries.legal c.tries.calls (All-nil (λ a. is_on nat_eq cell a ≡ false)) held).0 in
       let less = (stands before.cells.limits before.view (seen_by now.view) cell seen held).0 in
       f'.word_is.cell less ∙ held_word before.cells.limits now.view cell h f'.on still ∙ sym (c.tries.word_is.cell less)
 
@@ -148,7 +148,7 @@ module _ (before now : Lane) (word cell : ℕ) (act : Act ℕ) (small : before.c
     ended after h f e =
         let f' = subst (λ l. Finds l now.view cell word h) (ap (λ z. z.limits) c.cells) f in
         let on = goes_on before.cells.limits before.view now.view cell word 0 c.tries h f'.on in
-        made before.cells.limits before.view now.view cell word 0 c.tries after.view act h (λ p. reply_after before.cells.limits p before.view.number act ≡ Happens None) f'.on (may_at h f').allowed e
+        made before.cells.limits before.view now.view cell word 0 c.tries after.view act h (λ p. reply_after before.cells.limits p before.view.number act ≡ Happens None) f'.on e
         (happens before.cells.limits h before.view.number cell act is (stands before.cells.limits before.view h cell on held).1)
 
 -- a claim that was won stands
@@ -156,9 +156,9 @@ pub won_held : (lane : LaneView) (cell claim : ℕ) (asked : Claimed) → asked 
 won_held lane cell claim asked is held = (subst (λ z. IfWon (Ok z) (λ k. (k ≡ cell) × IsHeld lane k)) is held).1
 
 -- a claim of the lane stands on while it draws a number, whatever is answered
-pub held_while_drawing : (tries : ℕ) (before after : Lane) (cell : ℕ) (r : Result ℕ CellRefusal) → Answers tries before after number_acts (number_reply before) r → IsHeld before.view cell → IsHeld after.view cell
-held_while_drawing tries before after cell r a held =
-    (claim_held before.cells.limits before.view after.view (number_acts r) cell (call_made tries before after number_acts (number_reply before) r refl a) (off r) held).0
+pub held_while_drawing : (tries : ℕ) (before after : Lane) (cell : ℕ) (r : Result ℕ CellRefusal) → after.cells ≡ before.cells → IsLegal after.cells.limits (seen_by after.view) → Answers tries before after number_acts (number_reply before) r → IsHeld before.view cell → IsHeld after.view cell
+held_while_drawing tries before after cell r same legal a held =
+    (claim_held before.cells.limits before.view after.view (number_acts r) cell (subst (λ (z : CellsId). IsLegal z.limits (seen_by after.view)) same legal) (call_made tries before after number_acts (number_reply before) r refl a) (off r) held).0
   where
     IsOff : Act ℕ → Type 0
     IsOff act = is_on nat_eq cell act ≡ false

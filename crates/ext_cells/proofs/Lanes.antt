@@ -1,8 +1,6 @@
 -- A lane as its seat knows it, and as contracts see it.
-use Rattle.std.proofs.Common.{◌≡◌, ◌≢◌, ℕ, ◌≤◌, ◌<◌, [], ◌∷◌, ◌++◌, sym, refl, ap, subst, Some}
-use mathlib.Core.Option.{some}
+use Rattle.std.proofs.Common.{◌≡◌, ℕ, ◌≤◌, ◌<◌, [], ◌∷◌, ◌++◌, sym, refl, subst, Some}
 use mathlib.Core.List.{IsPrefix}
-use Rattle.atomic_table.specs.Table.{Me, step}
 use Rattle.atomic_table.specs.Seated.{TableId}
 use Rattle.ext_model.specs.declared.event.Act.{Act}
 use Rattle.ext_model.specs.History.{History, by, IsLegal}
@@ -10,10 +8,11 @@ use Rattle.ext_history.specs.Histories.{seen, Follow}
 use Rattle.ext_history.proofs.Legal.{legal_push}
 use Rattle.ext_history.proofs.Fronts.{last_append, follow_append}
 use base.Growing.{prefix_trans}
-use Rattle.ext_cells.specs.declared.rule.View.{View}
+use Rattle.ext_rows.specs.declared.view.View.{View}
 use Rattle.ext_cells.specs.Lanes.{Lane}
-use Rattle.ext_cells.specs.InnerRule.{limits_of, place_in, shown, FoundBy, MayExchange, Exchanged}
-use Rattle.ext_cells.specs.InnerSteps.{stepped, Finds, MayGoOn}
+use Rattle.ext_rows.specs.Views.{limits_of, knowing, shown}
+use Rattle.ext_rows.specs.Steps.{place_in, FoundBy, MayExchange}
+use Rattle.ext_cells.specs.InnerSteps.{IsShown, Found, Made, stepped, Finds, MayGoOn}
 
 abbrev pub lane_of : TableId → View → ℕ → Lane
 lane_of table v number = record { cells = record { table = table; limits = limits_of v.limits }; view = record { number = number; fronts = v.fronts } }
@@ -28,6 +27,9 @@ stays_lane v w h number inv legal begins e =
     subst (λ u. IsLaneView u number) (sym e)
     (inv.0, subst (IsLegal (limits_of v.limits)) (sym (last_append [] v.fronts (h ∷ []))) legal, follow_append [] v.fronts (h ∷ []) inv.2 (begins, tt), inv.3)
 
+pub steps_stay : (v w : View) (h : History) (number : ℕ) → IsLaneView v number → IsLegal (limits_of v.limits) h → IsPrefix (seen v.fronts) h → IsShown v w h → IsLaneView w number
+steps_stay v w h number inv legal begins e = stays_lane (knowing v e.placed e.row e.least) w h number inv legal begins e.is
+
 finds_of : (v : View) (number place word : ℕ) (h : History) → v.lane ≡ Some number → FoundBy v place word h → Finds (limits_of v.limits) (record { number = number; fronts = v.fronts }) place word h
 finds_of v number place word h mine f = record {
   on = record { legal = f.legal; begins = f.begins; own_same = f.own_is number mine };
@@ -35,11 +37,11 @@ finds_of v number place word h mine f = record {
   below = f.lane_is number mine;
 }
 
--- the lane after a step that left this history
-moved_lane : (table table' : TableId) (v w : View) (h : History) (number : ℕ) → table' ≡ table → w ≡ shown v h → lane_of table' w number ≡ stepped (lane_of table v number) h
-moved_lane table table' v w h number same e = λ i. lane_of (same i) (e i) number
+-- the lane after steps of which the last left this history
+moved_lane : (table table' : TableId) (v w : View) (h : History) (number : ℕ) → table' ≡ table → IsShown v w h → lane_of table' w number ≡ stepped (lane_of table v number) h
+moved_lane table table' v w h number same e = λ i. lane_of (same i) (e.is i) number
 
-pub found_lane : (table table' : TableId) (v w : View) (number place word : ℕ) (lane : Lane) (h : History) → lane_of table v number ≡ lane → IsLaneView v number → FoundBy v place word h → table' ≡ table → w ≡ shown v h
+pub found_lane : (table table' : TableId) (v w : View) (number place word : ℕ) (lane : Lane) (h : History) → lane_of table v number ≡ lane → IsLaneView v number → FoundBy v place word h → table' ≡ table → IsShown v w h
     → (g : History) × Finds lane.cells.limits lane.view place word g × (lane_of table' w number ≡ stepped lane g)
 found_lane table table' v w number place word lane h is inv f same e =
     subst (λ l. (g : History) × Finds l.cells.limits l.view place word g × (lane_of table' w number ≡ stepped l g)) is
@@ -59,28 +61,27 @@ may_exchange table v number place old new act lane is inv here within may =
       leaves = λ h f. (may' h (finds_of v number place old h inv.0 f)).word_is;
     }
 
-module _ (slots : ℕ) (table table' : TableId) (me after : Me (Act ℕ) View) (number place old new word : ℕ) (act : Act ℕ) (lane : Lane) (is : lane_of table me.0 number ≡ lane) (inv : IsLaneView me.0 number)
-    (same : table' ≡ table) (did : Exchanged (step slots place old new (some act)) me word after) where
+module _ (table table' : TableId) (v w : View) (number place old new word : ℕ) (act : Act ℕ) (lane : Lane) (is : lane_of table v number ≡ lane) (inv : IsLaneView v number) (same : table' ≡ table) where
   -- an exchange that met the word made its event
-  pub made_lane : ((h : History) → Finds lane.cells.limits lane.view place old h → MayGoOn lane.cells.limits lane.view h place new act) → word ≡ old
-      → (h : History) × Finds lane.cells.limits lane.view place old h × MayGoOn lane.cells.limits lane.view h place new act × (lane_of table' after.0 number ≡ stepped lane (h ++ by lane.view.number act ∷ []))
-  made_lane may hit =
-      let m = did.1 hit number act inv.0 refl in
-      let f : FoundBy me.0 place old m.0 = subst (λ k. FoundBy me.0 place k m.0) hit m.1 in
-      let g : Finds lane.cells.limits lane.view place old m.0 = subst (λ l. Finds l.cells.limits l.view place old m.0) is (finds_of me.0 number place old m.0 inv.0 f) in (
+  pub made_lane : ((h : History) → Finds lane.cells.limits lane.view place old h → MayGoOn lane.cells.limits lane.view h place new act) → Made v w place old act
+      → (h : History) × Finds lane.cells.limits lane.view place old h × MayGoOn lane.cells.limits lane.view h place new act × (lane_of table' w number ≡ stepped lane (h ++ by lane.view.number act ∷ []))
+  made_lane may did =
+      let m = did number inv.0 in
+      let g : Finds lane.cells.limits lane.view place old m.0 = subst (λ l. Finds l.cells.limits l.view place old m.0) is (finds_of v number place old m.0 inv.0 m.1) in (
         m.0,
         g,
         may m.0 g,
-        subst (λ l. lane_of table' after.0 number ≡ stepped l (m.0 ++ by l.view.number act ∷ [])) is (moved_lane table table' me.0 after.0 (m.0 ++ by number act ∷ []) number same (ap (λ z. z.0) m.3)),
+        subst (λ l. lane_of table' w number ≡ stepped l (m.0 ++ by l.view.number act ∷ [])) is (moved_lane table table' v w (m.0 ++ by number act ∷ []) number same m.3),
       )
 
   -- and one that met another is a load
-  pub missed_lane : word ≢ old → (h : History) × Finds lane.cells.limits lane.view place word h × (lane_of table' after.0 number ≡ stepped lane h)
-  missed_lane miss = let m = did.0 miss in found_lane table table' me.0 after.0 number place word lane m.0 is inv m.1 same (ap (λ z. z.0) m.2)
+  pub missed_lane : Found v w place word → (h : History) × Finds lane.cells.limits lane.view place word h × (lane_of table' w number ≡ stepped lane h)
+  missed_lane m = found_lane table table' v w number place word lane m.0 is inv m.1 same m.2
 
-  pub exchanged_stays : (word ≡ old → IsLaneView after.0 number) × (word ≢ old → IsLaneView after.0 number)
-  exchanged_stays = (
-    (λ hit. let m = did.1 hit number act inv.0 refl in
-        stays_lane me.0 after.0 (m.0 ++ by number act ∷ []) number inv (legal_push m.0 (by number act) m.1.legal m.2) (prefix_trans (seen me.0.fronts) m.0 (m.0 ++ by number act ∷ []) m.1.begins (by number act ∷ [], refl)) (ap (λ z. z.0) m.3)),
-    λ miss. let m = did.0 miss in stays_lane me.0 after.0 m.0 number inv m.1.legal m.1.begins (ap (λ z. z.0) m.2),
-  )
+  pub made_stays : Made v w place old act → IsLaneView w number
+  made_stays did =
+      let m = did number inv.0 in
+      steps_stay v w (m.0 ++ by number act ∷ []) number inv (legal_push m.0 (by number act) m.1.legal m.2) (prefix_trans (seen v.fronts) m.0 (m.0 ++ by number act ∷ []) m.1.begins (by number act ∷ [], refl)) m.3
+
+  pub missed_stays : Found v w place word → IsLaneView w number
+  missed_stays m = steps_stay v w m.0 number inv m.1.legal m.1.begins m.2

@@ -1,9 +1,9 @@
 pub mod Packing
 pub mod CellWords
 pub mod Decisions
-pub mod Steps
-pub mod Seats
 pub mod Lanes
+pub mod RowSteps
+pub mod RowEnds
 pub mod Rising
 pub mod Tries
 pub mod CallEvents

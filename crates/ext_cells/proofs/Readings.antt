@@ -142,7 +142,7 @@ module _ (limits : Limits) (before mid after : LaneView) (cs ds ws vs : List ℕ
 
 -- a pass is a call without an event
 pub pass_calls : (limits : Limits) (before after : LaneView) (cs ws : List ℕ) → ReadPass limits before after cs ws → Calls limits before after []
-pass_calls limits before after cs ws t = subst (λ z. Calls limits before z []) (sym t.is) (calls_moved lane_of before t.fronts [] t.follow t.legal (t.own_same ∙ sym (append-nil (own before.number (seen_by before)))))
+pass_calls limits before after cs ws t = subst (λ z. Calls limits before z []) (sym t.is) (calls_moved lane_of before t.fronts [] t.follow (t.own_same ∙ sym (append-nil (own before.number (seen_by before)))))
 
 begin_to : (fs : List History) (p q : History) → IsPrefix p q → AllBegin fs p → AllBegin fs q
 begin_to [] p q more all = tt
@@ -323,7 +323,8 @@ first_said p cells words (Some n) fits is said =
 
 -- ---- the first pass and the one over its empty cells
 
-legal_between : (limits : Limits) (before between : LaneView) (cs ws : List ℕ) → ReadPass limits before between cs ws → IsLegal limits (seen_by between)
+-- what the lane has seen after a pass is legal
+pub legal_between : (limits : Limits) (before between : LaneView) (cs ws : List ℕ) → ReadPass limits before between cs ws → IsLegal limits (seen_by between)
 legal_between limits before between cs ws t = subst (IsLegal limits) (sym (ap seen_by t.is ∙ moved_seen before t.fronts)) t.legal
 
 -- what stood behind the empty cells, as a pass of its own
@@ -391,7 +392,7 @@ module _ (x y : Lane) (mid : LaneView) (cells : List ℕ) (empty : EmptyCells) (
       let steps = still_steps x.cells.limits x.view t.between mid y.view cs (c ∷ []) t.words (w ∷ []) more few t.read two three in
       let p : History = last_after (seen_by x.view) (t.read.fronts ++ two.fronts) in
       let calls = still_calls x.cells.limits x.view t.between mid y.view cs (c ∷ []) t.words (w ∷ []) more few t.read two three in
-      let lawful : IsLegal limits p = point_legal calls p (answer_point calls p point) in
+      let lawful : IsLegal limits p = point_legal (legal_between limits mid y.view cs more three) p (answer_point calls p point) in
       let word_is : empty.behind ≡ word_of (last_after (seen_by x.view) (t.read.fronts ++ two.fronts)) (slice_index cells empty.count) =
       read_one (last_after (seen_by x.view) t.read.fronts) c w two.fronts two.read ∙ ap (λ z. word_of z c) (sym (last_append (seen_by x.view) t.read.fronts two.fronts)) in (
         record {
@@ -442,10 +443,10 @@ module _ (limits : Limits) (before now next : LaneView) (cells words again : Lis
       (reads_begin limits before now next cells words again count t pass) (reads_go_on limits before now next cells words again count t pass) same
 
 -- the nearest of cells that stood together
-pub nearest_of : (x y : Lane) (cells words : List ℕ) (reading : Reading) → x.cells.limits.numbers < 2 ^ 20 → StoodTogether x y cells words → IsReading words reading → StoodNearest x y cells reading.nearest
-nearest_of x y cells words reading few stood said =
+pub nearest_of : (x y : Lane) (cells words : List ℕ) (reading : Reading) → x.cells.limits.numbers < 2 ^ 20 → IsLegal x.cells.limits (seen_by y.view) → StoodTogether x y cells words → IsReading words reading → StoodNearest x y cells reading.nearest
+nearest_of x y cells words reading few seen_legal stood said =
     let p : History = stood.point.0 in
-    let legal : IsLegal x.cells.limits p = point_legal stood.calls p (answer_point stood.calls p stood.point.1) in
+    let legal : IsLegal x.cells.limits p = point_legal seen_legal p (answer_point stood.calls p stood.point.1) in
     record {
       calls = stood.calls;
       stepped = stood.stepped;

@@ -57,10 +57,10 @@ stores_none : (lane number : ℕ) (x : Event ℕ) → by lane (Keep number) ≡ 
 stores_none lane number x same is = let q : None ≡ Some number = ap (λ (e : Event ℕ). stored_number e.act) same ∙ is in absurd (cc q)
 
 -- a number that was just drawn may be stored
-drawn_storable : (limits : Limits) (a b : LaneView) (number : ℕ) (p : History) → Calls limits a b (Keep number ∷ []) → seen_by b ≡ p ++ by a.number (Keep number) ∷ [] → MayStoreNow b number
-drawn_storable limits a b number p calls is =
+drawn_storable : (limits : Limits) (a b : LaneView) (number : ℕ) (p : History) → IsLegal limits (seen_by b) → Calls limits a b (Keep number ∷ []) → seen_by b ≡ p ++ by a.number (Keep number) ∷ [] → MayStoreNow b number
+drawn_storable limits a b number p lawful calls is =
     let lane : b.number ≡ a.number = same_number calls in
-    let legal : IsLegal limits (p ++ by a.number (Keep number) ∷ []) = subst (IsLegal limits) is calls.legal in
+    let legal : IsLegal limits (p ++ by a.number (Keep number) ∷ []) = subst (IsLegal limits) is lawful in
     record {
       drew = subst (λ k. Contains (own k (seen_by b)) (by k (Keep number))) (sym lane)
           (subst (λ z. Contains z (by a.number (Keep number))) (sym calls.own_events) (Contains-push (own a.number (seen_by a)) (by a.number (Keep number))));
@@ -73,10 +73,10 @@ drawn_storable limits a b number p calls is =
           ];
     }
 
-pub drew_storable : (tries : ℕ) (before after : Lane) (r : Result ℕ CellRefusal) → Answers tries before after number_acts (number_reply before) r → IfOk r (MayStoreNow after.view)
-drew_storable tries before after (Ok number) a =
-    let h = a.replied (λ e. cc e) in drawn_storable before.cells.limits before.view after.view number h.point.0 h.calls h.point.1.1
-drew_storable tries before after (Err why) a = tt
+pub drew_storable : (tries : ℕ) (before after : Lane) (r : Result ℕ CellRefusal) → IsLegal before.cells.limits (seen_by after.view) → Answers tries before after number_acts (number_reply before) r → IfOk r (MayStoreNow after.view)
+drew_storable tries before after (Ok number) legal a =
+    let h = a.replied (λ e. cc e) in drawn_storable before.cells.limits before.view after.view number h.point.0 legal h.calls h.point.1.1
+drew_storable tries before after (Err why) legal a = tt
 
 -- and one that was not stored may be stored still
 pub refused_storable : (tries : ℕ) (before after : Lane) (cell number : ℕ) → MayStoreNow before.view number → (r : Result (Option ℕ) CellRefusal) → Answers tries before after (put_acts cell number) (change_reply before (Put cell number)) r

@@ -2,16 +2,17 @@
 use Rattle.std.proofs.Common.{◌≡◌, ◌≢◌, inl, ℕ, ◌+◌, ◌≤◌, [], ◌∷◌, ◌++◌, length, sym, refl, ap, ◌∙◌, subst, arith, append_assoc, append-nil, length-append}
 use base.Growing.{prefix_refl, prefix_trans}
 use Rattle.ext_model.specs.declared.event.Act.{Act}
-use Rattle.ext_model.specs.History.{History, Limits, by, lane_of, own, IsAllowed}
+use Rattle.ext_model.specs.History.{History, Limits, by, lane_of, own, IsAllowed, IsLegal}
 use Rattle.ext_history.specs.Histories.{first_or, seen_by, moved, call_fronts, first_front, IsStepped}
 use Rattle.ext_model.specs.CallActs.{LaneView, Calls, HoldsAtPoint, IsOvertaken, GoesOn}
+use Rattle.ext_history.proofs.Legal.{legal_push}
 use Rattle.ext_history.proofs.Fronts.{moved_fronts, moved_once, moved_seen}
 use Rattle.ext_history.proofs.Lanes.{own_append, own_past}
 use Rattle.ext_history.proofs.Composed.{same_number, seen_goes_on, first_is_seen, steps_compose, steps_stay, first_decides}
 use Rattle.ext_model.proofs.Composed.{calls_compose, later_answers}
 use Rattle.ext_history.proofs.Single.{step_calls, event_calls, event_holds}
-use Rattle.ext_cells.specs.Lanes.{Lane}
-use Rattle.ext_cells.specs.InnerRule.{IsWordAt}
+use Rattle.ext_cells.specs.Lanes.{CellsId, Lane}
+use Rattle.ext_rows.specs.Steps.{IsWordAt}
 use Rattle.ext_cells.specs.InnerSteps.{stepped, Finds}
 use Rattle.ext_cells.proofs.CellWords.{one_word}
 use Rattle.ext_cells.proofs.Rising.{Rises, no_rise, one_rise}
@@ -23,6 +24,7 @@ not_empty (x ∷ m) ne = omega arith
 -- the call has made its first step and this many exchanges that met other words, and no event
 pub record Tries (limits : Limits) (before now : LaneView) (place word count : ℕ) : Type 0 where
   pub calls : Calls limits before now []
+  pub legal : IsLegal limits (seen_by now)
   pub stepped : IsStepped before now
   pub within : place ≤ limits.cells
   pub word_is : IsWordAt limits (seen_by now) place word
@@ -42,6 +44,7 @@ first_try limits before now place word h within f e =
     let first : first_front before after ≡ h = ap (first_or (seen_by before)) (moved_fronts before (h ∷ [])) in
     subst (λ l. Tries limits before l place word 0) (sym e) (record {
       calls = (step_calls f.on).0;
+      legal = subst (IsLegal limits) (sym (moved_seen before (h ∷ []))) f.on.legal;
       stepped = omega (arith, steps);
       within = within;
       word_is = subst (λ z. IsWordAt limits z place word) (sym (moved_seen before (h ∷ []))) f.word_is;
@@ -74,6 +77,7 @@ next_try limits before now next place word found count h t ne f e = subst (λ l.
         let one = moved_once now h in
         record {
           calls = calls_compose limits before now next [] [] t.calls two;
+          legal = subst (IsLegal limits) (sym (moved_seen now (h ∷ []))) f.on.legal;
           stepped = steps_stay t.calls two (inl t.stepped);
           within = t.within;
           word_is = subst (λ z. IsWordAt limits z place found) (sym (moved_seen now (h ∷ []))) f.word_is;
@@ -107,10 +111,10 @@ module _ (limits : Limits) (before now : LaneView) (place word count : ℕ) (t :
   }
 
   -- an exchange that met the words ends the call with its event
-  pub made : (next : LaneView) (act : Act ℕ) (h : History) (Fact : History → Type 0) → GoesOn limits now h → IsAllowed limits h (by now.number act) → next ≡ moved now ((h ++ by now.number act ∷ []) ∷ []) → Fact h
+  pub made : (next : LaneView) (act : Act ℕ) (h : History) (Fact : History → Type 0) → GoesOn limits now h → next ≡ moved now ((h ++ by now.number act ∷ []) ∷ []) → Fact h
       → HoldsAtPoint limits before next (act ∷ []) Fact
-  made next act h Fact on allowed e fact =
-      later_answers limits before now next (act ∷ []) Fact t.calls (subst (λ l. HoldsAtPoint limits now l (act ∷ []) Fact) (sym e) (event_holds on (by now.number act) Fact refl allowed fact))
+  made next act h Fact on e fact =
+      later_answers limits before now next (act ∷ []) Fact t.calls (subst (λ l. HoldsAtPoint limits now l (act ∷ []) Fact) (sym e) (event_holds on (by now.number act) Fact refl fact))
 
   -- a history that the lane finds next goes on from what it had seen before the call
   pub goes_on : (h : History) → GoesOn limits now h → GoesOn limits before h
@@ -123,7 +127,7 @@ module _ (limits : Limits) (before now : LaneView) (place word count : ℕ) (t :
   -- as does what it has seen
   pub seen_on : GoesOn limits before (seen_by now)
   seen_on = record {
-    legal = t.calls.legal;
+    legal = t.legal;
     begins = seen_goes_on t.calls;
     own_same = t.calls.own_events ∙ append-nil (own before.number (seen_by before));
   }
@@ -142,15 +146,22 @@ pub steps_on : (before now : Lane) (place word count : ℕ) → TriesOn before n
 steps_on before now place word count t = t.tries.steps
 
 -- and one more for the exchange that it ends with
-pub steps_next : (before now next : Lane) (place word count : ℕ) (h : History) (act : Act ℕ) → TriesOn before now place word count → Finds now.cells.limits now.view place word h → IsAllowed now.cells.limits h (by now.view.number act)
+pub steps_next : (before now next : Lane) (place word count : ℕ) (h : History) (act : Act ℕ) → TriesOn before now place word count → Finds now.cells.limits now.view place word h
     → next ≡ stepped now (h ++ by now.view.number act ∷ []) → length (call_fronts before.view next.view) ≡ count + 2
-steps_next before now next place word count h act t f allowed e =
+steps_next before now next place word count h act t f e =
     let limits = before.cells.limits in
     let f' : Finds limits now.view place word h = subst (λ l. Finds l now.view place word h) (ap (λ z. z.limits) t.cells) f in
-    let may : IsAllowed limits h (by now.view.number act) = subst (λ l. IsAllowed l h (by now.view.number act)) (ap (λ z. z.limits) t.cells) allowed in
     let after : LaneView = moved now.view ((h ++ by now.view.number act ∷ []) ∷ []) in
-    let two = (event_calls f'.on (by now.view.number act) refl may).0 in
+    let two = (event_calls f'.on (by now.view.number act) refl).0 in
     let all : length (call_fronts before.view after) ≡ length (call_fronts before.view now.view) + length (call_fronts now.view after) = steps_compose t.tries.calls two in
     let had = t.tries.steps in
     let one = moved_once now.view (h ++ by now.view.number act ∷ []) in
     subst (λ (l : LaneView). length (call_fronts before.view l) ≡ count + 2) (sym (ap (λ (z : Lane). z.view) e)) (omega (arith, all, had, one))
+
+-- what the lane has seen once it has made an act is legal
+pub made_legal : (before now next : Lane) (place word count : ℕ) (h : History) (act : Act ℕ) → TriesOn before now place word count → IsLegal now.cells.limits h → IsAllowed now.cells.limits h (by now.view.number act)
+    → next.view ≡ moved now.view ((h ++ by now.view.number act ∷ []) ∷ []) → IsLegal before.cells.limits (seen_by next.view)
+made_legal before now next place word count h act t legal allowed e =
+    let more : History = h ++ by now.view.number act ∷ [] in
+    let pushed : IsLegal now.cells.limits more = legal_push h (by now.view.number act) legal allowed in
+    subst (λ z. IsLegal before.cells.limits z) (sym (ap seen_by e ∙ moved_seen now.view (more ∷ []))) (subst (λ (z : CellsId). IsLegal z.limits more) t.cells pushed)

@@ -1,6 +1,6 @@
 -- What each call on the cells promises of its result: what one thread would be answered at a point of the call, and
 -- which events an answer means. `CallActs` of ext_model has the words for events, fronts and points.
-use Rattle.std.specs.Prelude.{ℕ, ◌≡◌, ◌<◌, ◌≤◌, ◌+◌, ◌-◌, ◌*◌, All, slice_index, sum_by, List, [], ◌∷◌, length, map, take, Option, None, Some, Result, Ok, Err}
+use Rattle.std.specs.Prelude.{ℕ, ◌≡◌, ◌<◌, ◌≤◌, ◌+◌, ◌-◌, ◌*◌, ◌/◌, ◌%◌, ◌++◌, Contains, All, slice_index, sum_by, List, [], ◌∷◌, length, map, take, Option, None, Some, Result, Ok, Err}
 use Rattle.ext_model.specs.declared.event.Act.{Act}
 use Rattle.ext_model.specs.declared.event.Act.TheVariants.{Keep, Put, Remove, Claim, Seal}
 use Rattle.ext_model.specs.declared.slot.Slot.{Slot}
@@ -20,6 +20,8 @@ use Rattle.ext_cells.specs.declared.refusal.CellRefusal.TheVariants.{Contended, 
 use Rattle.ext_cells.specs.declared.nearest.Nearest.{Nearest}
 use Rattle.ext_cells.specs.declared.standing.Standing.{Standing}
 use Rattle.ext_cells.specs.declared.standing.Standing.TheVariants as standing
+use Rattle.std.specs.Int.{bit_at}
+use Rattle.ext_rows.specs.Standings.{MayEnd}
 use Rattle.ext_cells.specs.Lanes.{Lane}
 
 -- ---- what one thread is answered
@@ -193,3 +195,21 @@ pub record StoodNearest (before after : Lane) (cells : List ℕ) (nearest : Opti
 abbrev pub FindsNearest : ℕ → Lane → Lane → List ℕ → Result (Option Nearest) CellRefusal → Type 0
 FindsNearest tries before after cells (Ok nearest) = StoodNearest before after cells nearest
 FindsNearest tries before after cells (Err why) = (why ≡ Contended) × model.IsOvertaken before.cells.limits tries before.view after.view
+
+-- ---- the end of half a row
+
+-- The cell is in this half, and has no mark among these. The halves of all rows are numbered in order, 32 cells each.
+pub record IsUnmarked (half marks cell : ℕ) : Type 0 where
+  pub half_is : cell / 32 ≡ half
+  pub mark : bit_at marks (cell % 32) ≡ 0
+
+-- The call sealed cells of the half that never had an event, all at once: what is seen is the history before their
+-- seals, and then these. Afterwards each cell of the half without a mark is sealed, and its seal kept nothing.
+pub record EndsHalf (before after : Lane) (half marks : ℕ) : Type 0 where
+  pub cells : List ℕ
+  pub calls : model.Calls before.cells.limits before.view after.view (map Seal cells)
+  pub past : History
+  pub seals : seen_by after.view ≡ past ++ model.events_by before.view.number (map Seal cells)
+  pub may : MayEnd before.cells.limits past cells
+  pub within : (cell : ℕ) → Contains cells cell → IsUnmarked half marks cell
+  pub sealed : (cell : ℕ) → cell < before.cells.limits.cells → IsUnmarked half marks cell → (state_after (seen_by after.view)).slots cell ≡ Some (slot.Sealed None)

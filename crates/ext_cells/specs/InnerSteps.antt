@@ -1,6 +1,6 @@
 -- What a lane learns from its two kinds of steps on the shared words, a load and an exchange, what changes a cell, and
 -- what ends a claim. No public contract cites it.
-use Rattle.std.specs.Prelude.{◌≡◌, ◌⊎◌, ℕ, ◌<◌, [], ◌∷◌, ◌++◌, Option, None, Some, Result, Ok, Err}
+use Rattle.std.specs.Prelude.{◌≡◌, ◌⊎◌, ℕ, ◌<◌, ◌≤◌, List, [], ◌∷◌, ◌++◌, Contains, Option, None, Some, Result, Ok, Err}
 use Rattle.ext_model.specs.declared.event.Act.{Act}
 use Rattle.ext_model.specs.declared.event.Act.TheVariants.{Keep, Put, Remove, Claim, Fill, Fail, Abandon, Seal}
 use Rattle.ext_model.specs.Events as events
@@ -14,7 +14,46 @@ use Rattle.ext_cells.specs.declared.stood.Stood.{Stood}
 use Rattle.ext_cells.specs.declared.stood.Stood.TheVariants.{Nothing, Value, Fault}
 use Rattle.ext_cells.specs.Lanes.{Lane}
 use Rattle.ext_cells.specs.CellCalls.{change_reply}
-use Rattle.ext_cells.specs.InnerRule.{IsWordAt}
+use Rattle.ext_rows.specs.declared.view.View.{View}
+use Rattle.ext_rows.specs.Views.{limits_of, knowing, shown}
+use Rattle.ext_rows.specs.Steps.{FoundBy}
+use Rattle.ext_rows.specs.Marks.{marks}
+use Rattle.ext_rows.specs.Steps.{IsWordAt}
+
+-- ---- single steps
+
+-- so many cells are laid out in so many words, and the seat knows how many
+pub record IsTable (words of_table : ℕ) (v : View) (cells : ℕ) : Type 0 where
+  pub words_are : words ≡ (marks cells).width
+  pub limits_are : of_table ≡ cells
+  pub known : v.limits.cells ≡ cells
+  pub few : cells ≤ 16384
+
+-- the view after steps of which the last left this history, and the others showed none
+pub record IsShown (v after : View) (h : History) : Type 0 where
+  pub placed : List (ℕ × ℕ)
+  pub row : ℕ
+  pub least : ℕ
+  pub is : after ≡ shown (knowing v placed row least) h
+
+-- these steps found the word
+abbrev pub Found : View → View → ℕ → ℕ → Type 0
+Found v after place word = (h : History) × FoundBy v place word h × IsShown v after h
+
+-- or made the act where they found it
+abbrev pub Made : View → View → ℕ → ℕ → Act ℕ → Type 0
+Made v after place word act =
+    (lane : ℕ) → v.lane ≡ Some lane → (h : History) × FoundBy v place word h × IsAllowed (limits_of v.limits) h (by lane act) × IsShown v after (h ++ by lane act ∷ [])
+
+-- these steps showed no history, and led to the cell
+pub record IsMarked (v after : View) (cell : ℕ) : Type 0 where
+  pub placed : List (ℕ × ℕ)
+  pub row : ℕ
+  pub least : ℕ
+  pub is : after ≡ knowing v placed row least
+  pub there : Contains placed (cell, cell)
+
+-- ---- steps of a lane
 
 -- The lane after a step that left this history.
 abbrev pub stepped : Lane → History → Lane

@@ -1,7 +1,6 @@
 pub mod WordChanges
 pub mod Lanes
 pub mod CellCalls
-pub mod InnerRule
 pub mod InnerSteps
 pub mod InnerPasses
 pub mod InnerDeciding

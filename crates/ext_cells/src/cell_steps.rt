@@ -1,16 +1,22 @@
 //! Single steps on the shared words. Only these touch them once they are open.
-ghost use Rattle.std.specs.Prelude.{◌≡◌, ℕ, ◌<◌, Some};
-ghost use mathlib.Core.Option.{some};
+ghost use Rattle.std.specs.Prelude.{◌≡◌, ◌≢◌, ℕ, ◌<◌, true, false, Some};
+ghost use mathlib.Core.Option.{some, none};
 ghost use Rattle.atomic_table.specs.Table.{step};
 ghost use Rattle.ext_model.specs.History.{History};
-ghost use Rattle.ext_cells.specs.InnerRule.{Exchanged, FoundBy, MayExchange, note, noted, shown};
+ghost use Rattle.ext_history.specs.Histories.{seen};
+ghost use Rattle.ext_rows.specs.Standings.{ended_word};
+ghost use Rattle.ext_rows.specs.Views.{limits_of, shown, note, noted};
+ghost use Rattle.ext_rows.specs.Steps.{IsWordAt, IsKnown, FoundBy, MayExchange, Exchanged, EndedBy};
+ghost use Rattle.ext_rows.specs.Marks.{marks};
+ghost use Rattle.ext_cells.specs.InnerSteps.{IsTable, IsMarked, Found, Made};
 
-use crate::rule::{CellTable, Exchange, LaneSeat, Load, Note};
+use crate::rule::{Aim, CellTable, End, Exchange, LaneSeat, Lead, Load, Note, Place, Seek};
 use ext_model::{Act, CellNo};
+use ext_rows::{END, ENDED_WORD, has_mark, is_ended, row_place, with_mark};
 
-/// The words of open cells and the count of numbers. Only this module reaches them, and each
-/// function of it that reads or changes one is a step of a lane's seat: so no call can look at them
-/// otherwise.
+/// The words of open cells, of their rows, and the count of numbers. Only this module reaches them,
+/// and each function of it that reads or changes one is a step of a lane's seat, or several: so no
+/// call can look at them otherwise.
 #[derive(Drop)]
 pub(crate) struct CellSteps {
     table: CellTable,
@@ -24,10 +30,11 @@ impl CellSteps {
         CellSteps { table }
     }
 
-    /// Reads the word at a place, for a lane.
+    /// Reads the word at a place that the lane knows, as that of the count.
     pub(crate) fn load(&self, seat: &mut LaneSeat, place: usize) -> u64
         requires table { seat.old.table_id ≡ self.now.table.shared.table_id }
         requires lane { (number : ℕ) × (seat.old.me.0.lane ≡ Some number) }
+        requires known { IsKnown (marks self.now.table.shared.key.cells) seat.old.me.0 place place }
         requires place { place < self.now.table.shared.table_id.words }
         ensures table { seat.new.table_id ≡ seat.old.table_id }
         ensures found { (h : History) × FoundBy seat.old.me.0 place result h × (seat.new.me.0 ≡ shown seat.old.me.0 h) }
@@ -35,39 +42,131 @@ impl CellSteps {
         self.table.shared.load::<Load>(seat, place)
     }
 
-    /// Makes an event, which changes the word at its place, if that is still the word that was
-    /// seen. Returns the word that it found.
-    pub(crate) fn exchange(
-        &self,
-        seat: &mut LaneSeat,
-        place: usize,
-        old: u64,
-        new: u64,
-        act: Act<CellNo>,
-    ) -> u64
+    /// Reads the word of a cell. Only a cell with a mark is loaded: the word of its row tells that
+    /// of another one.
+    #[inline(always)]
+    pub(crate) fn read<A: Aim>(&self, seat: &mut LaneSeat, cells: usize, cell: CellNo) -> u64
         requires table { seat.old.table_id ≡ self.now.table.shared.table_id }
+        requires lane { (number : ℕ) × (seat.old.me.0.lane ≡ Some number) }
+        requires cells { IsTable self.now.table.shared.table_id.words self.now.table.shared.key.cells seat.old.me.0 cells }
+        requires aim { A.cell ≡ cell }
+        requires cell { cell < cells }
+        ensures table { seat.new.table_id ≡ seat.old.table_id }
+        ensures found { Found seat.old.me.0 seat.new.me.0 cell result }
+    {
+        let row = self
+            .table
+            .shared
+            .load::<Lead<A>>(seat, row_place(cells, cell));
+        if has_mark(row, cell) {
+            return self.load(seat, cell);
+        }
+        if is_ended(row) {
+            return ENDED_WORD;
+        }
+        0
+    }
+
+    /// Gives the cell its mark, unless its row has ended: then it answers false, and the cell has
+    /// the word of an ended one. Each mark that another lane was faster to set makes the row's word
+    /// greater.
+    fn mark<A: Aim>(&self, seat: &mut LaneSeat, cells: usize, cell: CellNo) -> bool
+        requires table { seat.old.table_id ≡ self.now.table.shared.table_id }
+        requires lane { (number : ℕ) × (seat.old.me.0.lane ≡ Some number) }
+        requires cells { IsTable self.now.table.shared.table_id.words self.now.table.shared.key.cells seat.old.me.0 cells }
+        requires aim { A.cell ≡ cell }
+        requires cell { cell < cells }
+        ensures table { seat.new.table_id ≡ seat.old.table_id }
+        ensures marked { result ≡ true → IsMarked seat.old.me.0 seat.new.me.0 cell }
+        ensures ended { result ≡ false → Found seat.old.me.0 seat.new.me.0 cell ended_word }
+    {
+        let place = row_place(cells, cell);
+        let mut row = self.table.shared.load::<Seek<A>>(seat, place);
+        while !has_mark(row, cell) {
+            if is_ended(row) {
+                return false;
+            }
+            let marked = with_mark(row, cell);
+            let found = self
+                .table
+                .shared
+                .compare_exchange::<Place<A>>(seat, place, row, marked);
+            if found == row {
+                return true;
+            }
+            row = found;
+        }
+        true
+    }
+
+    // Exchanges a word whose place the lane knows.
+    #[inline(always)]
+    fn change(&self, seat: &mut LaneSeat, place: usize, old: u64, new: u64, act: Act<CellNo>) -> u64
+        requires table { seat.old.table_id ≡ self.now.table.shared.table_id }
+        requires known { IsKnown (marks self.now.table.shared.key.cells) seat.old.me.0 place place }
         requires place { place < self.now.table.shared.table_id.words }
         requires may { (lane : ℕ) × MayExchange seat.old.me.0 lane act place old new }
         ensures table { seat.new.table_id ≡ seat.old.table_id }
-        ensures step { Exchanged (step self.now.table.shared.table_id.slots place old new (some act)) seat.old.me result seat.new.me }
+        ensures step { Exchanged place (step self.now.table.shared.table_id.slots place old new (some act)) seat.old.me result seat.new.me }
     {
         self.table
             .shared
             .compare_exchange_with::<Exchange>(seat, place, old, new, &act)
     }
 
-    /// Shows a lane all that another has seen, and loads the first word for it.
-    pub(crate) fn tell(&self, from: &mut LaneSeat, to: &mut LaneSeat)
+    /// Makes an event, which changes the word at its place, if that is still the word that was
+    /// seen. Returns the word that it found. A cell that had no event gets its mark first.
+    #[inline(always)]
+    pub(crate) fn exchange<A: Aim>(
+        &self,
+        seat: &mut LaneSeat,
+        cells: usize,
+        place: usize,
+        old: u64,
+        new: u64,
+        act: Act<CellNo>,
+    ) -> u64
+        requires table { seat.old.table_id ≡ self.now.table.shared.table_id }
+        requires cells { IsTable self.now.table.shared.table_id.words self.now.table.shared.key.cells seat.old.me.0 cells }
+        requires aim { A.cell ≡ place }
+        requires may { (lane : ℕ) × MayExchange seat.old.me.0 lane act place old new }
+        requires seen { IsWordAt (limits_of seat.old.me.0.limits) (seen seat.old.me.0.fronts) place old }
+        requires standing { place < cells → old ≢ ended_word }
+        ensures table { seat.new.table_id ≡ seat.old.table_id }
+        ensures missed { result ≢ old → Found seat.old.me.0 seat.new.me.0 place result }
+        ensures made { result ≡ old → Made seat.old.me.0 seat.new.me.0 place old act }
+    {
+        if place < cells && old == 0 && !self.mark::<A>(seat, cells, place) {
+            return ENDED_WORD;
+        }
+        self.change(seat, place, old, new, act)
+    }
+
+    /// Ends the row whose word stands at this place. Returns the word that it found.
+    pub(crate) fn end(&self, seat: &mut LaneSeat, row: usize) -> u64
+        requires table { seat.old.table_id ≡ self.now.table.shared.table_id }
+        requires lane { (number : ℕ) × (seat.old.me.0.lane ≡ Some number) }
+        requires cells { IsTable self.now.table.shared.table_id.words self.now.table.shared.key.cells seat.old.me.0 seat.old.me.0.limits.cells }
+        requires row { (seat.old.me.0.limits.cells < row) × (row < self.now.table.shared.table_id.words) }
+        ensures table { seat.new.table_id ≡ seat.old.table_id }
+        ensures ended { EndedBy (marks seat.old.me.0.limits.cells) (step self.now.table.shared.table_id.slots row 1 0 none) seat.old.me result seat.new.me }
+    {
+        self.table.shared.fetch_or::<End>(seat, row, END)
+    }
+
+    /// Shows a lane all that another has seen, and loads the count for it, which stands behind so
+    /// many cells.
+    pub(crate) fn tell(&self, from: &mut LaneSeat, to: &mut LaneSeat, cells: usize)
         requires from { from.old.table_id ≡ self.now.table.shared.table_id }
         requires to { to.old.table_id ≡ self.now.table.shared.table_id }
         requires lane { (number : ℕ) × (to.old.me.0.lane ≡ Some number) }
-        requires words { 0 < self.now.table.shared.table_id.words }
+        requires cells { IsTable self.now.table.shared.table_id.words self.now.table.shared.key.cells to.old.me.0 cells }
         ensures from { (from.new.table_id ≡ from.old.table_id) × (from.new.me ≡ from.old.me) }
         ensures table { to.new.table_id ≡ to.old.table_id }
-        ensures told { (word : ℕ) × (h : History) × FoundBy (noted to.old.me.0 (note from.old.me.0)) 0 word h × (to.new.me.0 ≡ shown (noted to.old.me.0 (note from.old.me.0)) h) }
+        ensures told { (word : ℕ) × (h : History) × FoundBy (noted to.old.me.0 (note from.old.me.0)) cells word h × (to.new.me.0 ≡ shown (noted to.old.me.0 (note from.old.me.0)) h) }
     {
         let note = self.table.shared.split_seat::<Note>(from);
         self.table.shared.join_seat::<Note>(to, note);
-        self.load(to, 0);
+        self.load(to, cells);
     }
 }

@@ -8,8 +8,8 @@ ghost use Rattle.ext_history.specs.Histories.{seen_by, call_fronts};
 ghost use Rattle.ext_model.specs.CallActs.{Calls, IsHeld, MayStoreNow};
 ghost use Rattle.ext_model.specs.declared.event.Act.TheVariants as act_is;
 ghost use Rattle.ext_cells.specs.Lanes.{AreLimits, fresh_lanes};
-ghost use Rattle.ext_cells.specs.InnerRule.{place_in};
-ghost use Rattle.ext_cells.specs.CellCalls.{Answers, SealAnswers, ComesLast, EndsClaim, Collects, IsOvertakenOn, before_last_pass, IfWon, change_reply, claim_reply, number_reply, number_acts, put_acts, remove_acts, claim_acts};
+ghost use Rattle.ext_rows.specs.Steps.{IsWordAt, place_in};
+ghost use Rattle.ext_cells.specs.CellCalls.{Answers, SealAnswers, ComesLast, EndsClaim, EndsHalf, Collects, IsOvertakenOn, before_last_pass, IfWon, change_reply, claim_reply, number_reply, number_acts, put_acts, remove_acts, claim_acts};
 ghost use Rattle.ext_cells.specs.InnerSteps.{stepped, Finds, MayGoOn, IsChangeOf, IsEndOf, Changes};
 ghost use Rattle.ext_cells.specs.InnerPasses.{ReadPass};
 ghost use Rattle.ext_cells.specs.WordChanges.{HasState};
@@ -18,12 +18,12 @@ use crate::cell_steps::CellSteps;
 use crate::cell_word::{next_word, parts};
 use crate::decision::{Decision, decide};
 use crate::opening::{are_limits, give_out, open_words};
-use crate::rule::CellLimits;
 use crate::stood::{Stood, any_number, value_number};
 use crate::{CellLane, CellRefusal, Claim, Claimed, Words};
 use ext_model::{Act, CellNo};
+use ext_rows::CellLimits;
 use std::alloc::Global;
-use std::marker::Model;
+use std::marker::{Brand, Model};
 
 /// The cells of a store and the count of its numbers, each a word of its own, shared by reference
 /// between the threads that own its lanes.
@@ -42,14 +42,15 @@ pub struct Cells {
 impl Model for Cells {
     ghost use Rattle.std.specs.Prelude.{◌≡◌, ◌≤◌, ◌+◌};
     ghost use Rattle.ext_cells.specs.Lanes.{CellsView};
-    ghost use Rattle.ext_cells.specs.InnerRule.{limits_of};
+    ghost use Rattle.ext_rows.specs.Views.{limits_of};
+    ghost use Rattle.ext_rows.specs.Marks.{marks};
 
     ghost Value = { CellsView };
 
     ghost view = { λ s. record { id = record { table = s.table.table.shared.table_id; limits = limits_of s.limits }; tries = s.tries } };
 
     ghost invariant = { λ s.
-        (s.table.table.shared.table_id.words ≡ s.limits.cells + 1)
+        (s.table.table.shared.table_id.words ≡ (marks s.limits.cells).width)
         × (s.table.table.shared.key ≡ s.limits)
         × (s.limits.cells ≤ 16384)
         × (s.limits.numbers ≤ 65535)
@@ -341,6 +342,22 @@ impl Cells {
         self.end_claim(lane, cell, Act::Abandon(cell));
     }
 
+    /// Ends half of a row, 32 cells; half 0 has the cells 0 to 31. Seals at once all cells of the
+    /// half that never had an event, and answers the marks of the others, the first of the half in
+    /// bit 0. A cell that has a mark may still be empty. Of a half that was ended before, the call
+    /// only reads the marks. It is never refused, and makes one step.
+    pub fn end_half(&self, lane: &mut CellLane, half: usize) -> u32
+        requires lane { lane.old.cells ≡ self.now.id }
+        requires half { half * 32 < self.now.id.limits.cells }
+        ensures lane { lane.new.cells ≡ lane.old.cells }
+        ensures ended { EndsHalf lane.old lane.new half result }
+        ensures steps { length (call_fronts lane.old.view lane.new.view) ≡ 1 }
+    {
+        let place = self.limits.cells + 1 + half;
+        let found = self.table.end(&mut lane.seat, place);
+        (found >> 1 & 0xffff_ffff) as u32
+    }
+
     /// Makes what the first lane has seen a prefix of what the second has seen, so that both speak
     /// of one history. Neither makes an event; the first makes no step, and the second one.
     pub fn meet(&self, first: &mut CellLane, second: &mut CellLane)
@@ -354,7 +371,8 @@ impl Cells {
         ensures first_steps { length (call_fronts first.old.view first.new.view) ≡ 0 }
         ensures second_steps { length (call_fronts second.old.view second.new.view) ≡ 1 }
     {
-        self.table.tell(&mut first.seat, &mut second.seat);
+        let cells = self.limits.cells;
+        self.table.tell(&mut first.seat, &mut second.seat, cells);
     }
 
     /// Makes a put, a remove, a claim or a seal of the cell. It answers what stood there, or what
@@ -439,6 +457,11 @@ impl Cells {
         ensures state { place < self.now.id.limits.cells → HasState result }
         ensures numbers { self.now.id.limits.numbers < 2 ^ 20 }
     {
+        if place < self.limits.cells {
+            return self
+                .table
+                .read::<Brand>(&mut lane.seat, self.limits.cells, place);
+        }
         self.table.load(&mut lane.seat, place)
     }
 
@@ -455,11 +478,14 @@ impl Cells {
         requires lane { lane.old.cells ≡ self.now.id }
         requires place { place ≡ place_in self.now.id.limits act }
         requires within { place ≤ self.now.id.limits.cells }
+        requires seen { IsWordAt lane.old.cells.limits (seen_by lane.old.view) place old }
         requires may { (h : History) → Finds lane.old.cells.limits lane.old.view place old h → MayGoOn lane.old.cells.limits lane.old.view h place new act }
         ensures made { IfOk result (λ _. (h : History) × Finds lane.old.cells.limits lane.old.view place old h × MayGoOn lane.old.cells.limits lane.old.view h place new act × (lane.new ≡ stepped lane.old (h ++ by lane.old.view.number act ∷ []))) }
         ensures missed { IfErr result (λ found. (found ≢ old) × ((h : History) × Finds lane.old.cells.limits lane.old.view place found h × (lane.new ≡ stepped lane.old h))) }
     {
-        let found = self.table.exchange(&mut lane.seat, place, old, new, act);
+        let found = self
+            .table
+            .exchange::<Brand>(&mut lane.seat, self.limits.cells, place, old, new, act);
         if found == old {
             return Ok(());
         }

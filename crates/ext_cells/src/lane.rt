@@ -22,7 +22,7 @@ impl Model for CellLane {
     ghost use Rattle.ext_model.specs.History.{IsLegal};
     ghost use Rattle.ext_history.specs.Histories.{Follow, seen};
     ghost use Rattle.ext_cells.specs.Lanes.{Lane};
-    ghost use Rattle.ext_cells.specs.InnerRule.{limits_of};
+    ghost use Rattle.ext_rows.specs.Views.{limits_of};
 
     ghost Value = { Lane };
 

@@ -1,11 +1,13 @@
 //! Opening the cells, and giving out their lanes.
 ghost use Rattle.std.specs.Prelude.{◌≡◌, ◌≤◌, ◌<◌, ◌+◌, ◌↔◌, IsTrue, IfOk, [], replicate};
 ghost use Rattle.ext_cells.specs.Lanes.{AreLimits, fresh_lanes};
-ghost use Rattle.ext_cells.specs.InnerRule.{first_lane, limits_of};
+ghost use Rattle.ext_rows.specs.Views.{first_lane, limits_of};
+ghost use Rattle.ext_rows.specs.Marks.{marks};
 
 use crate::CellLane;
-use crate::rule::{CellLimits, CellTable, LaneSeat, NewLane, SharedWords};
+use crate::rule::{CellTable, LaneSeat, NewLane, SharedWords};
 use ext_model::LaneNo;
+use ext_rows::{CellLimits, row_count};
 use std::alloc::{AllocError, Global};
 
 /// Whether cells with these limits may be opened: at most 16,384 cells, 1 to 16 lanes, 1 to 64
@@ -33,12 +35,12 @@ pub(crate) fn open_words(
 ) -> Result<(CellTable, LaneSeat), AllocError>
     requires cells { limits.now.cells ≤ 16384 }
     requires lanes { 1 ≤ limits.now.lanes }
-    ensures words { IfOk result (λ r. r.0.shared.table_id.words ≡ limits.now.cells + 1) }
+    ensures words { IfOk result (λ r. r.0.shared.table_id.words ≡ (marks limits.now.cells).width) }
     ensures key { IfOk result (λ r. r.0.shared.key ≡ limits.now) }
     ensures table { IfOk result (λ r. r.1.table_id ≡ r.0.shared.table_id) }
     ensures first { IfOk result (λ r. r.1.me.0 ≡ first_lane limits.now) }
 {
-    let words = zero_words(alloc, limits.cells + 1)?;
+    let words = zero_words(alloc, limits.cells + 1 + row_count(limits.cells))?;
     CellTable::of_words(alloc, words.as_slice(), limits)
 }
 

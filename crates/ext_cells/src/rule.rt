@@ -2,46 +2,29 @@
 //!
 //! A seat takes no bytes: its view exists in proofs only. An exchange announces the act that it
 //! makes, since a step cannot read it off the one word that it changes.
-use atomic_table::{Join, Play, Seat, Shared, Split, Table, TableRule};
-use ext_model::{Act, CellNo, Event, LaneNo};
-use std::alloc::Global;
-use std::collections::LinkedList;
+ghost use Rattle.std.specs.Prelude.{ℕ};
 
-/// The cells' words, and after them the count of numbers drawn.
+use atomic_table::{Join, Play, Seat, Shared, Split, Table, TableRule};
+use ext_model::{Act, CellNo};
+use ext_rows::{CellLimits, View};
+use std::alloc::Global;
+use std::marker::{Brand, PhantomData};
+
+/// The cells' words, after them the count of numbers drawn, and then the words of rows.
 pub(crate) type CellTable = Table<Act<CellNo>, View, CellLimits, OneHistory, Global>;
 
 pub(crate) type SharedWords = Shared<Act<CellNo>, View, CellLimits, OneHistory>;
 
 pub(crate) type LaneSeat = Seat<Act<CellNo>, View>;
 
-/// How many cells, lanes and numbers there are, and whether faults are kept: what the rule reads.
-#[derive(Clone, Copy, Drop)]
-pub(crate) struct CellLimits {
-    pub(crate) cells: usize,
-    pub(crate) lanes: LaneNo,
-    pub(crate) numbers: u32,
-    pub(crate) keep_faults: bool,
-}
-
-/// What a seat knows. It exists in proofs only.
-pub(crate) struct View {
-    pub(crate) limits: CellLimits,
-    /// The lane's number; a note has none.
-    pub(crate) lane: Option<LaneNo>,
-    /// How many lane numbers were given out; only the first lane's view has it.
-    pub(crate) given: Option<LaneNo>,
-    /// The history as it stood after each step.
-    pub(crate) fronts: LinkedList<LinkedList<Event<CellNo>>>,
-    /// What a note has shown, until the next step.
-    pub(crate) told: LinkedList<Event<CellNo>>,
-}
-
 pub(crate) struct OneHistory;
 
 impl TableRule<Act<CellNo>, View, CellLimits> for OneHistory {
-    ghost use Rattle.ext_cells.specs.InnerRule.{Kept, first_lane};
+    ghost use Rattle.ext_rows.specs.Views.{first_lane};
+    ghost use Rattle.ext_rows.specs.Rule.{Kept};
+    ghost use Rattle.ext_rows.specs.Marks.{marks};
 
-    ghost holds = { Kept };
+    ghost holds = { λ limits. Kept limits (marks limits.cells) };
 
     ghost first = { first_lane };
 }
@@ -49,25 +32,25 @@ impl TableRule<Act<CellNo>, View, CellLimits> for OneHistory {
 pub(crate) struct Load;
 
 impl Play<Act<CellNo>, View> for Load {
-    ghost use Rattle.ext_cells.specs.InnerRule.{Loaded};
+    ghost use Rattle.ext_rows.specs.Steps.{Loaded};
 
-    ghost then = { Loaded };
+    ghost then = { λ s. Loaded s.word s };
 }
 
 /// An exchange, which is a load if it fails.
 pub(crate) struct Exchange;
 
 impl Play<Act<CellNo>, View> for Exchange {
-    ghost use Rattle.ext_cells.specs.InnerRule.{Exchanged};
+    ghost use Rattle.ext_rows.specs.Steps.{Exchanged};
 
-    ghost then = { Exchanged };
+    ghost then = { λ s. Exchanged s.word s };
 }
 
 /// Splits a further lane off the first.
 pub(crate) struct NewLane;
 
 impl Split<View> for NewLane {
-    ghost use Rattle.ext_cells.specs.InnerRule.{giving, born};
+    ghost use Rattle.ext_rows.specs.Views.{giving, born};
 
     ghost left = { giving };
 
@@ -78,7 +61,7 @@ impl Split<View> for NewLane {
 pub(crate) struct Note;
 
 impl Split<View> for Note {
-    ghost use Rattle.ext_cells.specs.InnerRule.{note};
+    ghost use Rattle.ext_rows.specs.Views.{note};
 
     ghost left = { λ v. v };
 
@@ -86,9 +69,64 @@ impl Split<View> for Note {
 }
 
 impl Join<View> for Note {
-    ghost use Rattle.ext_cells.specs.InnerRule.{noted, spent};
+    ghost use Rattle.ext_rows.specs.Views.{noted, spent};
 
     ghost both = { noted };
 
     ghost spent = { spent };
+}
+
+/// Which cell a step on a row's word is for. Each call picks it, in its proof.
+pub(crate) trait Aim {
+    ghost cell: { ℕ };
+}
+
+impl Aim for Brand {
+    ghost cell = { 0 };
+}
+
+/// A load of a row's word, to read a cell.
+pub(crate) struct Lead<A: Aim> {
+    aim: PhantomData<A>,
+}
+
+impl<A: Aim> Play<Act<CellNo>, View> for Lead<A> {
+    ghost use Rattle.ext_rows.specs.Steps.{Led};
+    ghost use Rattle.ext_rows.specs.Marks.{marks};
+
+    ghost then = { λ s me. Led (marks me.0.limits.cells) A.cell s me };
+}
+
+/// A load of a row's word, to give a cell its mark.
+pub(crate) struct Seek<A: Aim> {
+    aim: PhantomData<A>,
+}
+
+impl<A: Aim> Play<Act<CellNo>, View> for Seek<A> {
+    ghost use Rattle.ext_rows.specs.Steps.{Sought};
+    ghost use Rattle.ext_rows.specs.Marks.{marks};
+
+    ghost then = { λ s me. Sought (marks me.0.limits.cells) A.cell s me };
+}
+
+/// An exchange of a row's word, which gives a cell its mark.
+pub(crate) struct Place<A: Aim> {
+    aim: PhantomData<A>,
+}
+
+impl<A: Aim> Play<Act<CellNo>, View> for Place<A> {
+    ghost use Rattle.ext_rows.specs.Steps.{Placed};
+    ghost use Rattle.ext_rows.specs.Marks.{marks};
+
+    ghost then = { λ s me. Placed (marks me.0.limits.cells) A.cell s me };
+}
+
+/// The end of a row.
+pub(crate) struct End;
+
+impl Play<Act<CellNo>, View> for End {
+    ghost use Rattle.ext_rows.specs.Steps.{EndedBy};
+    ghost use Rattle.ext_rows.specs.Marks.{marks};
+
+    ghost then = { λ s me. EndedBy (marks me.0.limits.cells) s me };
 }

@@ -3,11 +3,13 @@
 -- That a close may be refused and asked again is not from JUnit.
 use Rattle.std.specs.Prelude.{ℕ, ◌≡◌, Bool, List, length, All, IfErr, IfOk, Result, Ok, Err}
 use Rattle.std.specs.List.{AllZip, FoldsTo}
+use Rattle.ext_history.specs.Histories.{seen_by}
+use Rattle.ext_model.specs.History.{IsLegal}
 use Rattle.ext_model.specs.declared.closed.Closed.{Closed}
 use Rattle.ext_store.specs.Stores.{StoreView, StoreLane, CloserView, IsLaneOf, StillKeeps}
 use Rattle.ext_closing.specs.declared.fault.CloseFault.{CloseFault}
 use Rattle.ext_closing.specs.Lanes.{IsGreatestUnjoined, OnlyFirstSteps, first_lane}
-use Rattle.ext_closing.specs.Sealing.{AreSealed, MakesSeals, SealsAll, SealsUntil, fault_beside, keys_sealed, numbers_left}
+use Rattle.ext_closing.specs.Sealing.{AreSealed, MakesSeals, StopsBy, fault_beside, keys_sealed, numbers_left}
 use Rattle.ext_closing.specs.Closing.{Answer, ClosesNumbers, NamesUnjoined}
 
 -- `is_closeable` says which values the action closes, and `gives` what a call of the action may answer. The context is
@@ -15,10 +17,10 @@ use Rattle.ext_closing.specs.Closing.{Answer, ClosesNumbers, NamesUnjoined}
 module _ {V A : Type 0} (is_closeable : V → Bool) (gives : A → ℕ → V → Answer → A → Type 0) (store : StoreView) (closer : CloserView) where
   -- One close: the lanes in hand and the action before it, its result, and both after it.
   pub record Closes (before : List (StoreLane V)) (first : A) (result : Result Closed (CloserView × CloseFault)) (after : List (StoreLane V)) (last : A) : Type 0 where
-    -- The first lane seals the keys and does nothing else.
-    pub seals : SealsUntil store closer.context (first_lane store before) (first_lane store after) (fault_beside result)
+    -- The first lane seals the keys and does nothing else. If a seal is refused it stops there.
+    pub stops : StopsBy store closer.context (first_lane store before) (first_lane store after) (fault_beside result)
     pub sealed : AreSealed store closer.context (keys_sealed store (fault_beside result)) (first_lane store after)
-    pub own_events : MakesSeals store closer.context (keys_sealed store (fault_beside result)) (first_lane store before) (first_lane store after)
+    pub own_events : MakesSeals store closer.context (first_lane store before) (first_lane store after)
     -- The action closes the closeable values that remain, and is called for nothing else.
     pub closes : IfOk result (λ closed. ClosesNumbers is_closeable gives after (numbers_left store closer.context (first_lane store after)) first last closed)
     -- A refused close hands the closer back and has not called the action. A close refused as `Unjoined` names the
@@ -44,24 +46,11 @@ module _ {V A : Type 0} (is_closeable : V → Bool) (gives : A → ℕ → V →
     pub refused : FoldsTo (IsRefused first) before refusals asked
     pub close : Closes asked first (Ok closed) after last
 
-  -- What a caller sees of a closed context, whether it took one close or several.
-  pub record IsClosedBy (before : List (StoreLane V)) (first : A) (closed : Closed) (after : List (StoreLane V)) (last : A) : Type 0 where
-    -- All keys are sealed, and the first lane's events are seals of keys in order, each once.
-    pub sealed : AreSealed store closer.context (length store.id.keys) (first_lane store after)
-    pub own_events : MakesSeals store closer.context (length store.id.keys) (first_lane store before) (first_lane store after)
-    -- The action was called for the closeable values that remain, and for nothing else.
-    pub closes : ClosesNumbers is_closeable gives after (numbers_left store closer.context (first_lane store after)) first last closed
-    -- The lanes know and keep what they did, and only the first made steps.
-    pub lanes : OnlyFirstSteps before after
-    pub own_lanes : All (IsLaneOf store.id) after
-    pub kept : AllZip StillKeeps before after
-
 -- A context that could not be closed: its keys are sealed, but no lane in hand knows the value of this number, the
 -- greatest such one that remains. A close refused as `Unjoined` leaves it so, and calls no action.
 pub record IsLeftUnjoined {V : Type 0} (store : StoreView) (closer : CloserView) (before : List (StoreLane V)) (number : ℕ) (after : List (StoreLane V)) : Type 0 where
-  pub seals : SealsAll store closer.context (length store.id.keys) (first_lane store before) (first_lane store after)
   pub sealed : AreSealed store closer.context (length store.id.keys) (first_lane store after)
-  pub own_events : MakesSeals store closer.context (length store.id.keys) (first_lane store before) (first_lane store after)
+  pub own_events : MakesSeals store closer.context (first_lane store before) (first_lane store after)
   pub unjoined : IsGreatestUnjoined after (numbers_left store closer.context (first_lane store after)) number
   pub lanes : OnlyFirstSteps before after
   pub own_lanes : All (IsLaneOf store.id) after
@@ -69,8 +58,10 @@ pub record IsLeftUnjoined {V : Type 0} (store : StoreView) (closer : CloserView)
 
 -- ---- the law
 
--- To the caller, some refused closes and a successful one are one close.
+-- Some refused closes and a successful one are one close. That what the first lane has seen in the end is legal is
+-- promised by `recall`.
 abbrev pub AskedAgainIsOne : {V A : Type 0} → (V → Bool) → (A → ℕ → V → Answer → A → Type 0) → Type 0
 AskedAgainIsOne {V} {A} is_closeable gives =
     (store : StoreView) (closer : CloserView) (before : List (StoreLane V)) (first : A) (closed : Closed) (after : List (StoreLane V)) (last : A)
-    → All (IsLaneOf store.id) before → ClosesAtLast is_closeable gives store closer before first closed after last → IsClosedBy is_closeable gives store closer before first closed after last
+    → IsLegal store.id.cells.limits (seen_by (first_lane store after).view) → All (IsLaneOf store.id) before
+    → ClosesAtLast is_closeable gives store closer before first closed after last → Closes is_closeable gives store closer before first (Ok closed) after last

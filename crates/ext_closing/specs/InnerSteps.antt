@@ -1,12 +1,14 @@
 -- The parts of a close. No public contract cites it.
-use Rattle.std.specs.Prelude.{ℕ, ◌≡◌, List, Option, Result, Ok, Err}
+use Rattle.std.specs.Prelude.{ℕ, ◌≡◌, ◌≤◌, List, Contains, Option, None, Some, Result, Ok, Err}
+use Rattle.ext_model.specs.declared.slot.Slot.TheVariants as slot
 use Rattle.ext_model.specs.Closing.{remaining}
 use Rattle.ext_cells.specs.Lanes.{Lane}
+use Rattle.ext_cells.specs.CellCalls.{IsUnmarked}
 use Rattle.ext_store.specs.Stores.{StoreView}
 use Rattle.ext_store.specs.ContextCalls.{SealsCell, IsBusyThere}
 use Rattle.ext_closing.specs.declared.fault.CloseFault.{CloseFault}
 use Rattle.ext_closing.specs.declared.fault.CloseFault.TheVariants.{Busy, Contended, Unjoined}
-use Rattle.ext_closing.specs.Sealing.{slots_seen, AreSealed, SealOvertaken, SealsAll, MakesSeals, SealsUntil, keys_sealed}
+use Rattle.ext_closing.specs.Sealing.{slots_seen, AreSealed, SealOvertaken, MakesSeals, StopsBy, keys_sealed}
 
 -- What the seal of one key answers, with the key if it is refused.
 abbrev pub SealsNext : StoreView → ℕ → ℕ → Lane → Lane → Result (Option ℕ) CloseFault → Type 0
@@ -15,19 +17,28 @@ SealsNext store context key before after (Err (Busy at)) = (at ≡ key) × IsBus
 SealsNext store context key before after (Err (Contended at)) = (at ≡ key) × SealOvertaken store context key before after
 SealsNext store context key before after (Err (Unjoined number)) = ⊥
 
--- The first `keys` keys are sealed, and the numbers are those that their seals keep.
+-- The keys before this one are sealed, and the numbers are those that their seals keep. What was sealed beyond kept
+-- nothing.
 pub record SealedSoFar (store : StoreView) (context keys : ℕ) (before after : Lane) (numbers : List ℕ) : Type 0 where
   pub same : after.cells ≡ before.cells
-  pub seals : SealsAll store context keys before after
+  pub made : MakesSeals store context before after
   pub sealed : AreSealed store context keys after
-  pub made : MakesSeals store context keys before after
+  pub beyond : (key : ℕ) → Contains made.sealed key → keys ≤ key → slots_seen store context after key ≡ Some (slot.Sealed None)
   pub numbers_are : numbers ≡ remaining (slots_seen store context after) keys
+
+-- So it was for a call that began here, and so it is for that call now, up to a later key.
+abbrev pub SealsOn : StoreView → ℕ → ℕ → ℕ → Lane → Lane → List ℕ → List ℕ → Type 0
+SealsOn store context from to between after old new = (before : Lane) → SealedSoFar store context from before between old → SealedSoFar store context to before after new
+
+-- All keys of this half that are not marked are sealed, and their seals kept nothing.
+abbrev pub AreUnused : StoreView → ℕ → ℕ → ℕ → Lane → Type 0
+AreUnused store context half marks lane = (key : ℕ) → IsUnmarked half marks key → slots_seen store context lane key ≡ Some (slot.Sealed None)
 
 -- All keys are sealed, or the seal of one was refused.
 pub record SealingEnds (store : StoreView) (context : ℕ) (before after : Lane) (fault : Option CloseFault) : Type 0 where
-  pub seals : SealsUntil store context before after fault
+  pub stops : StopsBy store context before after fault
   pub sealed : AreSealed store context (keys_sealed store fault) after
-  pub made : MakesSeals store context (keys_sealed store fault) before after
+  pub made : MakesSeals store context before after
 
 -- The refusal is one of a key's seal.
 abbrev pub IsOfKey : CloseFault → Type 0

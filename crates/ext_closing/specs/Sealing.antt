@@ -1,9 +1,10 @@
--- How a context is sealed: one lane seals its keys in order. `SealsCell` of ext_store says what the seal of one key
--- means: the cell is sealed, by this call or earlier, and has kept this.
-use Rattle.std.specs.Prelude.{ℕ, zero, suc, ◌≡◌, ◌<◌, ◌⊎◌, List, [], ◌∷◌, ◌++◌, length, map, Option, None, Some, Result, Ok, Err}
-use Rattle.ext_model.specs.declared.event.Act.{Act}
+-- How a context is sealed, by one lane: each half of its keys at one step as far as nobody used them, and then those that
+-- are left, in order. `SealsUnused` and `SealsKey` of ext_store say what these calls do.
+use Rattle.std.specs.Prelude.{ℕ, ◌≡◌, ◌<◌, ◌≤◌, nat_eq, List, length, Contains, Option, None, Some, Result, Ok, Err}
+use Rattle.std.specs.List.{IsDistinct}
 use Rattle.ext_model.specs.declared.event.Act.TheVariants.{Seal}
 use Rattle.ext_model.specs.declared.slot.Slot.{Slot}
+use Rattle.ext_model.specs.declared.slot.Slot.TheVariants as slot
 use Rattle.ext_model.specs.History.{slots_in}
 use Rattle.ext_history.specs.Histories.{seen_by}
 use Rattle.ext_model.specs.CallActs.{Calls}
@@ -11,7 +12,7 @@ use Rattle.ext_model.specs.Closing.{IsClosed, remaining}
 use Rattle.ext_cells.specs.Lanes.{Lane}
 use Rattle.ext_cells.specs.CellCalls.{IsOvertakenAt}
 use Rattle.ext_store.specs.Stores.{StoreView, cell_in}
-use Rattle.ext_store.specs.ContextCalls.{SealsCell, IsBusyThere, IsInTheWay}
+use Rattle.ext_store.specs.ContextCalls.{IsBusyThere, IsInTheWay, seals_of}
 use Rattle.ext_closing.specs.declared.fault.CloseFault.{CloseFault}
 use Rattle.ext_closing.specs.declared.fault.CloseFault.TheVariants.{Busy, Contended, Unjoined}
 
@@ -31,30 +32,17 @@ numbers_left store context lane = remaining (slots_seen store context lane) (len
 
 -- ---- what the lane did
 
--- The first keys were sealed in order. `between` is the lane before the last of these seals.
-abbrev pub SealsAll : StoreView → ℕ → ℕ → Lane → Lane → Type 0
-SealsAll store context zero before after = after ≡ before
-SealsAll store context (suc key) before after = (between : Lane) × SealsAll store context key before between × ((kept : Option ℕ) × SealsCell store context key between after kept)
-
--- Some of the keys below this number, in order.
-abbrev pub AreSome : ℕ → List ℕ → Type 0
-AreSome zero keys = keys ≡ []
-AreSome (suc key) keys = AreSome key keys ⊎ ((earlier : List ℕ) × AreSome key earlier × (keys ≡ earlier ++ key ∷ []))
-
--- Seals of the context under these keys.
-abbrev pub seals_of : StoreView → ℕ → List ℕ → List (Act ℕ)
-seals_of store context keys = map (λ key. Seal (cell_in store key context)) keys
-
--- The lane's events are seals of some of the first `keys` keys, in order and each once: those that it sealed itself. If
--- there are no keys it made no step at all.
-pub record MakesSeals (store : StoreView) (context keys : ℕ) (before after : Lane) : Type 0 where
+-- The lane's events are seals of keys of the context, each key once: those that it sealed itself.
+pub record MakesSeals (store : StoreView) (context : ℕ) (before after : Lane) : Type 0 where
   pub sealed : List ℕ
-  pub in_order : AreSome keys sealed
-  pub calls : ((after ≡ before) × (sealed ≡ [])) ⊎ Calls before.cells.limits before.view after.view (seals_of store context sealed)
+  pub once : IsDistinct nat_eq sealed
+  pub keys : (key : ℕ) → Contains sealed key → key < length store.id.keys
+  pub calls : Calls before.cells.limits before.view after.view (seals_of store context sealed)
 
 -- ---- how far it came
 
--- How many keys were sealed, by the fault of the close, if it had one.
+-- How many keys were sealed, by the fault of the close, if it had one. Beyond them only keys are sealed that nobody
+-- used.
 abbrev pub keys_sealed : StoreView → Option CloseFault → ℕ
 keys_sealed store None = length store.id.keys
 keys_sealed store (Some (Busy key)) = key
@@ -67,13 +55,22 @@ pub record SealOvertaken (store : StoreView) (context key : ℕ) (before after :
   pub in_the_way : IsInTheWay store before after
   pub last : IsOvertakenAt store.tries before after (Seal (cell_in store key context))
 
--- All keys were sealed; or those before one whose own seal was refused, because a lane was computing a value for the
--- context or other lanes were in the way.
-abbrev pub SealsUntil : StoreView → ℕ → Lane → Lane → Option CloseFault → Type 0
-SealsUntil store context before after None = SealsAll store context (length store.id.keys) before after
-SealsUntil store context before after (Some (Busy key)) = (key < length store.id.keys) × ((between : Lane) × SealsAll store context key before between × IsBusyThere store context key between after)
-SealsUntil store context before after (Some (Contended key)) = (key < length store.id.keys) × ((between : Lane) × SealsAll store context key before between × SealOvertaken store context key between after)
-SealsUntil store context before after (Some (Unjoined number)) = SealsAll store context (length store.id.keys) before after
+-- The keys before this one were sealed, and of the others only some whose seals kept nothing. Then its own seal was
+-- refused.
+pub record StopsAt (store : StoreView) (context key : ℕ) (IsRefused : Lane → Lane → Type 0) (before after : Lane) : Type 0 where
+  pub key_is : key < length store.id.keys
+  pub between : Lane
+  pub made : MakesSeals store context before between
+  pub sealed : AreSealed store context key between
+  pub beyond : (other : ℕ) → Contains made.sealed other → key ≤ other → slots_seen store context between other ≡ Some (slot.Sealed None)
+  pub refused : IsRefused between after
+
+-- A seal is refused because a lane was computing a value for the context, or because other lanes were in the way.
+abbrev pub StopsBy : StoreView → ℕ → Lane → Lane → Option CloseFault → Type 0
+StopsBy store context before after None = Unit {0}
+StopsBy store context before after (Some (Busy key)) = StopsAt store context key (IsBusyThere store context key) before after
+StopsBy store context before after (Some (Contended key)) = StopsAt store context key (SealOvertaken store context key) before after
+StopsBy store context before after (Some (Unjoined number)) = Unit {0}
 
 abbrev pub fault_of : {A : Type 0} → Result A CloseFault → Option CloseFault
 fault_of (Ok value) = None

@@ -1,6 +1,8 @@
 //! The close of a context.
-ghost use Rattle.std.specs.Prelude.{ℕ, ◌≡◌, ◌≤◌, ◌<◌, ◌+◌, ◌*◌, List, [], ◌∷◌, ◌++◌, length, slice_index_or, is_some, true, false, All, IfErr, IfNone, IfOk, IfSome};
+ghost use Rattle.std.specs.Prelude.{ℕ, ◌≡◌, ◌≤◌, ◌<◌, ◌+◌, ◌*◌, List, [], ◌∷◌, ◌++◌, length, slice_index_or, is_some, true, false, All, IfErr, IfNone, IfOk, IfSome, Some};
 ghost use Rattle.std.specs.List.{AllZip};
+ghost use Rattle.ext_history.specs.Histories.{seen_by};
+ghost use Rattle.ext_model.specs.History.{IsLegal};
 ghost use Rattle.ext_model.specs.Closing.{IsFalling};
 ghost use Rattle.ext_values.specs.Known.{known_at};
 ghost use Rattle.ext_store.specs.Stores.{IsCloserOf, IsLaneOf, StillKeeps};
@@ -9,7 +11,7 @@ ghost use Rattle.ext_closing.specs.Lanes.{first_lane, IsGreatestUnjoined, IsJoin
 ghost use Rattle.ext_closing.specs.Sealing.{fault_of, numbers_left};
 ghost use Rattle.ext_closing.specs.Closing.{ClosesNumbers, fault_in};
 ghost use Rattle.ext_closing.specs.Closes.{Closes};
-ghost use Rattle.ext_closing.specs.InnerSteps.{IsOfKey, SealingEnds, SealsNext};
+ghost use Rattle.ext_closing.specs.InnerSteps.{IsOfKey, SealedSoFar, SealingEnds, SealsNext, SealsOn};
 
 use crate::{CloseAction, CloseFault};
 use ext_model::{Closed, FallingNumbers, Fault, KeyNo};
@@ -18,16 +20,17 @@ use ext_store::{Closer, Lane, Refusal, Store, StoreValue};
 /// Closes the closer's context: seals its keys, and then closes its remaining closeable values, the
 /// latest first.
 ///
-/// The first of the lanes seals all 64 places that the context has for keys, in the order of their
-/// numbers, also those without a key. Then each remaining value that is closeable is closed by one
-/// call of the action, the one with the greatest number first. A value remains if it stood in the
+/// The first of the lanes seals all 64 places that the context has for keys, also those without a
+/// key. Of each half, 32 places, those that nobody used are sealed at one step, and then the others
+/// in the order of their numbers. Then each remaining value that is closeable is closed by one call
+/// of the action, the one with the greatest number first. A value remains if it stood in the
 /// context when its key was sealed; a kept fault that stood there is discarded. A close that fails
 /// does not stop the others. Neither the parent nor the children of the context are closed.
 /// Afterwards nothing is stored or claimed in the context, whatever key is named later.
 ///
-/// It costs 64 seals, however many keys have been named, a look at each value that remains, and the
-/// calls of the action. The first lane makes at most `tries` + 1 steps for each seal, so no close
-/// waits for a factory. Takes no memory of its own.
+/// It costs two steps, a seal for each place that was used in the context, a look at each value
+/// that remains, and the calls of the action. The first lane makes at most `tries` + 1 steps for
+/// each seal, so no close waits for a factory. Takes no memory of its own.
 ///
 /// There must be at least one lane, and the lanes and the closer must be the store's.
 ///
@@ -55,9 +58,9 @@ pub fn close<V: StoreValue + Drop, A: CloseAction<V>>(
     // How many key places there are.
     ensures all_places { length store.now.id.keys ≡ 64 }
 
-    // It waits for no factory: for each of the 64 places a load, and at most as many exchanges as a
-    // call has tries.
-    ensures steps { steps_of (first_lane store.now lanes.old) (first_lane store.now lanes.new) ≤ 64 * (store.now.tries + 1) }
+    // It waits for no factory: a step for each half of the places, and for each place a load, and
+    // at most as many exchanges as a call has tries.
+    ensures steps { steps_of (first_lane store.now lanes.old) (first_lane store.now lanes.new) ≤ 64 * (store.now.tries + 1) + 2 }
 
     // What the next call rests on.
     ensures handed_back { IfErr result (λ e. e.0 ≡ closer) }
@@ -77,8 +80,8 @@ pub fn close<V: StoreValue + Drop, A: CloseAction<V>>(
     Ok(close_all(store, lanes, remaining, action))
 }
 
-// Seals all places for keys in the context, in order, and answers the numbers that remain, the
-// greatest first.
+// Seals all places for keys in the context, and answers the numbers that remain, the greatest
+// first.
 fn seal_all<V>(
     store: &Store<V>,
     closer: &Closer,
@@ -90,21 +93,64 @@ fn seal_all<V>(
     ensures numbers { IfOk result (λ numbers. numbers ≡ numbers_left store.now closer.now.context lane.new.cells) }
     ensures refusal { IfErr result IsOfKey }
     ensures all_places { length store.now.id.keys ≡ 64 }
-    ensures steps { length lane.new.cells.view.fronts ≤ length lane.old.cells.view.fronts + 64 * (store.now.tries + 1) }
+    ensures steps { length lane.new.cells.view.fronts ≤ length lane.old.cells.view.fronts + (64 * (store.now.tries + 1) + 2) }
     ensures known { lane.new.known ≡ lane.old.known }
     ensures faults { lane.new.faults ≡ lane.old.faults }
     ensures keys { lane.new.keys ≡ lane.old.keys }
     ensures lane { IsLaneOf store.now.id lane.new }
     ensures kept { StillKeeps lane.old lane.new }
 {
+    let _keys = store.key_count();
     let mut numbers = FallingNumbers::new();
-    for key in 0..store.key_count() {
-        match seal_key(store, closer, lane, key) {
-            Ok(kept) => numbers.put_in_kept(kept),
-            Err(why) => return Err(why),
+    for half in 0..2 {
+        if let Err(why) = seal_half(store, closer, lane, half, &mut numbers) {
+            return Err(why);
         }
     }
     Ok(numbers)
+}
+
+// Seals half of the places, 32, and adds the numbers that their seals keep.
+fn seal_half<V>(
+    store: &Store<V>,
+    closer: &Closer,
+    lane: &mut Lane<V>,
+    half: usize,
+    numbers: &mut FallingNumbers,
+) -> Result<(), CloseFault>
+    requires lane { IsLaneOf store.now.id lane.old }
+    requires closer { IsCloserOf store.now closer.now }
+    requires half { half < 2 }
+    requires room { length numbers.old ≤ half * 32 }
+    ensures sealed { IfOk result (λ _. SealsOn store.now closer.now.context (half * 32) (half * 32 + 32) lane.old.cells lane.new.cells numbers.old numbers.new) }
+    ensures stops { IfErr result (λ why. (before : _) → SealedSoFar store.now closer.now.context (half * 32) before lane.old.cells numbers.old → SealingEnds store.now closer.now.context before lane.new.cells (Some why)) }
+    ensures few { IfOk result (λ _. length numbers.new ≤ half * 32 + 32) }
+    ensures refusal { IfErr result IsOfKey }
+    ensures steps { length lane.new.cells.view.fronts ≤ length lane.old.cells.view.fronts + (32 * (store.now.tries + 1) + 1) }
+    ensures known { lane.new.known ≡ lane.old.known }
+    ensures faults { lane.new.faults ≡ lane.old.faults }
+    ensures keys { lane.new.keys ≡ lane.old.keys }
+    ensures lane { IsLaneOf store.now.id lane.new }
+    ensures kept { StillKeeps lane.old lane.new }
+{
+    let marks = store.seal_unused(lane, closer, half);
+    lane.recall();
+    let _keys = store.key_count();
+    // The marks that are left, the next key's in bit 0.
+    let mut left = marks;
+    for place in 0..32 {
+        if left == 0 {
+            return Ok(());
+        }
+        if left % 2 == 1 {
+            match seal_key(store, closer, lane, half * 32 + place) {
+                Ok(kept) => numbers.put_in_kept(kept),
+                Err(why) => return Err(why),
+            }
+        }
+        left /= 2;
+    }
+    Ok(())
 }
 
 // Seals one key of the closer's context.
@@ -119,6 +165,7 @@ fn seal_key<V>(
     requires closer { IsCloserOf store.now closer.now }
     requires key { key < length store.now.id.keys }
     ensures answer { SealsNext store.now closer.now.context key lane.old.cells lane.new.cells result }
+    ensures legal { IsLegal lane.new.cells.cells.limits (seen_by lane.new.cells.view) }
     ensures steps { length lane.new.cells.view.fronts ≤ length lane.old.cells.view.fronts + (store.now.tries + 1) }
     ensures known { lane.new.known ≡ lane.old.known }
     ensures faults { lane.new.faults ≡ lane.old.faults }
@@ -126,7 +173,9 @@ fn seal_key<V>(
     ensures lane { IsLaneOf store.now.id lane.new }
     ensures kept { StillKeeps lane.old lane.new }
 {
-    match store.seal(lane, closer, key) {
+    let sealed = store.seal(lane, closer, key);
+    lane.recall();
+    match sealed {
         Ok(kept) => Ok(kept),
         Err(Refusal::Busy(_)) => Err(CloseFault::Busy(key)),
         Err(Refusal::Contended) => Err(CloseFault::Contended(key)),

@@ -8,11 +8,12 @@ use thiserror::Error;
 /// their numbers, and the close may be tried again.
 #[derive(Clone, Copy, Debug, PartialEq, Eq, Error)]
 pub enum CloseFault {
-    /// A lane computes a value for the context under this key. The keys before it are sealed.
+    /// A lane computes a value for the context under this key. The keys before it are sealed, and
+    /// of the others only such as nobody used.
     #[error("busy at key {0}")]
     Busy(KeyNo),
     /// Other lanes were in the way at this key: they made at least as many events on its cell as a
-    /// call has tries. The keys before it are sealed.
+    /// call has tries. The keys before it are sealed, and of the others only such as nobody used.
     #[error("contended at key {0}")]
     Contended(KeyNo),
     /// No lane in hand kept the value of this number, or was shown it. All keys are sealed.

@@ -23,7 +23,7 @@ module _ {V A : Type 0} (t : TreeSetting V A) (finer : ℕ → Call → Option H
     (R : StoreLane V → StoreLane V → Type 0) (same : (a : StoreLane V) → R a a) (next : (a b c : StoreLane V) → R a b → R b c → R a c)
     (moves : (node : ℕ) (call : Call) (held : Option HeldView) (a : StoreLane V) (outcome : Outcome) (b : StoreLane V) → t.call_gives node call held a outcome b → R a b)
     (meets : (a b : StoreLane V) → OnlyMeets t.store a b → R a b)
-    (seals : (context keys : ℕ) (a : StoreLane V) (cells : Lane) → MakesSeals t.store context keys a.cells cells → R a (record { cells = cells; known = a.known; faults = a.faults; keys = a.keys }))
+    (seals : (context : ℕ) (a : StoreLane V) (cells : Lane) → MakesSeals t.store context a.cells cells → R a (record { cells = cells; known = a.known; faults = a.faults; keys = a.keys }))
     (Leads : StoreLane V → Type 0) (back : (a b : StoreLane V) → R a b → Leads b → Leads a)
     (turns : (node : ℕ) (call : Call) (held : Option HeldView) (a : StoreLane V) (outcome : Outcome) (b : StoreLane V) → t.call_gives node call held a outcome b → Leads b → finer node call held a outcome b) where
   abbrev LeadsOf : Lanes V → Type 0
@@ -82,7 +82,7 @@ module _ {V A : Type 0} (t : TreeSetting V A) (finer : ℕ → Call → Option H
       record { lane = on.lane; left = on.left; rest = on.rest; first_was = on.first_was; change = turn on.lane on.left on.change here; first_is = on.first_is }
 
   closed_back : (node : ℕ) (before : List (StoreLane V)) (faults : _) (after : List (StoreLane V)) → ClosesNode t node before faults after → All Leads after → All Leads before
-  closed_back node before faults after closes all = all_back before after (close_relates t R same next moves meets seals _ _ before after closes.closes.lanes closes.closes.own_events) all
+  closed_back node before faults after closes all = all_back before after (close_relates t R same next moves meets seals _ before after closes.closes.lanes closes.closes.own_events) all
 
   close_finer : (node : ℕ) (before : List (StoreLane V)) (faults : _) (after : List (StoreLane V)) → ClosesNode t node before faults after → ClosesNode (with_calls finer t) node before faults after
   close_finer node before faults after c = record {

@@ -42,11 +42,9 @@ module _ {V : Type 0} where
   pub goes_met : (store : StoreView) (a b : StoreLane V) → OnlyMeets store a b → LaneGoesOn a b
   goes_met store a b met = record { number = ap (λ v. v.number) met.calls.fronts; seen = seen_goes_on met.calls; known = known_same a.known b.known met.known; faults = known_same a.faults b.faults met.faults; keys = met.keys }
 
-  pub goes_sealed : (store : StoreView) (context keys : ℕ) (a : StoreLane V) (cells : Lane) → MakesSeals store context keys a.cells cells → LaneGoesOn a (record { cells = cells; known = a.known; faults = a.faults; keys = a.keys })
-  goes_sealed store context keys a cells made = elim made.calls [
-    | inl same ↦ subst (λ (lane : Lane). LaneGoesOn a (record { cells = lane; known = a.known; faults = a.faults; keys = a.keys })) (sym same.0) (goes_same a)
-    | inr calls ↦ record { number = ap (λ v. v.number) calls.fronts; seen = seen_goes_on calls; known = λ number value known. known; faults = λ number fault known. known; keys = keeps_all a.keys }
-  ]
+  pub goes_sealed : (store : StoreView) (context : ℕ) (a : StoreLane V) (cells : Lane) → MakesSeals store context a.cells cells → LaneGoesOn a (record { cells = cells; known = a.known; faults = a.faults; keys = a.keys })
+  goes_sealed store context a cells made =
+      record { number = ap (λ v. v.number) made.calls.fronts; seen = seen_goes_on made.calls; known = λ number value known. known; faults = λ number fault known. known; keys = keeps_all a.keys }
 
   pub all_same : (lanes : List (StoreLane V)) → AllGoOn lanes lanes
   all_same lanes = all_relate_same LaneGoesOn goes_same goes_then lanes
@@ -63,8 +61,8 @@ module _ {V A : Type 0} (t : TreeSetting V A) (moves : CallsGoOn t.call_gives) w
   pub all_met : (xs ys : List (StoreLane V)) → AllZip (OnlyMeets t.store) xs ys → AllGoOn xs ys
   all_met xs ys met = met_relate t LaneGoesOn goes_same goes_then moves (goes_met t.store) (goes_sealed t.store) xs ys met
 
-  pub close_goes : (context keys : ℕ) (xs ys : List (StoreLane V)) → OnlyFirstSteps xs ys → MakesSeals t.store context keys (first_lane t.store xs) (first_lane t.store ys) → AllGoOn xs ys
-  close_goes context keys xs ys steps seals = close_relates t LaneGoesOn goes_same goes_then moves (goes_met t.store) (goes_sealed t.store) context keys xs ys steps seals
+  pub close_goes : (context : ℕ) (xs ys : List (StoreLane V)) → OnlyFirstSteps xs ys → MakesSeals t.store context (first_lane t.store xs) (first_lane t.store ys) → AllGoOn xs ys
+  close_goes context xs ys steps seals = close_relates t LaneGoesOn goes_same goes_then moves (goes_met t.store) (goes_sealed t.store) context xs ys steps seals
 
   module _ (node : ℕ) (held : Option HeldView) where
     pub all_go : (calls : List Call) (a : StoreLane V) (outcomes : List Outcome) (b : StoreLane V) → MakesAll (MakesOn t node held) calls a outcomes b → LaneGoesOn a b

@@ -7,7 +7,7 @@ use base.Growing.{prefix_trans}
 use Rattle.std.proofs.lemmas.List.Elements.{All-nil, All-cons}
 use Rattle.ext_history.specs.Histories.{seen_by}
 use Rattle.ext_history.proofs.Composed.{calls_none, seen_goes_on}
-use Rattle.ext_model.specs.History.{History, IsLegal, lane_of}
+use Rattle.ext_model.specs.History.{History, lane_of}
 use Rattle.ext_model.specs.CallActs.{Calls}
 use Rattle.ext_model.proofs.Composed.{calls_compose}
 use Rattle.ext_tree.specs.Keys.{PlacesNone, placed_at}
@@ -19,10 +19,10 @@ use Rattle.ext_engine.specs.Meeting.{Forks, HasSeen, HasSeenWithin, Joins, OnlyM
 
 module _ {V : Type 0} (store : StoreView) where
   -- a lane that was not called
-  pub met_nobody : (lane : StoreLane V) → IsLaneOf store.id lane → IsLegal lane.cells.cells.limits (seen_by lane.cells.view) → OnlyMeets store lane lane
-  met_nobody lane mine legal = record {
+  pub met_nobody : (lane : StoreLane V) → IsLaneOf store.id lane → OnlyMeets store lane lane
+  met_nobody lane mine = record {
     lane = mine;
-    calls = calls_none lane_of lane.cells.view (subst (λ cells. IsLegal cells.limits (seen_by lane.cells.view)) mine.cells legal);
+    calls = calls_none lane_of lane.cells.view;
     known = refl;
     faults = refl;
     keys = keeps_all lane.keys;

@@ -31,7 +31,6 @@ module _ {V A : Type 0} (is_closeable : V → Bool) (gives : A → ℕ → V →
   pub left_unjoined : (closer : CloserView) (action : A) (before : List (StoreLane V)) (number : ℕ) (after : List (StoreLane V)) → IsRefused is_closeable gives store closer action before (Unjoined number) after
       → IsLeftUnjoined store closer before number after
   left_unjoined closer action before number after close = record {
-    seals = close.seals;
     sealed = close.sealed;
     own_events = close.own_events;
     unjoined = close.unjoined;

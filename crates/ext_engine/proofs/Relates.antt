@@ -55,7 +55,7 @@ module _ {V A : Type 0} (t : TreeSetting V A)
     (R : StoreLane V → StoreLane V → Type 0) (same : (a : StoreLane V) → R a a) (next : (a b c : StoreLane V) → R a b → R b c → R a c)
     (moves : (node : ℕ) (call : Call) (held : Option HeldView) (a : StoreLane V) (outcome : Outcome) (b : StoreLane V) → t.call_gives node call held a outcome b → R a b)
     (meets : (a b : StoreLane V) → OnlyMeets t.store a b → R a b)
-    (seals : (context keys : ℕ) (a : StoreLane V) (cells : Lane) → MakesSeals t.store context keys a.cells cells → R a (record { cells = cells; known = a.known; faults = a.faults; keys = a.keys })) where
+    (seals : (context : ℕ) (a : StoreLane V) (cells : Lane) → MakesSeals t.store context a.cells cells → R a (record { cells = cells; known = a.known; faults = a.faults; keys = a.keys })) where
   abbrev All2 : List (StoreLane V) → List (StoreLane V) → Type 0
   All2 before after = AllRelate R same next before after
 
@@ -72,11 +72,11 @@ module _ {V A : Type 0} (t : TreeSetting V A)
   met_relate (a ∷ xs) (b ∷ ys) met = (meets a b met.0, met_relate xs ys met.1)
 
   -- a close, at which the first lane alone makes steps
-  pub close_relates : (context keys : ℕ) (xs ys : List (StoreLane V)) → OnlyFirstSteps xs ys → MakesSeals t.store context keys (first_lane t.store xs) (first_lane t.store ys) → All2 xs ys
-  close_relates context keys [] ys steps sealed = subst (λ l. All2 [] l) (sym steps.1) tt
-  close_relates context keys (a ∷ xs) ys steps sealed =
+  pub close_relates : (context : ℕ) (xs ys : List (StoreLane V)) → OnlyFirstSteps xs ys → MakesSeals t.store context (first_lane t.store xs) (first_lane t.store ys) → All2 xs ys
+  close_relates context [] ys steps sealed = subst (λ l. All2 [] l) (sym steps.1) tt
+  close_relates context (a ∷ xs) ys steps sealed =
       let is : first_lane t.store ys ≡ steps.0 = ap (λ l. first_lane t.store l) steps.1 in
-      subst (λ l. All2 (a ∷ xs) l) (sym steps.1) (seals context keys a steps.0 (subst (λ (lane : Lane). MakesSeals t.store context keys a.cells lane) is sealed), same2 xs)
+      subst (λ l. All2 (a ∷ xs) l) (sym steps.1) (seals context a steps.0 (subst (λ (lane : Lane). MakesSeals t.store context a.cells lane) is sealed), same2 xs)
 
   module _ (node : ℕ) (held : Option HeldView) where
     abbrev Made : StoreLane V → Call → Outcome → StoreLane V → Type 0
@@ -107,7 +107,7 @@ module _ {V A : Type 0} (t : TreeSetting V A)
   test_relates : (node : ℕ) (path : List ℕ) (before : Lanes V) (ran : List Ran) (after : Lanes V) → TestRun t node path before ran after → All2 before.first after.first
   test_relates node path before ran after run =
       next2 before.first run.called after.first (first_relates R same next _ before.first run.called (λ a b made. calls_relate node (Some run.held) _ _ _ a run.outcomes b made) run.calls)
-      (close_relates _ _ run.called after.first run.closes.closes.lanes run.closes.closes.own_events)
+      (close_relates _ run.called after.first run.closes.closes.lanes run.closes.closes.own_events)
 
   module _ (Run : ℕ → Lanes V → List Ran → Lanes V → Type 0) (at : (c : ℕ) (s : Lanes V) (below : List Ran) (u : Lanes V) → Run c s below u → All2 s.first u.first) where
     pub turn_relates : (done : List Entry) (s u : Lanes V) → FoldsTo (λ s d u. Run d.0 s d.1 u) s done u → All2 s.first u.first
@@ -139,7 +139,7 @@ module _ {V A : Type 0} (t : TreeSetting V A)
         next2 before.first run.opened after.first (first_relates R same next _ before.first run.opened (λ a b made. befores_relate node None _ a run.befores b made) run.befores_made)
         (next2 run.opened run.body.first after.first (made_relates (all_successful (endings_of run.befores)) node opened run.below run.body run.body_made)
         (next2 run.body.first run.ends.called after.first (first_relates R same next _ run.body.first run.ends.called (λ a b made. all_relate node None _ a run.ends.afters b made) run.ends.afters_made)
-        (close_relates _ _ run.ends.called after.first run.ends.closes.closes.lanes run.ends.closes.closes.own_events)))
+        (close_relates _ run.ends.called after.first run.ends.closes.closes.lanes run.ends.closes.closes.own_events)))
 
   pub tree_relates : (depth node : ℕ) (before : Lanes V) (ran : List Ran) (after : Lanes V) → TreeRun t depth node before ran after → All2 before.first after.first
   tree_relates zero node before ran after run = absurd run

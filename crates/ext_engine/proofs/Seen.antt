@@ -66,7 +66,7 @@ module _ {V A : Type 0} (t : TreeSetting V A) (moves : CallsGoOn t.call_gives) (
   test_acts : (node : ℕ) (path : List ℕ) (before : Lanes V) (ran : List Ran) (after : Lanes V) → TestRun t node path before ran after → Acts h before.first after.first
   test_acts node path before ran after run =
       acts_then h before.first run.called after.first (acts_first h _ before.first run.called (λ a b made. calls_go t moves node (Some run.held) _ _ _ a run.outcomes b made) run.calls)
-      (acts_close h run.called after.first run.closes.closes.lanes (close_goes t moves _ _ run.called after.first run.closes.closes.lanes run.closes.closes.own_events))
+      (acts_close h run.called after.first run.closes.closes.lanes (close_goes t moves _ run.called after.first run.closes.closes.lanes run.closes.closes.own_events))
 
   module _ (Run : ℕ → Lanes V → List Ran → Lanes V → Type 0) (go : (c : ℕ) (s : Lanes V) (below : List Ran) (u : Lanes V) → Run c s below u → AllGoOn s.first u.first)
       (at : (c : ℕ) (s : Lanes V) (below : List Ran) (u : Lanes V) → Run c s below u → All (HasSeenWithin h) u.first → Acts h s.first u.first) where
@@ -118,7 +118,7 @@ module _ {V A : Type 0} (t : TreeSetting V A) (moves : CallsGoOn t.call_gives) (
     called_acts node path before ran after run = acts_first h _ run.body.first run.ends.called (λ a b made. all_go t moves node None _ a run.ends.afters b made) run.ends.afters_made
 
     pub closed_acts : (node : ℕ) (path : List ℕ) (before : Lanes V) (ran : List Ran) (after : Lanes V) (run : ContainerRun t Run node path before ran after) → Acts h run.ends.called after.first
-    closed_acts node path before ran after run = acts_close h run.ends.called after.first run.ends.closes.closes.lanes (close_goes t moves _ _ run.ends.called after.first run.ends.closes.closes.lanes run.ends.closes.closes.own_events)
+    closed_acts node path before ran after run = acts_close h run.ends.called after.first run.ends.closes.closes.lanes (close_goes t moves _ run.ends.called after.first run.ends.closes.closes.lanes run.ends.closes.closes.own_events)
 
     pub body_within : (node : ℕ) (path : List ℕ) (before : Lanes V) (ran : List Ran) (after : Lanes V) (run : ContainerRun t Run node path before ran after) → All (HasSeenWithin h) after.first
         → All (HasSeenWithin h) run.body.first

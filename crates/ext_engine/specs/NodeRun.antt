@@ -1,7 +1,7 @@
 -- How one node is run: the locks of a test, its calls and its close; what the run reports about it; and why a run does
 -- not reach its end (JUnit 5 User Guide, "Relative Execution Order of User Code and Extensions", "Synchronization" and
 -- "Keeping State in Extensions"). Lanes, shares and what is reported about a node are not from JUnit.
-use Rattle.std.specs.Prelude.{◌≡◌, ℕ, ◌<◌, ◌≤◌, Bool, true, false, Option, None, Some, List, [], ◌∷◌, ◌++◌, length, map, All, slice_set}
+use Rattle.std.specs.Prelude.{◌≡◌, ℕ, ◌<◌, ◌≤◌, Bool, true, false, Option, None, Some, List, [], ◌∷◌, ◌++◌, length, map, All, Ok, slice_set}
 use Rattle.std.specs.List.{range_with_len}
 use Rattle.ext_model.specs.declared.look.Fault.{Fault}
 use Rattle.ext_lifecycle.specs.declared.call.Call.{Call}
@@ -15,7 +15,7 @@ use Rattle.ext_tree.specs.Trees.{children_of}
 use Rattle.ext_store.specs.Stores.{StoreView, StoreLane, CloserView, IsLaneOf, IsCloserOf}
 use Rattle.ext_model.specs.declared.closed.Closed.{Closed}
 use Rattle.ext_closing.specs.Closing.{Answer, fault_in}
-use Rattle.ext_closing.specs.Closes.{IsClosedBy, IsLeftUnjoined}
+use Rattle.ext_closing.specs.Closes.{Closes, IsLeftUnjoined}
 use Rattle.ext_locks.specs.declared.event.LockMode.{LockMode}
 use Rattle.ext_locks.specs.Opening.{LocksView}
 use Rattle.ext_locks.specs.Views.{Lane}
@@ -115,7 +115,7 @@ module _ {V A : Type 0} (t : TreeSetting V A) where
     pub action_is : t.action_gives node action
     pub action_left : A
     pub closed : Closed
-    pub closes : IsClosedBy t.is_closeable t.close_gives t.store closer before action closed after action_left
+    pub closes : Closes t.is_closeable t.close_gives t.store closer before action (Ok closed) after action_left
     pub faults_are : faults ≡ map fault_in closes.closes.answers
 
   -- What a call of the node does to a lane, with the locks that it is lent.

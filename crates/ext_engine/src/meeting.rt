@@ -34,7 +34,6 @@ fn show_rest<V: StoreValue + Drop>(store: &Store<V>, first: &mut Lane<V>, others
     ensures met { OnlyMeets store.now first.old first.new × AllZip (OnlyMeets store.now) others.old others.new }
     ensures shown { All (HasSeen (seen_by first.old.cells.view)) others.new }
 {
-    first.recall();
     if let Some((next, more)) = others.split_first_mut() {
         store.meet(first, next);
         show_rest(store, first, more);
@@ -48,7 +47,6 @@ fn see_rest<V: StoreValue + Drop>(store: &Store<V>, first: &mut Lane<V>, others:
     ensures met { OnlyMeets store.now first.old first.new × AllZip (OnlyMeets store.now) others.old others.new }
     ensures shown { All (HasSeenWithin (seen_by first.new.cells.view)) others.old }
 {
-    first.recall();
     if let Some((next, more)) = others.split_first_mut() {
         store.meet(next, first);
         see_rest(store, first, more);

@@ -22,9 +22,9 @@ module _ {E : Type 0} (lane_of : E → ℕ) (tries : ℕ) where
       let t : tries ≤ others lane_of n over.0 = over.2 in
       (over.0 ++ y, later_is ∙ (sym end.1 ∙ (ap (λ z. z ++ y) (sym now_is ∙ over.1) ∙ append_assoc f over.0 y)), omega (arith, k, t))
 
-module _ {E : Type 0} {lane_of : E → ℕ} {IsAllowed : List E → E → Type 0} (tries : ℕ) where
+module _ {E : Type 0} {lane_of : E → ℕ} (tries : ℕ) where
   -- a call that was overtaken is crowded
-  pub overtaken_crowded : {a b : LaneView E} → IsOvertaken lane_of IsAllowed tries a b → IsCrowded lane_of tries a b
+  pub overtaken_crowded : {a b : LaneView E} → IsOvertaken lane_of tries a b → IsCrowded lane_of tries a b
   overtaken_crowded {a} over =
       let more : List E = over.passed.0 in
       let many : tries ≤ length more = over.passed.3 in
@@ -32,7 +32,7 @@ module _ {E : Type 0} {lane_of : E → ℕ} {IsAllowed : List E → E → Type 0
       (more, over.passed.1, omega (arith, many, all))
 
   -- and a call that was crowded and made no event is overtaken
-  pub crowded_overtaken : {a b : LaneView E} → Calls lane_of IsAllowed a b [] → IsCrowded lane_of tries a b → IsOvertaken lane_of IsAllowed tries a b
+  pub crowded_overtaken : {a b : LaneView E} → Calls lane_of a b [] → IsCrowded lane_of tries a b → IsOvertaken lane_of tries a b
   crowded_overtaken {a} {b} one over =
       let n = a.number in
       let still : own lane_of n (seen_by b) ≡ own lane_of n (seen_by a) = one.own_events ∙ append-nil (own lane_of n (seen_by a)) in
@@ -42,7 +42,7 @@ module _ {E : Type 0} {lane_of : E → ℕ} {IsAllowed : List E → E → Type 0
       let many : tries ≤ others lane_of n over.0 = over.2 in
       record { calls = one; passed = (over.0, over.1, none, omega (arith, all, many)) }
 
-  module _ {a b c : LaneView E} {xs ys : List E} (one : Calls lane_of IsAllowed a b xs) (two : Calls lane_of IsAllowed b c ys) where
+  module _ {a b c : LaneView E} {xs ys : List E} (one : Calls lane_of a b xs) (two : Calls lane_of b c ys) where
     -- both of two calls are crowded up to a point up to which the second was,
     pub crowded_at_second : (p : List E) → IsCrowdedAt lane_of tries b c p → IsCrowdedAt lane_of tries a c p
     crowded_at_second p over =

@@ -1,8 +1,10 @@
 -- Lists in which nothing stands twice.
-use Rattle.std.proofs.Common.{◌≡◌, ◌≢◌, ◌<◌, inl, inr, ℕ, zero, suc, Bool, true, List, [], ◌∷◌, ◌++◌, length, map, get_or, ap, sym, subst, ◌∙◌, arith, AllPairs}
+use Rattle.std.proofs.Common.{◌≡◌, ◌≢◌, ◌<◌, inl, inr, ℕ, zero, suc, Bool, true, List, [], ◌∷◌, ◌++◌, length, map, get_or, nat_eq, refl, ap, sym, subst, ◌∙◌, arith, AllPairs}
 use Rattle.std.specs.Prelude.{Contains, filter, not, cond}
-use Rattle.std.specs.List.{flat_map}
+use Rattle.std.specs.List.{IsDistinct, flat_map}
+use Rattle.std.proofs.lemmas.Bool.Decides.{Decides-eqb}
 use Rattle.std.proofs.lemmas.List.Elements.{Contains-append_cases, Contains-append_left, Contains-append_right}
+use Rattle.std.proofs.lemmas.Map.Made.{AllPairs-from_IsDistinct, IsDistinct-from_AllPairs}
 use Rattle.ext_history.proofs.Lists.{bools, contains_none, contains_here, contains_later, contains_cons, contains_filter, contains_from_filter}
 
 module _ {A : Type 0} where
@@ -73,6 +75,13 @@ module _ {A : Type 0} where
   once-from_pairs R never [] all = tt
   once-from_pairs R never (x ∷ xs) all =
       ((λ there. never x (subst (R x) there.2 (all zero (suc there.0) x (omega arith) (omega (arith, there.1))))), once-from_pairs R never xs (rising-tail R x xs all))
+
+-- as the words of contracts have it
+pub once_from_distinct : (xs : List ℕ) → IsDistinct nat_eq xs → Once xs
+once_from_distinct xs distinct = once-from_pairs (λ a b. a ≢ b) (λ x apart. apart refl) xs (AllPairs-from_IsDistinct Decides-eqb xs distinct)
+
+pub distinct_from_once : (xs : List ℕ) → Once xs → IsDistinct nat_eq xs
+distinct_from_once xs once = IsDistinct-from_AllPairs Decides-eqb xs (once-pairs xs once)
 
 pub contains-map : {A B : Type 0} (f : A → B) (xs : List A) (x : A) → Contains xs x → Contains (map f xs) (f x)
 contains-map f [] x there = absurd (contains_none x there)

@@ -85,15 +85,13 @@ module _ {E : Type 0} where
     pub until : IsPrefix p (seen_by after)
     pub own_events : own lane_of before.number p ≡ own lane_of before.number (seen_by before) ++ events
 
-module _ {E : Type 0} (lane_of : E → ℕ) (IsAllowed : List E → E → Type 0) where
+module _ {E : Type 0} (lane_of : E → ℕ) where
   -- The call made exactly these events.
   pub record Calls (before after : LaneView E) (events : List E) : Type 0 where
     -- The lane keeps its number, and the call only adds fronts.
     pub fronts : after ≡ moved before (call_fronts before after)
     -- Each new front extends the one before it.
     pub follow : Follow (seen_by before) (call_fronts before after)
-    -- The history that the lane has seen is legal.
-    pub legal : IsLegal IsAllowed (seen_by after)
     -- The lane's own events are the earlier ones, then these, each once and in this order.
     pub own_events : own lane_of before.number (seen_by after) ≡ own lane_of before.number (seen_by before) ++ events
 
@@ -119,7 +117,7 @@ module _ {E : Type 0} (lane_of : E → ℕ) (IsAllowed : List E → E → Type 0
 
   -- A legal history that extends what the lane has seen by events of other lanes alone. It is what the lane may find at
   -- its next step.
-  pub record GoesOn (lane : LaneView E) (h : List E) : Type 0 where
+  pub record GoesOn (IsAllowed : List E → E → Type 0) (lane : LaneView E) (h : List E) : Type 0 where
     pub legal : IsLegal IsAllowed h
     pub begins : IsPrefix (seen_by lane) h
     pub own_same : own lane_of lane.number h ≡ own lane_of lane.number (seen_by lane)

@@ -14,7 +14,6 @@ use Rattle.ext_locks.specs.Sets.{locks_of, wants, takes_of, gives_of, AllBelow, 
 use Rattle.ext_locks.specs.Refusals.{undone}
 use Rattle.ext_locks.specs.InnerSteps.{lane_at, Makes, HoldsBetween, IsWithin}
 use Rattle.ext_locks.proofs.Histories.{by_own}
-use Rattle.ext_locks.proofs.Fronts.{makes_legal}
 use Rattle.ext_locks.proofs.Whole.{within_of, held_all}
 
 -- what a lane's fields keep
@@ -29,7 +28,7 @@ kept s t l xs was makes =
       subst (λ n. l < n) (sym makes.calls.lanes) was.1,
       subst (λ n. n ≤ 16) (sym makes.calls.lanes) was.2,
       subst (Follow []) (sym all) (follow_append [] s.me.0.fronts added was.3 makes.calls.calls.follow),
-      makes_legal s t l xs makes,
+      makes.legal,
     )
 
 pub called : (now : Lane) (s t : Seat (Unit {0}) SeatView) (l : ℕ) (xs ys : List LockEvent) → lane_at s l ≡ now → Makes s t l xs → xs ≡ ys → LaneCalls now (lane_at t l) ys

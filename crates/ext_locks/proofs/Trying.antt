@@ -14,7 +14,7 @@ use Rattle.ext_locks.specs.declared.event.LockMode.{LockMode}
 use Rattle.ext_locks.specs.declared.event.LockMode.TheVariants.{Read, ReadWrite}
 use Rattle.ext_locks.specs.declared.seat.SeatView.{SeatView}
 use Rattle.ext_locks.specs.declared.refusal.LockRefusal.TheVariants.{Taken, Contended}
-use Rattle.ext_locks.specs.History.{LockHistory, event, lane_of, is_about, holds, own, IsLegal}
+use Rattle.ext_locks.specs.History.{LockHistory, event, lane_of, is_about, holds, own}
 use Rattle.ext_locks.specs.Views.{LaneView, Calls}
 use Rattle.ext_locks.specs.InnerWords.{as_bit, IsWord, IsFreeWord}
 use Rattle.ext_locks.specs.InnerRule.{lane_view, seeing, Loaded, Stepped, TakesIf}
@@ -22,7 +22,7 @@ use Rattle.ext_locks.specs.Refusals.{excludes_mode, IsTakenBy}
 use Rattle.ext_locks.specs.InnerSteps.{Makes, AddsAtMost, SameHeld, HeldBut, Missed}
 use Rattle.ext_locks.proofs.Words.{free_word}
 use Rattle.ext_locks.proofs.Holding.{loaded_held, stepped_held}
-use Rattle.ext_locks.proofs.Fronts.{seen_now, loaded_stepped, makes_self, makes_then, makes_quiet, loaded_makes, stepped_makes}
+use Rattle.ext_locks.proofs.Fronts.{seen_now, loaded_legal, loaded_stepped, makes_self, makes_then, makes_quiet, loaded_makes, stepped_makes}
 
 -- a number of 32 bits, whose upper 16 are clear
 low_bits : (n : ℕ) → n < 2 ^ 32 → ((i : ℕ) → i < 16 → bit_at n (16 + i) ≡ 0) → n < 2 ^ 16
@@ -114,10 +114,6 @@ loaded_word v w l k n it = subst (λ h. IsWord h k n) (sym (seen_now v w it.hist
 loaded_few : (v w : SeatView) (l k n : ℕ) → Loaded v l k n w → (other : ℕ) → 16 ≤ other → own other (seen w.fronts) ≡ []
 loaded_few v w l k n it other many = ap (λ h. own other h) (seen_now v w it.history it.view) ∙ it.meets.few other many
 
-loaded_legal : (v w : SeatView) (l k n : ℕ) → Loaded v l k n w → IsLegal w.lanes (seen w.fronts)
-loaded_legal v w l k n it =
-    subst (λ (x : ℕ × LockHistory). IsLegal x.0 x.1) (λ i. (sym (ap (λ x. x.lanes) it.view) i, sym (seen_now v w it.history it.view) i)) it.meets.on.legal
-
 pub tried_first : (s t : Seat (Unit {0}) SeatView) (l k n : ℕ) → Loaded s.me.0 l k n t.me.0 → Tried t t l k n 0
 tried_first s t l k n it = record {
   makes = makes_self t l (loaded_legal s.me.0 t.me.0 l k n it);
@@ -195,11 +191,11 @@ module _ (before start now : Seat (Unit {0}) SeatView) (l k first found n : ℕ)
   abbrev pub N : LaneView
   N = lane_view now.me.0 l
 
-  loaded : Calls before.me.0.lanes B S []
+  loaded : Calls B S []
   loaded = (loaded_makes before start l k first b it).calls.calls
 
-  then_tried : Calls before.me.0.lanes S N []
-  then_tried = subst (λ n. Calls n S N []) (loaded_makes before start l k first b it).calls.lanes tried.makes.calls.calls
+  then_tried : Calls S N []
+  then_tried = tried.makes.calls.calls
 
   first_step : IsStepped B S
   first_step = loaded_stepped before.me.0 start.me.0 l k first it

@@ -159,26 +159,23 @@ module _ (start mid last after : Seat (Unit {0}) SeatView) (l : ℕ) (modes : Li
     abbrev A : LaneView
     A = lane_view after.me.0 l
 
-    abbrev lanes : ℕ
-    lanes = start.me.0.lanes
-
     abbrev xs : List LockEvent
     xs = takes_of l (locks_of (take k modes))
 
     abbrev gs : List LockEvent
     gs = gives_of l (locks_of (take k modes))
 
-    first : Calls lanes S M xs
+    first : Calls S M xs
     first = tried.taken.makes.calls.calls
 
-    second : Calls lanes M L []
-    second = subst (λ n. Calls n M L []) tried.taken.makes.calls.lanes missed.calls.calls
+    second : Calls M L []
+    second = missed.calls.calls
 
-    third : Calls lanes L A gs
-    third = subst (λ n. Calls n L A gs) (missed.calls.lanes ∙ tried.taken.makes.calls.lanes) gave.calls.calls
+    third : Calls L A gs
+    third = gave.calls.calls
 
     -- the takes and what was tried last
-    both : Calls lanes S L (xs ++ [])
+    both : Calls S L (xs ++ [])
     both = calls_compose first second
 
     both_stepped : IsStepped S L

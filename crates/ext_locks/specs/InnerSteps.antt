@@ -25,9 +25,10 @@ pub record IsLane (table : TableId) (locks : ℕ) (seat : Seat (Unit {0}) SeatVi
   pub few : lane < 16
   pub legal : IsLegal seat.me.0.lanes (seen seat.me.0.fronts)
 
--- The seat's lane made these events.
+-- The seat's lane made these events, and what it has seen is legal.
 pub record Makes (before after : Seat (Unit {0}) SeatView) (lane : ℕ) (events : List LockEvent) : Type 0 where
   pub number : after.me.0.number ≡ before.me.0.number
+  pub legal : IsLegal after.me.0.lanes (seen after.me.0.fronts)
   pub calls : LaneCalls (lane_at before lane) (lane_at after lane) events
 
 -- At most `count` fronts were added.

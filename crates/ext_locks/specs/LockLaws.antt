@@ -2,7 +2,6 @@
 -- "Synchronization": readers may run together, and a writer excludes all others.
 use Rattle.std.specs.Prelude.{ℕ, ◌≡◌, ◌<◌, ◌≤◌, false, List, [], ◌++◌}
 use mathlib.Core.List.{IsPrefix}
-use Rattle.ext_history.specs.Histories.{seen_by}
 use Rattle.ext_locks.specs.declared.event.LockMode.{LockMode}
 use Rattle.ext_locks.specs.declared.event.LockMode.TheVariants.{ReadWrite}
 use Rattle.ext_locks.specs.declared.event.LockEvent.{LockEvent}
@@ -47,9 +46,9 @@ BeginningsAreLegal = (lanes : ℕ) (f h : LockHistory) → IsPrefix f h → IsLe
 abbrev pub CallsCompose : Type 0
 CallsCompose = (first second third : Lane) (xs ys : List LockEvent) → LaneCalls first second xs → LaneCalls second third ys → LaneCalls first third (xs ++ ys)
 
--- A lane that was not called made a call without events. That what it has seen is legal is promised by `recall`.
+-- A lane that was not called made a call without events.
 abbrev pub NoCall : Type 0
-NoCall = (lane : Lane) → IsLegal lane.lanes (seen_by lane.view) → LaneCalls lane lane []
+NoCall = (lane : Lane) → LaneCalls lane lane []
 
 -- ---- sets
 

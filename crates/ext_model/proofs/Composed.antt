@@ -6,7 +6,7 @@ use Rattle.ext_history.proofs.Composed as calls
 use Rattle.ext_history.proofs.Answered as answers
 use Rattle.ext_history.specs.Histories as histories
 use Rattle.ext_model.specs.declared.event.Act.{Act}
-use Rattle.ext_model.specs.History.{History, Limits, by, lane_of, IsAllowed}
+use Rattle.ext_model.specs.History.{History, Limits, by, lane_of}
 use Rattle.ext_model.specs.CallActs.{LaneView, events_by, IsAnswerPoint, IsPointAfter, Calls, HoldsAtPoint}
 
 module _ (limits : Limits) (a b : LaneView) (xs : List (Act ℕ)) (one : Calls limits a b xs) where
@@ -19,7 +19,7 @@ module _ (limits : Limits) (a b : LaneView) (xs : List (Act ℕ)) (one : Calls l
 
 -- two calls are one, which makes the events of both
 pub calls_compose : (limits : Limits) (a b c : LaneView) (xs ys : List (Act ℕ)) → Calls limits a b xs → Calls limits b c ys → Calls limits a c (xs ++ ys)
-calls_compose limits a b c xs ys one two = subst (histories.Calls lane_of (IsAllowed limits) a c) (both_events limits a b xs one ys) (calls.calls_compose one two)
+calls_compose limits a b c xs ys one two = subst (histories.Calls lane_of a c) (both_events limits a b xs one ys) (calls.calls_compose one two)
 
 pub point_of_second : (limits : Limits) (a b c : LaneView) (xs ys : List (Act ℕ)) → Calls limits a b xs → Calls limits b c ys → (zs : List (Act ℕ)) (p : History) → IsPointAfter b c zs p → IsPointAfter a c (xs ++ zs) p
 point_of_second limits a b c xs ys one two zs p at =
@@ -31,4 +31,4 @@ later_point limits a b c acts p one two at = subst (λ events. histories.IsAnswe
 -- what a call met, both have met, where the other call made no event and came before it
 pub later_answers : (limits : Limits) (a b c : LaneView) (acts : List (Act ℕ)) (Fact : History → Type 0) → Calls limits a b [] → HoldsAtPoint limits b c acts Fact → HoldsAtPoint limits a c acts Fact
 later_answers limits a b c acts Fact one m =
-    subst (λ events. histories.HoldsAtPoint lane_of (IsAllowed limits) a c events Fact) (same_events limits a b [] one acts) (answers.later_answers one m)
+    subst (λ events. histories.HoldsAtPoint lane_of a c events Fact) (same_events limits a b [] one acts) (answers.later_answers one m)

@@ -25,11 +25,11 @@ quiet_acts lane cell (act ∷ acts) off =
     let bit : ◌≡◌ {A = ℕ} (cond (is_on nat_eq cell act) 1 0) 0 = ap (λ b. cond b 1 0) (All-head P act acts off) in
     omega (arith, r, bit, version-cons (by lane act) (events_by lane acts) cell)
 
-pub claim_held : (limits : Limits) (a b : LaneView) (acts : List (Act ℕ)) (cell : ℕ) → Calls limits a b acts → All (λ act. is_on nat_eq cell act ≡ false) acts → IsHeld a cell → IsHeld b cell × (word_of (seen_by b) cell ≡ word_of (seen_by a) cell)
-claim_held limits a b acts cell one off is =
+pub claim_held : (limits : Limits) (a b : LaneView) (acts : List (Act ℕ)) (cell : ℕ) → IsLegal limits (seen_by b) → Calls limits a b acts → All (λ act. is_on nat_eq cell act ≡ false) acts → IsHeld a cell → IsHeld b cell × (word_of (seen_by b) cell ≡ word_of (seen_by a) cell)
+claim_held limits a b acts cell legal one off is =
     let begins = seen_goes_on one in
     let quiet : IsQuiet cell begins.0 =
-    claim_stands (seen_by a) begins.0 a.number cell (subst (IsLegal limits) (sym begins.1) one.legal) is (subst (IsQuiet cell) (sym (events_past one)) (quiet_acts a.number cell acts off)) in (
+    claim_stands (seen_by a) begins.0 a.number cell (subst (IsLegal limits) (sym begins.1) legal) is (subst (IsQuiet cell) (sym (events_past one)) (quiet_acts a.number cell acts off)) in (
       ap (λ h. (state_after h).slots cell) (sym begins.1) ∙ (quiet_slot (seen_by a) begins.0 cell quiet ∙ (is ∙ ap (λ n. Some (slot.Claim n)) (sym (same_number one)))),
       ap (λ h. word_of h cell) (sym begins.1) ∙ quiet_word (seen_by a) begins.0 cell quiet,
     )

@@ -57,14 +57,14 @@ not_without_claim legal =
 
 pub remove_answered : RemoveAnswered
 remove_answered = record {
-  calls = record { fronts = refl; follow = ((by 0 (Put 0 1) ∷ [], refl), tt); legal = root_is_legal; own_events = refl };
+  calls = record { fronts = refl; follow = ((by 0 (Put 0 1) ∷ [], refl), tt); own_events = refl };
   stepped = omega arith;
   point = (at_root, answered_now, refl);
 }
 
 pub put_answered : PutAnswered
 put_answered = record {
-  calls = record { fronts = refl; follow = ((by 0 (Put 0 1) ∷ [], refl), tt); legal = root_is_legal; own_events = refl };
+  calls = record { fronts = refl; follow = ((by 0 (Put 0 1) ∷ [], refl), tt); own_events = refl };
   stepped = omega arith;
   point = (by 0 (Keep 1) ∷ [], (([], refl), refl), refl);
 }
@@ -82,7 +82,7 @@ either_point = ((([], refl), (by 0 (Put 0 1) ∷ [], refl)), ((by 0 (Put 0 1) �
 
 pub overtaken_by_one : OvertakenByOne
 overtaken_by_one = record {
-  calls = record { fronts = refl; follow = (([], refl), ((by 0 (Put 0 1) ∷ [], refl), tt)); legal = root_is_legal; own_events = refl };
+  calls = record { fronts = refl; follow = (([], refl), ((by 0 (Put 0 1) ∷ [], refl), tt)); own_events = refl };
   passed = (by 0 (Put 0 1) ∷ [], refl, refl, omega arith);
 }
 

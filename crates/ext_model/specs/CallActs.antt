@@ -35,15 +35,15 @@ IsPointAfter before after acts p = histories.IsPointAfter lane_of before after (
 
 -- The call made the events of these acts and no others.
 abbrev pub Calls : Limits → LaneView → LaneView → List (Act ℕ) → Type 0
-Calls limits before after acts = histories.Calls lane_of (IsAllowed limits) before after (events_by before.number acts)
+Calls limits before after acts = histories.Calls lane_of before after (events_by before.number acts)
 
 -- The call made these events, and `Fact` holds at a history where it may be answered.
 abbrev pub HoldsAtPoint : Limits → LaneView → LaneView → List (Act ℕ) → (History → Type 0) → Type 0
-HoldsAtPoint limits before after acts Fact = histories.HoldsAtPoint lane_of (IsAllowed limits) before after (events_by before.number acts) Fact
+HoldsAtPoint limits before after acts Fact = histories.HoldsAtPoint lane_of before after (events_by before.number acts) Fact
 
 -- Other lanes made at least `tries` events after the call's first front, and this lane made none.
 abbrev pub IsOvertaken : Limits → ℕ → LaneView → LaneView → Type 0
-IsOvertaken limits tries before after = histories.IsOvertaken lane_of (IsAllowed limits) tries before after
+IsOvertaken limits tries before after = histories.IsOvertaken lane_of tries before after
 
 -- Other lanes made at least `tries` events after the call's first front. The lane itself may have made some, too.
 abbrev pub IsCrowded : ℕ → LaneView → LaneView → Type 0
@@ -53,7 +53,7 @@ IsCrowded tries before after = histories.IsCrowded lane_of tries before after
 -- thread at a point of the call, and the lane made exactly the acts that this result means.
 abbrev pub Answers : {R : Type 0} → Limits → ℕ → R → LaneView → LaneView → (R → List (Act ℕ)) → (History → R) → R → Type 0
 Answers limits tries contended before after acts_of reply_at result =
-    histories.Answers lane_of (IsAllowed limits) tries contended before after (λ r. events_by before.number (acts_of r)) reply_at result
+    histories.Answers lane_of tries contended before after (λ r. events_by before.number (acts_of r)) reply_at result
 
 -- A legal history that extends what the lane has seen by events of other lanes alone.
 abbrev pub GoesOn : Limits → LaneView → History → Type 0

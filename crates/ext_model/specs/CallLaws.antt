@@ -16,11 +16,11 @@ use Rattle.ext_history.specs.Histories.{seen_by, moved, call_fronts, first_front
 abbrev pub StepsAreCalls : Type 0
 StepsAreCalls = (limits : Limits) (lane : LaneView) (h : History) → GoesOn limits lane h → Calls limits lane (moved lane (h ∷ [])) [] × IsAnswerPoint lane (moved lane (h ∷ [])) [] h
 
--- A step that adds an allowed event to the history is a call with that event, answered directly before it.
+-- A step that adds an event of the lane to the history is a call with that event, answered directly before it.
 abbrev pub EventsAreCalls : Type 0
 EventsAreCalls =
     (limits : Limits) (lane : LaneView) (act : Act ℕ) (h : History)
-    → GoesOn limits lane h → IsAllowed limits h (by lane.number act)
+    → GoesOn limits lane h
     → Calls limits lane (moved lane ((h ++ by lane.number act ∷ []) ∷ [])) (act ∷ []) × IsAnswerPoint lane (moved lane ((h ++ by lane.number act ∷ []) ∷ [])) (act ∷ []) h
 
 -- ---- fronts and events
@@ -47,9 +47,9 @@ SeenGoesOn = (limits : Limits) (a b : LaneView) (acts : List (Act ℕ)) → Call
 
 -- ---- points
 
--- Points of a call are legal histories.
+-- If what the lane has seen after a call is legal, so are the points of the call.
 abbrev pub PointsAreLegal : Type 0
-PointsAreLegal = (limits : Limits) (a b : LaneView) (acts : List (Act ℕ)) (p : History) → Calls limits a b acts → IsPoint a b p → IsLegal limits p
+PointsAreLegal = (limits : Limits) (a b : LaneView) (p : History) → IsLegal limits (seen_by b) → IsPoint a b p → IsLegal limits p
 
 -- A call is answered at one of its points.
 abbrev pub AnswerPointsArePoints : Type 0
@@ -115,11 +115,12 @@ CrowdedByFirst =
 
 -- ---- what a lane knows of its own
 
--- A claim of the lane, and the cell's word, last as long as the lane's own calls make no event on the cell.
+-- A claim of the lane, and the cell's word, last as long as the lane's own calls make no event on the cell. What the
+-- lane has seen after them has to be legal.
 abbrev pub ClaimsAreHeld : Type 0
 ClaimsAreHeld =
     (limits : Limits) (a b : LaneView) (acts : List (Act ℕ)) (cell : ℕ)
-    → Calls limits a b acts → All (λ act. is_on nat_eq cell act ≡ false) acts → IsHeld a cell → IsHeld b cell × (word_of (seen_by b) cell ≡ word_of (seen_by a) cell)
+    → IsLegal limits (seen_by b) → Calls limits a b acts → All (λ act. is_on nat_eq cell act ≡ false) acts → IsHeld a cell → IsHeld b cell × (word_of (seen_by b) cell ≡ word_of (seen_by a) cell)
 
 -- Whatever other lanes did meanwhile, a cell that the lane holds has the word that the lane last saw.
 abbrev pub HeldWordsStay : Type 0

@@ -124,7 +124,7 @@ module _ {V A : Type 0} (t : TreeSetting V A) (moves : CallsGoOn t.call_gives) (
     outcomes = run.outcomes;
     called = run.called;
     calls = change_first h (IsMadeBeside t h node) _ _ before.first run.called (λ a b ends here made. calls_alone node (Some run.held) _ _ _ a run.outcomes b made ends here)
-        (came_from h run.called after.first (close_goes t moves _ _ run.called after.first run.closes.closes.lanes run.closes.closes.own_events) within) (tests_alone t moves node path before ran after run h alone).0 run.calls;
+        (came_from h run.called after.first (close_goes t moves _ run.called after.first run.closes.closes.lanes run.closes.closes.own_events) within) (tests_alone t moves node path before ran after run h alone).0 run.calls;
     faults = run.faults;
     closes = close_same node run.called run.faults after.first run.closes;
     given_back = run.given_back;
@@ -157,7 +157,7 @@ module _ {V A : Type 0} (t : TreeSetting V A) (moves : CallsGoOn t.call_gives) (
     container_alone tree node path path_is before ran after run within alone =
         let opened : Lanes V = record { first = run.opened; second = before.second } in
         let itself = containers_alone t moves depth node path before ran after run h within alone in
-        let called = came_from h run.ends.called after.first (close_goes t moves _ _ run.ends.called after.first run.ends.closes.closes.lanes run.ends.closes.closes.own_events) within in
+        let called = came_from h run.ends.called after.first (close_goes t moves _ run.ends.called after.first run.ends.closes.closes.lanes run.ends.closes.closes.own_events) within in
         let body = came_from h run.body.first run.ends.called (first_goes _ run.body.first run.ends.called (λ a b made. all_go t moves node None _ a run.ends.afters b made) run.ends.afters_made) called in
         let begun = came_from h run.opened run.body.first (body_acts_in t moves h depth node path before ran after run body).goes body in
         record {

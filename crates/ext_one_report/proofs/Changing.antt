@@ -17,7 +17,8 @@ use Rattle.ext_tree.specs.Trees.{IsParentOf, IsPathOf, IsTree}
 use Rattle.ext_cells.specs.Lanes.{Lane}
 use Rattle.ext_store.specs.Stores.{StoreLane, StoreView, cell_in}
 use Rattle.ext_closing.specs.Lanes.{OnlyFirstSteps, first_lane}
-use Rattle.ext_closing.specs.Sealing.{AreSome, MakesSeals, seals_of}
+use Rattle.ext_closing.specs.Sealing.{MakesSeals}
+use Rattle.ext_store.specs.ContextCalls.{seals_of}
 use Rattle.ext_locks.specs.Sets.{HeldView}
 use Rattle.ext_engine.specs.RunLaws.{IsAtOrBelow}
 use Rattle.ext_engine.specs.Meeting.{HasSeenWithin}
@@ -50,16 +51,6 @@ acts_are_only limits cells acts before after calls on = record {
 
 -- ---- seals
 
-pub some_below : (n : ℕ) (keys : List ℕ) (key : ℕ) → AreSome n keys → Contains keys key → key < n
-some_below zero keys key some there = absurd (contains_none key (subst (λ l. Contains l key) some there))
-some_below (suc n) keys key some there = elim some [
-  | inl fewer ↦ let l = some_below n keys key fewer there in omega (arith, l)
-  | inr more ↦ elim (Contains-push_cases more.0 n key (subst (λ l. Contains l key) more.2 there)) [
-    | inl early ↦ let l = some_below n more.0 key more.1 early in omega (arith, l)
-    | inr last ↦ omega (arith, last)
-  ]
-]
-
 pub one_of_seals : (store : StoreView) (context : ℕ) (keys : List ℕ) (act : Act ℕ) → Contains (seals_of store context keys) act → (key : ℕ) × Contains keys key × (Seal (cell_in store key context) ≡ act)
 one_of_seals store context [] act there = absurd (contains_none act there)
 one_of_seals store context (key ∷ keys) act there = elim (contains_cons _ (seals_of store context keys) act there) [
@@ -79,20 +70,13 @@ module _ {V A : Type 0} (t : TreeSetting V A) (h : History) (node : ℕ) where
   abbrev with_cells : StoreLane V → Lane → StoreLane V
   with_cells a cells = record { cells = cells; known = a.known; faults = a.faults; keys = a.keys }
 
-  lane_seals : (a : StoreLane V) (cells : Lane) → MakesSeals t.store node (length t.store.id.keys) a.cells cells → HasSeenWithin h (with_cells a cells) → (place : ℕ) → IsMadeBy h place a (with_cells a cells) → IsSealIn t.store node h place
-  lane_seals a cells made within place one = elim made.calls [
-    | inl same ↦
-        let since = one.since in
-        let until = one.until in
-        let e = ap (λ (l : Lane). length (seen_by l.view)) same.0 in
-        absurd (omega (arith, since, until, e))
-    | inr calls ↦
-        let acts = seals_of t.store node made.sealed in
-        let seal = one_of_seals t.store node made.sealed one.event.act (made_acts a.cells.cells.limits acts a (with_cells a cells) h place calls within one) in
-        record { event = one.event; there = one.there; key = seal.0; within = some_below (length t.store.id.keys) made.sealed seal.0 made.in_order seal.1; seals = sym seal.2 }
-  ]
+  lane_seals : (a : StoreLane V) (cells : Lane) → MakesSeals t.store node a.cells cells → HasSeenWithin h (with_cells a cells) → (place : ℕ) → IsMadeBy h place a (with_cells a cells) → IsSealIn t.store node h place
+  lane_seals a cells made within place one =
+      let acts = seals_of t.store node made.sealed in
+      let seal = one_of_seals t.store node made.sealed one.event.act (made_acts a.cells.cells.limits acts a (with_cells a cells) h place made.calls within one) in
+      record { event = one.event; there = one.there; key = seal.0; within = made.keys seal.0 seal.1; seals = sym seal.2 }
 
-  first_seals : (xs ys : List (StoreLane V)) → OnlyFirstSteps xs ys → MakesSeals t.store node (length t.store.id.keys) (first_lane t.store xs) (first_lane t.store ys) → All (HasSeenWithin h) ys → (place : ℕ) → IsMadeIn h place xs ys
+  first_seals : (xs ys : List (StoreLane V)) → OnlyFirstSteps xs ys → MakesSeals t.store node (first_lane t.store xs) (first_lane t.store ys) → All (HasSeenWithin h) ys → (place : ℕ) → IsMadeIn h place xs ys
       → IsSealIn t.store node h place
   first_seals [] ys steps sealed within place made = absurd made
   first_seals (a ∷ xs) ys steps sealed within place made =
@@ -101,7 +85,7 @@ module _ {V A : Type 0} (t : TreeSetting V A) (h : History) (node : ℕ) where
       let here : IsMadeIn h place (a ∷ xs) (b ∷ xs) = subst (λ l. IsMadeIn h place (a ∷ xs) l) steps.1 made in
       elim here [
         | inl one ↦
-            lane_seals a steps.0 (subst (λ (lane : Lane). MakesSeals t.store node (length t.store.id.keys) a.cells lane) is sealed)
+            lane_seals a steps.0 (subst (λ (lane : Lane). MakesSeals t.store node a.cells lane) is sealed)
             (All-head (HasSeenWithin h) b xs (subst (All (HasSeenWithin h)) steps.1 within)) place one
         | inr more ↦ absurd (same_made h xs place more)
       ]
@@ -110,7 +94,7 @@ module _ {V A : Type 0} (t : TreeSetting V A) (h : History) (node : ℕ) where
       → IsSealIn t.store node h place
   close_seals before faults after c within place made =
       first_seals before after c.closes.lanes
-      (subst (λ (context : ℕ). MakesSeals t.store context (length t.store.id.keys) (first_lane t.store before) (first_lane t.store after)) c.context_is c.closes.own_events) within place made
+      (subst (λ (context : ℕ). MakesSeals t.store context (first_lane t.store before) (first_lane t.store after)) c.context_is c.closes.own_events) within place made
 
 -- ---- runs
 

@@ -6,6 +6,7 @@ use Rattle.std.proofs.lemmas.Option.{slice_get-get_or}
 use Rattle.ext_history.specs.Histories.{seen_by}
 use Rattle.ext_history.proofs.Composed.{seen_goes_on}
 use Rattle.ext_history.proofs.Lists.{bools, contains_here, contains_later}
+use Rattle.ext_history.proofs.Legal.{legal_begun}
 use Rattle.ext_model.specs.declared.event.Act.{Act}
 use Rattle.ext_model.specs.declared.event.Act.TheVariants.{Seal}
 use Rattle.ext_model.specs.declared.event.Event.{Event}
@@ -20,12 +21,13 @@ use Rattle.ext_model.proofs.Standing.{is_sealed, none_after_seal}
 use Rattle.ext_model.proofs.Versions.{quiet_from_none}
 use Rattle.ext_cells.specs.Lanes.{Lane}
 use Rattle.ext_store.specs.Stores.{StoreLane, StoreView, cell_in}
-use Rattle.ext_closing.specs.Sealing.{MakesSeals, seals_of}
+use Rattle.ext_closing.specs.Sealing.{MakesSeals}
+use Rattle.ext_store.specs.ContextCalls.{seals_of}
 use Rattle.ext_engine.specs.Meeting.{HasSeenWithin}
 use Rattle.ext_engine.specs.Order.{IsMadeIn}
 use Rattle.ext_engine.proofs.Acts.{same_made}
 use Rattle.ext_one_report.specs.Alone.{IsSeenMeanwhile}
-use Rattle.ext_one_report.proofs.Changing.{one_of_seals, some_below}
+use Rattle.ext_one_report.proofs.Changing.{one_of_seals}
 use Rattle.ext_one_report.proofs.Events.{behind_part, in_whole, made_acts}
 use Rattle.ext_one_report.proofs.Sees.{at_place}
 use Rattle.ext_one_report.proofs.Closes.{seal_of}
@@ -90,7 +92,7 @@ abbrev pub IsSealOf : StoreView → ℕ → Act ℕ → Type 0
 IsSealOf store node act = (key : ℕ) × (key < length store.id.keys) × (Seal (cell_in store key node) ≡ act)
 
 module _ {V : Type 0} (store : StoreView) (h : History) (node : ℕ) (lane : StoreLane V) (cells : Lane) (rest : List (StoreLane V))
-    (made : MakesSeals store node (length store.id.keys) lane.cells cells) (within : All (HasSeenWithin h) (with_cells lane cells ∷ rest)) where
+    (made : MakesSeals store node lane.cells cells) (within : All (HasSeenWithin h) (with_cells lane cells ∷ rest)) where
   abbrev Old : History
   Old = seen_by lane.cells.view
 
@@ -100,84 +102,65 @@ module _ {V : Type 0} (store : StoreView) (h : History) (node : ℕ) (lane : Sto
   abbrev Left : List (StoreLane V)
   Left = with_cells lane cells ∷ rest
 
-  module _ (calls : Calls lane.cells.cells.limits lane.cells.view cells.view (seals_of store node made.sealed)) where
-    -- each event that the lanes made is a seal of the context,
-    seal_by : (place : ℕ) (e : Event ℕ) → slice_get h place ≡ Some e → IsMadeIn h place (lane ∷ rest) Left → IsSealOf store node e.act
-    seal_by place e in_h by = elim by [
-      | inr none ↦ absurd (same_made h rest place none)
-      | inl one ↦
-          let acts = seals_of store node made.sealed in
-          let here : HasSeenWithin h (with_cells lane cells) = All-head (HasSeenWithin h) (with_cells lane cells) rest within in
-          let seal = one_of_seals store node made.sealed one.event.act (made_acts lane.cells.cells.limits acts lane (with_cells lane cells) h place calls here one) in
-          let both : Some one.event ≡ Some e = sym one.there ∙ in_h in
-          let same : one.event ≡ e = cc both in
-          (seal.0, some_below (length store.id.keys) made.sealed seal.0 made.in_order seal.1, seal.2 ∙ ap (λ (x : Event ℕ). x.act) same)
-    ]
+  abbrev calls : Calls lane.cells.cells.limits lane.cells.view cells.view (seals_of store node made.sealed)
+  calls = made.calls
 
-    -- and so is each that came on a cell where they are alone
-    event_is : (e : Event ℕ) (cell : ℕ) → Contains (seen_goes_on calls).0 e → place_of e.act ≡ Some cell → IsOwnOn h cell (lane ∷ rest) Left → IsSealOf store node e.act
-    event_is e cell there on own =
-        let more = (seen_goes_on calls).0 in
-        let whole : Old ++ more ≡ New = (seen_goes_on calls).1 in
-        let place = length Old + there.0 in
-        let less = there.1 in
-        let stands : slice_get more there.0 ≡ Some e = slice_get-get_or more there.0 e less ∙ ap Some there.2 in
-        let in_new : slice_get New place ≡ Some e = subst (λ (l : History). slice_get l place ≡ Some e) whole (behind_part Old more there.0 place refl ∙ stands) in
+  -- each event that the lanes made is a seal of the context,
+  pub made_is_seal : (place : ℕ) (e : Event ℕ) → slice_get h place ≡ Some e → IsMadeIn h place (lane ∷ rest) Left → IsSealOf store node e.act
+  made_is_seal place e in_h by = elim by [
+    | inr none ↦ absurd (same_made h rest place none)
+    | inl one ↦
+        let acts = seals_of store node made.sealed in
         let here : HasSeenWithin h (with_cells lane cells) = All-head (HasSeenWithin h) (with_cells lane cells) rest within in
-        let in_h : slice_get h place ≡ Some e = subst (λ (l : History). slice_get l place ≡ Some e) here.1 (in_whole New here.0 place e in_new) in
-        let size = ap length whole in
-        let sum = length-append Old more in
-        seal_by place e in_h (own.own place e (record { since = omega arith; until = omega (arith, less, size, sum) }) in_h on)
+        let seal = one_of_seals store node made.sealed one.event.act (made_acts lane.cells.cells.limits acts lane (with_cells lane cells) h place calls here one) in
+        let both : Some one.event ≡ Some e = sym one.there ∙ in_h in
+        let same : one.event ≡ e = cc both in
+        (seal.0, made.keys seal.0 seal.1, seal.2 ∙ ap (λ (x : Event ℕ). x.act) same)
+  ]
 
-    seals_only : (cell : ℕ) → IsOwnOn h cell (lane ∷ rest) Left → SealsOnly cell (seen_goes_on calls).0
-    seals_only cell own e there on =
+  -- and so is each that came on a cell where they are alone
+  event_is : (e : Event ℕ) (cell : ℕ) → Contains (seen_goes_on calls).0 e → place_of e.act ≡ Some cell → IsOwnOn h cell (lane ∷ rest) Left → IsSealOf store node e.act
+  event_is e cell there on own =
+      let more = (seen_goes_on calls).0 in
+      let whole : Old ++ more ≡ New = (seen_goes_on calls).1 in
+      let place = length Old + there.0 in
+      let less = there.1 in
+      let stands : slice_get more there.0 ≡ Some e = slice_get-get_or more there.0 e less ∙ ap Some there.2 in
+      let in_new : slice_get New place ≡ Some e = subst (λ (l : History). slice_get l place ≡ Some e) whole (behind_part Old more there.0 place refl ∙ stands) in
+      let here : HasSeenWithin h (with_cells lane cells) = All-head (HasSeenWithin h) (with_cells lane cells) rest within in
+      let in_h : slice_get h place ≡ Some e = subst (λ (l : History). slice_get l place ≡ Some e) here.1 (in_whole New here.0 place e in_new) in
+      let size = ap length whole in
+      let sum = length-append Old more in
+      made_is_seal place e in_h (own.own place e (record { since = omega arith; until = omega (arith, less, size, sum) }) in_h on)
+
+  seals_only : (cell : ℕ) → IsOwnOn h cell (lane ∷ rest) Left → SealsOnly cell (seen_goes_on calls).0
+  seals_only cell own e there on =
+      let at = at_place cell (place_of e.act) on in
+      let seal = event_is e cell there at own in
+      let same : Some (cell_in store seal.0 node) ≡ Some cell = ap place_of seal.2 ∙ at in
+      sym seal.2 ∙ ap Seal (cc same)
+
+  none_there : (cell : ℕ) → IsOwnOn h cell (lane ∷ rest) Left → ((key : ℕ) → key < length store.id.keys → cell ≢ cell_in store key node) → IsQuiet cell (seen_goes_on calls).0
+  none_there cell own other = quiet_from_none (seen_goes_on calls).0 cell (λ e there. elim (bools (is_on nat_eq cell e.act)) [
+    | inl on ↦
         let at = at_place cell (place_of e.act) on in
         let seal = event_is e cell there at own in
         let same : Some (cell_in store seal.0 node) ≡ Some cell = ap place_of seal.2 ∙ at in
-        sym seal.2 ∙ ap Seal (cc same)
-
-    none_there : (cell : ℕ) → IsOwnOn h cell (lane ∷ rest) Left → ((key : ℕ) → key < length store.id.keys → cell ≢ cell_in store key node) → IsQuiet cell (seen_goes_on calls).0
-    none_there cell own other = quiet_from_none (seen_goes_on calls).0 cell (λ e there. elim (bools (is_on nat_eq cell e.act)) [
-      | inl on ↦
-          let at = at_place cell (place_of e.act) on in
-          let seal = event_is e cell there at own in
-          let same : Some (cell_in store seal.0 node) ≡ Some cell = ap place_of seal.2 ∙ at in
-          absurd (other seal.0 seal.1 (sym (cc same)))
-      | inr off ↦ off
-    ])
-
-  -- each event that the lanes of a close make is a seal of the context
-  pub made_is_seal : (place : ℕ) (e : Event ℕ) → slice_get h place ≡ Some e → IsMadeIn h place (lane ∷ rest) Left → IsSealOf store node e.act
-  made_is_seal place e in_h by = elim made.calls [
-    | inr calls ↦ seal_by calls place e in_h by
-    | inl same ↦ elim by [
-      | inr none ↦ absurd (same_made h rest place none)
-      | inl one ↦
-          let size : length New ≡ length Old = ap (λ (l : Lane). length (seen_by l.view)) same.0 in
-          let since = one.since in
-          let until = one.until in
-          absurd (omega (arith, size, since, until))
-    ]
-  ]
+        absurd (other seal.0 seal.1 (sym (cc same)))
+    | inr off ↦ off
+  ])
 
   -- what stood in a cell that is none of the context stands there still
   pub cell_stays : (cell : ℕ) → IsOwnOn h cell (lane ∷ rest) Left → ((key : ℕ) → key < length store.id.keys → cell ≢ cell_in store key node) → (state_after New).slots cell ≡ (state_after Old).slots cell
-  cell_stays cell own other = elim made.calls [
-    | inl same ↦ ap (λ (l : Lane). (state_after (seen_by l.view)).slots cell) same.0
-    | inr calls ↦ ap (λ g. (state_after g).slots cell) (sym (seen_goes_on calls).1) ∙ quiet_slot Old (seen_goes_on calls).0 cell (none_there calls cell own other)
-  ]
+  cell_stays cell own other = ap (λ g. (state_after g).slots cell) (sym (seen_goes_on calls).1) ∙ quiet_slot Old (seen_goes_on calls).0 cell (none_there cell own other)
 
   -- and in one of the context, which is sealed in the end, its seal does
-  pub cell_sealed : (cell : ℕ) (kept : Option ℕ) → IsOwnOn h cell (lane ∷ rest) Left → ((holder : ℕ) → (state_after Old).slots cell ≢ Some (slot.Claim holder)) → (state_after New).slots cell ≡ Some (slot.Sealed kept)
+  pub cell_sealed : (limits : Limits) → IsLegal limits h → (cell : ℕ) (kept : Option ℕ) → IsOwnOn h cell (lane ∷ rest) Left → ((holder : ℕ) → (state_after Old).slots cell ≢ Some (slot.Claim holder)) → (state_after New).slots cell ≡ Some (slot.Sealed kept)
       → (state_after New).slots cell ≡ seal_of ((state_after Old).slots cell)
-  cell_sealed cell kept own free is = elim made.calls [
-    | inl same ↦
-        let stays : (state_after New).slots cell ≡ (state_after Old).slots cell = ap (λ (l : Lane). (state_after (seen_by l.view)).slots cell) same.0 in
-        sealed_from ((state_after Old).slots cell) ((state_after New).slots cell) kept free (λ sealed. stays) is (inl stays)
-    | inr calls ↦
-        let more = (seen_goes_on calls).0 in
-        let whole : Old ++ more ≡ New = (seen_goes_on calls).1 in
-        let legal : IsLegal lane.cells.cells.limits (Old ++ more) = subst (IsLegal lane.cells.cells.limits) (sym whole) calls.legal in
-        let there : (state_after (Old ++ more)).slots cell ≡ Some (slot.Sealed kept) = ap (λ g. (state_after g).slots cell) whole ∙ is in
-        ap (λ g. (state_after g).slots cell) (sym whole) ∙ seal_left lane.cells.cells.limits Old more cell kept legal (seals_only calls cell own) free there
-  ]
+  cell_sealed limits legal cell kept own free is =
+      let more = (seen_goes_on calls).0 in
+      let whole : Old ++ more ≡ New = (seen_goes_on calls).1 in
+      let here : HasSeenWithin h (with_cells lane cells) = All-head (HasSeenWithin h) (with_cells lane cells) rest within in
+      let legal_there : IsLegal limits (Old ++ more) = subst (IsLegal limits) (sym whole) (legal_begun New h here legal) in
+      let there : (state_after (Old ++ more)).slots cell ≡ Some (slot.Sealed kept) = ap (λ g. (state_after g).slots cell) whole ∙ is in
+      ap (λ g. (state_after g).slots cell) (sym whole) ∙ seal_left limits Old more cell kept legal_there (seals_only cell own) free there

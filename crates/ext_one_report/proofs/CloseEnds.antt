@@ -7,7 +7,7 @@ use Rattle.std.proofs.lemmas.List.Sorted.{IsPermutation-map, IsPermutation-sym}
 use Rattle.ext_history.specs.Histories.{seen_by}
 use Rattle.ext_model.specs.declared.look.Fault.{Fault}
 use Rattle.ext_model.specs.Closing.{remaining}
-use Rattle.ext_model.specs.History.{History, slots_in}
+use Rattle.ext_model.specs.History.{History, slots_in, IsLegal}
 use Rattle.ext_model.specs.Plain.{Place}
 use Rattle.ext_tree.specs.Keys.{AreDifferent, KeyValue, global_namespace, key_of}
 use Rattle.ext_values.specs.Known.{known_at}
@@ -81,9 +81,9 @@ module _ (plan : PlanText) (run : RunView) (locks : LocksView) (h : History) (to
   -- ---- the lanes
 
   -- the lanes after a close, of which the first alone made steps
-  module _ (node : ℕ) (places : Places) (lane : PlanLane) (cells : Lane) (rest : List PlanLane) (view : IsRunView run) (all : (key : KeyValue) → places node key ≡ true)
+  module _ (node : ℕ) (places : Places) (lane : PlanLane) (cells : Lane) (rest : List PlanLane) (view : IsRunView run) (legal : IsLegal run.store.id.cells.limits h) (all : (key : KeyValue) → places node key ≡ true)
       (within : All (HasSeenWithin h) (with_cells lane cells ∷ rest)) (own : AreOwn run h places (lane ∷ rest) (with_cells lane cells ∷ rest))
-      (is_sealed : AreSealed run.store node (length run.store.id.keys) cells) (made : MakesSeals run.store node (length run.store.id.keys) lane.cells cells) where
+      (is_sealed : AreSealed run.store node (length run.store.id.keys) cells) (made : MakesSeals run.store node lane.cells cells) where
     on_cell : (context number : ℕ) (key : KeyValue) → places context key ≡ true → HasNumberIn run key number → IsOwnOn h (cell_of run number context) (lane ∷ rest) (with_cells lane cells ∷ rest)
     on_cell context number key is has = record { own = λ place event seen there on. own.own context number place key event is has seen there on }
 
@@ -91,7 +91,7 @@ module _ (plan : PlanText) (run : RunView) (locks : LocksView) (h : History) (to
     seals_cells = record {
       sealed = λ key number has free.
           let kept = is_sealed number (number_within run key number view has) in
-          cell_sealed run.store h node lane cells rest made within (cell_of run number node) kept.0 (on_cell node number key (all key) has) free kept.1;
+          cell_sealed run.store h node lane cells rest made within run.store.id.cells.limits legal (cell_of run number node) kept.0 (on_cell node number key (all key) has) free kept.1;
       others = λ context number key other is has.
           cell_stays run.store h node lane cells rest made within (cell_of run number context) (on_cell context number key is has)
           (λ k less. other_cell run view context node number k key other has less);
@@ -105,15 +105,15 @@ module _ (plan : PlanText) (run : RunView) (locks : LocksView) (h : History) (to
     -- all that is said of the lanes after it, said of lanes
     abbrev IsAfter : List PlanLane → Type 0
     IsAfter lanes = All (HasSeenWithin h) lanes → AreOwn run h places (lane ∷ rest) lanes → AreSealed run.store node (length run.store.id.keys) (first_lane run.store lanes)
-        → MakesSeals run.store node (length run.store.id.keys) lane.cells (first_lane run.store lanes) → SealsCells run node places (seen_by lane.cells.view) (first_seen lanes)
+        → MakesSeals run.store node lane.cells (first_lane run.store lanes) → SealsCells run node places (seen_by lane.cells.view) (first_seen lanes)
 
     lanes_seal : SealsCells run node places (seen_by lane.cells.view) (first_seen after)
     lanes_seal =
         let there : IsAfter after =
-        subst IsAfter (sym closes.closes.lanes.1) (λ w a s m. seals_cells node places lane closes.closes.lanes.0 rest close.basis.view close.all w a s m) in
+        subst IsAfter (sym closes.closes.lanes.1) (λ w a s m. seals_cells node places lane closes.closes.lanes.0 rest close.basis.view close.basis.legal close.all w a s m) in
         there close.within close.own
         (subst (λ context. AreSealed run.store context (length run.store.id.keys) (first_lane run.store after)) closes.context_is closes.closes.sealed)
-        (subst (λ context. MakesSeals run.store context (length run.store.id.keys) lane.cells (first_lane run.store after)) closes.context_is closes.closes.own_events)
+        (subst (λ context. MakesSeals run.store context lane.cells (first_lane run.store after)) closes.context_is closes.closes.own_events)
 
     -- ---- closes as texts
 

@@ -262,7 +262,7 @@ module _ {V A : Type 0} (t : TreeSetting V A) (moves : CallsGoOn t.call_gives) w
   tests_alone node path before ran after run h alone =
       let Others : ℕ → Type 0 = IsMadeBeside t h node in
       let called = acts_first h _ before.first run.called (λ a b made. calls_go t moves node (Some run.held) _ _ _ a run.outcomes b made) run.calls in
-      let closed = acts_close h run.called after.first run.closes.closes.lanes (close_goes t moves _ _ run.called after.first run.closes.closes.lanes run.closes.closes.own_events) in (
+      let closed = acts_close h run.called after.first run.closes.closes.lanes (close_goes t moves _ run.called after.first run.closes.closes.lanes run.closes.closes.own_events) in (
         part h Others before.first before.first run.called after.first (no_acts h before.first) called.goes closed alone,
         part h Others before.first run.called after.first after.first called closed.goes (no_acts h after.first) alone,
       )

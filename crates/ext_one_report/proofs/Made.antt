@@ -127,7 +127,7 @@ module _ {V A : Type 0} (t : TreeSetting V A) (moves : CallsGoOn t.call_gives) (
   -- ---- nodes
 
   close_began : (node : ℕ) (before : List (StoreLane V)) (faults : List (Option Fault)) (after : List (StoreLane V)) → ClosesNode t node before faults after → AllGoOn before after
-  close_began node before faults after c = close_goes t moves _ _ before after c.closes.lanes c.closes.own_events
+  close_began node before faults after c = close_goes t moves _ before after c.closes.lanes c.closes.own_events
 
   is_call : (node : ℕ) (path : List ℕ) → IsPathOf t.store.tree node path → (is_test : Bool) → t.suite.is_test node ≡ is_test → (call : Call)
       → Contains (befores_of t.registered is_test node path ++ test_call node ∷ afters_of t.registered is_test node path) call → IsCallOf t node call

@@ -66,7 +66,7 @@ module _ (plan : PlanText) (run : RunView) (locks : LocksView) (h : History) (vi
   limits = run.store.id.cells.limits
 
   goes : AllGoOn (lane ∷ rest) after
-  goes = close_goes setting (view_moves plan run) _ _ (lane ∷ rest) after closes.closes.lanes closes.closes.own_events
+  goes = close_goes setting (view_moves plan run) _ (lane ∷ rest) after closes.closes.lanes closes.closes.own_events
 
   on : IsPrefix (seen_by lane.cells.view) (first_seen after)
   on = heads_go (lane ∷ rest) after goes
@@ -77,10 +77,10 @@ module _ (plan : PlanText) (run : RunView) (locks : LocksView) (h : History) (vi
   -- each event that the lanes make is a seal of the context
   seals : (place : ℕ) (e : Event ℕ) → slice_get h place ≡ Some e → IsMadeIn h place (lane ∷ rest) after → IsSealOf run.store node e.act
   seals =
-      let Say : List PlanLane → Type 0 = λ lanes. All (HasSeenWithin h) lanes → MakesSeals run.store node (length run.store.id.keys) lane.cells (first_lane run.store lanes)
+      let Say : List PlanLane → Type 0 = λ lanes. All (HasSeenWithin h) lanes → MakesSeals run.store node lane.cells (first_lane run.store lanes)
       → (place : ℕ) (e : Event ℕ) → slice_get h place ≡ Some e → IsMadeIn h place (lane ∷ rest) lanes → IsSealOf run.store node e.act in
       let there : Say after = subst Say (sym closes.closes.lanes.1) (λ w made place e in_h by. made_is_seal run.store h node lane closes.closes.lanes.0 rest made w place e in_h by) in
-      there within (subst (λ context. MakesSeals run.store context (length run.store.id.keys) lane.cells (first_lane run.store after)) closes.context_is closes.closes.own_events)
+      there within (subst (λ context. MakesSeals run.store context lane.cells (first_lane run.store after)) closes.context_is closes.closes.own_events)
 
   -- so none is in another context
   pub none_elsewhere : (context number place : ℕ) (key : KeyValue) (e : Event ℕ) → context ≢ node → HasNumberIn run key number → slice_get h place ≡ Some e → place_of e.act ≡ Some (cell_of run number context)

@@ -100,7 +100,7 @@ module _ (plan : PlanText) (run : RunView) (locks : LocksView) (h : History) (to
     closed_acts : Acts h its_run.called after.first
     closed_acts =
         let it = its_run.closes.closes in
-        acts_close h its_run.called after.first it.lanes (close_goes setting (view_moves plan run) _ _ its_run.called after.first it.lanes it.own_events)
+        acts_close h its_run.called after.first it.lanes (close_goes setting (view_moves plan run) _ its_run.called after.first it.lanes it.own_events)
 
     own_calls : AreOwn run h places (its_run.calls.lane ∷ its_run.calls.rest) (its_run.calls.left ∷ its_run.calls.rest)
     own_calls =

@@ -6,6 +6,7 @@ use base.Growing.{prefix_refl, prefix_trans}
 use Rattle.std.proofs.lemmas.Bool.{cases_order}
 use Rattle.std.proofs.lemmas.List.{map-append}
 use Rattle.std.proofs.lemmas.List.Elements.{All-append, All-cons, All-contains, All-nil}
+use Rattle.ext_history.specs.Histories as histories
 use Rattle.ext_history.specs.Histories.{seen_by}
 use Rattle.ext_history.proofs.Composed.{same_number, seen_goes_on}
 use Rattle.ext_history.proofs.Lanes.{own_append}
@@ -48,8 +49,8 @@ pub record Only (cells : List ℕ) (a b : LaneView) : Type 0 where
   pub own_is : own a.number (seen_by b) ≡ own a.number (seen_by a) ++ events_by a.number acts
   pub on : All (IsOn cells) acts
 
-pub only_calls : (cells : List ℕ) (limits : Limits) (a b : LaneView) (acts : List (Act ℕ)) → Calls limits a b acts → All (IsOn cells) acts → Only cells a b
-only_calls cells limits a b acts calls on = record { acts = acts; number = same_number calls; begins = seen_goes_on calls; own_is = calls.own_events; on = on }
+pub only_calls : (cells : List ℕ) (a b : LaneView) (acts : List (Act ℕ)) → histories.Calls lane_of a b (events_by a.number acts) → All (IsOn cells) acts → Only cells a b
+only_calls cells a b acts calls on = record { acts = acts; number = same_number calls; begins = seen_goes_on calls; own_is = calls.own_events; on = on }
 
 pub only_same : (cells : List ℕ) (a : LaneView) → Only cells a a
 only_same cells a = record { acts = []; number = refl; begins = prefix_refl (seen_by a); own_is = sym (append-nil (own a.number (seen_by a))); on = All-nil (IsOn cells) }
@@ -81,42 +82,42 @@ only_makes cells a b only = record {
 -- ---- keeps and look-ups
 
 pub keeps_only : {V : Type 0} (value : V) (a b : StoreLane V) (number : ℕ) → KeepsAs value a b number → Only [] a.cells.view b.cells.view
-keeps_only value a b number keeps = only_calls [] _ a.cells.view b.cells.view (Keep number ∷ []) keeps.drawn.calls (All-cons (IsOn []) (Keep number) [] tt (All-nil (IsOn [])))
+keeps_only value a b number keeps = only_calls [] a.cells.view b.cells.view (Keep number ∷ []) keeps.drawn.calls (All-cons (IsOn []) (Keep number) [] tt (All-nil (IsOn [])))
 
 pub keep_fails : (store : StoreView) (a b : Lane) (why : KeepFault) → KeepFails store a b why → Only [] a.view b.view
 unfolding KeepFails
 keep_fails store a b keep_fault.Memory fails = subst (λ (l : Lane). Only [] a.view l.view) (sym fails) (only_same [] a.view)
-keep_fails store a b keep_fault.NumbersFull fails = only_calls [] _ a.view b.view [] fails.calls (All-nil (IsOn []))
-keep_fails store a b keep_fault.Contended fails = only_calls [] _ a.view b.view [] fails.calls (All-nil (IsOn []))
-keep_fails store a b keep_fault.Unplaced fails = only_calls [] _ a.view b.view (Keep fails.0 ∷ []) fails.1.calls (All-cons (IsOn []) (Keep fails.0) [] tt (All-nil (IsOn [])))
+keep_fails store a b keep_fault.NumbersFull fails = only_calls [] a.view b.view [] fails.calls (All-nil (IsOn []))
+keep_fails store a b keep_fault.Contended fails = only_calls [] a.view b.view [] fails.calls (All-nil (IsOn []))
+keep_fails store a b keep_fault.Unplaced fails = only_calls [] a.view b.view (Keep fails.0 ∷ []) fails.1.calls (All-cons (IsOn []) (Keep fails.0) [] tt (All-nil (IsOn [])))
 
 pub gets_only : (store : StoreView) (context key : ℕ) (a b : Lane) (result : Result Look Refusal) → Gets store context key a b result → Only [] a.view b.view
 unfolding shared.Gets
-gets_only store context key a b (Ok answer) gets = only_calls [] _ a.view b.view [] (gets.2.replied (λ is. absurd (cc is))).calls (All-nil (IsOn []))
-gets_only store context key a b (Err (refusal.Busy at)) gets = only_calls [] _ a.view b.view [] (gets.2.replied (λ is. absurd (cc is))).calls (All-nil (IsOn []))
-gets_only store context key a b (Err (refusal.Closed at)) gets = only_calls [] _ a.view b.view [] (gets.2.replied (λ is. absurd (cc is))).calls (All-nil (IsOn []))
-gets_only store context key a b (Err refusal.Contended) gets = only_calls [] _ a.view b.view [] (gets.2.overtaken refl).calls (All-nil (IsOn []))
-gets_only store context key a b (Err refusal.Exhausted) gets = only_calls [] _ a.view b.view [] (gets.2.replied (λ is. absurd (cc is))).calls (All-nil (IsOn []))
-gets_only store context key a b (Err refusal.DirectoryFull) gets = only_calls [] _ a.view b.view [] (gets.2.replied (λ is. absurd (cc is))).calls (All-nil (IsOn []))
-gets_only store context key a b (Err refusal.Unplaced) gets = only_calls [] _ a.view b.view [] (gets.2.replied (λ is. absurd (cc is))).calls (All-nil (IsOn []))
-gets_only store context key a b (Err refusal.Memory) gets = only_calls [] _ a.view b.view [] (gets.2.replied (λ is. absurd (cc is))).calls (All-nil (IsOn []))
+gets_only store context key a b (Ok answer) gets = only_calls [] a.view b.view [] (gets.2.replied (λ is. absurd (cc is))).calls (All-nil (IsOn []))
+gets_only store context key a b (Err (refusal.Busy at)) gets = only_calls [] a.view b.view [] (gets.2.replied (λ is. absurd (cc is))).calls (All-nil (IsOn []))
+gets_only store context key a b (Err (refusal.Closed at)) gets = only_calls [] a.view b.view [] (gets.2.replied (λ is. absurd (cc is))).calls (All-nil (IsOn []))
+gets_only store context key a b (Err refusal.Contended) gets = only_calls [] a.view b.view [] (gets.2.overtaken refl).calls (All-nil (IsOn []))
+gets_only store context key a b (Err refusal.Exhausted) gets = only_calls [] a.view b.view [] (gets.2.replied (λ is. absurd (cc is))).calls (All-nil (IsOn []))
+gets_only store context key a b (Err refusal.DirectoryFull) gets = only_calls [] a.view b.view [] (gets.2.replied (λ is. absurd (cc is))).calls (All-nil (IsOn []))
+gets_only store context key a b (Err refusal.Unplaced) gets = only_calls [] a.view b.view [] (gets.2.replied (λ is. absurd (cc is))).calls (All-nil (IsOn []))
+gets_only store context key a b (Err refusal.Memory) gets = only_calls [] a.view b.view [] (gets.2.replied (λ is. absurd (cc is))).calls (All-nil (IsOn []))
 
 -- ---- changes
 
 pub removes_only : (store : StoreView) (context key : ℕ) (a b : Lane) (result : Result (Option ℕ) Refusal) → Removes store context key a b result → Only (cell_in store key context ∷ []) a.view b.view
 unfolding shared.Removes
-removes_only store context key a b (Ok None) r = only_calls _ _ a.view b.view [] (r.replied (λ is. absurd (cc is))).calls (All-nil (IsOn (cell_in store key context ∷ [])))
+removes_only store context key a b (Ok None) r = only_calls _ a.view b.view [] (r.replied (λ is. absurd (cc is))).calls (All-nil (IsOn (cell_in store key context ∷ [])))
 removes_only store context key a b (Ok (Some number)) r =
     let cell = cell_in store key context in
     let P = IsOn (cell ∷ []) in
-    only_calls (cell ∷ []) _ a.view b.view (Remove cell ∷ []) (r.replied (λ is. absurd (cc is))).calls (All-cons P (Remove cell) [] (contains_here cell []) (All-nil P))
-removes_only store context key a b (Err (refusal.Busy at)) r = only_calls _ _ a.view b.view [] (r.replied (λ is. absurd (cc is))).calls (All-nil (IsOn (cell_in store key context ∷ [])))
-removes_only store context key a b (Err (refusal.Closed at)) r = only_calls _ _ a.view b.view [] (r.replied (λ is. absurd (cc is))).calls (All-nil (IsOn (cell_in store key context ∷ [])))
-removes_only store context key a b (Err refusal.Contended) r = only_calls _ _ a.view b.view [] (r.overtaken refl).calls (All-nil (IsOn (cell_in store key context ∷ [])))
-removes_only store context key a b (Err refusal.Exhausted) r = only_calls _ _ a.view b.view [] (r.replied (λ is. absurd (cc is))).calls (All-nil (IsOn (cell_in store key context ∷ [])))
-removes_only store context key a b (Err refusal.DirectoryFull) r = only_calls _ _ a.view b.view [] (r.replied (λ is. absurd (cc is))).calls (All-nil (IsOn (cell_in store key context ∷ [])))
-removes_only store context key a b (Err refusal.Unplaced) r = only_calls _ _ a.view b.view [] (r.replied (λ is. absurd (cc is))).calls (All-nil (IsOn (cell_in store key context ∷ [])))
-removes_only store context key a b (Err refusal.Memory) r = only_calls _ _ a.view b.view [] (r.replied (λ is. absurd (cc is))).calls (All-nil (IsOn (cell_in store key context ∷ [])))
+    only_calls (cell ∷ []) a.view b.view (Remove cell ∷ []) (r.replied (λ is. absurd (cc is))).calls (All-cons P (Remove cell) [] (contains_here cell []) (All-nil P))
+removes_only store context key a b (Err (refusal.Busy at)) r = only_calls _ a.view b.view [] (r.replied (λ is. absurd (cc is))).calls (All-nil (IsOn (cell_in store key context ∷ [])))
+removes_only store context key a b (Err (refusal.Closed at)) r = only_calls _ a.view b.view [] (r.replied (λ is. absurd (cc is))).calls (All-nil (IsOn (cell_in store key context ∷ [])))
+removes_only store context key a b (Err refusal.Contended) r = only_calls _ a.view b.view [] (r.overtaken refl).calls (All-nil (IsOn (cell_in store key context ∷ [])))
+removes_only store context key a b (Err refusal.Exhausted) r = only_calls _ a.view b.view [] (r.replied (λ is. absurd (cc is))).calls (All-nil (IsOn (cell_in store key context ∷ [])))
+removes_only store context key a b (Err refusal.DirectoryFull) r = only_calls _ a.view b.view [] (r.replied (λ is. absurd (cc is))).calls (All-nil (IsOn (cell_in store key context ∷ [])))
+removes_only store context key a b (Err refusal.Unplaced) r = only_calls _ a.view b.view [] (r.replied (λ is. absurd (cc is))).calls (All-nil (IsOn (cell_in store key context ∷ [])))
+removes_only store context key a b (Err refusal.Memory) r = only_calls _ a.view b.view [] (r.replied (λ is. absurd (cc is))).calls (All-nil (IsOn (cell_in store key context ∷ [])))
 
 abbrev IsOrNot : Type 0 → Type 0
 IsOrNot X = X ⊎ (X → ⊥)
@@ -149,10 +150,10 @@ unfolding shared.Puts
 puts_only store context key number a b (Ok stood) p =
     let cell = cell_in store key context in
     let P = IsOn (cell ∷ []) in
-    only_calls (cell ∷ []) _ a.view b.view (Put cell number ∷ []) (p.replied (λ is. absurd (cc is))).calls (All-cons P (Put cell number) [] (contains_here cell []) (All-nil P))
+    only_calls (cell ∷ []) a.view b.view (Put cell number ∷ []) (p.replied (λ is. absurd (cc is))).calls (All-cons P (Put cell number) [] (contains_here cell []) (All-nil P))
 puts_only store context key number a b (Err refused) p = elim (same_pair number refused.0 refused.1) [
-  | inl same ↦ only_calls _ _ a.view b.view [] (p.overtaken same).calls (All-nil (IsOn (cell_in store key context ∷ [])))
-  | inr other ↦ only_calls _ _ a.view b.view [] (p.replied other).calls (All-nil (IsOn (cell_in store key context ∷ [])))
+  | inl same ↦ only_calls _ a.view b.view [] (p.overtaken same).calls (All-nil (IsOn (cell_in store key context ∷ [])))
+  | inr other ↦ only_calls _ a.view b.view [] (p.replied other).calls (All-nil (IsOn (cell_in store key context ∷ [])))
 ]
 
 -- ---- computes
@@ -177,7 +178,7 @@ module _ (limits : Limits) (store : StoreView) (context : ℕ) (ancestors : List
   three number third on = All-cons Here (Claim the_cell) (Keep number ∷ third ∷ []) here (All-cons Here (Keep number) (third ∷ []) tt (All-cons Here third [] on (All-nil Here)))
 
   by_acts : (a b : LaneView) (acts : List (Act ℕ)) → Calls limits a b acts → All Here acts → OnlyHere a b
-  by_acts a b acts calls on = only_calls (the_cell ∷ []) limits a b acts calls on
+  by_acts a b acts calls on = only_calls (the_cell ∷ []) a b acts calls on
 
   given_up : (a b : LaneView) → Calls limits a b (given_up_events store context key) → OnlyHere a b
   given_up a b calls = by_acts a b (Claim the_cell ∷ Abandon the_cell ∷ []) calls (two (Abandon the_cell) here)

@@ -156,9 +156,13 @@ module _ (plan : PlanText) (store : StoreView) (locks : LocksView) where
         action_left = c.action_left;
         closed = c.closed;
         closes = record {
+          stops = tt;
           sealed = c.closes.sealed;
           own_events = c.closes.own_events;
           closes = record { answers = c_closes.answers; calls = calls.0; counts = c_closes.counts };
+          unjoined = tt;
+          handed_back = tt;
+          not_called = tt;
           lanes = c.closes.lanes;
           own_lanes = c.closes.own_lanes;
           kept = c.closes.kept;

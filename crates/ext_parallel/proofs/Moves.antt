@@ -39,7 +39,8 @@ use Rattle.ext_store.specs.LaneCalls.{Frame}
 use Rattle.ext_store.specs.Computing.{Uses}
 use Rattle.ext_store_core.specs.ContextCalls.{put_acts, remove_acts}
 use Rattle.ext_parallel.specs.Saying.{EndsRefused}
-use Rattle.ext_closing.specs.Sealing.{MakesSeals, seals_of}
+use Rattle.ext_closing.specs.Sealing.{MakesSeals}
+use Rattle.ext_store.specs.ContextCalls.{seals_of}
 use Rattle.ext_plan.specs.StepCalls.{CallText, call_of, start_of}
 use Rattle.ext_plan.specs.Values.{ValueText}
 use Rattle.ext_plan.specs.Verdicts.{SeenText}
@@ -177,14 +178,11 @@ module _ (plan : PlanText) (store : StoreView) where
   seals_none n context [] = refl
   seals_none n context (key ∷ keys) = seals_none n context keys
 
-  pub moves_sealed : (context keys : ℕ) (a : PlanLane) (cells : Lane) → MakesSeals store context keys a.cells cells → Moves a (record { cells = cells; known = a.known; faults = a.faults; keys = a.keys })
-  moves_sealed context keys a cells made =
+  pub moves_sealed : (context : ℕ) (a : PlanLane) (cells : Lane) → MakesSeals store context a.cells cells → Moves a (record { cells = cells; known = a.known; faults = a.faults; keys = a.keys })
+  moves_sealed context a cells made =
       let b : PlanLane = record { cells = cells; known = a.known; faults = a.faults; keys = a.keys } in
-      let quiet : own_stored cells.view ≡ own_stored a.cells.view = elim made.calls [
-        | inl same ↦ ap (λ (l : Lane). own_stored l.view) same.0
-        | inr calls ↦ calls_quiet a.cells.view cells.view _ calls (seals_none a.cells.view.number context made.sealed)
-      ] in
-      moves_quiet a b (goes_sealed store context keys a cells made) quiet
+      let quiet : own_stored cells.view ≡ own_stored a.cells.view = calls_quiet a.cells.view cells.view _ made.calls (seals_none a.cells.view.number context made.sealed) in
+      moves_quiet a b (goes_sealed store context a cells made) quiet
 
   -- ---- a step
 

@@ -54,8 +54,8 @@ module _ (plan : PlanText) where
   sets_met : (store : StoreView) (a b : PlanLane) → OnlyMeets store a b → SetsOfPlan a b
   sets_met store a b met = record { keys = met.keys; placed = λ number. inl (met.placed number) }
 
-  sets_sealed : (store : StoreView) (context keys : ℕ) (a : PlanLane) (cells : Lane) → MakesSeals store context keys a.cells cells → SetsOfPlan a (record { cells = cells; known = a.known; faults = a.faults; keys = a.keys })
-  sets_sealed store context keys a cells made = record { keys = keeps_all a.keys; placed = λ number. inl refl }
+  sets_sealed : (store : StoreView) (context : ℕ) (a : PlanLane) (cells : Lane) → MakesSeals store context a.cells cells → SetsOfPlan a (record { cells = cells; known = a.known; faults = a.faults; keys = a.keys })
+  sets_sealed store context a cells made = record { keys = keeps_all a.keys; placed = λ number. inl refl }
 
   -- ---- steps
 

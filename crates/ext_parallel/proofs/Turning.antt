@@ -30,10 +30,10 @@ module _ {V : Type 0} (store : StoreView) where
   legal_here lane mine looked = subst (λ cells. IsLegal cells.limits (seen_by lane.cells.view)) mine.cells looked.legal
 
   -- the last lane: what it has seen is the history
-  pub turns_last : (lane : StoreLane V) → IsLaneOf store.id lane → HasRecalled lane → Turns store (seen_by lane.cells.view) lane.keys lane lane
-  turns_last lane mine looked = record {
+  pub turns_last : (lane : StoreLane V) → IsLaneOf store.id lane → Turns store (seen_by lane.cells.view) lane.keys lane lane
+  turns_last lane mine = record {
     lane = mine;
-    calls = calls_none lane_of lane.cells.view (legal_here lane mine looked);
+    calls = calls_none lane_of lane.cells.view;
     since = prefix_refl (seen_by lane.cells.view);
     until = prefix_refl (seen_by lane.cells.view);
     known = refl;

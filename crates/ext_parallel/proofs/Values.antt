@@ -4,6 +4,7 @@ use Rattle.std.specs.Prelude.{find, is_some}
 use Rattle.std.specs.List.{filter_map}
 use Rattle.std.proofs.lemmas.List.Elements.{Contains-append_left, Contains-push, filter_map-append}
 use Rattle.ext_history.proofs.Lists.{bools}
+use Rattle.ext_history.specs.Histories as histories
 use Rattle.ext_history.specs.Histories.{seen_by}
 use Rattle.ext_history.proofs.Legal.{legal_steps}
 use Rattle.ext_model.specs.declared.event.Act.{Act}
@@ -12,9 +13,9 @@ use Rattle.ext_model.specs.declared.event.Event.{Event}
 use Rattle.ext_model.specs.declared.look.Look.TheVariants as look
 use Rattle.ext_model.specs.declared.slot.Slot.{Slot}
 use Rattle.ext_model.specs.declared.slot.Slot.TheVariants as slot
-use Rattle.ext_model.specs.CallActs.{Calls, look_after, LaneView, events_by}
+use Rattle.ext_model.specs.CallActs.{look_after, LaneView, events_by}
 use Rattle.ext_model.specs.Events.{is_on, slot_after}
-use Rattle.ext_model.specs.History.{History, Limits, IsAllowed, IsLegal, own, slots_in, state_after}
+use Rattle.ext_model.specs.History.{History, Limits, IsAllowed, IsLegal, lane_of, own, slots_in, state_after}
 use Rattle.ext_model.specs.State.{look_at, look_in, standing_value}
 use Rattle.ext_model.proofs.Claims.{same_cell, slot_off, slot_on}
 
@@ -42,13 +43,13 @@ stored_in h = filter_map (λ e. slot_stored e.act) h
 abbrev pub own_stored : LaneView → List Stored
 own_stored lane = stored_in (own lane.number (seen_by lane))
 
-pub calls_stored : {limits : Limits} (a b : LaneView) (acts : List (Act ℕ)) → Calls limits a b acts → own_stored b ≡ own_stored a ++ stored_in (events_by a.number acts)
+pub calls_stored : (a b : LaneView) (acts : List (Act ℕ)) → histories.Calls lane_of a b (events_by a.number acts) → own_stored b ≡ own_stored a ++ stored_in (events_by a.number acts)
 calls_stored a b acts calls =
     let number : b.number ≡ a.number = ap (λ (l : LaneView). l.number) calls.fronts in
     ap (λ n. stored_in (own n (seen_by b))) number ∙ (ap stored_in calls.own_events ∙ filter_map-append (λ (e : Event ℕ). slot_stored e.act) (own a.number (seen_by a)) (events_by a.number acts))
 
 -- acts that store none
-pub calls_quiet : {limits : Limits} (a b : LaneView) (acts : List (Act ℕ)) → Calls limits a b acts → stored_in (events_by a.number acts) ≡ [] → own_stored b ≡ own_stored a
+pub calls_quiet : (a b : LaneView) (acts : List (Act ℕ)) → histories.Calls lane_of a b (events_by a.number acts) → stored_in (events_by a.number acts) ≡ [] → own_stored b ≡ own_stored a
 calls_quiet a b acts calls none = calls_stored a b acts calls ∙ (ap (λ l. own_stored a ++ l) none ∙ append-nil (own_stored a))
 
 -- ---- what stands was stored

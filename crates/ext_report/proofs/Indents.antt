@@ -1,5 +1,5 @@
 -- Indents, one level at a time, and what a line begins with.
-use Rattle.std.proofs.Common.{◌≡◌, ℕ, ◌+◌, ◌-◌, suc, List, [], ◌∷◌, ◌++◌, codes, length, get_or, sym, ap, ◌∙◌, append-nil, append_assoc, add-one, refl}
+use Rattle.std.proofs.Common.{◌≡◌, ℕ, ◌+◌, ◌-◌, suc, List, [], ◌++◌, codes, length, sym, ap, ◌∙◌, append-nil, append_assoc, add-one, refl}
 use Rattle.ext_ids.specs.Grammar.{Pair}
 use Rattle.std.specs.List.{slice_get, slice_index_or}
 use Rattle.std.specs.Prelude.{Some}

@@ -1,3 +1,5 @@
 pub mod Lines
 mod Orders
 mod Indents
+mod XmlTexts
+mod Suites

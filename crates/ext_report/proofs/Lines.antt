@@ -9,11 +9,17 @@ use Rattle.ext_lifecycle.specs.declared.node_result.NodeResult.{NodeResult}
 use Rattle.ext_lifecycle.specs.FaultTexts.{NodeOutcome, result_view, results_view}
 use Rattle.ext_report.specs.Report.{line_of, lines_of}
 
+-- what is told of one result more
+pub results-more : (tell : NodeOutcome → List ℕ) (rs : List NodeResult) (i : ℕ) (r : NodeResult) → i < length rs → r ≡ get_or rs i r
+    → flat_map tell (results_view (take (i + 1) rs)) ≡ flat_map tell (results_view (take i rs)) ++ tell (result_view r)
+results-more tell rs i r h at =
+    rw (take_more rs i r h, map-append, flat_map-append, ← at, append-nil) refl
+
 -- the lines of one result more, whatever a line is
 pub lines-more : (line : List Pair → NodeOutcome → List ℕ) (ids : List (List Pair)) (rs : List NodeResult) (i : ℕ) (r : NodeResult) (id : List Pair) → i < length rs → r ≡ get_or rs i r → id ≡ id_at ids r.node
     → flat_map (λ o. line (slice_index_or ids o.node []) o) (results_view (take (i + 1) rs)) ≡ flat_map (λ o. line (slice_index_or ids o.node []) o) (results_view (take i rs)) ++ line id (result_view r)
 lines-more line ids rs i r id h at is =
-    rw (take_more rs i r h, map-append, flat_map-append, ← at, append-nil, is) refl
+    rw is (results-more (λ o. line (slice_index_or ids o.node []) o) rs i r h at)
 
 pub lines_of-more : (ids : List (List Pair)) (rs : List NodeResult) (i : ℕ) (r : NodeResult) (id : List Pair) → i < length rs → r ≡ get_or rs i r → id ≡ id_at ids r.node
     → lines_of ids (results_view (take (i + 1) rs)) ≡ lines_of ids (results_view (take i rs)) ++ line_of id (result_view r)

@@ -4,6 +4,7 @@ ghost use Rattle.ext_lifecycle.specs.FaultTexts.{results_view};
 ghost use Rattle.ext_report.specs.Forms.{report_in};
 
 use crate::json_lines::json_report;
+use crate::junit_xml::junit_report;
 use crate::report::report_text;
 use crate::tree_lines::tree_report;
 use ext_lifecycle::NodeResult;
@@ -20,6 +21,8 @@ pub enum ReportForm {
     /// A line for each node, indented further than that of its parent, and two lines of totals:
     /// `tree_report`.
     Tree,
+    /// JUnit's XML, with a suite for each container that has tests: `junit_report`.
+    Junit,
 }
 
 /// Returns the report of results in this form, as UTF-8 bytes. Each result is of a context of the
@@ -37,5 +40,6 @@ pub fn report_in(
         ReportForm::Text => Ok(report_text(alloc, tree, results)?.into_bytes()),
         ReportForm::Json => json_report(alloc, tree, results),
         ReportForm::Tree => Ok(tree_report(alloc, tree, results)?.into_bytes()),
+        ReportForm::Junit => Ok(junit_report(alloc, tree, results)?.into_bytes()),
     }
 }

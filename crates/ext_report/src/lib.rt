@@ -1,19 +1,23 @@
-//! The report of a test run, as text, as JSON lines or as a tree, from the results of its nodes
-//! (`ext_lifecycle`).
+//! The report of a test run, as text, as JSON lines, as a tree or in JUnit's XML, from the results
+//! of its nodes (`ext_lifecycle`).
 //!
-//! JUnit has no report of this form.
+//! JUnit has no report of the first three forms.
 #![tactic(auto)]
 
+mod cases;
 mod form;
 mod is_status;
 mod json_lines;
+mod junit_xml;
 mod line;
 mod report;
 mod totals;
 mod tree_lines;
+mod xml;
 
 pub use ext_lifecycle::{NodeResult, Status};
 pub use form::{ReportForm, report_in};
 pub use json_lines::json_report;
+pub use junit_xml::junit_report;
 pub use report::{any_failed, report_text};
 pub use tree_lines::{depth_first, tree_report, write_head};

@@ -1,7 +1,7 @@
 //! The line of a node in a report.
 ghost use Rattle.std.specs.Prelude.{◌≡◌, ◌++◌, string_bytes, OnOk, Some};
 ghost use Rattle.ext_lifecycle.specs.FaultTexts.{fault_text, result_view};
-ghost use Rattle.ext_report.specs.Report.{status_text, fault_part, fault_and_further, line_of, outcome_part};
+ghost use Rattle.ext_report.specs.Report.{status_text, fault_part, fault_and_further, further_faults, line_of, outcome_part};
 
 use ext_ids::UniqueId;
 use ext_lifecycle::{NodeResult, Status};
@@ -55,6 +55,13 @@ fn write_fault_and_further(text: &mut String, fault: &Fault, more: u64) -> Resul
 {
     let words = fault_text(fault);
     write!(text, ": {words}")?;
+    write_further(text, more)
+}
+
+/// Writes how many other faults there are, if any, at the end of a text.
+pub(crate) fn write_further(text: &mut String, more: u64) -> Result<(), AllocError>
+    ensures { OnOk result (string_bytes text.new ≡ string_bytes text.old ++ further_faults more) }
+{
     if more != 0 {
         write!(text, " (+{more})")?;
     }

@@ -71,11 +71,11 @@ module _ (limits : Limits) where
   ]
 
   -- what a row's word says of a cell
-  tells_of : (place row cell : ℕ) (standing : Standing) → told_by (nat_eq (row_place cells cell) place) row cell ≡ Some standing → (row_place cells cell ≡ place) × (standing_in row cell ≡ standing)
+  pub tells_of : (place row cell : ℕ) (standing : Standing) → told_by (nat_eq (row_place cells cell) place) row cell ≡ Some standing → (row_place cells cell ≡ place) × (standing_in row cell ≡ standing)
   tells_of place row cell standing is =
       let t = said (nat_eq (row_place cells cell) place) row cell standing is in (same_place (row_place cells cell) place t.0, t.1)
 
-  tells_so : (place row cell : ℕ) (standing : Standing) → row_place cells cell ≡ place → standing_in row cell ≡ standing → told_by (nat_eq (row_place cells cell) place) row cell ≡ Some standing
+  pub tells_so : (place row cell : ℕ) (standing : Standing) → row_place cells cell ≡ place → standing_in row cell ≡ standing → told_by (nat_eq (row_place cells cell) place) row cell ≡ Some standing
   tells_so place row cell standing here is = ap (λ b. told_by b row cell) (eq-eqb (row_place cells cell) place here) ∙ ap Some is
 
   bare : (words : List ℕ) (cell : ℕ) → all_below (is_bare cells words) cells ≡ true → cell < cells → is_bare cells words cell ≡ true

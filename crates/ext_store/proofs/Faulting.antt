@@ -1,24 +1,19 @@
 -- What the keeping of a fault says, by what was drawn and what became of it, and that a store that keeps no faults meets none.
-use Rattle.std.proofs.Common.{◌≡◌, ◌≢◌, arith, ℕ, ◌+◌, ◌≤◌, List, [], ◌∷◌, ◌++◌, sym, refl, ap, ◌∙◌, subst, inl, inr, Some, Contains}
-use Rattle.std.specs.Prelude.{Result, Ok, Err, IfErr, IfOk, MatchResult, IsFalse, ◌==◌}
-use Rattle.std.proofs.lemmas.List.Elements.{Contains-append_left}
+use Rattle.std.proofs.Common.{◌≡◌, ◌≢◌, ℕ, List, [], ◌∷◌, sym, refl, ap, ◌∙◌, subst, inl, inr}
+use Rattle.std.specs.Prelude.{Result, Ok, Err, IfErr, IfOk, MatchResult, IsFalse}
 use Rattle.ext_model.specs.declared.event.Act.{Act}
 use Rattle.ext_model.specs.declared.event.Act.TheVariants.{Keep}
-use Rattle.ext_model.specs.declared.event.Event.{Event}
 use Rattle.ext_model.specs.declared.look.Fault.{Fault}
 use Rattle.ext_model.specs.declared.look.Look.TheVariants as look
-use Rattle.ext_model.specs.Events as events
-use Rattle.ext_model.specs.History.{History, by, state_after, IsLegal}
+use Rattle.ext_model.specs.History.{IsLegal}
 use Rattle.ext_history.specs.Histories.{seen_by}
 use Rattle.ext_model.specs.CallActs.{LaneView, Calls, IsHeld, MayStoreNow}
-use Rattle.ext_history.proofs.Lists.{contains_from_filter}
-use Rattle.ext_history.proofs.Legal.{legal_prefix, legal_begun}
+use Rattle.ext_history.proofs.Legal.{legal_begun}
 use Rattle.ext_history.proofs.Composed.{answer_point, point_legal}
-use Rattle.ext_model.proofs.Numbers.{bounded}
 use Rattle.ext_tree.proofs.KeyPlacing.{keeps_all}
 use Rattle.ext_values.specs.Known.{Known, KeepsKnown, LearnsOne, known_at, places_of}
 use Rattle.ext_cells.specs.declared.refusal.CellRefusal.{CellRefusal}
-use Rattle.ext_cells.specs.Lanes.{Lane}
+use Rattle.ext_cells.specs.Lanes.{CellsId, Lane}
 use Rattle.ext_cells.specs.CellCalls as cells
 use Rattle.ext_store_core.specs.declared.claim.Unused.{Unused}
 use Rattle.ext_store_core.specs.declared.claim.Unused.TheVariants.{Found, FaultStands, Refused}
@@ -55,7 +50,7 @@ no_fault_memory store why back lane mine handed = record {
   frame = no_frame store.id lane mine;
 }
 
-module _ {V : Type 0} (store : StoreView) (tries : ℕ) (same : tries ≡ store.tries) (why : Fault) (a : StoreLane V) (mine : IsLaneOf store.id a) (after : Lane) (is : after.cells ≡ a.cells.cells) (notes : List (Known Fault)) where
+module _ {V : Type 0} (store : StoreView) (tries : ℕ) (same : tries ≡ store.tries) (why : Fault) (a : StoreLane V) (mine : IsLaneOf store.id a) (after : Lane) (is : after.cells ≡ a.cells.cells) (lawful : IsLegal a.cells.cells.limits (seen_by after.view)) (notes : List (Known Fault)) where
   abbrev b : StoreLane V
   b = record { cells = after; known = a.known; faults = notes; keys = a.keys }
 
@@ -68,7 +63,7 @@ module _ {V : Type 0} (store : StoreView) (tries : ℕ) (same : tries ≡ store.
       record {
         answer = record { drawn = drawn; learnt = is_placed.learnt; storable = storable };
         known = refl;
-        apart = λ m kept. drawn_apart a.cells after number m drawn kept.storable;
+        apart = λ m kept. drawn_apart a.cells after number m lawful drawn kept.storable;
         frame = framed store.id a b mine (own_lane is_placed.learnt.places) (λ n v known. known) is_placed.known (keeps_all a.keys) (Keep number ∷ []) drawn.calls (unplaced_keeps a.cells.cells.limits a b number drawn.calls refl);
       }
 
@@ -86,7 +81,7 @@ module _ {V : Type 0} (store : StoreView) (tries : ℕ) (same : tries ≡ store.
     unfolding KeepFails
     unplaced number answers stands knows =
         let drawn = drew store tries a.cells after same number answers in
-        nothing (Keep number ∷ []) drawn.calls (unplaced_keeps a.cells.cells.limits a b number drawn.calls refl) stands.1.places knows Unplaced (number, drawn) (number, draws_new a.cells after number drawn, stands)
+        nothing (Keep number ∷ []) drawn.calls (unplaced_keeps a.cells.cells.limits a b number drawn.calls refl) stands.1.places knows Unplaced (number, drawn) (number, draws_new a.cells after number lawful drawn, stands)
 
     undrawn : (cause : CellRefusal) → cells.Answers tries a.cells after cells.number_acts (cells.number_reply a.cells) (Err cause) → notes ≡ a.faults → FaultParts store why a b (Err (back, keep_fault cause))
     undrawn cause answers still =
@@ -105,27 +100,27 @@ module _ {V : Type 0} (store : StoreView) (tries : ℕ) (same : tries ≡ store.
 
 -- the same for a lane as the caller has it
 pub fault_by_drawn : {V : Type 0} (store : StoreView) (tries : ℕ) → tries ≡ store.tries → (why : Fault) (inside before : StoreLane V) → inside ≡ before → IsLaneOf store.id before
-    → (after : Lane) → after.cells ≡ inside.cells.cells → (notes : List (Known Fault)) (drawn : Result ℕ CellRefusal)
+    → (after : Lane) → after.cells ≡ inside.cells.cells → IsLegal after.cells.limits (seen_by after.view) → (notes : List (Known Fault)) (drawn : Result ℕ CellRefusal)
     → cells.Answers tries inside.cells after cells.number_acts (cells.number_reply inside.cells) drawn → IfOk drawn (MayStoreNow after.view)
     → (r : Result ℕ (Fault × KeepFault)) → PlacesDrawn why drawn inside.faults notes r → FaultParts store why before (record { cells = after; known = inside.known; faults = notes; keys = inside.keys }) r
-fault_by_drawn store tries same why inside before is mine after cells notes drawn answers storable r p =
+fault_by_drawn store tries same why inside before is mine after cells legal notes drawn answers storable r p =
     subst (λ l. FaultParts store why l (record { cells = after; known = inside.known; faults = notes; keys = inside.keys }) r) is
-    (by_drawn store tries same why inside (subst (IsLaneOf store.id) (sym is) mine) after cells notes drawn answers storable r p)
+    (by_drawn store tries same why inside (subst (IsLaneOf store.id) (sym is) mine) after cells (subst (λ (z : CellsId). IsLegal z.limits (seen_by after.view)) cells legal) notes drawn answers storable r p)
 
 -- ---- a store that keeps no faults
 
 -- no fault is the reason why a factory is not called
-meets_none : (store : ContextCells) (context : ℕ) (ancestors : List ℕ) (key : ℕ) (a b : LaneView) (at number : ℕ) → IsFalse store.cells.limits.keep_faults → Meets store.cells.limits store context ancestors key a b (look.Fault at number) → ⊥
+meets_none : (store : ContextCells) (context : ℕ) (ancestors : List ℕ) (key : ℕ) (a b : LaneView) (at number : ℕ) → IsLegal store.cells.limits (seen_by b) → IsFalse store.cells.limits.keep_faults → Meets store.cells.limits store context ancestors key a b (look.Fault at number) → ⊥
 unfolding Meets
-meets_none store context ancestors key a b at number off m = elim m [
-  | inl h ↦ none_met store.cells.limits h.point.0 (cell_in store key) (context ∷ ancestors) at number off (point_legal h.calls h.point.0 (answer_point h.calls h.point.0 h.point.1)) h.point.2
-  | inr k ↦ none_met store.cells.limits k.1.looked.0 (cell_in store key) ancestors at number off (legal_begun k.1.looked.0 (seen_by b) k.1.looked.1.until k.0.legal) k.1.looked.2
+meets_none store context ancestors key a b at number lawful off m = elim m [
+  | inl h ↦ none_met store.cells.limits h.point.0 (cell_in store key) (context ∷ ancestors) at number off (point_legal lawful h.point.0 (answer_point h.calls h.point.0 h.point.1)) h.point.2
+  | inr k ↦ none_met store.cells.limits k.1.looked.0 (cell_in store key) ancestors at number off (legal_begun k.1.looked.0 (seen_by b) k.1.looked.1.until lawful) k.1.looked.2
 ]
 
-pub none_stands : (store : ContextCells) (context : ℕ) (ancestors : List ℕ) (key : ℕ) (a b : LaneView) (unused : Unused) → ClaimsFrom store context ancestors key a b (Err unused) → IsFalse store.cells.limits.keep_faults → IsFaultlessUnused unused
-none_stands store context ancestors key a b (Found at number) m off = tt
-none_stands store context ancestors key a b (FaultStands at number) m off = meets_none store context ancestors key a b at number off m
-none_stands store context ancestors key a b (Refused why) m off = tt
+pub none_stands : (store : ContextCells) (context : ℕ) (ancestors : List ℕ) (key : ℕ) (a b : LaneView) (unused : Unused) → IsLegal store.cells.limits (seen_by b) → ClaimsFrom store context ancestors key a b (Err unused) → IsFalse store.cells.limits.keep_faults → IsFaultlessUnused unused
+none_stands store context ancestors key a b (Found at number) lawful m off = tt
+none_stands store context ancestors key a b (FaultStands at number) lawful m off = meets_none store context ancestors key a b at number lawful off m
+none_stands store context ancestors key a b (Refused why) lawful m off = tt
 
 -- so a factory that comes back does not come back for one
 pub handed_faultless : {V F : Type 0} (factory : F) (unused : Unused) (r : Compute V F) → r ≡ with_factory factory unused → IsFaultlessUnused unused → IsFaultless r
@@ -137,8 +132,8 @@ handed_faultless {V} {F} factory unused r is none = subst IsFaultless (sym is) (
     faultless (Refused why) n = tt
 
 pub unused_faultless : {V F : Type 0} (store : StoreView) (context : ℕ) (ancestors : List ℕ) (key : ℕ) (a b : LaneView) (factory : F) (unused : Unused) (r : Compute V F) → r ≡ with_factory factory unused
-    → ClaimsFrom (context_cells store) context ancestors key a b (Err unused) → IsFalse store.id.cells.limits.keep_faults → IsFaultless r
-unused_faultless store context ancestors key a b factory unused r is from off = handed_faultless factory unused r is (none_stands (context_cells store) context ancestors key a b unused from off)
+    → IsLegal store.id.cells.limits (seen_by b) → ClaimsFrom (context_cells store) context ancestors key a b (Err unused) → IsFalse store.id.cells.limits.keep_faults → IsFaultless r
+unused_faultless store context ancestors key a b factory unused r is lawful from off = handed_faultless factory unused r is (none_stands (context_cells store) context ancestors key a b unused lawful from off)
 
 -- ---- what a begun compute says, whether the claim is won or not
 
@@ -146,6 +141,6 @@ pub begun_held : (store : StoreView) (context key : ℕ) (a b : LaneView) (r : R
 begun_held store context key a b (Ok claim) m = m.2.1
 begun_held store context key a b (Err unused) m = tt
 
-pub begun_faultless : (store : StoreView) (context key : ℕ) (a b : LaneView) (r : Result ℕ Unused) → ClaimsMissing store context key a b r → IsFalse store.id.cells.limits.keep_faults → IfErr r IsFaultlessUnused
-begun_faultless store context key a b (Ok claim) m off = tt
-begun_faultless store context key a b (Err unused) m off = none_stands (context_cells store) context m.0 key a b unused m.2 off
+pub begun_faultless : (store : StoreView) (context key : ℕ) (a b : LaneView) (r : Result ℕ Unused) → IsLegal store.id.cells.limits (seen_by b) → ClaimsMissing store context key a b r → IsFalse store.id.cells.limits.keep_faults → IfErr r IsFaultlessUnused
+begun_faultless store context key a b (Ok claim) lawful m off = tt
+begun_faultless store context key a b (Err unused) lawful m off = none_stands (context_cells store) context m.0 key a b unused lawful m.2 off

@@ -6,7 +6,8 @@ use Rattle.ext_model.specs.declared.event.Act.{Act}
 use Rattle.ext_model.specs.declared.event.Act.TheVariants.{Keep, Fill, Fail, Abandon}
 use Rattle.ext_model.specs.Events as events
 use Rattle.ext_model.specs.Events.{is_on}
-use Rattle.ext_model.specs.History.{Limits, stored_number, reply_after}
+use Rattle.ext_model.specs.History.{Limits, stored_number, reply_after, IsLegal}
+use Rattle.ext_history.specs.Histories.{seen_by}
 use Rattle.ext_model.specs.CallActs.{Calls, HoldsAtPoint, IsOvertaken, IsHeld}
 use Rattle.ext_history.proofs.Composed.{point_of_first, answer_first}
 use Rattle.ext_history.proofs.Crowded.{overtaken_crowded, crowded_by_first}
@@ -58,22 +59,22 @@ module _ (store : StoreView) (a b : Lane) (is : a.cells ≡ store.id.cells) (cel
       → HoldsAtPoint store.id.cells.limits a.view b.view (Keep number ∷ []) (λ p. reply_after store.id.cells.limits p a.view.number (Keep number) ≡ events.Happens (Some number))
   drew number = subst (λ (z : CellsId). HoldsAtPoint z.limits a.view b.view (Keep number ∷ []) (λ p. reply_after z.limits p a.view.number (Keep number) ≡ events.Happens (Some number))) is
 
-  held_after : (acts : List (Act ℕ)) → All (λ act. is_on nat_eq cell act ≡ false) acts → Calls store.id.cells.limits a.view b.view acts → IsHeld a.view cell → IsHeld b.view cell
-  held_after acts off one held = (claim_held limits a.view b.view acts cell one off held).0
+  held_after : IsLegal store.id.cells.limits (seen_by b.view) → (acts : List (Act ℕ)) → All (λ act. is_on nat_eq cell act ≡ false) acts → Calls store.id.cells.limits a.view b.view acts → IsHeld a.view cell → IsHeld b.view cell
+  held_after lawful acts off one held = (claim_held limits a.view b.view acts cell lawful one off held).0
 
   off_keep : (number : ℕ) → All (λ act. is_on nat_eq cell act ≡ false) (Keep number ∷ [])
   off_keep number = All-cons (λ act. is_on nat_eq cell act ≡ false) (Keep number) [] refl (All-nil _)
 
   -- the claim stands on while a number is drawn, or none
-  pub kept_held : (number : ℕ) → calls.HoldsAtPoint a b (Keep number ∷ []) (λ p. calls.reply_to a (Keep number) p ≡ events.Happens (Some number)) → IsHeld a.view cell → IsHeld b.view cell
-  kept_held number h held = held_after (Keep number ∷ []) (off_keep number) (drew number h).calls held
+  pub kept_held : (number : ℕ) → IsLegal store.id.cells.limits (seen_by b.view) → calls.HoldsAtPoint a b (Keep number ∷ []) (λ p. calls.reply_to a (Keep number) p ≡ events.Happens (Some number)) → IsHeld a.view cell → IsHeld b.view cell
+  kept_held number lawful h held = held_after lawful (Keep number ∷ []) (off_keep number) (drew number h).calls held
 
-  pub fails_held : (why : KeepFault) → KeepFails store a b why → IsHeld a.view cell → IsHeld b.view cell
+  pub fails_held : (why : KeepFault) → IsLegal store.id.cells.limits (seen_by b.view) → KeepFails store a b why → IsHeld a.view cell → IsHeld b.view cell
   unfolding KeepFails
-  fails_held fault.Memory h held = subst (λ (l : Lane). IsHeld l.view cell) (sym h) held
-  fails_held fault.NumbersFull h held = held_after [] (All-nil _) (subst (λ (z : CellsId). Calls z.limits a.view b.view []) is h.calls) held
-  fails_held fault.Contended h held = held_after [] (All-nil _) (subst (λ (z : CellsId). Calls z.limits a.view b.view []) is h.calls) held
-  fails_held fault.Unplaced h held = held_after (Keep h.0 ∷ []) (off_keep h.0) (drew h.0 h.1).calls held
+  fails_held fault.Memory lawful h held = subst (λ (l : Lane). IsHeld l.view cell) (sym h) held
+  fails_held fault.NumbersFull lawful h held = held_after lawful [] (All-nil _) (subst (λ (z : CellsId). Calls z.limits a.view b.view []) is h.calls) held
+  fails_held fault.Contended lawful h held = held_after lawful [] (All-nil _) (subst (λ (z : CellsId). Calls z.limits a.view b.view []) is h.calls) held
+  fails_held fault.Unplaced lawful h held = held_after lawful (Keep h.0 ∷ []) (off_keep h.0) (drew h.0 h.1).calls held
 
   module _ (c : Lane) where
     pub fills : (number : ℕ) → calls.HoldsAtPoint a b (Keep number ∷ []) (λ p. calls.reply_to a (Keep number) p ≡ events.Happens (Some number))

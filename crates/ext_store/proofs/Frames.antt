@@ -6,7 +6,7 @@ use mathlib.Core.List.{IsPrefix}
 use base.Growing.{prefix_trans}
 use Rattle.ext_model.specs.declared.event.Act.{Act}
 use Rattle.ext_model.specs.declared.event.Act.TheVariants.{Keep, Put}
-use Rattle.ext_model.specs.History.{History, Limits, lane_of, IsLegal}
+use Rattle.ext_model.specs.History.{History, Limits, lane_of}
 use Rattle.ext_history.specs.Histories.{last_after, seen, seen_by, Follow}
 use Rattle.ext_model.specs.CallActs.{LaneView, Calls}
 use Rattle.ext_history.proofs.Fronts.{follow_last}
@@ -51,10 +51,10 @@ module _ {V : Type 0} (id : StoreId) where
     kept = λ number other kept. two.kept number (λ in_second. other (Contains-append_right first second number in_second)) (one.kept number (λ in_first. other (Contains-append_left first second number in_first)) kept);
   }
 
-  pub frame_calls : (stored : List ℕ) (a b : StoreLane V) → Frame id stored a b → IsLegal id.cells.limits (seen_by b.cells.view) → (acts : List (Act ℕ)) × Calls id.cells.limits a.cells.view b.cells.view acts
+  pub frame_calls : (stored : List ℕ) (a b : StoreLane V) → Frame id stored a b → (acts : List (Act ℕ)) × Calls id.cells.limits a.cells.view b.cells.view acts
   unfolding Frame
-  frame_calls stored a b frame legal = elim frame.steps.1 [
-    | inl still ↦ ([], subst (λ (l : Lane). Calls id.cells.limits l.view b.cells.view []) still.0 (calls_none lane_of b.cells.view legal))
+  frame_calls stored a b frame = elim frame.steps.1 [
+    | inl still ↦ ([], subst (λ (l : Lane). Calls id.cells.limits l.view b.cells.view []) still.0 (calls_none lane_of b.cells.view))
     | inr calls ↦ (frame.steps.0, calls)
   ]
 

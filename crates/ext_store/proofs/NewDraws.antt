@@ -29,12 +29,12 @@ contains_on x y on e there = subst (λ z. Contains z e) on.1 (Contains-append_le
 
 -- ---- a number that is drawn now was not drawn before
 
-pub draws_new : (a b : Lane) (n : ℕ) → HoldsAtPoint a b (Keep n ∷ []) (λ p. reply_to a (Keep n) p ≡ events.Happens (Some n)) → Draws a.view b.view n
-draws_new a b n h =
+pub draws_new : (a b : Lane) (n : ℕ) → IsLegal a.cells.limits (seen_by b.view) → HoldsAtPoint a b (Keep n ∷ []) (λ p. reply_to a (Keep n) p ≡ events.Happens (Some n)) → Draws a.view b.view n
+draws_new a b n lawful h =
     let p : History = h.point.0 in
     let e : Event ℕ = by a.view.number (Keep n) in
     let seen : seen_by b.view ≡ p ++ by a.view.number (Keep n) ∷ [] = h.point.1.1 in
-    let legal : IsLegal a.cells.limits (p ++ by a.view.number (Keep n) ∷ []) = subst (IsLegal a.cells.limits) seen h.calls.legal in
+    let legal : IsLegal a.cells.limits (p ++ by a.view.number (Keep n) ∷ []) = subst (IsLegal a.cells.limits) seen lawful in
     let next : n ≡ (state_after p).drawn + 1 = (legal.each p e [] refl).next in
     record {
       new = λ there.
@@ -44,10 +44,10 @@ draws_new a b n h =
     }
 
 -- so it is none that the lane may store
-pub drawn_apart : (a b : Lane) (n m : ℕ) → HoldsAtPoint a b (Keep n ∷ []) (λ p. reply_to a (Keep n) p ≡ events.Happens (Some n)) → MayStoreNow a.view m → m ≢ n
-drawn_apart a b n m h now e =
+pub drawn_apart : (a b : Lane) (n m : ℕ) → IsLegal a.cells.limits (seen_by b.view) → HoldsAtPoint a b (Keep n ∷ []) (λ p. reply_to a (Keep n) p ≡ events.Happens (Some n)) → MayStoreNow a.view m → m ≢ n
+drawn_apart a b n m lawful h now e =
     let there : Contains (seen_by a.view) (by a.view.number (Keep m)) = contains_from_filter (λ (x : Event ℕ). x.lane == a.view.number) (seen_by a.view) (by a.view.number (Keep m)) now.drew in
-    (draws_new a b n h).new (subst (λ k. Contains (seen_by a.view) (by a.view.number (Keep k))) e there)
+    (draws_new a b n lawful h).new (subst (λ k. Contains (seen_by a.view) (by a.view.number (Keep k))) e there)
 
 -- ---- a part of a call, and the whole call
 

@@ -1,6 +1,6 @@
 -- What a call by a key says, from what its key's number was given and what the call by that number says.
 use Rattle.std.proofs.Common.{◌≡◌, ◌≤◌, inl, inr, ℕ, List, sym, subst, ◌∙◌}
-use Rattle.std.specs.Prelude.{Option, Some, Result, Ok, Err, MatchResult}
+use Rattle.std.specs.Prelude.{Option, Some, Result}
 use Rattle.ext_model.specs.declared.look.Fault.{Fault}
 use Rattle.ext_tree.specs.Keys.{KeyValue, KnownPlace, IsKeyNumber, KeepsKeys, PlacesOnly}
 use Rattle.ext_tree.specs.declared.key_fault.KeyFault.{KeyFault}
@@ -11,7 +11,7 @@ use Rattle.ext_cells.specs.Lanes.{Lane}
 use Rattle.ext_store_core.specs.declared.fault.Refusal.{Refusal}
 use Rattle.ext_store.specs.declared.computed.Compute.{Compute}
 use Rattle.ext_store.specs.declared.computed.Compute.TheVariants.{Computed, Found, Failed, FaultKept, FaultUnkept, FaultStands, Unkept, Refused}
-use Rattle.ext_store.specs.Stores.{StoreId, StoreLane, IsKeptBy, StillKeeps, StillKeepsBut}
+use Rattle.ext_store.specs.Stores.{StoreId, StoreLane, IsKeptBy, StillKeeps}
 use Rattle.ext_store.specs.LaneCalls.{Frame, steps_of, IsKeyRefused, KnowsUnkept, OfKey, key_refusal}
 use Rattle.ext_store.specs.Computing.{IfComputed, Uses}
 use Rattle.ext_store.proofs.NewDraws.{GoesOnTo, knows_since}

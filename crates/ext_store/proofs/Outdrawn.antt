@@ -1,47 +1,17 @@
 -- Other lanes that drew so many numbers in the way of a part of a call were in the way of the whole call.
-use Rattle.std.proofs.Common.{◌≡◌, ℕ, ◌+◌, ◌≤◌, List, [], ◌∷◌, ◌++◌, fold, sym, ap, ◌∙◌, subst, arith, Option}
-use Rattle.std.specs.Prelude.{nat_eq}
-use mathlib.Core.List.{IsPrefix}
+use Rattle.std.proofs.Common.{◌≡◌, ℕ, List, subst, Option}
 use base.Growing.{prefix_refl, prefix_trans}
 use Rattle.ext_model.specs.declared.event.Act.{Act}
-use Rattle.ext_model.specs.declared.event.Act.TheVariants.{Keep, Put, Remove, Claim, Fill, Fail, Abandon, Seal}
+use Rattle.ext_model.specs.declared.event.Act.TheVariants.{Keep}
 use Rattle.ext_model.specs.Events as events
-use Rattle.ext_model.specs.Events.{apply, drawn_after}
-use Rattle.ext_model.specs.State.{State}
 use Rattle.ext_model.specs.History.{History, Limits, reply_after, state_after}
 use Rattle.ext_model.specs.CallActs.{LaneView, Calls}
 use Rattle.ext_history.specs.Histories.{seen_by}
 use Rattle.ext_history.proofs.Composed.{same_number, seen_goes_on}
-use Rattle.ext_model.proofs.Versions.{after-append}
 use Rattle.ext_cells.specs.Lanes.{Lane}
 use Rattle.ext_cells.specs.CellCalls.{IsOvertakenAt}
-use Rattle.ext_store_core.proofs.Rises.{rises_first, rises_second}
+use Rattle.ext_store_core.proofs.Rises.{drawn_grows, rises_first, rises_second}
 use Rattle.ext_store.specs.Computing.{IsOutdrawn}
-
--- ---- the count of numbers drawn never falls
-
-act_draws : (act : Act ℕ) (drawn : ℕ) → drawn ≤ drawn_after act drawn
-act_draws (Keep number) drawn = omega arith
-act_draws (Put at number) drawn = omega arith
-act_draws (Remove at) drawn = omega arith
-act_draws (Claim at) drawn = omega arith
-act_draws (Fill at number) drawn = omega arith
-act_draws (Fail at number) drawn = omega arith
-act_draws (Abandon at) drawn = omega arith
-act_draws (Seal at) drawn = omega arith
-
-never_falls : (rest : History) (s : State ℕ) → s.drawn ≤ (fold (apply nat_eq) s rest).drawn
-never_falls [] s = omega arith
-never_falls (e ∷ rest) s =
-    let one = act_draws e.act s.drawn in
-    let more = never_falls rest (apply nat_eq s e) in
-    omega (arith, one, more)
-
-drawn_grows : (x y : History) → IsPrefix x y → (state_after x).drawn ≤ (state_after y).drawn
-drawn_grows x y on =
-    let same : (state_after y).drawn ≡ (fold (apply nat_eq) (state_after x) on.0).drawn = ap (λ z. (state_after z).drawn) (sym on.1) ∙ ap (λ (s : State ℕ). s.drawn) (after-append x on.0) in
-    let more = never_falls on.0 (state_after x) in
-    omega (arith, same, more)
 
 -- ---- a part of a call, and the whole call
 

@@ -3,13 +3,15 @@ use Rattle.std.proofs.Common.{◌≡◌, ◌≢◌, ◌≤◌, arith, length, �
 use Rattle.std.specs.Prelude.{Result, Ok, Err, IfOk, IfErr, MatchResult}
 use Rattle.ext_model.specs.declared.event.Act.{Act}
 use Rattle.ext_model.specs.declared.event.Act.TheVariants.{Keep}
+use Rattle.ext_history.specs.Histories.{seen_by}
+use Rattle.ext_model.specs.History.{IsLegal}
 use Rattle.ext_model.specs.CallActs.{Calls, MayStoreNow}
 use Rattle.ext_tree.proofs.KeyPlacing.{keeps_all}
 use Rattle.ext_values.specs.Places.{IsNumber}
 use Rattle.ext_values.specs.Known.{Known, KeepsKnown, LearnsOne, known_at, places_of}
 use Rattle.ext_cells.specs.declared.refusal.CellRefusal.{CellRefusal}
 use Rattle.ext_cells.specs.declared.refusal.CellRefusal.TheVariants as cell
-use Rattle.ext_cells.specs.Lanes.{Lane}
+use Rattle.ext_cells.specs.Lanes.{CellsId, Lane}
 use Rattle.ext_cells.specs.CellCalls as cells
 use Rattle.ext_store.specs.declared.fault.KeepFault.{KeepFault}
 use Rattle.ext_store.specs.declared.fault.KeepFault.TheVariants.{Memory, Unplaced}
@@ -45,7 +47,7 @@ no_memory store value back lane mine handed = record {
   frame = no_frame store.id lane mine;
 }
 
-module _ {V : Type 0} (store : StoreView) (tries : ℕ) (same : tries ≡ store.tries) (value : V) (a : StoreLane V) (mine : IsLaneOf store.id a) (after : Lane) (is : after.cells ≡ a.cells.cells) (notes : List (Known V)) where
+module _ {V : Type 0} (store : StoreView) (tries : ℕ) (same : tries ≡ store.tries) (value : V) (a : StoreLane V) (mine : IsLaneOf store.id a) (after : Lane) (is : after.cells ≡ a.cells.cells) (lawful : IsLegal a.cells.cells.limits (seen_by after.view)) (notes : List (Known V)) where
   abbrev b : StoreLane V
   b = record { cells = after; known = notes; faults = a.faults; keys = a.keys }
 
@@ -86,8 +88,8 @@ module _ {V : Type 0} (store : StoreView) (tries : ℕ) (same : tries ≡ store.
     unfolding KeepFails
     unplaced number answers stands knows =
         let drawn = drew store tries a.cells after same number answers in
-        let keeps = found_keeps a.cells.cells.limits a b number stands.0 drawn.calls stands.1 (λ m kept. drawn_apart a.cells after number m drawn kept.storable) in
-        nothing (Keep number ∷ []) drawn.calls keeps stands.1.places knows Unplaced (number, drawn) (number, draws_new a.cells after number drawn, stands)
+        let keeps = found_keeps a.cells.cells.limits a b number stands.0 drawn.calls stands.1 (λ m kept. drawn_apart a.cells after number m lawful drawn kept.storable) in
+        nothing (Keep number ∷ []) drawn.calls keeps stands.1.places knows Unplaced (number, drawn) (number, draws_new a.cells after number lawful drawn, stands)
 
     undrawn : (why : CellRefusal) → cells.Answers tries a.cells after cells.number_acts (cells.number_reply a.cells) (Err why) → notes ≡ a.known → KeepParts store value a b (Err (back, keep_fault why))
     undrawn why answers still =
@@ -106,12 +108,12 @@ module _ {V : Type 0} (store : StoreView) (tries : ℕ) (same : tries ≡ store.
 
 -- the same for a lane as the caller has it
 pub kept_by_drawn : {V : Type 0} (store : StoreView) (tries : ℕ) → tries ≡ store.tries → (value : V) (inside before : StoreLane V) → inside ≡ before → IsLaneOf store.id before
-    → (after : Lane) → after.cells ≡ inside.cells.cells → (notes : List (Known V)) (drawn : Result ℕ CellRefusal)
+    → (after : Lane) → after.cells ≡ inside.cells.cells → IsLegal after.cells.limits (seen_by after.view) → (notes : List (Known V)) (drawn : Result ℕ CellRefusal)
     → cells.Answers tries inside.cells after cells.number_acts (cells.number_reply inside.cells) drawn → IfOk drawn (MayStoreNow after.view)
     → (r : Result ℕ (V × KeepFault)) → PlacesDrawn value drawn inside.known notes r → KeepParts store value before (record { cells = after; known = notes; faults = inside.faults; keys = inside.keys }) r
-kept_by_drawn store tries same value inside before is mine after cells notes drawn answers storable r p =
+kept_by_drawn store tries same value inside before is mine after cells legal notes drawn answers storable r p =
     subst (λ l. KeepParts store value l (record { cells = after; known = notes; faults = inside.faults; keys = inside.keys }) r) is
-    (by_drawn store tries same value inside (subst (IsLaneOf store.id) (sym is) mine) after cells notes drawn answers storable r p)
+    (by_drawn store tries same value inside (subst (IsLaneOf store.id) (sym is) mine) after cells (subst (λ (z : CellsId). IsLegal z.limits (seen_by after.view)) cells legal) notes drawn answers storable r p)
 
 -- what the drawing of a number says is what the placing of it asks for
 pub drawn_fits : (store : StoreView) (tries : ℕ) → tries ≡ store.tries → (before after : Lane) (drawn : Result ℕ CellRefusal) → cells.Answers tries before after cells.number_acts (cells.number_reply before) drawn

@@ -1,6 +1,6 @@
--- After a seal, which stores no number, its lane keeps what it kept.
-use Rattle.std.proofs.Common.{◌≡◌, ◌⊎◌, inl, inr, ℕ, [], ◌∷◌, ap, Option}
-use Rattle.std.specs.Prelude.{Result, Ok, Err}
+-- After seals, which store no number, their lane keeps what it kept.
+use Rattle.std.proofs.Common.{◌≡◌, ◌⊎◌, inl, inr, ℕ, List, [], ◌∷◌, ap, Option}
+use Rattle.std.specs.Prelude.{All, Result, Ok, Err}
 use Rattle.std.proofs.lemmas.List.Elements.{All-nil, All-cons}
 use Rattle.ext_model.specs.declared.event.Act.TheVariants.{Seal}
 use Rattle.ext_model.specs.CallActs.{Calls}
@@ -8,7 +8,7 @@ use Rattle.ext_values.specs.Known.{known_at}
 use Rattle.ext_cells.specs.Lanes.{Lane}
 use Rattle.ext_store_core.specs.declared.fault.Refusal.{Refusal}
 use Rattle.ext_store_core.specs.declared.fault.Refusal.TheVariants as refusal
-use Rattle.ext_store_core.specs.ContextCalls.{ContextCells, SealsKey, cell_in}
+use Rattle.ext_store_core.specs.ContextCalls.{ContextCells, SealsKey, SealsUnused, cell_in, seals_of}
 use Rattle.ext_store.specs.Stores.{StoreId, StoreLane, IsLaneOf, IsOnCells}
 use Rattle.ext_store.specs.LaneCalls.{Frame}
 use Rattle.ext_store.proofs.Keeping.{StoresNot, one_kept}
@@ -35,3 +35,14 @@ seal_frame {V} id store inside a b is mine cells on_cells context key r sealed =
       (λ number kept. one_kept inside.cells.cells.limits inside b (Seal (cell_in store key context) ∷ []) number made (All-cons (StoresNot number) (Seal (cell_in store key context)) [] (λ e. cc e) (All-nil (StoresNot number))) (ap (λ (x : StoreLane V). known_at x.known number) on_cells) kept)
   | inr found ↦ quiet_frame id inside a b is mine cells on_cells found
 ]
+
+stores_none : (store : ContextCells) (context number : ℕ) (keys : List ℕ) → All (StoresNot number) (seals_of store context keys)
+stores_none store context number [] = All-nil (StoresNot number)
+stores_none store context number (key ∷ keys) = All-cons (StoresNot number) (Seal (cell_in store key context)) (seals_of store context keys) (λ e. cc e) (stores_none store context number keys)
+
+-- and so have the seals of keys that nobody used
+pub unused_frame : {V : Type 0} (id : StoreId) (store : ContextCells) (inside a b : StoreLane V) → inside ≡ a → IsLaneOf id a → b.cells.cells ≡ inside.cells.cells → IsOnCells inside b
+    → (context half marks : ℕ) → SealsUnused store context half marks inside.cells b.cells → Frame id [] a b
+unused_frame {V} id store inside a b is mine cells on_cells context half marks sealed =
+    frame_of id inside a b is mine cells on_cells (seals_of store context sealed.sealed) sealed.calls
+    (λ number kept. one_kept inside.cells.cells.limits inside b (seals_of store context sealed.sealed) number sealed.calls (stores_none store context number sealed.sealed) (ap (λ (x : StoreLane V). known_at x.known number) on_cells) kept)

@@ -8,7 +8,7 @@ use Rattle.ext_model.proofs.Composed.{calls_compose}
 use Rattle.ext_cells.specs.Lanes.{Lane}
 use Rattle.ext_store_core.specs.declared.claim.Unused.{Unused}
 use Rattle.ext_store_core.proofs.Claimed.{StoresNone, none_stored, nor_this, claim_acts}
-use Rattle.ext_store_core.proofs.Waited.{claims_given_up, begun_legal, gave_up}
+use Rattle.ext_store_core.proofs.Waited.{claims_given_up, gave_up}
 use Rattle.ext_store.specs.declared.computed.Compute.{Compute}
 use Rattle.ext_store_core.specs.ContextCalls.{ContextCells, cell_in}
 use Rattle.ext_store_core.specs.Claiming.{given_up_events}
@@ -43,7 +43,7 @@ pub waits_frame : {V : Type 0} (id : StoreId) (inside a b : StoreLane V) → ins
 waits_frame id inside a b is mine same on_cells store own context key r w =
     let m = w.then_is in
     let made = claim_acts store context m.0 key w.between b.cells.view r m.2 in
-    let before = gave_up store context key w.attempts inside.cells.view w.between (begun_legal store context key w.between b.cells.view r m) w.in_vain in
+    let before = gave_up store context key w.attempts inside.cells.view w.between w.in_vain in
     let given = claims_given_up store context key before.0 in
     let all = calls_compose store.cells.limits inside.cells.view w.between b.cells.view given made.0 before.1 made.2 in
     storing_there id inside a b is mine same on_cells store own (given ++ made.0) (All-append StoresNone given made.0 (giving_up_stores store context key before.0) made.1) all

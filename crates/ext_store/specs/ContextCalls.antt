@@ -1,7 +1,8 @@
 -- What the calls of ext_store_core promise of a context and a key, said of the whole store. The definitions are the
 -- same, and see only its contexts, keys and cells. The calls are `get`, `put` and `remove` of Javadoc
 -- `ExtensionContext.Store`; seals are not from JUnit.
-use Rattle.std.specs.Prelude.{ℕ, Option, Result}
+use Rattle.std.specs.Prelude.{ℕ, List, Option, Result}
+use Rattle.ext_model.specs.declared.event.Act.{Act}
 use Rattle.ext_model.specs.declared.look.Look.{Look}
 use Rattle.ext_cells.specs.Lanes.{Lane}
 use Rattle.ext_store_core.specs.declared.fault.Refusal.{Refusal}
@@ -35,3 +36,12 @@ IsInTheWay store before after = cells.IsInTheWay (context_cells store) before af
 -- The seal keeps what stood in the context and answers it, or it is refused.
 abbrev pub SealsKey : StoreView → ℕ → ℕ → Lane → Lane → Result (Option ℕ) Refusal → Type 0
 SealsKey store context key before after result = cells.SealsKey (context_cells store) context key before after result
+
+-- Seals of the context under these keys, in their order.
+abbrev pub seals_of : StoreView → ℕ → List ℕ → List (Act ℕ)
+seals_of store context keys = cells.seals_of (context_cells store) context keys
+
+-- The call sealed keys of this half of the context's 64 that are not among the marked, and each of those is sealed
+-- afterwards, by a seal that kept nothing.
+abbrev pub SealsUnused : StoreView → ℕ → ℕ → ℕ → Lane → Lane → Type 0
+SealsUnused store context half marks before after = cells.SealsUnused (context_cells store) context half marks before after

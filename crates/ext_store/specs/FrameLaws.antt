@@ -3,7 +3,7 @@
 use Rattle.std.specs.Prelude.{ℕ, List, [], ◌++◌, map, All}
 use mathlib.Core.List.{IsPrefix}
 use Rattle.ext_model.specs.declared.event.Act.{Act}
-use Rattle.ext_model.specs.History.{Limits, IsLegal}
+use Rattle.ext_model.specs.History.{Limits}
 use Rattle.ext_history.specs.Histories.{seen, seen_by, Follow}
 use Rattle.ext_model.specs.CallActs.{LaneView, Calls}
 use Rattle.ext_store.specs.Stores.{StoreId, StoreLane, IsLaneOf, StillKeeps}
@@ -23,15 +23,15 @@ FramesCompose V = (id : StoreId) (first second : List ℕ) (a b c : StoreLane V)
 abbrev pub FramesKeep : Type 0 → Type 0
 FramesKeep V = (id : StoreId) (a b : StoreLane V) → Frame id [] a b → StillKeeps a b
 
--- No call at all is a call without events, if what the lane has seen is legal.
+-- No call at all is a call without events.
 abbrev pub NoCallIsCall : Type 0
-NoCallIsCall = (limits : Limits) (lane : LaneView) → IsLegal limits (seen_by lane) → Calls limits lane lane []
+NoCallIsCall = (limits : Limits) (lane : LaneView) → Calls limits lane lane []
 
--- A frame that ends in a lane in hand says which events the lane made, whether or not it was called.
+-- A frame says which events the lane made, whether or not it was called.
 abbrev pub FramesAreCalls : Type 0 → Type 0
 FramesAreCalls V =
     (id : StoreId) (stored : List ℕ) (a b : StoreLane V)
-    → Frame id stored a b → IsLegal id.cells.limits (seen_by b.cells.view) → (acts : List (Act ℕ)) × Calls id.cells.limits a.cells.view b.cells.view acts
+    → Frame id stored a b → (acts : List (Act ℕ)) × Calls id.cells.limits a.cells.view b.cells.view acts
 
 -- ---- one history
 

@@ -95,6 +95,8 @@ impl<V: StoreValue + Drop> Store<V> {
         ensures steps { MatchResult result (λ _. steps_of lane.old.cells lane.new.cells ≤ 33 * (self.now.tries + 1)) (λ _. steps_of lane.old.cells lane.new.cells ≤ 33 * (self.now.tries + 1) + 2) }
     {
         self.shared.recall();
-        self.shared.claim_quietly(&mut lane.cells, context, key)
+        let claimed = self.shared.claim_quietly(&mut lane.cells, context, key);
+        lane.cells.recall();
+        claimed
     }
 }

@@ -15,7 +15,7 @@ use crate::{Compute, Lane, Store, StoreValue};
 use ext_cells::Claim;
 use ext_model::{ContextNo, Fault, KeyNo};
 use ext_tree::Key;
-use std::sync::{Forever, Wait};
+use std::sync::Wait;
 
 impl<V: StoreValue + Drop> Store<V> {
     /// Computes a value for the key where a look-up from the context finds none, and stores its
@@ -245,13 +245,16 @@ impl<V: StoreValue + Drop> Store<V> {
         self.shared.recall();
         let claim = match self.shared.claim_wait(rt, &mut lane.cells, context, key) {
             Ok(claim) => claim,
-            Err(why) => return hand_back(why, factory),
+            Err(why) => {
+                lane.cells.recall();
+                return hand_back(why, factory);
+            }
         };
         let value = match run_factory(lane, &claim, name, factory) {
             Ok(value) => value,
-            Err(fault) => return self.wait_to_end_failed(rt.forever(), lane, claim, fault),
+            Err(fault) => return self.end_failed_decided(lane, claim, fault),
         };
-        match self.wait_to_fill(rt.forever(), lane, claim, value) {
+        match self.fill_decided(lane, claim, value) {
             Ok(number) => Compute::Computed { number },
             Err((value, cause)) => Compute::Unkept { value, cause },
         }
@@ -278,17 +281,9 @@ impl<V: StoreValue + Drop> Store<V> {
         }
     }
 
-    // Ends the claim of a factory that failed: keeps the fault if the store keeps faults, and
-    // otherwise gives the claim up. This and what it calls hold a claim, so they get endless rounds
-    // and no runtime: they can't sleep.
+    // The same, but draws again where other lanes were in the way.
     #[tactic(auto, unfolding(crate::specs::LaneCalls::Frame))]
-    fn wait_to_end_failed<R: Wait, F>(
-        &self,
-        rounds: Forever<'_, R>,
-        lane: &mut Lane<V>,
-        claim: Claim,
-        fault: Fault,
-    ) -> Compute<V, F>
+    fn end_failed_decided<F>(&self, lane: &mut Lane<V>, claim: Claim, fault: Fault) -> Compute<V, F>
         requires lane { IsLaneOf self.now.id lane.old }
         requires held { IsHeld lane.old.cells.view claim }
         ensures ends { EndsFailed self.now fault claim lane.old lane.new (without_factory result) }
@@ -300,7 +295,7 @@ impl<V: StoreValue + Drop> Store<V> {
             self.shared.abandon(&mut lane.cells, claim);
             return Compute::Failed(fault);
         }
-        match self.wait_to_fail(rounds, lane, claim, fault) {
+        match self.fail_decided(lane, claim, fault) {
             Ok(number) => Compute::FaultKept { number },
             Err((fault, cause)) => Compute::FaultUnkept { fault, cause },
         }

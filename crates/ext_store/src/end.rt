@@ -1,6 +1,6 @@
 //! The second of the two calls of a compute: a claim ends by a value (`fill`), by a fault (`fail`),
 //! or empty (`abandon`).
-ghost use Rattle.std.specs.Prelude.{ℕ, ◌≡◌, ◌≢◌, ◌+◌, ◌<◌, ◌≤◌, [], IfErr, IfOk, IsTrue, MatchResult, Ok, Err};
+ghost use Rattle.std.specs.Prelude.{ℕ, ◌≡◌, ◌≢◌, ◌+◌, ◌*◌, ◌<◌, ◌≤◌, [], IfErr, IfOk, IsTrue, MatchResult, Ok, Err};
 ghost use Rattle.ext_model.specs.CallActs.{IsHeld};
 ghost use Rattle.ext_model.specs.declared.event.Act.TheVariants as act_is;
 ghost use Rattle.ext_values.specs.Known.{Learns};
@@ -13,7 +13,6 @@ ghost use Rattle.ext_store.specs.Waiting.{IsDecidedFault};
 use crate::{KeepFault, Lane, Store, StoreValue};
 use ext_cells::Claim;
 use ext_model::Fault;
-use std::sync::{Forever, Wait};
 
 impl<V: StoreValue + Drop> Store<V> {
     /// Ends the lane's claim by a value: keeps it, stores its number in the claimed cell, and
@@ -38,13 +37,25 @@ impl<V: StoreValue + Drop> Store<V> {
         ensures frame { Frame self.now.id [] lane.old lane.new }
         ensures steps { steps_of lane.old.cells lane.new.cells ≤ self.now.tries + 3 }
     {
-        let filled = self.fill_quietly(lane, claim, value);
-        self.shared.wake();
-        filled
+        match self.keep(lane, value) {
+            Ok(kept) => {
+                lane.recall();
+                let number = kept.number;
+                self.shared.fill(&mut lane.cells, claim, number);
+                Ok(number)
+            }
+            Err(unkept) => {
+                lane.recall();
+                self.shared.abandon(&mut lane.cells, claim);
+                Err(unkept)
+            }
+        }
     }
 
-    /// Ends the claim as `fill` does, but wakes nobody, so that a static library can use it. Call
-    /// it only if no lane of this store ever waits: a sleeping lane would not be woken.
+    /// Ends the claim as `fill` does, but draws again at once where other lanes were in the way, so
+    /// that the value is never refused as `Contended`. It wakes nobody, so that a static library
+    /// can use it. Call it only if no lane of this store ever waits: a sleeping lane would not be
+    /// woken.
     #[tactic(auto, unfolding(crate::specs::LaneCalls::Frame))]
     pub fn fill_quietly(
         &self,
@@ -55,6 +66,7 @@ impl<V: StoreValue + Drop> Store<V> {
         requires lane { IsLaneOf self.now.id lane.old }
         requires held { IsHeld lane.old.cells.view claim }
         ensures events { MatchResult result (Fills self.now.id.cells.limits [] claim lane.old.cells.view lane.new.cells.view) (λ e. IsUnkept self.now.id.cells.limits self.now.tries [] claim lane.old.cells.view lane.new.cells.view e.1) }
+        ensures decided { IfErr result (λ e. IsDecidedFault e.1) }
         ensures known { MatchResult result (λ number. Learns lane.old.known lane.new.known number value) (λ e. (e.0 ≡ value) × KnowsUnkept lane.old.cells.view lane.new.cells.view lane.old.known lane.new.known e.1) }
         ensures faults { lane.new.faults ≡ lane.old.faults }
         ensures keys { lane.new.keys ≡ lane.old.keys }
@@ -62,27 +74,27 @@ impl<V: StoreValue + Drop> Store<V> {
         ensures kept { StillKeeps lane.old lane.new }
         ensures apart { IfOk result (λ number. (m : ℕ) → IsKeptBy lane.old m → m ≢ number) }
         ensures frame { Frame self.now.id [] lane.old lane.new }
-        ensures steps { steps_of lane.old.cells lane.new.cells ≤ self.now.tries + 3 }
+        ensures steps { steps_of lane.old.cells lane.new.cells ≤ 2 * self.now.id.cells.limits.numbers + self.now.tries + 3 }
     {
-        match self.keep(lane, value) {
+        match self.keep_decided(lane, value) {
             Ok(kept) => {
+                lane.recall();
                 let number = kept.number;
                 self.shared.fill_quietly(&mut lane.cells, claim, number);
                 Ok(number)
             }
             Err(unkept) => {
+                lane.recall();
                 self.shared.abandon_quietly(&mut lane.cells, claim);
                 Err(unkept)
             }
         }
     }
 
-    // Keeps the value and stores its number in the claimed cell, or gives the claim up. It holds a
-    // claim, so it gets endless rounds and no runtime: it can't sleep.
+    // Ends the claim as `fill_quietly` does, and wakes the lanes that wait for a claim to end.
     #[tactic(auto, unfolding(crate::specs::LaneCalls::Frame))]
-    pub(crate) fn wait_to_fill<R: Wait>(
+    pub(crate) fn fill_decided(
         &self,
-        rounds: Forever<'_, R>,
         lane: &mut Lane<V>,
         claim: Claim,
         value: V,
@@ -97,17 +109,9 @@ impl<V: StoreValue + Drop> Store<V> {
         ensures frame { Frame self.now.id [] lane.old lane.new }
         ensures keys { lane.new.keys ≡ lane.old.keys }
     {
-        match self.keep_again(rounds, lane, value) {
-            Ok(kept) => {
-                let number = kept.number;
-                self.shared.fill(&mut lane.cells, claim, number);
-                Ok(number)
-            }
-            Err(unkept) => {
-                self.shared.abandon(&mut lane.cells, claim);
-                Err(unkept)
-            }
-        }
+        let filled = self.fill_quietly(lane, claim, value);
+        self.shared.wake();
+        filled
     }
 
     /// Ends the lane's claim by a fault: keeps it, stores its number in the claimed cell, and
@@ -136,13 +140,24 @@ impl<V: StoreValue + Drop> Store<V> {
         ensures frame { Frame self.now.id [] lane.old lane.new }
         ensures steps { steps_of lane.old.cells lane.new.cells ≤ self.now.tries + 3 }
     {
-        let failed = self.fail_quietly(lane, claim, fault);
-        self.shared.wake();
-        failed
+        match self.keep_fault(lane, fault) {
+            Ok(number) => {
+                lane.recall();
+                self.shared.fail(&mut lane.cells, claim, number);
+                Ok(number)
+            }
+            Err(unkept) => {
+                lane.recall();
+                self.shared.abandon(&mut lane.cells, claim);
+                Err(unkept)
+            }
+        }
     }
 
-    /// Ends the claim as `fail` does, but wakes nobody, so that a static library can use it. Call
-    /// it only if no lane of this store ever waits: a sleeping lane would not be woken.
+    /// Ends the claim as `fail` does, but draws again at once where other lanes were in the way, so
+    /// that the fault is never refused as `Contended`. It wakes nobody, so that a static library
+    /// can use it. Call it only if no lane of this store ever waits: a sleeping lane would not be
+    /// woken.
     #[tactic(auto, unfolding(crate::specs::LaneCalls::Frame))]
     pub fn fail_quietly(
         &self,
@@ -154,31 +169,33 @@ impl<V: StoreValue + Drop> Store<V> {
         requires faults { IsTrue self.now.id.cells.limits.keep_faults }
         requires held { IsHeld lane.old.cells.view claim }
         ensures events { MatchResult result (Fails self.now.id.cells.limits [] claim lane.old.cells.view lane.new.cells.view) (λ e. IsUnkept self.now.id.cells.limits self.now.tries [] claim lane.old.cells.view lane.new.cells.view e.1) }
+        ensures decided { IfErr result (λ e. IsDecidedFault e.1) }
         ensures known { lane.new.known ≡ lane.old.known }
         ensures faults { MatchResult result (λ number. Learns lane.old.faults lane.new.faults number fault) (λ e. (e.0 ≡ fault) × KnowsUnkept lane.old.cells.view lane.new.cells.view lane.old.faults lane.new.faults e.1) }
         ensures keys { lane.new.keys ≡ lane.old.keys }
         ensures lane { IsLaneOf self.now.id lane.new }
         ensures kept { StillKeeps lane.old lane.new }
         ensures frame { Frame self.now.id [] lane.old lane.new }
-        ensures steps { steps_of lane.old.cells lane.new.cells ≤ self.now.tries + 3 }
+        ensures steps { steps_of lane.old.cells lane.new.cells ≤ 2 * self.now.id.cells.limits.numbers + self.now.tries + 3 }
     {
-        match self.keep_fault(lane, fault) {
+        match self.keep_fault_decided(lane, fault) {
             Ok(number) => {
+                lane.recall();
                 self.shared.fail_quietly(&mut lane.cells, claim, number);
                 Ok(number)
             }
             Err(unkept) => {
+                lane.recall();
                 self.shared.abandon_quietly(&mut lane.cells, claim);
                 Err(unkept)
             }
         }
     }
 
-    // Keeps the fault and stores its number in the claimed cell, or gives the claim up.
+    // Ends the claim as `fail_quietly` does, and wakes the lanes that wait for a claim to end.
     #[tactic(auto, unfolding(crate::specs::LaneCalls::Frame))]
-    pub(crate) fn wait_to_fail<R: Wait>(
+    pub(crate) fn fail_decided(
         &self,
-        rounds: Forever<'_, R>,
         lane: &mut Lane<V>,
         claim: Claim,
         fault: Fault,
@@ -193,16 +210,9 @@ impl<V: StoreValue + Drop> Store<V> {
         ensures frame { Frame self.now.id [] lane.old lane.new }
         ensures keys { lane.new.keys ≡ lane.old.keys }
     {
-        match self.keep_fault_wait(rounds, lane, fault) {
-            Ok(number) => {
-                self.shared.fail(&mut lane.cells, claim, number);
-                Ok(number)
-            }
-            Err(unkept) => {
-                self.shared.abandon(&mut lane.cells, claim);
-                Err(unkept)
-            }
-        }
+        let failed = self.fail_quietly(lane, claim, fault);
+        self.shared.wake();
+        failed
     }
 
     /// Gives the lane's claim up: nothing is stored. Wakes the lanes that wait for a claim to end.

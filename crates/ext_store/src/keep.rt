@@ -1,5 +1,5 @@
 //! Keeping of values (`keep` and `keep_wait`): each gets the next number, and its place.
-ghost use Rattle.std.specs.Prelude.{ℕ, ◌≡◌, ◌≢◌, ◌+◌, ◌<◌, ◌≤◌, [], IfErr, IfOk, MatchResult, Ok, Err};
+ghost use Rattle.std.specs.Prelude.{ℕ, ◌≡◌, ◌≢◌, ◌+◌, ◌*◌, ◌<◌, ◌≤◌, [], IfErr, IfOk, MatchResult, Ok, Err};
 ghost use Rattle.ext_model.specs.declared.event.Act.TheVariants as act_is;
 ghost use Rattle.ext_values.specs.Known.{KeepsKnown, AreNotesOf};
 ghost use Rattle.ext_cells.specs.CellCalls.{ComesLast};
@@ -13,7 +13,7 @@ ghost use Rattle.ext_store.specs.InnerKeeping.{IsOfCount, PlacesDrawn};
 use crate::{KeepFault, Kept, Lane, Store, StoreValue};
 use ext_cells::CellRefusal;
 use ext_values::Notes;
-use std::sync::{Forever, Wait};
+use std::sync::Wait;
 
 impl<V: StoreValue + Drop> Store<V> {
     /// Keeps a value under the next number, which the value has from then on. The first number is
@@ -45,6 +45,7 @@ impl<V: StoreValue + Drop> Store<V> {
             Err(failed) => return Err((failed.value, KeepFault::Memory)),
         };
         let drawn = self.shared.keep(&mut lane.cells);
+        lane.cells.recall();
         self.place_drawn(&mut lane.notes, drawn, boxed)
     }
 
@@ -70,18 +71,19 @@ impl<V: StoreValue + Drop> Store<V> {
         ensures apart { IfOk result (λ number. (m : ℕ) → IsKeptBy lane.old m → m ≢ number) }
         ensures frame { Frame self.now.id [] lane.old lane.new }
     {
-        self.keep_again(rt.forever(), lane, value)
+        self.recall();
+        let boxed = match Box::new(self.alloc, value) {
+            Ok(boxed) => boxed,
+            Err(refused) => return Err((refused.value, KeepFault::Memory)),
+        };
+        let drawn = self.shared.keep_wait(rt.forever(), &mut lane.cells);
+        lane.cells.recall();
+        self.place_drawn(&mut lane.notes, drawn, boxed)
     }
 
-    // The same by endless rounds, without the runtime: it is called with a claim in hand, and can't
-    // sleep.
+    // The same without the runtime, for a call that has a claim in hand.
     #[tactic(auto, unfolding(crate::specs::LaneCalls::KeepFails, crate::specs::LaneCalls::Frame))]
-    pub(crate) fn keep_again<R: Wait>(
-        &self,
-        rounds: Forever<'_, R>,
-        lane: &mut Lane<V>,
-        value: V,
-    ) -> Result<Kept, (V, KeepFault)>
+    pub(crate) fn keep_decided(&self, lane: &mut Lane<V>, value: V) -> Result<Kept, (V, KeepFault)>
         requires lane { IsLaneOf self.now.id lane.old }
         ensures answer { MatchResult result (KeepsAs value lane.old lane.new) (λ e. KeepsNothing self.now value lane.old lane.new e.0 e.1) }
         ensures decided { IfErr result (λ e. IsDecidedFault e.1) }
@@ -92,13 +94,15 @@ impl<V: StoreValue + Drop> Store<V> {
         ensures kept { StillKeeps lane.old lane.new }
         ensures apart { IfOk result (λ number. (m : ℕ) → IsKeptBy lane.old m → m ≢ number) }
         ensures frame { Frame self.now.id [] lane.old lane.new }
+        ensures steps { steps_of lane.old.cells lane.new.cells ≤ 2 * self.now.id.cells.limits.numbers + self.now.tries + 1 }
     {
         self.recall();
         let boxed = match Box::new(self.alloc, value) {
             Ok(boxed) => boxed,
             Err(refused) => return Err((refused.value, KeepFault::Memory)),
         };
-        let drawn = self.shared.keep_wait(rounds, &mut lane.cells);
+        let drawn = self.shared.keep_decided(&mut lane.cells);
+        lane.cells.recall();
         self.place_drawn(&mut lane.notes, drawn, boxed)
     }
 

@@ -1,5 +1,5 @@
 //! Keeping of factories' faults: each gets the next number, and its place.
-ghost use Rattle.std.specs.Prelude.{ℕ, ◌≡◌, ◌≢◌, ◌+◌, ◌<◌, ◌≤◌, [], IfErr, IfOk, IsTrue, MatchResult, Ok, Err};
+ghost use Rattle.std.specs.Prelude.{ℕ, ◌≡◌, ◌≢◌, ◌+◌, ◌*◌, ◌<◌, ◌≤◌, [], IfErr, IfOk, IsTrue, MatchResult, Ok, Err};
 ghost use Rattle.ext_model.specs.declared.event.Act.TheVariants as act_is;
 ghost use Rattle.ext_values.specs.Known.{AreNotesOf};
 ghost use Rattle.ext_cells.specs.CellCalls.{ComesLast};
@@ -13,7 +13,6 @@ use crate::{KeepFault, Lane, Store, StoreValue};
 use ext_cells::CellRefusal;
 use ext_model::Fault;
 use ext_values::SilentNotes;
-use std::sync::{Forever, Wait};
 
 impl<V: StoreValue + Drop> Store<V> {
     // Draws a number for the fault, which has it from then on.
@@ -39,14 +38,14 @@ impl<V: StoreValue + Drop> Store<V> {
             Err(failed) => return Err((failed.value, KeepFault::Memory)),
         };
         let drawn = self.shared.keep(&mut lane.cells);
+        lane.cells.recall();
         self.place_drawn_fault(&mut lane.faults, drawn, boxed)
     }
 
-    // Draws a number for the fault, however often other lanes are in the way.
+    // The same, but draws again where other lanes were in the way.
     #[tactic(auto, unfolding(crate::specs::LaneCalls::KeepFails, crate::specs::LaneCalls::Frame))]
-    pub(crate) fn keep_fault_wait<R: Wait>(
+    pub(crate) fn keep_fault_decided(
         &self,
-        rounds: Forever<'_, R>,
         lane: &mut Lane<V>,
         fault: Fault,
     ) -> Result<u32, (Fault, KeepFault)>
@@ -58,13 +57,15 @@ impl<V: StoreValue + Drop> Store<V> {
         ensures apart { IfOk result (λ number. (m : ℕ) → IsKeptBy lane.old m → m ≢ number) }
         ensures frame { Frame self.now.id [] lane.old lane.new }
         ensures keys { lane.new.keys ≡ lane.old.keys }
+        ensures steps { steps_of lane.old.cells lane.new.cells ≤ 2 * self.now.id.cells.limits.numbers + self.now.tries + 1 }
     {
         self.recall();
         let boxed = match Box::new(self.alloc, fault) {
             Ok(boxed) => boxed,
             Err(failed) => return Err((failed.value, KeepFault::Memory)),
         };
-        let drawn = self.shared.keep_wait(rounds, &mut lane.cells);
+        let drawn = self.shared.keep_decided(&mut lane.cells);
+        lane.cells.recall();
         self.place_drawn_fault(&mut lane.faults, drawn, boxed)
     }
 

@@ -22,7 +22,8 @@
 //!
 //! An engine that can't hand over a factory computes in two calls: `begin`, and then `fill`, `fail`
 //! or `abandon`. Their quiet forms (`fill_quietly` and the others) wake nobody, so that a static
-//! library can use them. Call these only if no lane of the store ever waits.
+//! library can use them, and those that keep something draw again where other lanes were in the
+//! way. Call them only if no lane of the store ever waits.
 //!
 //! Each cell is a word of its own, and only the waiting forms (`get_wait` and the others) wait for
 //! another lane: where a factory is in the way, they sleep until a claim has ended, and try again.

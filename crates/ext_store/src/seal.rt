@@ -1,4 +1,4 @@
-//! What a close needs of the store: `seal`, and what a lane knows.
+//! What a close needs of the store: seals, and what a lane knows.
 ghost use Rattle.std.specs.Prelude.{◌≡◌, ◌+◌, ◌<◌, ◌≤◌, [], length, is_some};
 ghost use Rattle.ext_model.specs.declared.event.Act.TheVariants as act_is;
 ghost use Rattle.ext_values.specs.Known.{known_at};
@@ -6,7 +6,7 @@ ghost use Rattle.ext_cells.specs.CellCalls.{ComesLast};
 ghost use Rattle.ext_store.specs.Stores.{IsCloserOf, IsLaneOf, cell_in};
 ghost use Rattle.ext_store.specs.LaneCalls.{Frame, steps_of, Stays};
 ghost use Rattle.ext_store.specs.declared.computed.Compute.TheVariants.{Refused};
-ghost use Rattle.ext_store.specs.ContextCalls.{SealsKey};
+ghost use Rattle.ext_store.specs.ContextCalls.{SealsKey, SealsUnused};
 
 use crate::{Closer, Lane, Refusal, Store};
 use ext_model::KeyNo;
@@ -35,6 +35,23 @@ impl<V> Store<V> {
         ensures steps { steps_of lane.old.cells lane.new.cells ≤ self.now.tries + 1 }
     {
         self.shared.seal(&mut lane.cells, closer.context, key)
+    }
+
+    /// Seals, at one step, the keys of half of the closer's context under which there was no event
+    /// yet: keys 0 to 31 are half 0, the others half 1. Answers which of the others may hold
+    /// something, the first of the half in bit 0. Their seals are left to `seal`. Never refused.
+    #[tactic(auto, unfolding(crate::specs::LaneCalls::Frame))]
+    pub fn seal_unused(&self, lane: &mut Lane<V>, closer: &Closer, half: usize) -> u32
+        requires lane { IsLaneOf self.now.id lane.old }
+        requires closer { IsCloserOf self.now closer.now }
+        requires half { half < 2 }
+        ensures answer { SealsUnused self.now closer.now.context half result lane.old.cells lane.new.cells }
+        ensures stays { Stays self.now.id [] lane.old lane.new }
+        ensures keys { lane.new.keys ≡ lane.old.keys }
+        ensures steps { steps_of lane.old.cells lane.new.cells ≡ 1 }
+    {
+        self.shared
+            .seal_unused(&mut lane.cells, closer.context, half)
     }
 
     /// Whether the lane knows the number's value: whether it kept the value or was shown it. False

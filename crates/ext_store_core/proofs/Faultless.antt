@@ -5,6 +5,7 @@ use Rattle.ext_model.specs.declared.look.Look.{Look}
 use Rattle.ext_model.specs.declared.look.Look.TheVariants as look
 use Rattle.ext_model.specs.History.{History, Limits, slots_in, IsLegal}
 use Rattle.ext_model.specs.CallActs.{look_after}
+use Rattle.ext_history.specs.Histories.{seen_by}
 use Rattle.ext_history.proofs.Lists.{contains_none}
 use Rattle.ext_history.proofs.Composed.{answer_point, point_legal}
 use Rattle.ext_model.proofs.Lookups.{met_fault_stands}
@@ -21,13 +22,13 @@ none_met limits p cell_of path at number off legal met =
     let kept = fault_was_kept p (cell_of at) number legal stands in
     contains_none number (subst (λ xs. Contains xs number) (no_faults limits p off legal) kept)
 
-module _ (store : ContextCells) (path : List ℕ) (key : ℕ) (a b : Lane) (same : a.cells ≡ store.cells) (off : IsFalse store.cells.limits.keep_faults) where
+module _ (store : ContextCells) (path : List ℕ) (key : ℕ) (a b : Lane) (same : a.cells ≡ store.cells) (off : IsFalse store.cells.limits.keep_faults) (legal : IsLegal a.cells.limits (seen_by b.view)) where
   lane_off : IsFalse a.cells.limits.keep_faults
   lane_off = ap (λ (i : CellsId). i.limits.keep_faults) same ∙ off
 
   pub look_faultless : (met : Look) → LooksAt store path key a b met → IsFaultlessLook met
   look_faultless (look.Found at number) x = tt
-  look_faultless (look.Fault at number) x = none_met a.cells.limits x.point.0 (cell_in store key) path at number lane_off (point_legal x.calls x.point.0 (answer_point x.calls x.point.0 x.point.1)) (sym x.point.2)
+  look_faultless (look.Fault at number) x = none_met a.cells.limits x.point.0 (cell_in store key) path at number lane_off (point_legal legal x.point.0 (answer_point x.calls x.point.0 x.point.1)) (sym x.point.2)
   look_faultless look.Absent x = tt
   look_faultless (look.Busy at) x = tt
   look_faultless (look.Closed at) x = tt

@@ -7,7 +7,7 @@ use Rattle.ext_model.specs.declared.event.Act.TheVariants.{Claim, Abandon}
 use Rattle.ext_model.specs.declared.look.Look.{Look}
 use Rattle.ext_model.specs.declared.look.Look.TheVariants as look
 use Rattle.ext_model.specs.Events as events
-use Rattle.ext_model.specs.History.{History, Limits, slots_in, reply_after, version_of}
+use Rattle.ext_model.specs.History.{History, Limits, slots_in, reply_after, version_of, IsLegal}
 use Rattle.ext_model.specs.CallActs.{Calls, HoldsAtPoint, IsOvertaken, IsHeld, look_after}
 use Rattle.ext_history.proofs.Composed.{same_number, answer_first, quiet_point}
 use Rattle.ext_history.specs.Histories.{first_front, seen_by}
@@ -218,13 +218,13 @@ module _ (store : ContextCells) (context key : ℕ) (rest : List ℕ) where
           looked = looks_second limits a.view c.view d.view (Claim here ∷ []) [] won two (cell_in store key) rest [] met (l.point.0, answer_first two l.point.0 l.point.1, sym l.point.2);
         }
 
-    pub held_on : (claim : ℕ) (r : Option Unused) → claim ≡ cell_in store key context → IsHeld c.view (cell_in store key context) → Stands store rest key c d r → IsHeld d.view claim
-    held_on claim r same held s = subst (IsHeld d.view) (sym same) (claim_held limits c.view d.view [] here (quiet c d is rest r s) (All-nil _) held).0
+    pub held_on : (claim : ℕ) (r : Option Unused) → claim ≡ cell_in store key context → IsHeld c.view (cell_in store key context) → IsLegal c.cells.limits (seen_by d.view) → Stands store rest key c d r → IsHeld d.view claim
+    held_on claim r same held legal s = subst (IsHeld d.view) (sym same) (claim_held limits c.view d.view [] here (subst (λ (z : CellsId). IsLegal z.limits (seen_by d.view)) is legal) (quiet c d is rest r s) (All-nil _) held).0
 
-    pub second_look : (claim : ℕ) → claim ≡ cell_in store key context → IsHeld c.view (cell_in store key context) → Stands store rest key c d None → ClaimsFrom store context rest key a.view d.view (Ok claim)
-    second_look claim same held s = (
+    pub second_look : (claim : ℕ) → claim ≡ cell_in store key context → IsHeld c.view (cell_in store key context) → IsLegal c.cells.limits (seen_by d.view) → Stands store rest key c d None → ClaimsFrom store context rest key a.view d.view (Ok claim)
+    second_look claim same held legal s = (
       same,
-      held_on claim None same held s,
+      held_on claim None same held legal s,
       calls_compose limits a.view c.view d.view (Claim here ∷ []) [] won (quiet c d is rest None s),
       looks look.Absent s,
     )
@@ -328,11 +328,11 @@ module _ (store : ContextCells) (context key : ℕ) (tree : List Id) (told path 
       claims : Claims store.cells.limits store context (take (length path - 1) (drop 1 path)) key a.view c.view
       claims = won_claims store context key rest a b c first second' tries same looked' claim all'
 
-      pub claim_stands : (d : Lane) (r : Option Unused) → Stands store (take (length path - 1) (drop 1 path)) key c d r → IsHeld d.view claim
-      claim_stands d r s = held_on store context key rest a c d third' calls claims claim r claim_is held_here s
+      pub claim_stands : (d : Lane) (r : Option Unused) → IsLegal c.cells.limits (seen_by d.view) → Stands store (take (length path - 1) (drop 1 path)) key c d r → IsHeld d.view claim
+      claim_stands d r legal s = held_on store context key rest a c d third' calls claims claim r claim_is held_here legal s
 
-      pub second_look_ends : (d : Lane) → Stands store (take (length path - 1) (drop 1 path)) key c d None → ClaimsMissing store context key a.view d.view (Ok claim)
-      second_look_ends d s = for_path a d (Ok claim) (second_look store context key rest a c d third' calls claims claim claim_is held_here s)
+      pub second_look_ends : (d : Lane) → IsLegal c.cells.limits (seen_by d.view) → Stands store (take (length path - 1) (drop 1 path)) key c d None → ClaimsMissing store context key a.view d.view (Ok claim)
+      second_look_ends d legal s = for_path a d (Ok claim) (second_look store context key rest a c d third' calls claims claim claim_is held_here legal s)
 
       pub given_up_ends : (d e : Lane) (unused : Unused) → d.cells ≡ c.cells → Calls d.cells.limits d.view e.view (Abandon claim ∷ []) → Stands store (take (length path - 1) (drop 1 path)) key c d (Some unused)
           → ClaimsMissing store context key a.view e.view (Err unused)

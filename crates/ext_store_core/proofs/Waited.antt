@@ -6,13 +6,11 @@ use Rattle.ext_model.specs.declared.event.Act.{Act}
 use Rattle.ext_model.specs.declared.event.Act.TheVariants.{Keep, Put, Remove}
 use Rattle.ext_model.specs.declared.look.Look.{Look}
 use Rattle.ext_model.specs.declared.look.Look.TheVariants as look
-use Rattle.ext_history.specs.Histories.{seen_by}
-use Rattle.ext_model.specs.History.{History, lane_of, IsLegal, stored_number, reply_after}
+use Rattle.ext_model.specs.History.{History, lane_of, stored_number, reply_after}
 use Rattle.ext_model.specs.Plain.{number_drawn}
 use Rattle.ext_model.specs.CallActs.{LaneView, Calls, HoldsAtPoint, MayStoreNow}
 use Rattle.ext_model.specs.CallActs as model
-use Rattle.ext_history.proofs.Composed.{calls_none, same_number, seen_goes_on, steps_stay}
-use Rattle.ext_history.proofs.Legal.{legal_begun}
+use Rattle.ext_history.proofs.Composed.{calls_none, same_number, steps_stay}
 use Rattle.ext_model.proofs.Composed.{calls_compose, later_point, later_answers}
 use Rattle.ext_cells.specs.declared.refusal.CellRefusal.{CellRefusal}
 use Rattle.ext_cells.specs.declared.refusal.CellRefusal.TheVariants as cell
@@ -25,9 +23,8 @@ use Rattle.ext_store_core.specs.declared.claim.Unused.{Unused}
 use Rattle.ext_store_core.specs.declared.claim.Unused.TheVariants.{Found, FaultStands, Refused}
 use Rattle.ext_store_core.specs.ContextCalls.{ContextCells, cell_in, Puts, Removes, with_kept, result_at, put_acts, remove_acts}
 use Rattle.ext_store_core.specs.InnerLooking.{Looks, LooksAt}
-use Rattle.ext_store_core.specs.Claiming.{given_up_events, Meets, IsRefused, ClaimsFrom, ClaimsMissing}
+use Rattle.ext_store_core.specs.Claiming.{given_up_events, Meets, IsRefused, ClaimsFrom}
 use Rattle.ext_store_core.specs.Waiting.{IsDecided, IsDecidedLook, busy_refused, VainAttempts}
-use Rattle.ext_store_core.proofs.Claimed.{claim_acts}
 
 -- ---- a lane that made no event yet
 
@@ -169,17 +166,11 @@ unclaimed store context ancestors key a b (Refused refusal.Unplaced) m = absurd 
 unclaimed store context ancestors key a b (Refused refusal.Memory) m = absurd m
 unclaimed store context ancestors key a b (Refused refusal.Exhausted) m = inl m.0.calls
 
--- what the lane had seen is legal, as what it has seen after the call is
-pub begun_legal : (store : ContextCells) (context key : ℕ) (a b : LaneView) (r : Result ℕ Unused) → ClaimsMissing store context key a b r → IsLegal store.cells.limits (seen_by a)
-begun_legal store context key a b r m =
-    let made = claim_acts store context m.0 key a b r m.2 in
-    legal_begun (seen_by a) (seen_by b) (seen_goes_on made.2) made.2.legal
-
 -- these are all events of attempts in vain
-pub gave_up : (store : ContextCells) (context key attempts : ℕ) (a b : LaneView) → IsLegal store.cells.limits (seen_by b) → VainAttempts store context key attempts a b → GaveUp store context key a b
-gave_up store context key zero a b legal same = (0, subst (λ x. Calls store.cells.limits x b []) same (calls_none lane_of b legal))
-gave_up store context key (suc attempts) a b legal made =
+pub gave_up : (store : ContextCells) (context key attempts : ℕ) (a b : LaneView) → VainAttempts store context key attempts a b → GaveUp store context key a b
+gave_up store context key zero a b same = (0, subst (λ x. Calls store.cells.limits x b []) same (calls_none lane_of b))
+gave_up store context key (suc attempts) a b made =
     let between = made.0 in
     let last = made.2.refused in
-    gave_up_more store context key a between b (gave_up store context key attempts a between (begun_legal store context key between b (Err (Refused made.2.why)) last) made.1)
+    gave_up_more store context key a between b (gave_up store context key attempts a between made.1)
     (unclaimed store context last.0 key between b (Refused made.2.why) last.2)

@@ -1,17 +1,19 @@
 -- What contracts see of the cells of a store, and what each call by the numbers of a context and a key promises of its
 -- result. The calls are `get`, `put` and `remove` of Javadoc `ExtensionContext.Store`. Numbers, refusals, points and
 -- seals are not from JUnit. `CallActs` of ext_model has the words for events, fronts and points.
-use Rattle.std.specs.Prelude.{ℕ, ◌≡◌, ◌+◌, ◌*◌, ◌≤◌, List, [], length, map, ◌∷◌, Option, None, Some, Result, Ok, Err}
-use Rattle.ext_model.specs.History.{Limits, History, reply_after}
+use Rattle.std.specs.Prelude.{ℕ, ◌≡◌, ◌+◌, ◌*◌, ◌≤◌, List, [], length, map, ◌∷◌, nat_eq, Contains, Option, None, Some, Result, Ok, Err}
+use Rattle.std.specs.List.{IsDistinct}
+use Rattle.ext_model.specs.declared.slot.Slot.TheVariants as slot
+use Rattle.ext_model.specs.History.{Limits, History, reply_after, state_after}
 use Rattle.ext_tree.specs.Trees.{Id, IsPathOf}
 use Rattle.ext_cells.specs.Lanes.{CellsId, Lane}
-use Rattle.ext_cells.specs.CellCalls.{IsOvertakenOn}
+use Rattle.ext_cells.specs.CellCalls.{IsOvertakenOn, IsUnmarked}
 use Rattle.ext_model.specs.declared.event.Act.{Act}
 use Rattle.ext_model.specs.declared.event.Act.TheVariants.{Put, Remove, Seal}
 use Rattle.ext_model.specs.declared.look.Look.{Look}
 use Rattle.ext_model.specs.declared.look.Look.TheVariants as look
 use Rattle.ext_model.specs.Events as events
-use Rattle.ext_history.specs.Histories.{call_fronts}
+use Rattle.ext_history.specs.Histories.{call_fronts, seen_by}
 use Rattle.ext_model.specs.CallActs.{look_after}
 use Rattle.ext_model.specs.CallActs as model
 use Rattle.ext_store_core.specs.declared.fault.Refusal.{Refusal}
@@ -118,7 +120,7 @@ unfoldable pub Removes : ContextCells → ℕ → ℕ → Lane → Lane → Resu
 Removes store context key before after result =
     Answers store (Err Contended) before after (remove_acts (cell_in store key context)) (λ p. result_at context (reply_to before (Remove (cell_in store key context)) p)) result
 
--- ---- seal, the one call for those who close a context
+-- ---- seals, for those who close a context
 
 -- The key's cell in the context is sealed, and the seal keeps this number, or none.
 abbrev pub SealsCell : ContextCells → ℕ → ℕ → Lane → Lane → Option ℕ → Type 0
@@ -146,3 +148,16 @@ SealFails store context key before after Exhausted = ⊥
 abbrev pub SealsKey : ContextCells → ℕ → ℕ → Lane → Lane → Result (Option ℕ) Refusal → Type 0
 SealsKey store context key before after (Ok kept) = SealsCell store context key before after kept
 SealsKey store context key before after (Err why) = SealFails store context key before after why
+
+-- Seals of the context under these keys, in their order.
+abbrev pub seals_of : ContextCells → ℕ → List ℕ → List (Act ℕ)
+seals_of store context keys = map (λ key. Seal (cell_in store key context)) keys
+
+-- The call sealed keys of this half of the context's 64, each once, and did nothing else. None of them is among the
+-- marked, and afterwards each key of the half that is not marked is sealed, by a seal that kept nothing.
+pub record SealsUnused (store : ContextCells) (context half marks : ℕ) (before after : Lane) : Type 0 where
+  pub sealed : List ℕ
+  pub once : IsDistinct nat_eq sealed
+  pub calls : model.Calls before.cells.limits before.view after.view (seals_of store context sealed)
+  pub unmarked : (key : ℕ) → Contains sealed key → IsUnmarked half marks key
+  pub kept_nothing : (key : ℕ) → IsUnmarked half marks key → (state_after (seen_by after.view)).slots (cell_in store key context) ≡ Some (slot.Sealed None)

@@ -1,12 +1,14 @@
-//! Changes of one cell (put, remove and seal), and the drawing of a number.
-ghost use Rattle.std.specs.Prelude.{ℕ, ◌≡◌, ◌+◌, ◌<◌, ◌≤◌, Contains, IfOk, length};
+//! Changes of one cell (put, remove and seal), the drawing of a number, and the seals of keys that
+//! nobody used.
+ghost use Rattle.std.specs.Prelude.{ℕ, ◌≡◌, ◌≢◌, ◌+◌, ◌*◌, ◌<◌, ◌≤◌, Contains, Err, IfOk, length};
 ghost use Rattle.ext_history.specs.Histories.{seen_by};
 ghost use Rattle.ext_model.specs.CallActs.{MayStoreNow};
 ghost use Rattle.ext_model.specs.History.{by};
 ghost use Rattle.ext_model.specs.declared.event.Act.TheVariants as act_is;
+ghost use Rattle.ext_cells.specs.declared.refusal.CellRefusal.TheVariants as cell_refusal;
 ghost use Rattle.ext_cells.specs.CellCalls as cells;
 ghost use Rattle.ext_cells.specs.CellCalls.{ComesLast};
-ghost use Rattle.ext_store_core.specs.ContextCalls.{cell_in, Puts, Removes, steps_of, with_kept, SealsKey};
+ghost use Rattle.ext_store_core.specs.ContextCalls.{cell_in, Puts, Removes, steps_of, with_kept, SealsKey, SealsUnused};
 
 use crate::{Refusal, StoreCore};
 use ext_cells::{CellLane, CellRefusal};
@@ -93,6 +95,30 @@ impl StoreCore {
         self.cells.next_number(lane)
     }
 
+    /// Draws the next number as `keep` does, and again at once where other lanes were in the way.
+    /// They have drawn numbers then, of which there are only so many: so it is never refused as
+    /// `Contended`, and it returns. Refused as `NumbersFull` where all numbers were drawn.
+    pub fn keep_decided(&self, lane: &mut CellLane) -> Result<u32, CellRefusal>
+        requires lane { lane.old.cells ≡ self.now.cells }
+        ensures lane { lane.new.cells ≡ lane.old.cells }
+        ensures reply { cells.Answers self.now.tries lane.old lane.new cells.number_acts (cells.number_reply lane.old) result }
+        ensures decided { result ≢ Err cell_refusal.Contended }
+        ensures storable { IfOk result (MayStoreNow lane.new.view) }
+        ensures steps { steps_of lane.old lane.new ≤ 2 * self.now.cells.limits.numbers + self.now.tries + 1 }
+    {
+        self.recall();
+        for _ in 0..65_535_u32 {
+            let why = match self.keep(lane) {
+                Ok(number) => return Ok(number),
+                Err(why) => why,
+            };
+            if why != CellRefusal::Contended {
+                return Err(why);
+            }
+        }
+        unreachable!()
+    }
+
     /// Seals the key in the context for good and answers the number of the value that stood there,
     /// which the seal keeps. A kept fault is discarded. For a key that is sealed already the answer
     /// is what its seal kept, and nothing happens.
@@ -118,5 +144,21 @@ impl StoreCore {
             Ok(kept) => Ok(kept),
             Err(why) => Err(Refusal::at(context, why)),
         }
+    }
+
+    /// Seals, at one step, the keys of half of the context under which there was no event yet: keys
+    /// 0 to 31 are half 0, the others half 1. Answers which of the others may hold something, the
+    /// first of the half in bit 0. Their seals are left to `seal`. Never refused.
+    pub fn seal_unused(&self, lane: &mut CellLane, context: ContextNo, half: usize) -> u32
+        requires lane { lane.old.cells ≡ self.now.cells }
+        requires context { context < length self.now.tree }
+        requires half { half < 2 }
+        ensures lane { lane.new.cells ≡ lane.old.cells }
+        ensures answer { SealsUnused self.now context half result lane.old lane.new }
+        ensures steps { steps_of lane.old lane.new ≡ 1 }
+    {
+        self.recall();
+        let _contexts = self.tree.len();
+        self.cells.end_half(lane, context * 2 + half)
     }
 }

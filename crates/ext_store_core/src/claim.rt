@@ -1,5 +1,7 @@
 //! Claims, under which missing values are computed.
 ghost use Rattle.std.specs.Prelude.{◌≡◌, ◌+◌, ◌*◌, ◌<◌, ◌≤◌, IsTrue, MatchResult, length};
+ghost use Rattle.ext_history.specs.Histories.{seen_by};
+ghost use Rattle.ext_model.specs.History.{IsLegal};
 ghost use Rattle.ext_model.specs.CallActs.{IsHeld, MayStoreNow};
 ghost use Rattle.ext_model.specs.declared.event.Act.TheVariants as act_is;
 ghost use Rattle.ext_cells.specs.CellCalls.{EndsClaim};
@@ -208,15 +210,18 @@ impl StoreCore {
         self.waiters.wake_all();
     }
 
-    // What stands along the path, if anything, or why that can't be told.
+    // What stands along the path, if anything, or why that can't be told. What the lane has seen then is legal.
     fn stands_along(&self, lane: &mut CellLane, path: &[ContextNo], key: KeyNo) -> Option<Unused>
         requires lane { lane.old.cells ≡ self.now.cells }
         requires path { IsTrail self.now path.now }
         requires key { key < length self.now.keys }
         ensures lane { lane.new.cells ≡ lane.old.cells }
+        ensures legal { IsLegal lane.old.cells.limits (seen_by lane.new.view) }
         ensures stands { Stands self.now path.now key lane.old lane.new result }
         ensures steps { steps_of lane.old lane.new ≤ 16 * (self.now.tries + 1) }
     {
-        Unused::of(self.look_along(lane, path, key))
+        let unused = Unused::of(self.look_along(lane, path, key));
+        lane.recall();
+        unused
     }
 }

@@ -27,7 +27,9 @@ impl StoreCore {
         ensures steps { steps_of lane.old lane.new ≤ 16 * (self.now.tries + 1) }
     {
         let path = self.tree.path(context);
-        self.look_along(lane, path.as_slice(), key)
+        let looked = self.look_along(lane, path.as_slice(), key);
+        lane.recall();
+        looked
     }
 
     // The look-up of the key along the path.

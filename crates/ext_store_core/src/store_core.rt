@@ -78,12 +78,13 @@ impl StoreCore {
     }
 
     /// Tells a proof what holds of everything that lanes share. There is a cell for each context
-    /// and place of a key, there are 64 such places, and at most 65,535 numbers. It does nothing
-    /// when it runs.
+    /// and place of a key, there are 64 such places, at most 65,535 numbers, and at least one try.
+    /// It does nothing when it runs.
     pub fn recall(&self)
         ensures cells { self.now.cells.limits.cells ≡ length self.now.tree * length self.now.keys }
         ensures keys { length self.now.keys ≡ 64 }
         ensures few { self.now.cells.limits.numbers ≤ 65535 }
+        ensures tries { 1 ≤ self.now.tries }
     {
         let _tries = self.cells.tries();
     }

@@ -48,7 +48,9 @@ impl StoreCore {
         ensures decided { IsDecidedLook result }
     {
         let path = self.tree.path(context);
-        self.wait_along(rt, lane, path.as_slice(), key)
+        let looked = self.wait_along(rt, lane, path.as_slice(), key);
+        lane.recall();
+        looked
     }
 
     // Looks up the key along the path until no factory decides it.

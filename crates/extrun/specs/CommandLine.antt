@@ -57,12 +57,12 @@ run_of store form = command (codes "run")
     (plan_file ∷ lanes ∷ option (codes "store") store (codes "cells") ∷ option (codes "report") form (codes "text") ∷ tree
     ∷ flag (codes "progress") ∷ flag (codes "failures") ∷ flag (codes "explain") ∷ [])
 
--- The shape of `run`: its stores are `plain` and `cells`, its forms `text` and `json`.
+-- The shape of `run`: its stores are `plain` and `cells`, its forms `text`, `json` and `junit`.
 pub record IsRun (shape : Shape) : Type 0 where
   pub store : ValueParser
   pub form : ValueParser
   pub stores : IsOneOf store (codes "plain" ∷ codes "cells" ∷ [])
-  pub forms : IsOneOf form (codes "text" ∷ codes "json" ∷ [])
+  pub forms : IsOneOf form (codes "text" ∷ codes "json" ∷ codes "junit" ∷ [])
   pub shape_is : shape ≡ run_of store form
 
 abbrev pub check : Shape

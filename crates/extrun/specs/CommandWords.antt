@@ -22,17 +22,19 @@ pub record IsFlag (text : Option (List ℕ)) (flag : Bool) : Type 0 where
   pub set : text ≡ Some (codes "true") → flag ≡ true
   pub unset : text ≡ Some (codes "false") → flag ≡ false
 
-abbrev pub form_of : Bool → Bool → ReportForm
-form_of tree json = if tree then forms.Tree else if json then forms.Json else forms.Text
+abbrev pub form_of : Bool → Bool → Bool → ReportForm
+form_of tree json junit = if tree then forms.Tree else if json then forms.Json else if junit then forms.Junit else forms.Text
 
--- The form of the report: a tree if `--tree` is set, otherwise JSON if the text after `--report` is `json`, otherwise
--- text.
+-- The form of the report: a tree if `--tree` is set, otherwise JSON or JUnit's XML if the text after `--report` is
+-- `json` or `junit`, otherwise text.
 pub record IsForm (rows : List Row) (form : ReportForm) : Type 0 where
   pub tree : Bool
   pub json : Bool
+  pub junit : Bool
   pub drawn : IsFlag (one_of (codes "tree") rows) tree
   pub by_lines : IsTrue json ↔ (first_of (codes "report") rows ≡ Some (codes "json"))
-  pub form_is : form ≡ form_of tree json
+  pub by_suites : IsTrue junit ↔ (first_of (codes "report") rows ≡ Some (codes "junit"))
+  pub form_is : form ≡ form_of tree json junit
 
 -- A run on some number of lanes, or a plain run if the text after `--store` is `plain`; the form of its report; whether
 -- its progress is shown; and whether its faults are listed once more.

@@ -67,8 +67,8 @@ pub(crate) enum Task {
 
 /// Parses the command line. The commands are
 ///
-/// - `run`, with `--lanes` of 1 to 16, `--store plain` or `cells`, `--report text` or `json` or
-///   else `--tree`, `--progress` and `--failures`;
+/// - `run`, with `--lanes` of 1 to 16, `--store plain` or `cells`, `--report text`, `json` or
+///   `junit` or else `--tree`, `--progress` and `--failures`;
 /// - `check`, with `--races` or else `--tree`;
 /// - `id`, with `--explain`.
 ///
@@ -169,7 +169,7 @@ fn run_of(words: &ArgMatches<'_>) -> Task
     run_on(
         lanes_of(words),
         is_plain(words),
-        form_of(is_set(words, "tree"), is_json(words)),
+        form_of(is_set(words, "tree"), is_json(words), is_junit(words)),
         is_set(words, "progress"),
         is_set(words, "failures"),
     )
@@ -196,14 +196,23 @@ fn is_json(words: &ArgMatches<'_>) -> bool
     words.get_str("report") == Some("json")
 }
 
-/// The form of a report: a tree, else JSON, else text.
-fn form_of(tree: bool, json: bool) -> ReportForm
-    ensures { result ≡ form_of tree json }
+/// Tests whether `--report` is `junit`.
+fn is_junit(words: &ArgMatches<'_>) -> bool
+    ensures { IsTrue result ↔ (first_value (found_of words.now) (codes "report") ≡ Some (codes "junit")) }
+{
+    words.get_str("report") == Some("junit")
+}
+
+/// The form of a report: a tree, else JSON, else JUnit's XML, else text.
+fn form_of(tree: bool, json: bool, junit: bool) -> ReportForm
+    ensures { result ≡ form_of tree json junit }
 {
     if tree {
         ReportForm::Tree
     } else if json {
         ReportForm::Json
+    } else if junit {
+        ReportForm::Junit
     } else {
         ReportForm::Text
     }
@@ -377,16 +386,18 @@ fn store_option<'a>(alloc: Global) -> Arg<'a>
 }
 
 fn report_option<'a>(alloc: Global) -> Arg<'a>
-    ensures rule { (value : ValueParser) × IsOneOf value (codes "text" ∷ codes "json" ∷ [])
+    ensures rule { (value : ValueParser) × IsOneOf value (codes "text" ∷ codes "json" ∷ codes "junit" ∷ [])
         × (rule_of result ≡ line.option (codes "report") value (codes "text")) }
     ensures local { result.global ≡ false }
 {
     Arg::new(alloc, "report")
         .long("report")
         .value_name("FORM")
-        .help("How the report is written: `text` by lines, `json` as one object a node, by lines")
+        .help(
+            "How the report is written: `text` by lines, `json` as one object a node, by lines, `junit` as JUnit's XML",
+        )
         .action(ArgAction::Set)
-        .value_parser(["text", "json"].as_slice())
+        .value_parser(["text", "json", "junit"].as_slice())
         .default_value("text")
 }
 

@@ -122,10 +122,12 @@ pub(crate) fn end_claim(
 {
     match cells.next_number(lane) {
         Ok(number) => {
+            lane.recall();
             cells.fill(lane, claim, number);
             Ok(number)
         }
         Err(refusal) => {
+            lane.recall();
             cells.abandon(lane, claim);
             Err(refusal)
         }
@@ -145,10 +147,12 @@ pub(crate) fn fail_claim(
 {
     match cells.next_number(lane) {
         Ok(number) => {
+            lane.recall();
             cells.fail(lane, claim, number);
             Ok(number)
         }
         Err(refusal) => {
+            lane.recall();
             cells.abandon(lane, claim);
             Err(refusal)
         }

@@ -25,7 +25,10 @@ fn take_alone(locks: &Locks, lane: &mut LockLane, set: &LockSet) -> bool
             locks.give(lane, held);
             true
         }
-        Err(_) => false,
+        Err(_) => {
+            lane.recall();
+            false
+        }
     }
 }
 

@@ -16,8 +16,6 @@ pub(crate) fn show_apart(locks: &Locks, one: &mut LockLane, other: &mut LockLane
 {
     if one.number() == other.number() {
         lock_laws();
-        one.recall();
-        other.recall();
         return false;
     }
     locks.exclusive(one, other);

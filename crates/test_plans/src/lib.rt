@@ -1,6 +1,6 @@
 //! Tests of plans, and of what they stand on, by public calls: ids, trees and keys, the one-thread store, plans and their
 //! races, plain runs, reports, and runs from the bytes of a plan to those of its report. Also hostile devices, the calls
-//! of a node, the suite of a plan, the listener, and failures told once more.
+//! of a node, the listener, and failures told once more.
 #![tactic(auto)]
 
 #[cfg(test)]
@@ -43,7 +43,5 @@ mod rows;
 mod same;
 #[cfg(test)]
 mod step_keys;
-#[cfg(test)]
-mod suites;
 #[cfg(test)]
 mod trees;

@@ -108,82 +108,6 @@ fn tells<R: Abort>(
     Ok(())
 }
 
-/// The chain, whose test passed.
-const PUT_AND_WANT: [Ended; 3] = [
-    CONTAINER,
-    Ended {
-        node: 1,
-        ..CONTAINER
-    },
-    Ended { node: 2, ..TEST },
-];
-
-/// Tests `report_text`.
-#[test]
-fn report_of_chain_put_and_want(rt: HostRuntime) -> Result<(), Fail> {
-    let wanted = "[engine:x] successful closed 0\n\
-         [engine:x]/[class:A] successful closed 0\n\
-         [engine:x]/[class:A]/[method:m()] successful closed 0\n\
-         tests 1 successful 1 aborted 0 failed 0 skipped 0\n\
-         computed 0 found 0 closed 0 close faults 0\n";
-    reports(&rt, rt.alloc(), CHAIN, &PUT_AND_WANT, false, wanted)
-}
-
-/// The chain, whose test has a value that did not close.
-const CLOSE_FAULT: [Ended; 3] = [
-    CONTAINER,
-    Ended {
-        node: 1,
-        ..CONTAINER
-    },
-    Ended {
-        node: 2,
-        status: Status::Failed,
-        fault: "close bad2",
-        closed: 3,
-        close_faults: 1,
-        ..TEST
-    },
-];
-
-/// Tests `report_text`.
-#[test]
-fn report_of_close_fault(rt: HostRuntime) -> Result<(), Fail> {
-    let wanted = "[engine:x] successful closed 0\n\
-         [engine:x]/[class:A] successful closed 0\n\
-         [engine:x]/[class:A]/[method:m()] failed closed 3: close bad2\n\
-         tests 1 successful 0 aborted 0 failed 1 skipped 0\n\
-         computed 0 found 0 closed 3 close faults 1\n";
-    reports(&rt, rt.alloc(), CHAIN, &CLOSE_FAULT, true, wanted)
-}
-
-/// The chain, whose test has a fault before it, and one more.
-const BEFORE_FAULT: [Ended; 3] = [
-    CONTAINER,
-    Ended {
-        node: 1,
-        ..CONTAINER
-    },
-    Ended {
-        node: 2,
-        status: Status::Failed,
-        fault: "f",
-        more: 1,
-        ..TEST
-    },
-];
-
-/// Tests `report_text`.
-#[test]
-fn report_of_before_fault(rt: HostRuntime) -> Result<(), Fail> {
-    let wanted = "[engine:x] successful closed 0\n\
-         [engine:x]/[class:A] successful closed 0\n\
-         [engine:x]/[class:A]/[method:m()] failed closed 0: f (+1)\n\
-         tests 1 successful 0 aborted 0 failed 1 skipped 0\n\
-         computed 0 found 0 closed 0 close faults 0\n";
-    reports(&rt, rt.alloc(), CHAIN, &BEFORE_FAULT, true, wanted)
-}
-
 /// An engine with two classes of two methods each.
 const TWO_CLASSES: &str = "[engine:x]
 [engine:x]/[class:A]
@@ -239,33 +163,6 @@ fn report_of_two_classes(rt: HostRuntime) -> Result<(), Fail> {
          tests 4 successful 3 aborted 1 failed 0 skipped 0\n\
          computed 1 found 2 closed 3 close faults 0\n";
     reports(&rt, rt.alloc(), TWO_CLASSES, &OF_TWO_CLASSES, false, wanted)
-}
-
-/// The chain, whose class was aborted.
-const ABORTED_CONTAINER: [Ended; 3] = [
-    CONTAINER,
-    Ended {
-        node: 1,
-        status: Status::Aborted,
-        fault: "no",
-        ..CONTAINER
-    },
-    Ended {
-        node: 2,
-        status: Status::Skipped,
-        ..TEST
-    },
-];
-
-/// Tests `report_text`.
-#[test]
-fn report_of_aborted_container(rt: HostRuntime) -> Result<(), Fail> {
-    let wanted = "[engine:x] successful closed 0\n\
-         [engine:x]/[class:A] aborted closed 0: no\n\
-         [engine:x]/[class:A]/[method:m()] skipped closed 0\n\
-         tests 1 successful 0 aborted 0 failed 0 skipped 1\n\
-         computed 0 found 0 closed 0 close faults 0\n";
-    reports(&rt, rt.alloc(), CHAIN, &ABORTED_CONTAINER, false, wanted)
 }
 
 /// A test that had no memory.

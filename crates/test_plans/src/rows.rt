@@ -106,7 +106,7 @@ pub(crate) fn chain(alloc: Global, steps: &str) -> Result<String, Fail> {
     Ok(text)
 }
 
-/// Tests `run_plain`, `may_have_lacked` and `run`.
+/// Tests `run_plain`, `parallel_results`, `PlanSuite::new`, `may_have_lacked` and `run`.
 #[test]
 fn chain_put_and_want(rt: HostRuntime) -> Result<(), Fail> {
     let plan = chain(rt.alloc(), "\"put a x\", \"want a x\"")?;

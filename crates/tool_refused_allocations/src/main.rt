@@ -5,14 +5,9 @@
 //! refuses an allocation is `rt try --fail-alloc N`, and by `scripts/refused-allocations` each of a case is refused in turn.
 #![tactic(auto)]
 
-mod crew;
 mod faults;
 mod ids;
-mod key_places;
-mod keys;
 mod outcome;
-mod places;
-mod plain;
 mod plain_runs;
 mod runs;
 mod store_keys;
@@ -73,12 +68,6 @@ fn burn(alloc: Global, allocations: u32) -> bool {
 /// What becomes of the case's calls.
 fn outcome_of<R: Threads + Wait + Sync>(rt: &R, alloc: Global, case: Case) -> Outcome {
     match case {
-        Case::Ids => ids::reads_and_writes(alloc),
-        Case::Plain => plain::makes_calls(alloc),
-        Case::Keys => keys::declares(alloc).and(keys::builds(alloc)),
-        Case::KeyPlaces => key_places::numbers(alloc),
-        Case::Places => places::places(alloc),
-        Case::Crew => crew::runs_jobs(rt, alloc),
         Case::Store => stores::keeps_and_computes(alloc),
         Case::StoreKeys => store_keys::names_keys(alloc),
         Case::Faults => faults::keeps_a_fault(alloc),

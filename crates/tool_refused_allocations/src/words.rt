@@ -6,30 +6,17 @@ use std::rt::Env;
 pub(crate) const USAGE: &str = "\
 usage: tool_refused_allocations CASE ALLOCATIONS
 
-Makes and drops so many ALLOCATIONS (0 to 4294967295), and then makes the calls of the CASE: ids,
-plain, keys, key_places, places, crew, store, store_keys, faults; id_text, which reads an id and
-prints its segments; chain, which runs the plan of a chain of three contexts on one lane; plain_run,
-which makes a plain run of a plan of three tests; or run, which runs a plan of four tests on four
-lanes. It prints a line: ok; or no memory, where a call answered that and all was then
-as it has to be; or no memory in its report, of a run; or else what was not. The exit status is 0, or
-1 where something was not as it has to be, 2 where the words are refused, or 3 where there was no
-memory before the case.";
+Makes and drops so many ALLOCATIONS (0 to 4294967295), and then makes the calls of the CASE: store,
+store_keys, faults; id_text, which reads an id and prints its segments; chain, which runs the plan of
+a chain of three contexts on one lane; plain_run, which makes a plain run of a plan of three tests; or
+run, which runs a plan of four tests on four lanes. It prints a line: ok; or no memory, where a call
+answered that and all was then as it has to be; or no memory in its report, of a run; or else what was
+not. The exit status is 0, or 1 where something was not as it has to be, 2 where the words are
+refused, or 3 where there was no memory before the case.";
 
 /// A case: what is called.
 #[derive(Clone, Copy)]
 pub(crate) enum Case {
-    /// An id is read and written.
-    Ids,
-    /// Calls of the one-thread store.
-    Plain,
-    /// Keys are made and declared, and a tree is built.
-    Keys,
-    /// Keys are made, and numbered by two lanes.
-    KeyPlaces,
-    /// Places for values are made, and a value is placed.
-    Places,
-    /// Jobs are run on several workers.
-    Crew,
     /// A store is opened, a value is kept and put, and one is computed.
     Store,
     /// A store is opened, and keys are named in it by each call.
@@ -50,12 +37,6 @@ impl Case {
     /// The case of this word.
     fn named(name: &str) -> Option<Case> {
         match name {
-            "ids" => Some(Case::Ids),
-            "plain" => Some(Case::Plain),
-            "keys" => Some(Case::Keys),
-            "key_places" => Some(Case::KeyPlaces),
-            "places" => Some(Case::Places),
-            "crew" => Some(Case::Crew),
             "store" => Some(Case::Store),
             "store_keys" => Some(Case::StoreKeys),
             "faults" => Some(Case::Faults),

@@ -8,9 +8,7 @@ package extensionstore;
 final class Native {
     static final int DONE = 0;
     static final int ABSENT = 1;
-    static final int FAULT = 2;
     static final int RUN = 3;
-    static final int GIVEN_UP = 4;
     static final int BUSY = 5;
     static final int CLOSED = 6;
     static final int CONTENDED = 7;
@@ -27,17 +25,16 @@ final class Native {
     };
 
     static {
-        String library = System.getProperty("extensionstore.library");
-        if (library == null) {
-            System.loadLibrary("extension_store");
-        } else {
-            System.load(library);
+        if (Library.MISSING != null) {
+            throw new UnsatisfiedLinkError(Library.MISSING);
         }
     }
 
     private Native() {}
 
-    static native long open(byte[] bytes, int[] lengths, int tries, int numbers, boolean keepFaults, int lanes);
+    static native long open(byte[] bytes, int[] lengths, int tries, int numbers, int lanes);
+
+    static native void leave(long store);
 
     static native void free(long store);
 
@@ -45,15 +42,13 @@ final class Native {
 
     static native long get(long store, int hint, int context, int key);
 
-    static native long put(long store, int hint, int context, int key, int handle, boolean closeable);
+    static native long put(long store, int hint, int context, int key, int handle);
 
     static native long remove(long store, int hint, int context, int key);
 
-    static native long begin(long store, int hint, int context, int key);
+    static native long begin(long store, int hint, int within, int context, int key);
 
-    static native long fill(long store, int lane, int handle, boolean closeable);
-
-    static native long fail(long store, int lane, int handle);
+    static native long fill(long store, int lane, int handle);
 
     static native long abandon(long store, int lane);
 

@@ -1,7 +1,7 @@
 //! The close of a node's context, asked again until nobody is in the way.
-ghost use Rattle.std.specs.Prelude.{◌≡◌, ◌≤◌, length, All, IfOk, IfErr, IfNone, IfSome};
+ghost use Rattle.std.specs.Prelude.{◌≡◌, ◌≤◌, length, All, IfOk, IfErr, IfNone, IfSome, Ok};
 ghost use Rattle.ext_closing.specs.declared.fault.CloseFault.TheVariants as close_fault;
-ghost use Rattle.ext_closing.specs.Closes.{IsClosedBy};
+ghost use Rattle.ext_closing.specs.Closes.{Closes};
 ghost use Rattle.ext_closing.specs.InnerSteps.{IsOfKey};
 ghost use Rattle.ext_store.specs.Stores.{IsCloserOf, IsLaneOf};
 ghost use Rattle.ext_engine.specs.NodeFailing.{IsLeftOpen};
@@ -23,7 +23,7 @@ pub(crate) fn close_again<R: Wait, V: StoreValue + Drop, A: CloseAction<V>>(
     requires lanes { 1 ≤ length lanes.old }
     requires own_lanes { All (IsLaneOf store.now.id) lanes.old }
     requires closer { IsCloserOf store.now closer }
-    ensures closes { IfOk result (λ closed. IsClosedBy V.is_closeable A.close_gives store.now closer lanes.old action.old closed lanes.new action.new) }
+    ensures closes { IfOk result (λ closed. Closes V.is_closeable A.close_gives store.now closer lanes.old action.old (Ok closed) lanes.new action.new) }
     ensures unjoined { IfErr result (λ number. IsLeftOpen V.is_closeable A.close_gives store.now closer action.old lanes.old number lanes.new) }
     ensures own_lanes { All (IsLaneOf store.now.id) lanes.new }
     ensures count { length lanes.new ≡ length lanes.old }
@@ -31,7 +31,10 @@ pub(crate) fn close_again<R: Wait, V: StoreValue + Drop, A: CloseAction<V>>(
     let mut left = closer;
     for _ in rt.forever() {
         match close(store, left, lanes, action) {
-            Ok(closed) => return Ok(closed),
+            Ok(closed) => {
+                lanes[0].recall();
+                return Ok(closed);
+            }
             Err((back, why)) => {
                 if let Some(number) = unjoined(why) {
                     return Err(number);

@@ -2,7 +2,7 @@ use Rattle.std.proofs.Common.{◌≡◌, false, sym, ap, subst, ◌∙◌}
 use Rattle.ext_model.specs.CellWords.{number_code}
 use Rattle.ext_cells.specs.declared.decision.Decision.TheVariants.{Change}
 use Rattle.ext_cells.specs.InnerDeciding.{state_of, is_settled, stood_in, Decides}
-use Rattle.ext_cells.proofs.Decisions.{changes, refuses, seals_nothing, room_for_seal}
+use Rattle.ext_cells.proofs.Decisions.{changes, refuses, seals_nothing}
 use Rattle.ext_cells.proofs.decision.decide.Goals as goal
 
 pub returns-in-Ok : goal.returns-in-Ok

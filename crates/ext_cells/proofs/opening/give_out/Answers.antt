@@ -1,7 +1,8 @@
 use Rattle.std.proofs.Common.{suc, ap, ◌∙◌, arith}
-use Rattle.ext_cells.specs.declared.rule.View.{View}
-use Rattle.ext_cells.specs.InnerRule.{giving, born}
-use Rattle.ext_cells.proofs.Seats.{splits_lane}
+use Rattle.ext_rows.specs.declared.view.View.{View}
+use Rattle.ext_rows.specs.Views.{giving, born}
+use Rattle.ext_rows.specs.Marks.{marks}
+use Rattle.ext_rows.proofs.Seats.{splits_lane}
 use Rattle.ext_cells.proofs.Given.{given_one, born_lane, giver_lane}
 use Rattle.ext_cells.proofs.opening.give_out.Goals as goal
 
@@ -10,7 +11,7 @@ split_seat-seat-requires c =
     let v = c.loop-number.invariant.view in
     let few = c.loop-number-test.true in
     let lanes = c.requires.lanes.1 in
-    (c.loop-number.invariant.table, c.requires.words, splits_lane c.args.shared.now.key _ _ c.loop-number.number 0 (ap (λ (x : View). x.given) v) (ap (λ (x : View). x.lane) v) (omega (arith, few, lanes)))
+    (c.loop-number.invariant.table, c.requires.words, splits_lane c.args.shared.now.key (marks c.args.shared.now.key.cells) _ _ c.loop-number.number 0 (ap (λ (x : View). x.given) v) (ap (λ (x : View). x.lane) v) (omega (arith, few, lanes)))
 
 pub invariant_of-push : goal.invariant_of-push
 invariant_of-push c =

@@ -30,7 +30,7 @@ returns-in-Err-clause-happened g c =
     let some = c.requires.lanes in
     let ends = first_ends c.args.lanes.now left c.seal_all.new.lane first same some c.args.store.now c.args.closer.context _ after.ends in
     record {
-      seals = ends.seals;
+      stops = ends.stops;
       sealed = ends.sealed;
       own_events = ends.made;
       closes = tt;
@@ -56,7 +56,7 @@ returns-in-Some-clause-happened g c =
     let some = c.requires.lanes in
     let ends = first_ends c.args.lanes.now left c.seal_all.new.lane first same some c.args.store.now c.args.closer.context _ after.ends in
     record {
-      seals = ends.seals;
+      stops = ends.stops;
       sealed = ends.sealed;
       own_events = ends.made;
       closes = tt;
@@ -85,7 +85,7 @@ returns-clause-happened g c =
     let gives = g.A.CloseAction.close_gives in
     let ends = first_ends c.args.lanes.now _ c.seal_all.new.lane first same some c.args.store.now c.args.closer.context _ after.ends in
     record {
-      seals = ends.seals;
+      stops = ends.stops;
       sealed = ends.sealed;
       own_events = ends.made;
       closes =

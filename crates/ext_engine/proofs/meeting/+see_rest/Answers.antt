@@ -29,7 +29,7 @@ pub returns-in_default-clause-met : goal.returns-in_default-clause-met
 returns-in_default-clause-met g t c =
     let st = c.args.store.now in
     let none : length c.args.others.now ≡ 0 = search rules in
-    (met_nobody st c.args.first.now c.requires.first c.recall.ensures.legal, none_met st c.args.others.now c.args.others.now none refl)
+    (met_nobody st c.args.first.now c.requires.first, none_met st c.args.others.now c.args.others.now none refl)
 
 pub returns-in_default-clause-shown : goal.returns-in_default-clause-shown
 returns-in_default-clause-shown g t c =

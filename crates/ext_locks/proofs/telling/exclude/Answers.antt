@@ -1,6 +1,6 @@
 use Rattle.std.proofs.Common.{◌+◌, length, ap, ◌∙◌}
 use Rattle.ext_locks.specs.InnerRule.{noted}
-use Rattle.ext_locks.proofs.Fronts.{makes_quiet, makes_legal, told_makes, kept_makes}
+use Rattle.ext_locks.proofs.Fronts.{makes_quiet, told_makes, kept_makes}
 use Rattle.ext_locks.proofs.Trying.{loaded_adds}
 use Rattle.ext_locks.proofs.Meeting.{exclusive_one, exclusive_other, sees_other}
 use Rattle.ext_locks.proofs.telling.exclude.Goals as goal
@@ -20,7 +20,7 @@ pub returns-clause-other : goal.returns-clause-other
 returns-clause-other c =
     let told = told_makes c.args.other.now c.tell-first.new.to (noted c.args.one.now.me.0) _ _ _ c.tell-first.ensures.table c.tell-first.ensures.step in
     makes_quiet c.args.other.now c.tell-first.new.to c.tell-second.new.from _ _ told
-    (kept_makes _ _ _ (makes_legal c.args.other.now c.tell-first.new.to _ _ told) c.tell-second.ensures.from.0 c.tell-second.ensures.from.1)
+    (kept_makes _ _ _ told.legal c.tell-second.ensures.from.0 c.tell-second.ensures.from.1)
 
 pub returns-clause-seen : goal.returns-clause-seen
 returns-clause-seen c =

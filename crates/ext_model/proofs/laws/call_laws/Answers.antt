@@ -10,13 +10,13 @@ use Rattle.ext_model.proofs.laws.call_laws.Goals as goal
 pub returns : goal.returns
 returns c = record {
   step = λ limits lane h on. step_calls on;
-  event = λ limits lane act h on allowed. event_calls on (by lane.number act) refl allowed;
+  event = λ limits lane act h on. event_calls on (by lane.number act) refl;
   compose = calls_compose;
   fronts = λ limits a b d xs ys one two. fronts_compose one two;
   first_step = λ limits a b d xs ys one two some. first_decides one two some;
   earlier_step = λ limits a b d xs ys one two. first_is_earlier one two;
   seen = λ limits a b acts one. seen_goes_on one;
-  legal_points = λ limits a b acts p one at. point_legal one p at;
+  legal_points = λ limits a b p legal at. point_legal legal p at;
   answer_points = λ limits a b acts p one at. answer_point one p at;
   later_points = later_point;
   earlier_points = λ limits a b d p one two some at. earlier_point one two some p at;

@@ -38,7 +38,7 @@ returns-in_default g t c =
         seen_by lane.cells.view,
         lane.keys,
         legal_here st lane c.requires.lane c.requires.looked.0,
-        turns_last st lane c.requires.lane c.requires.looked.0,
+        turns_last st lane c.requires.lane,
         none_turn st (seen_by lane.cells.view) lane.keys c.args.others.now none,
       );
     }

@@ -1,4 +1,4 @@
-use Rattle.std.proofs.Common.{◌≡◌, ◌++◌, ◌∙◌, ap, sym, rules}
+use Rattle.std.proofs.Common.{◌++◌, ◌∙◌, ap, sym, rules}
 use Rattle.ext_lifecycle.specs.FaultTexts.{result_view}
 use Rattle.ext_report.specs.JsonLines.{json_line}
 use Rattle.ext_report.proofs.Lines.{lines-more}

@@ -1,4 +1,4 @@
-use Rattle.std.proofs.Common.{◌≡◌, ◌++◌, ◌∷◌, ◌-◌, take}
+use Rattle.std.proofs.Common.{◌≡◌, ◌++◌, ◌-◌, take}
 use Rattle.std.specs.List.{flat_map}
 use Rattle.ext_report.specs.TreeLines.{depth_first_from}
 use Rattle.ext_report.proofs.tree_lines.+push_from.Given as goal

@@ -8,8 +8,8 @@ returns g c = record {
   none = λ id lane mine. no_frame id lane mine;
   compose = λ id first second a b d one two. frames_compose id first second a b d one two;
   kept = λ id a b frame. frame_keeps id a b frame;
-  no_call = λ limits lane legal. calls_none lane_of lane legal;
-  calls = λ id stored a b frame legal. frame_calls id stored a b frame legal;
+  no_call = λ limits lane. calls_none lane_of lane;
+  calls = λ id stored a b frame. frame_calls id stored a b frame;
   fronts = fronts_are_seen;
   met = met_lanes;
 }

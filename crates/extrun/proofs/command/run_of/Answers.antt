@@ -14,8 +14,10 @@ returns c =
       form = record {
         tree = c.is_set.result;
         json = c.is_json.result;
+        junit = c.is_junit.result;
         drawn = subst (λ text. IsFlag text c.is_set.result) (one_text-rows found (codes "tree")) c.is_set.ensures;
         by_lines = subst (λ text. IsTrue c.is_json.result ↔ (text ≡ Some (codes "json"))) (first_value-rows found (codes "report")) c.is_json.ensures;
+        by_suites = subst (λ text. IsTrue c.is_junit.result ↔ (text ≡ Some (codes "junit"))) (first_value-rows found (codes "report")) c.is_junit.ensures;
         form_is = c.form_of.ensures;
       };
       told = subst (λ text. IsFlag text c.is_set-2.result) (one_text-rows found (codes "progress")) c.is_set-2.ensures;

@@ -22,4 +22,4 @@ returns-in-Ok-fail_claim-clause-says c =
 
 pub returns-in-Err-clause-says : goal.returns-in-Err-clause-says
 returns-in-Err-clause-says c =
-    FailSays.unkept c.in-Some.claim c.in-Err.why (sym c.replace.ensures.value ∙ c.in-Some.is) (subst (λ (s : StoreView). s.id.cells.limits.keep_faults ≡ true) c.deref-shared.ensures (sym c.keeps_faults.ensures ∙ c.if-not-keeps_faults.false)) c.in-Err.ensures.unkept refl c.of_keep-in-Err.ensures
+    FailSays.unkept c.in-Some.claim c.in-Err.why (sym c.replace.ensures.value ∙ c.in-Some.is) (subst (λ (s : StoreView). s.id.cells.limits.keep_faults ≡ true) c.deref-shared.ensures (sym c.keeps_faults.ensures ∙ c.if-not-keeps_faults.false)) c.in-Err.ensures.unkept c.in-Err.ensures.decided refl c.of_keep-in-Err.ensures

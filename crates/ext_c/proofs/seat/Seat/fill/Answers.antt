@@ -14,4 +14,4 @@ pub returns-in-Err-clause-says : goal.returns-in-Err-clause-says
 returns-in-Err-clause-says c =
     FillSays.unkept c.in-Some.claim c.in-Err.why (sym c.replace.ensures.value ∙ c.in-Some.is)
     (subst (λ (s : StoreView). IsUnkept s.id.cells.limits s.tries [] c.in-Some.claim c.args.self.now.lane.cells.view c.fill_quietly.new.lane.cells.view c.in-Err.why) c.deref-shared.ensures c.in-Err.ensures.events)
-    refl c.of_keep.ensures
+    c.in-Err.ensures.decided refl c.of_keep.ensures

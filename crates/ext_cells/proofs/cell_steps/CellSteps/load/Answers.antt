@@ -1,9 +1,14 @@
 use Rattle.std.proofs.Common.{ap}
-use Rattle.ext_cells.proofs.Steps.{loads}
+use Rattle.ext_rows.specs.Views.{limits_of}
+use Rattle.ext_rows.specs.Marks.{marks}
+use Rattle.ext_rows.proofs.Steps.{loads}
+use Rattle.ext_rows.proofs.Marked.{is_layout}
 use Rattle.ext_cells.proofs.cell_steps.CellSteps.load.Goals as goal
 
 pub load-requires : goal.load-requires
-load-requires c = (c.requires.table, c.requires.place, loads _ _ _ _ _ _ c.requires.lane.1)
+load-requires c =
+    let limits = c.args.self.now.table.shared.key in
+    (c.requires.table, c.requires.place, loads limits (marks limits.cells) _ _ _ c.args.place c.args.place _ (is_layout (limits_of limits)) c.requires.lane.1 c.requires.known)
 
 pub returns-clause-found : goal.returns-clause-found
 returns-clause-found c = let e = c.load.ensures.2 in (e.0, e.1, ap (λ z. z.0) e.2)

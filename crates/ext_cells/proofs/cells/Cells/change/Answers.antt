@@ -124,7 +124,7 @@ pub returns-in-Ok-clause-steps : goal.returns-in-Ok-clause-steps
 returns-in-Ok-clause-steps c =
     let tries : c.self.inside.tries ≡ c.args.self.now.tries = ap (λ z. z.tries) c.self.view_is in
     let m = c.in-Ok.ensures.made in
-    let steps = steps_next c.args.lane.now c.loop.lane c.exchange.new.lane c.args.cell c.loop.word c.loop.counter m.0 c.args.act c.loop.invariant m.1 m.2.allowed m.3 in
+    let steps = steps_next c.args.lane.now c.loop.lane c.exchange.new.lane c.args.cell c.loop.word c.loop.counter m.0 c.args.act c.loop.invariant m.1 m.3 in
     let less = c.loop-test.true in omega (arith, tries, steps, less)
 
 pub returns-in-Done-decide-clause-lane : goal.returns-in-Done-decide-clause-lane

@@ -1,6 +1,8 @@
 use Rattle.std.proofs.Common.{◌≡◌, ◌+◌, ◌^◌, ◌<◌, sym, ap, ◌∙◌, subst, arith}
 use Rattle.ext_cells.specs.declared.cell_state.CellState.TheVariants.{Computing}
 use Rattle.ext_cells.specs.WordChanges.{next_word, Suits}
+use Rattle.ext_history.specs.Histories.{seen_by}
+use Rattle.ext_rows.specs.Steps.{IsWordAt}
 use Rattle.ext_cells.specs.Lanes.{Lane}
 use Rattle.ext_cells.proofs.Tries.{TriesOn, first_on, steps_next}
 use Rattle.ext_cells.proofs.Changing.{place_in_is}
@@ -57,6 +59,13 @@ exchange-requires-clause-may c =
     may_now c.args.lane.now c.read-word.new.lane c.read-word.result c.args.cell c.args.act few c.requires.held c.requires.act c.requires.number on c.requires.faults c.next_word-next.result
     (λ version is. c.next_word-next.ensures ∙ ap (λ z. next_word c.args.act z.0 z.1 z.2) (c.parts-state.ensures.only Computing 0 version (omega arith) is))
 
+pub exchange-requires-clause-seen : goal.exchange-requires-clause-seen
+exchange-requires-clause-seen c =
+    let less = held_within c.args.lane.now.cells.limits c.args.lane.now.view c.args.cell c.recall.ensures.legal c.requires.held in
+    let f = c.read-word.ensures.found in
+    let on : TriesOn c.args.lane.now c.read-word.new.lane c.args.cell c.read-word.result 0 = first_on _ _ _ _ f.0 (omega (arith, less)) f.1 f.2 in
+    subst (λ z. IsWordAt z.limits (seen_by c.read-word.new.lane.view) c.args.cell c.read-word.result) (sym on.cells) on.tries.word_is
+
 pub unreachable-requires : goal.unreachable-requires
 unreachable-requires c =
     let few : c.args.lane.now.cells.limits.numbers < 2 ^ 20 = subst (λ z. z.limits.numbers < 2 ^ 20) (sym c.requires.lane) c.read-word.ensures.numbers in
@@ -82,4 +91,4 @@ returns-clause-steps c =
     let less = held_within c.args.lane.now.cells.limits c.args.lane.now.view c.args.cell c.recall.ensures.legal c.requires.held in
     let f = c.read-word.ensures.found in
     let on : TriesOn c.args.lane.now c.read-word.new.lane c.args.cell c.read-word.result 0 = first_on _ _ _ _ f.0 (omega (arith, less)) f.1 f.2 in
-    let m = c.in-Ok.ensures.made in steps_next _ _ _ _ _ _ m.0 c.args.act on m.1 m.2.allowed m.3
+    let m = c.in-Ok.ensures.made in steps_next _ _ _ _ _ _ m.0 c.args.act on m.1 m.3

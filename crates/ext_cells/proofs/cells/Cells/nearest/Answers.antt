@@ -5,7 +5,7 @@ use Rattle.ext_cells.specs.CellCalls.{cells_in}
 use Rattle.ext_cells.specs.InnerPasses.{ReadPass}
 use Rattle.ext_cells.specs.WordChanges.{version_in}
 use Rattle.ext_cells.proofs.Collecting.{passes_again, passes_on, passes_overtaken, steps_within, steps_all, stood}
-use Rattle.ext_cells.proofs.Readings.{same_again, nearest_of}
+use Rattle.ext_cells.proofs.Readings.{same_again, nearest_of, legal_between}
 use Rattle.ext_cells.proofs.Rows.{cells_apart, cells_length, rest_known, rows_begun, rows_nearest, take_known}
 use Rattle.ext_cells.proofs.cells.Cells.nearest.Goals as goal
 
@@ -46,7 +46,7 @@ returns-then-again-seen-clause-nearest c =
     let again = c.read_each-again-in-loop.ensures.read in
     let read = subst (λ z. ReadPass z.limits c.loop.lane.view c.read_each-again-in-loop.new.lane.view (cells_in c.args.rows.now c.args.column) again.0) i.cells again.1 in
     let same = same_again c.args.lane.now.cells.limits _ _ _ _ words again.0 c.loop.counter i.passes.2 read few (sym again.2.versions ∙ (c.if-again-seen.true ∙ i.passes.1)) in
-    nearest_of c.args.lane.now c.read_each-again-in-loop.new.lane cells again.0 c.read_each-again-in-loop.result few
+    nearest_of c.args.lane.now c.read_each-again-in-loop.new.lane cells again.0 c.read_each-again-in-loop.result few (legal_between c.args.lane.now.cells.limits c.loop.lane.view c.read_each-again-in-loop.new.lane.view cells again.0 read)
     (stood c.args.lane.now.cells.limits _ _ _ _ words again.0 c.loop.counter i.passes.2 read same few c.args.lane.now c.read_each-again-in-loop.new.lane refl refl refl) again.2
 
 pub returns-then-again-seen-clause-steps : goal.returns-then-again-seen-clause-steps

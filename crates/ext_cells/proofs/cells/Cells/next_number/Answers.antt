@@ -3,7 +3,7 @@ use Rattle.ext_model.specs.declared.event.Act.TheVariants.{Keep}
 use Rattle.ext_model.specs.History.{History}
 use Rattle.ext_cells.specs.Lanes.{Lane}
 use Rattle.ext_cells.specs.InnerSteps.{Finds, MayGoOn}
-use Rattle.ext_cells.proofs.Tries.{first_on, next_on, overtaken, steps_next}
+use Rattle.ext_cells.proofs.Tries.{first_on, next_on, overtaken, steps_next, made_legal}
 use Rattle.ext_cells.proofs.Drawing.{full_now, would_draw, may_draw, drew, not_drawn}
 use Rattle.ext_cells.proofs.Storable.{drew_storable}
 use Rattle.ext_cells.proofs.cells.Cells.next_number.Goals as goal
@@ -48,7 +48,7 @@ returns-in-Ok-clause-storable c =
     let less = c.if-count-most.false in
     let room : c.loop.count < c.args.lane.now.cells.limits.numbers = omega (arith, limit, from, less) in
     let m = c.in-Ok.ensures.made in
-    drew_storable c.args.self.now.tries c.args.lane.now c.exchange.new.lane _
+    drew_storable c.args.self.now.tries c.args.lane.now c.exchange.new.lane _ (made_legal c.args.lane.now c.loop.lane c.exchange.new.lane c.args.lane.now.cells.limits.cells c.loop.count c.loop.counter m.0 (Keep (c.loop.count + 1)) c.loop.invariant m.1.on.legal m.2.allowed (ap (λ (l : Lane). l.view) m.3))
     (drew c.args.lane.now c.loop.lane c.loop.count c.loop.counter c.loop.invariant _ room refl c.args.self.now.tries c.exchange.new.lane m.0 (subst (λ p. Finds c.loop.lane.cells.limits c.loop.lane.view p c.loop.count m.0) place m.1) (ap (λ (l : Lane). l.view) m.3))
 
 pub returns-in-Ok-clause-within : goal.returns-in-Ok-clause-within
@@ -135,7 +135,7 @@ returns-in-Ok-clause-steps c =
     let place : c.self.inside.limits.cells ≡ c.args.lane.now.cells.limits.cells = ap (λ z. z.id.limits.cells) c.self.view_is ∙ ap (λ z. z.limits.cells) (sym c.requires.lane) in
     let tries : c.self.inside.tries ≡ c.args.self.now.tries = ap (λ z. z.tries) c.self.view_is in
     let m = c.in-Ok.ensures.made in
-    let steps = steps_next c.args.lane.now c.loop.lane c.exchange.new.lane c.args.lane.now.cells.limits.cells c.loop.count c.loop.counter m.0 (Keep (c.loop.count + 1)) c.loop.invariant (subst (λ p. Finds c.loop.lane.cells.limits c.loop.lane.view p c.loop.count m.0) place m.1) m.2.allowed m.3 in
+    let steps = steps_next c.args.lane.now c.loop.lane c.exchange.new.lane c.args.lane.now.cells.limits.cells c.loop.count c.loop.counter m.0 (Keep (c.loop.count + 1)) c.loop.invariant (subst (λ p. Finds c.loop.lane.cells.limits c.loop.lane.view p c.loop.count m.0) place m.1) m.3 in
     let less = c.loop-test.true in omega (arith, tries, steps, less)
 
 pub returns-clause-contended : goal.returns-clause-contended

@@ -3,7 +3,7 @@ use Rattle.std.specs.Prelude.{Ok}
 use Rattle.std.proofs.lemmas.Fn.{FoldsTo-push}
 use Rattle.ext_store.specs.Stores.{IsCloserOf}
 use Rattle.ext_closing.specs.Closes.{IsRefused}
-use Rattle.ext_closing.proofs.Again.{asked_again}
+use Rattle.ext_closing.proofs.Again.{asked_again, first_legal}
 use Rattle.ext_engine.proofs.Refusals.{same_close, refused_close, count_kept}
 use Rattle.ext_engine.proofs.node.closing.close_again.Goals as goal
 
@@ -22,7 +22,9 @@ close-requires-clause-closer g c = subst (λ closer. IsCloserOf c.args.store.now
 pub returns-in-Ok-clause-closes : goal.returns-in-Ok-clause-closes
 returns-in-Ok-clause-closes g c =
     let inv = c.loop.invariant in
-    asked_again g.V.StoreValue.is_closeable g.A.CloseAction.close_gives c.args.store.now c.args.closer c.args.lanes.now c.args.action.now c.in-Ok.closed c.close.new.lanes c.close.new.action c.requires.own_lanes
+    let count = count_kept c.loop.lanes c.close.new.lanes c.in-Ok.ensures.happened.lanes ∙ inv.count in
+    asked_again g.V.StoreValue.is_closeable g.A.CloseAction.close_gives c.args.store.now c.args.closer c.args.lanes.now c.args.action.now c.in-Ok.closed c.close.new.lanes c.close.new.action
+    (first_legal c.args.store.now c.close.new.lanes _ (omega (arith, count, c.requires.lanes)) c.in-Ok.ensures.own_lanes c.recall.ensures.legal) c.requires.own_lanes
     (record {
       refusals = inv.refused.0;
       asked = c.loop.lanes;

@@ -1,7 +1,6 @@
-use Rattle.std.proofs.Common.{[], ◌∷◌, refl, ap}
+use Rattle.std.proofs.Common.{[], ◌∷◌, refl}
 use Rattle.ext_model.specs.declared.event.Act.TheVariants.{Abandon}
 use Rattle.ext_store_core.proofs.Claimed.{none_stored, nor_this}
-use Rattle.ext_store.specs.Stores.{StoreLane}
 use Rattle.ext_store.proofs.Composing.{storing_frame}
 use Rattle.ext_store.proofs.Frames.{stays_inside}
 use Rattle.ext_store.proofs.store.Store.abandon_quietly.Goals as goal

@@ -1,4 +1,4 @@
-use Rattle.std.proofs.Common.{◌≡◌, ◌∙◌, refl, []}
+use Rattle.std.proofs.Common.{◌≡◌, refl, []}
 use Rattle.std.specs.Prelude.{Ok, Err}
 use Rattle.ext_store.specs.LaneCalls.{Gets}
 use Rattle.ext_store.proofs.Frames.{stays_then}

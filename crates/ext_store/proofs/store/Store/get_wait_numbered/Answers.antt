@@ -1,7 +1,7 @@
-use Rattle.std.proofs.Common.{[], refl, ap, subst}
+use Rattle.std.proofs.Common.{[], refl, subst}
 use Rattle.std.specs.Prelude.{Ok}
 use Rattle.ext_cells.specs.Lanes.{Lane}
-use Rattle.ext_store.specs.Stores.{StoreView, StoreLane}
+use Rattle.ext_store.specs.Stores.{StoreView}
 use Rattle.ext_store.specs.LaneCalls.{Gets}
 use Rattle.ext_store_core.proofs.Events.{gets_quiet}
 use Rattle.ext_store.proofs.Frames.{quiet_frame, stays_inside}

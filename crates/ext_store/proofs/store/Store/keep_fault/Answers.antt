@@ -19,25 +19,25 @@ place_drawn_fault-requires-clause-drawn g c =
 pub returns-clause-answer : goal.returns-clause-answer
 returns-clause-answer g c =
     (fault_by_drawn c.args.self.now c.self.inside.shared.tries (ap (λ (s : StoreView). s.tries) c.self.view_is) c.args.fault (record { cells = c.lane.inside.cells; known = c.lane.inside.notes; faults = c.lane.inside.faults; keys = c.lane.inside.keys }) c.args.lane.now c.lane.view_is c.requires.lane
-    c.keep-drawn.new.lane c.keep-drawn.ensures.lane c.place_drawn_fault.new.notes c.keep-drawn.result c.keep-drawn.ensures.reply c.keep-drawn.ensures.storable c.place_drawn_fault.result
+    c.keep-drawn.new.lane c.keep-drawn.ensures.lane c.recall-2.ensures.legal c.place_drawn_fault.new.notes c.keep-drawn.result c.keep-drawn.ensures.reply c.keep-drawn.ensures.storable c.place_drawn_fault.result
     (subst (λ v. PlacesDrawn v c.keep-drawn.result c.lane.inside.faults c.place_drawn_fault.new.notes c.place_drawn_fault.result) c.in-Ok.ensures.ok c.place_drawn_fault.ensures)).answer
 
 pub returns-clause-known : goal.returns-clause-known
 returns-clause-known g c =
     (fault_by_drawn c.args.self.now c.self.inside.shared.tries (ap (λ (s : StoreView). s.tries) c.self.view_is) c.args.fault (record { cells = c.lane.inside.cells; known = c.lane.inside.notes; faults = c.lane.inside.faults; keys = c.lane.inside.keys }) c.args.lane.now c.lane.view_is c.requires.lane
-    c.keep-drawn.new.lane c.keep-drawn.ensures.lane c.place_drawn_fault.new.notes c.keep-drawn.result c.keep-drawn.ensures.reply c.keep-drawn.ensures.storable c.place_drawn_fault.result
+    c.keep-drawn.new.lane c.keep-drawn.ensures.lane c.recall-2.ensures.legal c.place_drawn_fault.new.notes c.keep-drawn.result c.keep-drawn.ensures.reply c.keep-drawn.ensures.storable c.place_drawn_fault.result
     (subst (λ v. PlacesDrawn v c.keep-drawn.result c.lane.inside.faults c.place_drawn_fault.new.notes c.place_drawn_fault.result) c.in-Ok.ensures.ok c.place_drawn_fault.ensures)).known
 
 pub returns-clause-apart : goal.returns-clause-apart
 returns-clause-apart g c =
     (fault_by_drawn c.args.self.now c.self.inside.shared.tries (ap (λ (s : StoreView). s.tries) c.self.view_is) c.args.fault (record { cells = c.lane.inside.cells; known = c.lane.inside.notes; faults = c.lane.inside.faults; keys = c.lane.inside.keys }) c.args.lane.now c.lane.view_is c.requires.lane
-    c.keep-drawn.new.lane c.keep-drawn.ensures.lane c.place_drawn_fault.new.notes c.keep-drawn.result c.keep-drawn.ensures.reply c.keep-drawn.ensures.storable c.place_drawn_fault.result
+    c.keep-drawn.new.lane c.keep-drawn.ensures.lane c.recall-2.ensures.legal c.place_drawn_fault.new.notes c.keep-drawn.result c.keep-drawn.ensures.reply c.keep-drawn.ensures.storable c.place_drawn_fault.result
     (subst (λ v. PlacesDrawn v c.keep-drawn.result c.lane.inside.faults c.place_drawn_fault.new.notes c.place_drawn_fault.result) c.in-Ok.ensures.ok c.place_drawn_fault.ensures)).apart
 
 pub returns-clause-frame : goal.returns-clause-frame
 returns-clause-frame g c =
     (fault_by_drawn c.args.self.now c.self.inside.shared.tries (ap (λ (s : StoreView). s.tries) c.self.view_is) c.args.fault (record { cells = c.lane.inside.cells; known = c.lane.inside.notes; faults = c.lane.inside.faults; keys = c.lane.inside.keys }) c.args.lane.now c.lane.view_is c.requires.lane
-    c.keep-drawn.new.lane c.keep-drawn.ensures.lane c.place_drawn_fault.new.notes c.keep-drawn.result c.keep-drawn.ensures.reply c.keep-drawn.ensures.storable c.place_drawn_fault.result
+    c.keep-drawn.new.lane c.keep-drawn.ensures.lane c.recall-2.ensures.legal c.place_drawn_fault.new.notes c.keep-drawn.result c.keep-drawn.ensures.reply c.keep-drawn.ensures.storable c.place_drawn_fault.result
     (subst (λ v. PlacesDrawn v c.keep-drawn.result c.lane.inside.faults c.place_drawn_fault.new.notes c.place_drawn_fault.result) c.in-Ok.ensures.ok c.place_drawn_fault.ensures)).frame
 
 -- ---- where there is no memory

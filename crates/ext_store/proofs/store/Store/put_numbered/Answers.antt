@@ -1,10 +1,10 @@
-use Rattle.std.proofs.Common.{ℕ, refl, sym, ap, subst}
-use Rattle.std.specs.Prelude.{MatchResult, Option, Result}
+use Rattle.std.proofs.Common.{ℕ, refl, sym, subst}
+use Rattle.std.specs.Prelude.{Option, Result}
 use Rattle.ext_cells.specs.Lanes.{Lane}
-use Rattle.ext_store.specs.Stores.{StoreView, StoreLane, StillKeeps, StillKeepsBut, cell_in}
+use Rattle.ext_store.specs.Stores.{StoreView, StoreLane, cell_in}
 use Rattle.ext_store.specs.LaneCalls.{Puts, with_kept, Frame, stored_by}
 use Rattle.ext_store_core.proofs.Events.{put_calls}
-use Rattle.ext_store.proofs.Keeping.{handed_back, put_keeps}
+use Rattle.ext_store.proofs.Keeping.{handed_back}
 use Rattle.ext_store.proofs.Frames.{put_frame, stays_inside}
 use Rattle.ext_model.specs.declared.event.Act.TheVariants.{Put}
 use Rattle.ext_cells.specs.CellCalls.{ComesLast}

@@ -1,10 +1,9 @@
-use Rattle.std.proofs.Common.{ℕ, refl, sym, ap, subst}
-use Rattle.std.specs.Prelude.{MatchResult}
+use Rattle.std.proofs.Common.{ℕ, refl, sym, subst}
 use Rattle.ext_cells.specs.Lanes.{Lane}
-use Rattle.ext_store.specs.Stores.{StoreView, StoreLane, StillKeeps, StillKeepsBut}
+use Rattle.ext_store.specs.Stores.{StoreView, StoreLane}
 use Rattle.ext_store.specs.LaneCalls.{Puts, with_kept, Frame, stored_by}
 use Rattle.ext_store_core.proofs.Events.{put_calls}
-use Rattle.ext_store.proofs.Keeping.{handed_back, decided_back, put_keeps}
+use Rattle.ext_store.proofs.Keeping.{handed_back, decided_back}
 use Rattle.ext_store.proofs.Frames.{put_frame, stays_inside}
 use Rattle.ext_store.proofs.store.Store.put_wait_numbered.Goals as goal
 

@@ -1,6 +1,6 @@
-use Rattle.std.proofs.Common.{[], refl, ap, subst}
+use Rattle.std.proofs.Common.{[], refl, subst}
 use Rattle.ext_cells.specs.Lanes.{Lane}
-use Rattle.ext_store.specs.Stores.{StoreView, StoreLane}
+use Rattle.ext_store.specs.Stores.{StoreView}
 use Rattle.ext_store.specs.LaneCalls.{Removes}
 use Rattle.ext_store_core.proofs.Events.{remove_calls}
 use Rattle.ext_store.proofs.Frames.{remove_frame, stays_inside}

@@ -39,14 +39,14 @@ abandon_quietly-requires-clause-held c =
     claim_stands c.args.self.now c.args.context c.args.key _ _ _ (ap (λ (x : ContextCells). x.tree) c.self.view_is) c.as_slice-path.ensures.contexts c.path-path.ensures.path
     c.args.lane.now c.stands_along.new.lane c.claim.new.lane c.requires.lane c.stands_along.ensures.lane c.in_default.ensures.stands _ (ap (λ (x : ContextCells). x.tries) c.self.view_is) c.cell.result c.cell.ensures.cell
     c.claim.ensures.lane _ c.in-Ok-Won.claim c.in-Ok-Won.field-0-is c.in-Ok-Won.ensures.reply c.in-Ok-Won.ensures.held
-    c.stands_along-2.new.lane (Some c.in-Some-stands_along.unused) c.in-Some-stands_along.ensures.stands
+    c.stands_along-2.new.lane (Some c.in-Some-stands_along.unused) c.stands_along-2.ensures.legal c.in-Some-stands_along.ensures.stands
 
 pub returns-in-None-clause-claim : goal.returns-in-None-clause-claim
 returns-in-None-clause-claim c =
     second_look_ends c.args.self.now c.args.context c.args.key _ _ _ (ap (λ (x : ContextCells). x.tree) c.self.view_is) c.as_slice-path.ensures.contexts c.path-path.ensures.path
     c.args.lane.now c.stands_along.new.lane c.claim.new.lane c.requires.lane c.stands_along.ensures.lane c.in_default.ensures.stands _ (ap (λ (x : ContextCells). x.tries) c.self.view_is) c.cell.result c.cell.ensures.cell
     c.claim.ensures.lane _ c.in-Ok-Won.claim c.in-Ok-Won.field-0-is c.in-Ok-Won.ensures.reply c.in-Ok-Won.ensures.held
-    c.stands_along-2.new.lane c.in-None.ensures.stands
+    c.stands_along-2.new.lane c.stands_along-2.ensures.legal c.in-None.ensures.stands
 
 pub returns-in-Some-stands_along-clause-claim : goal.returns-in-Some-stands_along-clause-claim
 returns-in-Some-stands_along-clause-claim c =

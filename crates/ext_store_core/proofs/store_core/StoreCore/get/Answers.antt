@@ -1,4 +1,7 @@
-use Rattle.std.proofs.Common.{rules, ◌≤◌, ap, arith, length}
+use Rattle.std.proofs.Common.{rules, ◌≤◌, ap, subst, arith, length}
+use Rattle.ext_history.specs.Histories.{seen_by}
+use Rattle.ext_model.specs.History.{IsLegal}
+use Rattle.ext_cells.specs.Lanes.{CellsId}
 use Rattle.ext_tree.specs.Trees.{IsPathOf}
 use Rattle.ext_store_core.specs.ContextCalls.{Gets}
 use Rattle.ext_store_core.proofs.LookUps.{looks_answer, looks_overtaken}
@@ -12,12 +15,12 @@ returns-clause-answer c =
     let path : IsPathOf c.args.self.now.tree c.args.context c.as_slice.result.now = search rules in (
       c.as_slice.result.now,
       path,
-      looks_answer c.args.self.now c.as_slice.result.now c.args.key c.args.lane.now c.look_along.new.lane c.look_along.result some c.look_along.ensures.look,
-      looks_overtaken c.args.self.now c.as_slice.result.now c.args.key c.args.lane.now c.look_along.new.lane c.look_along.result c.look_along.ensures.look,
+      looks_answer c.args.self.now c.as_slice.result.now c.args.key c.args.lane.now c.look_along-looked.new.lane c.look_along-looked.result some c.look_along-looked.ensures.look,
+      looks_overtaken c.args.self.now c.as_slice.result.now c.args.key c.args.lane.now c.look_along-looked.new.lane c.look_along-looked.result c.look_along-looked.ensures.look,
     )
 
 pub returns-clause-lane : goal.returns-clause-lane
-returns-clause-lane c = c.look_along.ensures.lane
+returns-clause-lane c = c.look_along-looked.ensures.lane
 
 pub returns-clause-no_faults : goal.returns-clause-no_faults
-returns-clause-no_faults c off = looks_faultless c.args.self.now c.as_slice.result.now c.args.key c.args.lane.now c.look_along.new.lane c.requires.lane off c.look_along.result c.look_along.ensures.look
+returns-clause-no_faults c off = looks_faultless c.args.self.now c.as_slice.result.now c.args.key c.args.lane.now c.look_along-looked.new.lane c.requires.lane off (subst (λ (z : CellsId). IsLegal z.limits (seen_by c.look_along-looked.new.lane.view)) c.look_along-looked.ensures.lane c.recall.ensures.legal) c.look_along-looked.result c.look_along-looked.ensures.look

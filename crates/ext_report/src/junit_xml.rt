@@ -1,0 +1,234 @@
+//! The report of a run in JUnit's XML.
+ghost use Rattle.std.specs.Prelude.{◌≡◌, ◌<◌, ◌++◌, length, option_map, string_bytes, All, IfOk, OnOk, Some};
+ghost use Rattle.std.specs.List.{flat_map};
+ghost use Rattle.ext_lifecycle.specs.FaultTexts.{fault_text, result_view, results_view};
+ghost use Rattle.ext_report.specs.JunitXml.{case_element, case_in, case_name, counts_where, ending_element, fault_element, junit_xml, stands_in, suite_element, suite_if_any, suite_name, test_name};
+ghost use Rattle.ext_tree.specs.Trees.{children_of, id_at};
+
+use crate::cases::{CaseCounts, stands_in};
+use crate::line::{fault_text, write_further};
+use crate::xml::write_xml;
+use ext_ids::UniqueId;
+use ext_lifecycle::{NodeResult, Status};
+use ext_model::{ContextNo, Fault};
+use ext_tree::Tree;
+use std::alloc::{AllocError, Global};
+
+/// Returns the report of results in JUnit's XML, as servers of continuous integration read it. Each
+/// result is of a context of the tree. A context may have no result, or several.
+///
+/// Each context whose children have tests is a suite, and each of these tests a case of it. A
+/// container that failed or aborted itself is a case of its own suite. The fault of a failed node
+/// is the message of a `failure`, and that of an aborted one the message of a `skipped`. No case has
+/// a time.
+///
+/// Takes memory for the text, and fails with `AllocError` only if that is refused.
+pub fn junit_report(
+    alloc: Global,
+    tree: &Tree,
+    results: &[NodeResult],
+) -> Result<String, AllocError>
+    requires in_tree { All (λ r. r.node < length tree.now) results.now }
+    ensures { IfOk result
+        (λ text. string_bytes text ≡ junit_xml tree.now (results_view results.now)) }
+{
+    let mut text = String::new(alloc);
+    text.push_str("<?xml version=\"1.0\" encoding=\"UTF-8\"?>\n<testsuites")?;
+    CaseCounts::of(results).write_to(&mut text)?;
+    for suite in 0..tree.len() {
+        write_suite(alloc, &mut text, tree, results, suite)?;
+    }
+    text.push_str("</testsuites>\n")?;
+    Ok(text)
+}
+
+/// Writes the suite of a context at the end of a text, if it has a case.
+fn write_suite(
+    alloc: Global,
+    text: &mut String,
+    tree: &Tree,
+    results: &[NodeResult],
+    suite: ContextNo,
+) -> Result<(), AllocError>
+    requires suite { suite < length tree.now }
+    requires in_tree { All (λ r. r.node < length tree.now) results.now }
+    ensures { OnOk result
+        (string_bytes text.new ≡ string_bytes text.old ++ suite_if_any tree.now (results_view results.now) suite) }
+{
+    let counts = CaseCounts::in_suite(tree.children(suite), suite, results);
+    if counts.tests == 0 {
+        return Ok(());
+    }
+    write_filled_suite(alloc, text, tree, results, suite, &counts)
+}
+
+/// Writes a suite with these counts at the end of a text.
+fn write_filled_suite(
+    alloc: Global,
+    text: &mut String,
+    tree: &Tree,
+    results: &[NodeResult],
+    suite: ContextNo,
+    counts: &CaseCounts,
+) -> Result<(), AllocError>
+    requires suite { suite < length tree.now }
+    requires in_tree { All (λ r. r.node < length tree.now) results.now }
+    requires counts { counts.now ≡ counts_where (stands_in (children_of tree.now suite) suite) (results_view results.now) }
+    ensures { OnOk result
+        (string_bytes text.new ≡ string_bytes text.old ++ suite_element tree.now (results_view results.now) suite) }
+{
+    let name = suite_name(alloc, tree.id(suite))?;
+    text.push_str("  <testsuite name=\"")?;
+    text.push_str(name.as_str())?;
+    text.push_str("\"")?;
+    counts.write_to(text)?;
+    write_cases(text, tree, results, suite, name.as_str())?;
+    text.push_str("  </testsuite>\n")?;
+    Ok(())
+}
+
+/// The id of a context, as it is written in XML.
+fn suite_name(alloc: Global, id: &UniqueId) -> Result<String, AllocError>
+    ensures { IfOk result (λ name. string_bytes name ≡ suite_name id.now) }
+{
+    let mut words = String::new(alloc);
+    id.write_to(&mut words)?;
+    let mut name = String::new(alloc);
+    write_xml(&mut name, words.as_str())?;
+    Ok(name)
+}
+
+/// Writes the cases of a suite with this name at the end of a text.
+fn write_cases(
+    text: &mut String,
+    tree: &Tree,
+    results: &[NodeResult],
+    suite: ContextNo,
+    name: &str,
+) -> Result<(), AllocError>
+    requires suite { suite < length tree.now }
+    requires in_tree { All (λ r. r.node < length tree.now) results.now }
+    requires name { name.now ≡ suite_name (id_at tree.now suite) }
+    ensures { OnOk result
+        (string_bytes text.new ≡ string_bytes text.old ++ flat_map (case_in tree.now suite) (results_view results.now)) }
+{
+    for node in results {
+        write_case_if_in(text, tree, suite, name, node)?;
+    }
+    Ok(())
+}
+
+/// Writes a case of a suite with this name at the end of a text, if the result is one.
+fn write_case_if_in(
+    text: &mut String,
+    tree: &Tree,
+    suite: ContextNo,
+    name: &str,
+    node: &NodeResult,
+) -> Result<(), AllocError>
+    requires suite { suite < length tree.now }
+    requires in_tree { node.now.node < length tree.now }
+    requires name { name.now ≡ suite_name (id_at tree.now suite) }
+    ensures { OnOk result
+        (string_bytes text.new ≡ string_bytes text.old ++ case_in tree.now suite (result_view node.now)) }
+{
+    if !stands_in(tree.children(suite), suite, node) {
+        return Ok(());
+    }
+    write_case(text, tree, suite, name, node)
+}
+
+/// Writes a case of a suite with this name at the end of a text.
+fn write_case(
+    text: &mut String,
+    tree: &Tree,
+    suite: ContextNo,
+    name: &str,
+    node: &NodeResult,
+) -> Result<(), AllocError>
+    requires in_tree { node.now.node < length tree.now }
+    requires name { name.now ≡ suite_name (id_at tree.now suite) }
+    ensures { OnOk result
+        (string_bytes text.new ≡ string_bytes text.old ++ case_element tree.now suite (result_view node.now)) }
+{
+    text.push_str("    <testcase classname=\"")?;
+    text.push_str(name)?;
+    text.push_str("\" name=\"")?;
+    write_case_name(text, tree, suite, name, node.node)?;
+    text.push_str("\">")?;
+    write_ending(text, node)?;
+    text.push_str("</testcase>\n")?;
+    Ok(())
+}
+
+/// Writes the name of a case at the end of a text.
+fn write_case_name(
+    text: &mut String,
+    tree: &Tree,
+    suite: ContextNo,
+    name: &str,
+    node: ContextNo,
+) -> Result<(), AllocError>
+    requires in_tree { node < length tree.now }
+    requires name { name.now ≡ suite_name (id_at tree.now suite) }
+    ensures { OnOk result
+        (string_bytes text.new ≡ string_bytes text.old ++ case_name tree.now suite node) }
+{
+    if node == suite {
+        return text.push_str(name);
+    }
+    write_test_name(text, tree.id(node))
+}
+
+/// Writes the last segment of an id, decoded, at the end of a text.
+fn write_test_name(text: &mut String, id: &UniqueId) -> Result<(), AllocError>
+    ensures { OnOk result (string_bytes text.new ≡ string_bytes text.old ++ test_name id.now) }
+{
+    let (kind, value) = id.segment(id.len() - 1);
+    write_xml(text, kind)?;
+    text.push_str(":")?;
+    write_xml(text, value)?;
+    Ok(())
+}
+
+/// Writes how a case ended at the end of a text: nothing if it is successful.
+fn write_ending(text: &mut String, node: &NodeResult) -> Result<(), AllocError>
+    ensures { OnOk result
+        (string_bytes text.new ≡ string_bytes text.old
+        ++ ending_element node.now.status (option_map fault_text node.now.fault) node.now.more) }
+{
+    match node.status {
+        Status::Successful => Ok(()),
+        Status::Aborted => write_fault_if_any(text, "skipped", node),
+        Status::Failed => write_fault_if_any(text, "failure", node),
+        Status::Skipped => text.push_str("<skipped/>"),
+    }
+}
+
+/// Writes an element with a node's fault, if it has one, at the end of a text.
+fn write_fault_if_any(text: &mut String, name: &str, node: &NodeResult) -> Result<(), AllocError>
+    ensures { OnOk result
+        (string_bytes text.new ≡ string_bytes text.old
+        ++ fault_element name.now (option_map fault_text node.now.fault) node.now.more) }
+{
+    match &node.fault {
+        None => write!(text, "<{name}/>"),
+        Some(fault) => write_fault(text, name, fault, node.more),
+    }
+}
+
+/// Writes an element with a fault, and how many others there are, at the end of a text.
+fn write_fault(text: &mut String, name: &str, fault: &Fault, more: u64) -> Result<(), AllocError>
+    ensures { OnOk result
+        (string_bytes text.new ≡ string_bytes text.old
+        ++ fault_element name.now (Some (fault_text fault.now)) more) }
+{
+    let words = fault_text(fault);
+    write!(text, "<{name} message=\"")?;
+    write_xml(text, words)?;
+    text.push_str("\">")?;
+    write_xml(text, words)?;
+    write_further(text, more)?;
+    write!(text, "</{name}>")?;
+    Ok(())
+}

@@ -1,0 +1,76 @@
+use Rattle.std.proofs.Common.{◌∙◌, ap, subst}
+use Rattle.ext_cells.specs.Lanes.{CellsId}
+use Rattle.ext_store.specs.Stores.{StoreView, StoreLane}
+use Rattle.ext_store.specs.InnerKeeping.{PlacesDrawn}
+use Rattle.ext_store.proofs.Placing.{kept_by_drawn, drawn_fits, no_memory}
+use Rattle.ext_store.proofs.store.Store.keep_decided.Goals as goal
+
+pub place_drawn-requires-clause-drawn : goal.place_drawn-requires-clause-drawn
+place_drawn-requires-clause-drawn g c =
+    drawn_fits c.args.self.now c.self.inside.shared.tries (ap (λ (s : StoreView). s.tries) c.self.view_is) c.lane.inside.cells c.keep_decided-drawn.new.lane c.keep_decided-drawn.result c.keep_decided-drawn.ensures.reply _
+    (ap (λ (l : StoreLane g.row.V.Denot). l.cells.cells.limits.numbers) c.lane.view_is ∙ (ap (λ (i : CellsId). i.limits.numbers) c.requires.lane.cells ∙ c.recall.ensures.numbers))
+
+pub returns-clause-answer : goal.returns-clause-answer
+returns-clause-answer g c =
+    (kept_by_drawn c.args.self.now c.self.inside.shared.tries (ap (λ (s : StoreView). s.tries) c.self.view_is) c.args.value (record { cells = c.lane.inside.cells; known = c.lane.inside.notes; faults = c.lane.inside.faults; keys = c.lane.inside.keys }) c.args.lane.now c.lane.view_is c.requires.lane
+    c.keep_decided-drawn.new.lane c.keep_decided-drawn.ensures.lane c.recall-2.ensures.legal c.place_drawn.new.notes c.keep_decided-drawn.result c.keep_decided-drawn.ensures.reply c.keep_decided-drawn.ensures.storable c.place_drawn.result
+    (subst (λ v. PlacesDrawn v c.keep_decided-drawn.result c.lane.inside.notes c.place_drawn.new.notes c.place_drawn.result) c.in-Ok.ensures.ok c.place_drawn.ensures)).answer
+
+pub returns-clause-lane : goal.returns-clause-lane
+returns-clause-lane g c =
+    (kept_by_drawn c.args.self.now c.self.inside.shared.tries (ap (λ (s : StoreView). s.tries) c.self.view_is) c.args.value (record { cells = c.lane.inside.cells; known = c.lane.inside.notes; faults = c.lane.inside.faults; keys = c.lane.inside.keys }) c.args.lane.now c.lane.view_is c.requires.lane
+    c.keep_decided-drawn.new.lane c.keep_decided-drawn.ensures.lane c.recall-2.ensures.legal c.place_drawn.new.notes c.keep_decided-drawn.result c.keep_decided-drawn.ensures.reply c.keep_decided-drawn.ensures.storable c.place_drawn.result
+    (subst (λ v. PlacesDrawn v c.keep_decided-drawn.result c.lane.inside.notes c.place_drawn.new.notes c.place_drawn.result) c.in-Ok.ensures.ok c.place_drawn.ensures)).lane
+
+pub returns-clause-known : goal.returns-clause-known
+returns-clause-known g c =
+    (kept_by_drawn c.args.self.now c.self.inside.shared.tries (ap (λ (s : StoreView). s.tries) c.self.view_is) c.args.value (record { cells = c.lane.inside.cells; known = c.lane.inside.notes; faults = c.lane.inside.faults; keys = c.lane.inside.keys }) c.args.lane.now c.lane.view_is c.requires.lane
+    c.keep_decided-drawn.new.lane c.keep_decided-drawn.ensures.lane c.recall-2.ensures.legal c.place_drawn.new.notes c.keep_decided-drawn.result c.keep_decided-drawn.ensures.reply c.keep_decided-drawn.ensures.storable c.place_drawn.result
+    (subst (λ v. PlacesDrawn v c.keep_decided-drawn.result c.lane.inside.notes c.place_drawn.new.notes c.place_drawn.result) c.in-Ok.ensures.ok c.place_drawn.ensures)).known
+
+pub returns-clause-faults : goal.returns-clause-faults
+returns-clause-faults g c =
+    (kept_by_drawn c.args.self.now c.self.inside.shared.tries (ap (λ (s : StoreView). s.tries) c.self.view_is) c.args.value (record { cells = c.lane.inside.cells; known = c.lane.inside.notes; faults = c.lane.inside.faults; keys = c.lane.inside.keys }) c.args.lane.now c.lane.view_is c.requires.lane
+    c.keep_decided-drawn.new.lane c.keep_decided-drawn.ensures.lane c.recall-2.ensures.legal c.place_drawn.new.notes c.keep_decided-drawn.result c.keep_decided-drawn.ensures.reply c.keep_decided-drawn.ensures.storable c.place_drawn.result
+    (subst (λ v. PlacesDrawn v c.keep_decided-drawn.result c.lane.inside.notes c.place_drawn.new.notes c.place_drawn.result) c.in-Ok.ensures.ok c.place_drawn.ensures)).faults
+
+pub returns-clause-kept : goal.returns-clause-kept
+returns-clause-kept g c =
+    (kept_by_drawn c.args.self.now c.self.inside.shared.tries (ap (λ (s : StoreView). s.tries) c.self.view_is) c.args.value (record { cells = c.lane.inside.cells; known = c.lane.inside.notes; faults = c.lane.inside.faults; keys = c.lane.inside.keys }) c.args.lane.now c.lane.view_is c.requires.lane
+    c.keep_decided-drawn.new.lane c.keep_decided-drawn.ensures.lane c.recall-2.ensures.legal c.place_drawn.new.notes c.keep_decided-drawn.result c.keep_decided-drawn.ensures.reply c.keep_decided-drawn.ensures.storable c.place_drawn.result
+    (subst (λ v. PlacesDrawn v c.keep_decided-drawn.result c.lane.inside.notes c.place_drawn.new.notes c.place_drawn.result) c.in-Ok.ensures.ok c.place_drawn.ensures)).kept
+
+pub returns-clause-apart : goal.returns-clause-apart
+returns-clause-apart g c =
+    (kept_by_drawn c.args.self.now c.self.inside.shared.tries (ap (λ (s : StoreView). s.tries) c.self.view_is) c.args.value (record { cells = c.lane.inside.cells; known = c.lane.inside.notes; faults = c.lane.inside.faults; keys = c.lane.inside.keys }) c.args.lane.now c.lane.view_is c.requires.lane
+    c.keep_decided-drawn.new.lane c.keep_decided-drawn.ensures.lane c.recall-2.ensures.legal c.place_drawn.new.notes c.keep_decided-drawn.result c.keep_decided-drawn.ensures.reply c.keep_decided-drawn.ensures.storable c.place_drawn.result
+    (subst (λ v. PlacesDrawn v c.keep_decided-drawn.result c.lane.inside.notes c.place_drawn.new.notes c.place_drawn.result) c.in-Ok.ensures.ok c.place_drawn.ensures)).apart
+
+pub returns-clause-frame : goal.returns-clause-frame
+returns-clause-frame g c =
+    (kept_by_drawn c.args.self.now c.self.inside.shared.tries (ap (λ (s : StoreView). s.tries) c.self.view_is) c.args.value (record { cells = c.lane.inside.cells; known = c.lane.inside.notes; faults = c.lane.inside.faults; keys = c.lane.inside.keys }) c.args.lane.now c.lane.view_is c.requires.lane
+    c.keep_decided-drawn.new.lane c.keep_decided-drawn.ensures.lane c.recall-2.ensures.legal c.place_drawn.new.notes c.keep_decided-drawn.result c.keep_decided-drawn.ensures.reply c.keep_decided-drawn.ensures.storable c.place_drawn.result
+    (subst (λ v. PlacesDrawn v c.keep_decided-drawn.result c.lane.inside.notes c.place_drawn.new.notes c.place_drawn.result) c.in-Ok.ensures.ok c.place_drawn.ensures)).frame
+
+-- ---- where there is no memory
+
+pub returns-in-Err-clause-answer : goal.returns-in-Err-clause-answer
+returns-in-Err-clause-answer g c = (no_memory c.args.self.now c.args.value c.in-Err.refused.value c.args.lane.now c.requires.lane c.in-Err.ensures.value_returned).answer
+
+pub returns-in-Err-clause-lane : goal.returns-in-Err-clause-lane
+returns-in-Err-clause-lane g c = (no_memory c.args.self.now c.args.value c.in-Err.refused.value c.args.lane.now c.requires.lane c.in-Err.ensures.value_returned).lane
+
+pub returns-in-Err-clause-known : goal.returns-in-Err-clause-known
+returns-in-Err-clause-known g c = (no_memory c.args.self.now c.args.value c.in-Err.refused.value c.args.lane.now c.requires.lane c.in-Err.ensures.value_returned).known
+
+pub returns-in-Err-clause-faults : goal.returns-in-Err-clause-faults
+returns-in-Err-clause-faults g c = (no_memory c.args.self.now c.args.value c.in-Err.refused.value c.args.lane.now c.requires.lane c.in-Err.ensures.value_returned).faults
+
+pub returns-in-Err-clause-kept : goal.returns-in-Err-clause-kept
+returns-in-Err-clause-kept g c = (no_memory c.args.self.now c.args.value c.in-Err.refused.value c.args.lane.now c.requires.lane c.in-Err.ensures.value_returned).kept
+
+pub returns-in-Err-clause-apart : goal.returns-in-Err-clause-apart
+returns-in-Err-clause-apart g c = (no_memory c.args.self.now c.args.value c.in-Err.refused.value c.args.lane.now c.requires.lane c.in-Err.ensures.value_returned).apart
+
+pub returns-in-Err-clause-frame : goal.returns-in-Err-clause-frame
+returns-in-Err-clause-frame g c = (no_memory c.args.self.now c.args.value c.in-Err.refused.value c.args.lane.now c.requires.lane c.in-Err.ensures.value_returned).frame

@@ -1,5 +1,0 @@
-use Rattle.ext_tree.specs.Keys.{AreKeyNotesOf}
-use Rattle.tool_refused_allocations.proofs.key_places.numbers_all.Given as goal
-
-abbrev pub invariant-loop-number : goal.invariant-loop-number
-invariant-loop-number l = AreKeyNotesOf l.places l.first × AreKeyNotesOf l.places l.second

@@ -1,0 +1,119 @@
+"""Runs the program with `--report junit` on each plan of examples/rows and examples/outside and on examples/junit.toml, as a plain run, and reads what it
+writes with Python's own XML parser. Each suite and each case has to be what the same run says in JSON, with the same message, and the numbers of cases those of
+the report's text: a container that failed or aborted itself is one case more. Prints a line for each plan.
+"""
+import json
+import pathlib
+import re
+import subprocess
+import urllib.parse
+import xml.etree.ElementTree
+
+TOP = pathlib.Path(__file__).resolve().parent.parent.parent
+
+# What no document of XML 1.0 has.
+FORBIDDEN = re.compile("[\0-\x08\x0b\x0c\x0e-\x1f\ufffe\uffff]")
+
+ELEMENTS = {"failed": "failure", "aborted": "skipped", "skipped": "skipped", "successful": None}
+
+
+def written(program, form, plan):
+    """What a plain run of the plan writes in this form."""
+    ran = subprocess.run([program, "run", "--store", "plain", "--report", form], input=plan, capture_output=True, timeout=120)
+    if ran.returncode not in (0, 1) or ran.stderr:
+        raise ValueError(f"status {ran.returncode}: {ran.stderr[:1000].decode(errors='replace')}")
+    return ran.stdout
+
+
+def place_of(node):
+    """The suite and the name of a node's case, if it is one."""
+    above, _, last = node["id"].rpartition("/")
+    if node["test"] and above:
+        kind, value = last[1:-1].split(":")
+        return above, urllib.parse.unquote(kind) + ":" + urllib.parse.unquote(value)
+    if node["test"] or node["status"] in ("failed", "aborted"):
+        return node["id"], node["id"]
+    return None
+
+
+def told_of(node):
+    """The element of a node's case, its message and its text."""
+    if node["fault"] is None or node["status"] not in ("failed", "aborted"):
+        return ELEMENTS[node["status"]], None, None
+    further = f" (+{node['more']})" if node["more"] else ""
+    return ELEMENTS[node["status"]], node["fault"], node["fault"] + further
+
+
+def suites_of(nodes):
+    """The suites that the nodes make, in the order of the plan, each with its cases."""
+    suites = {node["id"]: [] for node in nodes}
+    for node in nodes:
+        place = place_of(node)
+        if place:
+            case = (place[1], *told_of(node))
+            suites[place[0]].append(tuple(text and FORBIDDEN.sub("\ufffd", text) for text in case))
+    return [(FORBIDDEN.sub("\ufffd", name), cases) for name, cases in suites.items() if cases]
+
+
+def case_in(suite, element):
+    """A case of a suite as it is read: its name, and its element with a message and a text."""
+    if element.tag != "testcase" or set(element.attrib) != {"classname", "name"} or element.get("classname") != suite or len(element) > 1:
+        raise ValueError(f"a case of {suite} is {element.tag} {element.attrib}")
+    for told in element:
+        return element.get("name"), told.tag, told.get("message"), told.text
+    return element.get("name"), None, None, None
+
+
+def counted(cases):
+    """The counts of cases, as attributes."""
+    tags = [tag for _, tag, _, _ in cases]
+    return {"tests": str(len(tags)), "failures": str(tags.count("failure")), "errors": "0", "skipped": str(tags.count("skipped"))}
+
+
+def suites_in(root):
+    """The suites that are read, whose counts are those of their cases."""
+    suites = [(suite.get("name"), [case_in(suite.get("name"), case) for case in suite]) for suite in root]
+    for element, (name, cases) in zip(root, suites):
+        if element.tag != "testsuite" or element.attrib != {"name": name, **counted(cases)}:
+            raise ValueError(f"a suite is {element.tag} {element.attrib}")
+    if root.tag != "testsuites" or root.attrib != counted([case for _, cases in suites for case in cases]):
+        raise ValueError(f"the root is {root.tag} {root.attrib}")
+    return suites
+
+
+def totals_of(nodes, text):
+    """The counts of all cases by the totals of the text, and the containers that are cases."""
+    total = {key: int(number) for key, number in re.findall(rb"(\w+) (\d+)", text.splitlines()[-2])}
+    own = [node["status"] for node in nodes if not node["test"]]
+    failed, aborted = own.count("failed"), own.count("aborted")
+    return {
+        "tests": str(total[b"tests"] + failed + aborted),
+        "failures": str(total[b"failed"] + failed),
+        "errors": "0",
+        "skipped": str(total[b"aborted"] + total[b"skipped"] + aborted),
+    }
+
+
+def check(program, plan):
+    """Compares the forms of the plan's report, and says how many cases there are."""
+    root = xml.etree.ElementTree.fromstring(written(program, "junit", plan))
+    nodes = [json.loads(line) for line in written(program, "json", plan).split(b"\n")[:-1]]
+    suites, wanted = suites_in(root), suites_of(nodes)
+    if suites != wanted:
+        raise ValueError(f"the suites are {suites} and not {wanted}")
+    totals = totals_of(nodes, written(program, "text", plan))
+    if root.attrib != totals:
+        raise ValueError(f"the totals are {root.attrib} and not {totals}")
+    return sum(len(cases) for _, cases in suites)
+
+
+def main(program, _words):
+    passed = failed = 0
+    for file in [TOP / "examples/junit.toml", *sorted((TOP / "examples/rows").glob("*.toml")), *sorted((TOP / "examples/outside").glob("*.toml"))]:
+        try:
+            told, good = f"{check(program, file.read_bytes())} cases in XML", True
+        except (ValueError, xml.etree.ElementTree.ParseError) as fault:
+            told, good = f"NOT as it has to be: {fault}", False
+        passed, failed = passed + good, failed + (not good)
+        print(f"{file.parent.name}/{file.stem}: {told}")
+    return passed, failed
